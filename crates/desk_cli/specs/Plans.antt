@@ -7,8 +7,9 @@ use Rattle.dep_model.specs.declared.schema.Schema.{Schema}
 use Rattle.plan_reader.specs.declared.reading.TheConstants.{MOST_PLAN_BYTES}
 use Rattle.plan_grammar.specs.Diagnostics.{RefusesPlan}
 use Rattle.plan_grammar.specs.Meanings.{MeansPlan}
-use Rattle.plan_grammar.specs.Refusals.{plan_refusal_number}
+use Rattle.plan_grammar.specs.Refusals.{plan_diagnostic_kind}
 use Rattle.plan_grammar.specs.RefusalTexts.{plan_reason_text}
+use Rattle.schema_grammar.specs.DiagnosticKinds.{number_of}
 use Rattle.plan_grammar.specs.declared.refusal.PlanRefusal.{PlanRefusal}
 use Rattle.desk_cli.specs.declared.status.Status.TheVariants.{Refused}
 use Rattle.desk_cli.specs.ResponseValues.{Allowed, Says, With}
@@ -20,7 +21,7 @@ use Rattle.desk_texts.specs.Texts.{line}
 -- a refusal of a plan
 abbrev pub plan_refusal_text : List (List ℕ) → List ℕ → PlanRefusal → List ℕ
 plan_refusal_text names file refusal =
-    line (codes "refused: plan " ++ decimal (plan_refusal_number refusal) ++ codes " at " ++ file
+    line (codes "refused: plan " ++ decimal (number_of (plan_diagnostic_kind refusal)) ++ codes " at " ++ file
     ++ codes ":" ++ plan_reason_text names refusal)
 
 -- ---- plans

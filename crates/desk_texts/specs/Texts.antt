@@ -4,8 +4,8 @@ use Rattle.std.specs.Prelude.{ℕ, List, [], ◌∷◌, ◌++◌, codes}
 use Rattle.std.specs.Fmt.{decimal}
 use Rattle.attr_sets.specs.Attributes.{Attributes}
 use Rattle.schema_grammar.specs.declared.refusal.SchemaRefusal.{SchemaRefusal}
-use Rattle.schema_grammar.specs.Diagnostics.{refusal_number}
 use Rattle.schema_grammar.specs.RefusalTexts.{place_and_reason}
+use Rattle.schema_grammar.specs.DiagnosticKinds.{number_of, diagnostic_kind}
 use Rattle.schema_printer.specs.Printing.{set_text}
 use Rattle.csv_text.specs.Rows.{rows_text}
 use Rattle.dep_model.specs.Tuples.{Relation}
@@ -36,7 +36,7 @@ set_too_long_text = line (codes "refused: set is too long")
 -- a refusal of a text at its place: the kind of text, its name, the line and the column
 abbrev pub refusal_text : List ℕ → List ℕ → SchemaRefusal → List ℕ
 refusal_text group name refusal =
-    line (codes "refused: " ++ group ++ codes " " ++ decimal (refusal_number refusal.kind)
+    line (codes "refused: " ++ group ++ codes " " ++ decimal (number_of (diagnostic_kind refusal.kind))
     ++ codes " at " ++ name ++ codes ":" ++ place_and_reason refusal)
 
 -- a goal is named `goal`

@@ -22,6 +22,7 @@ use Rattle.proof_grammar.proofs.FormShapes.{Part, Shape, at_side, past, shape_af
 use Rattle.proof_grammar.proofs.JudgedLines.{Judged, first_here, goes_on, stuck_here, end_here, flaw_here}
 use Rattle.proof_grammar.proofs.JudgedTokens.{left_at, in_row, word_forms, NoWord, not_word}
 use Rattle.proof_grammar.proofs.SideLaws.{word_is}
+use Rattle.schema_grammar.specs.DiagnosticKinds.{number_of}
 
 word_judged : (s : Shape) (k : Part) (names : List (List ℕ)) (line next_column : ℕ) (m : Mark) (ms : List Mark)
     (stop : Option LexError) (g : ℕ → Result Line SchemaRefusal) → m.kind ≡ token.Identifier → takes_words s ≡ true
@@ -38,13 +39,14 @@ word_judged s k names line next_column m ms stop g word takes stays rest =
     told true o reserved named =
         first_here s names line next_column (m ∷ ms) stop (refusal line m.column (length m.word) kind.ReservedName)
         (inl (omega arith, inl (takes, (word, inl (refl, reserved))))) tt refl
-        (λ n wrong. ⊎_elim (λ here. ⊎_elim (λ c. ⊎_elim (λ three. omega (arith, three.0)) (λ five. omega (arith, five.0))
-        c.1.1) (λ six. omega (arith, six.0)) here.1) (λ flaw. absurd (omega (arith, flaw.2))) wrong)
+        (λ n wrong. ⊎_elim (λ here. ⊎_elim (λ c. ⊎_elim (λ three. omega (arith, ap number_of three.0))
+        (λ five. omega (arith, ap number_of five.0))
+        c.1.1) (λ six. omega (arith, ap number_of six.0)) here.1) (λ flaw. absurd (omega (arith, flaw.2))) wrong)
     told false None free named =
         first_here s names line next_column (m ∷ ms) stop (refusal line m.column (length m.word) kind.UnknownName)
         (inl (omega arith, inl (takes, (word, inr (refl, named))))) tt refl
         (λ n wrong. ⊎_elim (λ here. ⊎_elim (λ c. ⊎_elim (λ three. absurd (true≢false (sym three.1 ∙ free)))
-        (λ five. omega (arith, five.0)) c.1.1) (λ six. omega (arith, six.0)) here.1)
+        (λ five. omega (arith, ap number_of five.0)) c.1.1) (λ six. omega (arith, ap number_of six.0)) here.1)
         (λ flaw. absurd (omega (arith, flaw.2))) wrong)
     told false (Some a) free named =
         goes_on s (past true k) names line next_column m ms stop (g a)

@@ -111,6 +111,37 @@ end_makes f declared line column (right s x y) d e = record {
 end_makes f declared line column (right_empty s x) d e = record { nothing = refl; states = cc }
 end_makes f declared line column r d e = cc
 
+-- an arrow after words of the left side, and what is left after it
+arrow_after_words : (f : Format) (declared : List (List ℕ)) (s : Sign) (x : Attributes) (m : Mark) (ms : List Mark)
+    (d : Dependency) → IsArrow s m.kind → AfterSignRest f declared s x ms d → LeftRest f declared x (m ∷ ms) d
+arrow_after_words f declared s x m ms d is more = record {
+  words = [];
+  arrow = m;
+  rhs = ms;
+  y = more.y;
+  sign = s;
+  whole = refl;
+  each = All-nil (IsAttribute f declared);
+  is_arrow = is;
+  right_side = more.right_side;
+  states = more.states
+      ∙ ap (λ z. dependency_of_sign s z more.y) (sym (union-none x (attributes_of_words declared []) refl));
+}
+
+-- and after a left `()`
+arrow_after_empty : (f : Format) (declared : List (List ℕ)) (s : Sign) (m : Mark) (ms : List Mark) (d : Dependency)
+    → IsArrow s m.kind → AfterSignRest f declared s none ms d → ArrowRest f declared (m ∷ ms) d
+arrow_after_empty f declared s m ms d is more = record {
+  arrow = m;
+  rhs = ms;
+  y = more.y;
+  sign = s;
+  whole = refl;
+  is_arrow = is;
+  right_side = more.right_side;
+  states = more.states;
+}
+
 -- what a token and the rest make, from what the rest makes
 token_makes : (f : Format) (declared : List (List ℕ)) (line from : ℕ) (r : Reached) (k : TokenKind) (column : ℕ) (word : List ℕ) (ms : List Mark) (d : Dependency)
     → ((next : Reached) → follow f declared line next (column + length word) ms None ≡ Ok d → Rest f declared next ms d)
@@ -173,41 +204,19 @@ token_makes f declared line from (left x) token.Identifier column word ms d rest
           (sym (attributes_of_words-cons declared (mark token.Identifier column word) more.words reads.is.index reads.is.known)));
     }
 token_makes f declared line from (left x) token.Arrow column word ms d rest e =
-    let more : AfterSignRest f declared sign.Functional x ms d = rest (after_sign sign.Functional x) e in
-    record {
-      words = [];
-      arrow = mark token.Arrow column word;
-      rhs = ms;
-      y = more.y;
-      sign = sign.Functional;
-      whole = refl;
-      each = All-nil (IsAttribute f declared);
-      is_arrow = refl;
-      right_side = more.right_side;
-      states = more.states ∙ ap (λ z. dependency_of_sign sign.Functional z more.y) (sym (union-none x (attributes_of_words declared []) refl));
-    }
+    arrow_after_words f declared sign.Functional x (mark token.Arrow column word) ms d refl
+    (rest (after_sign sign.Functional x) e)
 token_makes f declared line from (left x) token.DoubleArrow column word ms d rest e =
-    let more : AfterSignRest f declared sign.Multivalued x ms d = rest (after_sign sign.Multivalued x) e in
-    record {
-      words = [];
-      arrow = mark token.DoubleArrow column word;
-      rhs = ms;
-      y = more.y;
-      sign = sign.Multivalued;
-      whole = refl;
-      each = All-nil (IsAttribute f declared);
-      is_arrow = refl;
-      right_side = more.right_side;
-      states = more.states ∙ ap (λ z. dependency_of_sign sign.Multivalued z more.y) (sym (union-none x (attributes_of_words declared []) refl));
-    }
+    arrow_after_words f declared sign.Multivalued x (mark token.DoubleArrow column word) ms d refl
+    (rest (after_sign sign.Multivalued x) e)
 token_makes f declared line from left_empty token.Identifier column word ms d rest e =
     let wrong = (reads_word f declared line left_empty from column word ms d e).goes_on in cc
 token_makes f declared line from left_empty token.Arrow column word ms d rest e =
-    let more : AfterSignRest f declared sign.Functional none ms d = rest (after_sign sign.Functional none) e in
-    record { arrow = mark token.Arrow column word; rhs = ms; y = more.y; sign = sign.Functional; whole = refl; is_arrow = refl; right_side = more.right_side; states = more.states }
+    arrow_after_empty f declared sign.Functional (mark token.Arrow column word) ms d refl
+    (rest (after_sign sign.Functional none) e)
 token_makes f declared line from left_empty token.DoubleArrow column word ms d rest e =
-    let more : AfterSignRest f declared sign.Multivalued none ms d = rest (after_sign sign.Multivalued none) e in
-    record { arrow = mark token.DoubleArrow column word; rhs = ms; y = more.y; sign = sign.Multivalued; whole = refl; is_arrow = refl; right_side = more.right_side; states = more.states }
+    arrow_after_empty f declared sign.Multivalued (mark token.DoubleArrow column word) ms d refl
+    (rest (after_sign sign.Multivalued none) e)
 token_makes f declared line from (after_sign s x) token.Identifier column word ms d rest e =
     let reads = reads_word f declared line (after_sign s x) from column word ms d e in
     let more : RightRest f declared s x (only reads.is.index) ms d =

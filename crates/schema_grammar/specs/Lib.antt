@@ -1,5 +1,6 @@
 -- The definitions of schema_grammar: what schema texts, goals and sets mean and how they are
 -- refused; `Meanings`, `Schemas` and `Sets` come first.
+pub mod DiagnosticKinds
 pub mod Diagnostics
 pub mod Declarations
 pub mod Grammar
