@@ -25,12 +25,7 @@ pub fn head_of(alloc: Global, name: &Name, columns: &[Name]) -> Result<Vec<u8>, 
 }
 
 /// The line of a row of rows, after this front.
-pub fn line_of(
-    alloc: Global,
-    head: &[u8],
-    rows: &Rows,
-    row: usize,
-) -> Result<Vec<u8>, OutOfMemory>
+pub fn line_of(alloc: Global, head: &[u8], rows: &Rows, row: usize) -> Result<Vec<u8>, OutOfMemory>
     requires row { row < length rows.now }
     ensures line { IfOk result (λ line. line.items ≡ sql_row head.now (row_at rows.now row)) }
 {
