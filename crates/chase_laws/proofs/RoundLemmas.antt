@@ -9,50 +9,60 @@ use Rattle.dep_model.specs.Dependencies.{Dependency, fd, mvd}
 use Rattle.chase_laws.specs.Tableaux.{SymbolRow, Tableau, SameTableau, symbol_at, SymbolsAgree, distinguished_row, plan_tableau, scheme_rows}
 use Rattle.chase_laws.specs.Steps.{exchange_rows, replace_symbol, IsFunctionalStep, IsMultivaluedStep, IsStep, IsClosed, IsFunctionallyClosed, LeadsIn, LeadsTo}
 use Rattle.chase_laws.specs.Rounds.{ClosesFunctionallyTo, IsMadeOf, IsNext, EndsRounds, InRounds, HasMoreThan, RoundsExceed}
-use Rattle.chase_laws.proofs.TableauLemmas.{rows_tell, symbol_at_past, cons_cases, Same-sym, Same-trans, Same-replace_symbol, Same-cons, length-exchange_rows}
+use Rattle.chase_laws.proofs.TableauLemmas.{rows_tell, symbol_at_past, cons_cases, Same-refl, Same-sym, Same-trans, Same-replace_symbol, Same-cons, length-exchange_rows}
 use Rattle.chase_laws.proofs.InvariantLemmas.{Each, HasLength, Each-same, over-functional, plan_over}
 use Rattle.chase_laws.proofs.ClosingLemmas.{functional_closing_unique}
 use Rattle.dep_model.proofs.ListLemmas.{Contains-head, Contains-later}
 
 -- ---- equal tableaux are closed alike
-step_same : (n : ℕ) (ds : List Dependency) (t s u : Tableau) → SameTableau t s → IsStep n ds s u → IsStep n ds t u
-step_same n ds t s u same (inl step) =
+-- a step leads from and to equal tableaux too
+functional_between : (ds : List Dependency) (t s u v : Tableau) → SameTableau t s → SameTableau u v → IsFunctionalStep ds s u → IsFunctionalStep ds t v
+functional_between ds t s u v start end step =
     let one = step.step in
-    inl (record {
+    let replaced : Tableau → Tableau = replace_symbol one.attribute (symbol_at one.second one.attribute) (symbol_at one.first one.attribute) in
+    record {
       lhs = step.lhs;
       rhs = step.rhs;
       given = step.given;
       step = record {
         first = one.first;
         second = one.second;
-        first_in = (same one.first).1 one.first_in;
-        second_in = (same one.second).1 one.second_in;
+        first_in = (start one.first).1 one.first_in;
+        second_in = (start one.second).1 one.second_in;
         agree = one.agree;
         attribute = one.attribute;
         member = one.member;
         differ = one.differ;
-        after = Same-trans (replace_symbol one.attribute (symbol_at one.second one.attribute) (symbol_at one.first one.attribute) t) (replace_symbol one.attribute (symbol_at one.second one.attribute) (symbol_at one.first one.attribute) s) u (Same-replace_symbol one.attribute (symbol_at one.second one.attribute) (symbol_at one.first one.attribute) t s same) one.after;
+        after = Same-trans (replaced t) (replaced s) v (Same-replace_symbol one.attribute (symbol_at one.second one.attribute) (symbol_at one.first one.attribute) t s start)
+            (Same-trans (replaced s) u v one.after end);
       };
-    })
-step_same n ds t s u same (inr step) =
+    }
+
+multivalued_between : (n : ℕ) (ds : List Dependency) (t s u v : Tableau) → SameTableau t s → SameTableau u v → IsMultivaluedStep n ds s u → IsMultivaluedStep n ds t v
+multivalued_between n ds t s u v start end step =
     let one = step.step in
-    inr (record {
+    let row = exchange_rows n (union step.lhs step.rhs) one.first one.second in
+    record {
       lhs = step.lhs;
       rhs = step.rhs;
       given = step.given;
       step = record {
         first = one.first;
         second = one.second;
-        first_in = (same one.first).1 one.first_in;
-        second_in = (same one.second).1 one.second_in;
+        first_in = (start one.first).1 one.first_in;
+        second_in = (start one.second).1 one.second_in;
         agree = one.agree;
-        fresh = λ h. one.fresh ((same (exchange_rows n (union step.lhs step.rhs) one.first one.second)).0 h);
-        after = Same-trans (exchange_rows n (union step.lhs step.rhs) one.first one.second ∷ t) (exchange_rows n (union step.lhs step.rhs) one.first one.second ∷ s) u (Same-cons (exchange_rows n (union step.lhs step.rhs) one.first one.second) t s same) one.after;
+        fresh = λ h. one.fresh ((start row).0 h);
+        after = Same-trans (row ∷ t) (row ∷ s) v (Same-cons row t s start) (Same-trans (row ∷ s) u v one.after end);
       };
-    })
+    }
+
+step_between : (n : ℕ) (ds : List Dependency) (t s u v : Tableau) → SameTableau t s → SameTableau u v → IsStep n ds s u → IsStep n ds t v
+step_between n ds t s u v start end (inl step) = inl (functional_between ds t s u v start end step)
+step_between n ds t s u v start end (inr step) = inr (multivalued_between n ds t s u v start end step)
 
 pub closed-same : (n : ℕ) (ds : List Dependency) (t s : Tableau) → SameTableau t s → IsClosed n ds t → IsClosed n ds s
-closed-same n ds t s same closed u step = closed u (step_same n ds t s u same step)
+closed-same n ds t s same closed u step = closed u (step_between n ds t s u u same (Same-refl u) step)
 
 pub ends-same : (n : ℕ) (ds : List Dependency) (t s : Tableau) → SameTableau t s → EndsRounds n ds t → EndsRounds n ds s
 ends-same n ds t s same (inl has) = inl ((same (distinguished_row n)).0 has)
@@ -271,57 +281,15 @@ next_exists n ds t =
     )
 
 -- ---- steps after steps
-functional_end : (ds : List Dependency) (t s u : Tableau) → IsFunctionalStep ds t s → SameTableau s u → IsFunctionalStep ds t u
-functional_end ds t s u step same =
-    let one = step.step in
-    record {
-      lhs = step.lhs;
-      rhs = step.rhs;
-      given = step.given;
-      step = record {
-        first = one.first;
-        second = one.second;
-        first_in = one.first_in;
-        second_in = one.second_in;
-        agree = one.agree;
-        attribute = one.attribute;
-        member = one.member;
-        differ = one.differ;
-        after = Same-trans (replace_symbol one.attribute (symbol_at one.second one.attribute) (symbol_at one.first one.attribute) t) s u one.after same;
-      };
-    }
-
-multivalued_end : (n : ℕ) (ds : List Dependency) (t s u : Tableau) → IsMultivaluedStep n ds t s → SameTableau s u → IsMultivaluedStep n ds t u
-multivalued_end n ds t s u step same =
-    let one = step.step in
-    record {
-      lhs = step.lhs;
-      rhs = step.rhs;
-      given = step.given;
-      step = record {
-        first = one.first;
-        second = one.second;
-        first_in = one.first_in;
-        second_in = one.second_in;
-        agree = one.agree;
-        fresh = one.fresh;
-        after = Same-trans (exchange_rows n (union step.lhs step.rhs) one.first one.second ∷ t) s u one.after same;
-      };
-    }
-
-step_end : (n : ℕ) (ds : List Dependency) (t s u : Tableau) → IsStep n ds t s → SameTableau s u → IsStep n ds t u
-step_end n ds t s u (inl step) same = inl (functional_end ds t s u step same)
-step_end n ds t s u (inr step) same = inr (multivalued_end n ds t s u step same)
-
 leads_end : (Step : Tableau → Tableau → Type 0) → ((t s u : Tableau) → Step t s → SameTableau s u → Step t u) → (count : ℕ) (t s u : Tableau) → LeadsIn Step count t s → SameTableau s u → LeadsIn Step count t u
 leads_end Step end zero t s u leads same = Same-trans t s u leads same
 leads_end Step end (suc count) t s u leads same = (leads.0, leads.1, end leads.0 s u leads.2 same)
 
 pub functional_leads_end : (ds : List Dependency) (count : ℕ) (t s u : Tableau) → LeadsIn (IsFunctionalStep ds) count t s → SameTableau s u → LeadsIn (IsFunctionalStep ds) count t u
-functional_leads_end ds count t s u = leads_end (IsFunctionalStep ds) (functional_end ds) count t s u
+functional_leads_end ds count t s u = leads_end (IsFunctionalStep ds) (λ a b d step same. functional_between ds a a b d (Same-refl a) same step) count t s u
 
 pub step_leads_end : (n : ℕ) (ds : List Dependency) (count : ℕ) (t s u : Tableau) → LeadsIn (IsStep n ds) count t s → SameTableau s u → LeadsIn (IsStep n ds) count t u
-step_leads_end n ds count t s u = leads_end (IsStep n ds) (step_end n ds) count t s u
+step_leads_end n ds count t s u = leads_end (IsStep n ds) (λ a b d step same. step_between n ds a a b d (Same-refl a) same step) count t s u
 
 -- one step or more, after any number
 pub functional_leads_join : (ds : List Dependency) (more : ℕ) (t m s : Tableau) (count : ℕ) → LeadsIn (IsFunctionalStep ds) count t m → LeadsIn (IsFunctionalStep ds) (suc more) m s

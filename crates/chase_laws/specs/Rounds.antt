@@ -42,7 +42,8 @@ EndsRounds n ds t = Contains t (distinguished_row n) ⊎ IsClosed n ds t
 abbrev pub InRounds : ℕ → List Dependency → List Attributes → ℕ → Tableau → Type 0
 InRounds n ds plan zero t = SameTableau (plan_tableau n plan) t
 InRounds n ds plan (suc round) t =
-    (before functionally_closed : Tableau) × InRounds n ds plan round before × ClosesFunctionallyTo ds before functionally_closed
+    (before functionally_closed : Tableau) × InRounds n ds plan round before
+    × ClosesFunctionallyTo ds before functionally_closed
     × (EndsRounds n ds functionally_closed → ⊥) × IsNext n ds functionally_closed t
 
 -- there are more than so many rows in a tableau, equal ones counted once

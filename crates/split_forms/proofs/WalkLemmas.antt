@@ -14,6 +14,7 @@ use Rattle.normal_forms.specs.declared.forms.Form.{Form}
 use Rattle.normal_forms.specs.declared.forms.Form.TheVariants.{Third}
 use Rattle.split_forms.specs.Splitting.{StaysWhole, IsCutBy, IsStuckScheme, ReachedList, FinishedList, IsTooWideAt, HasTooManySchemes}
 use Rattle.split_forms.proofs.SizeLemmas.{IsProper}
+use Rattle.split_forms.specs.Lists.{IsSplitStep}
 use Rattle.split_forms.proofs.StepLemmas.{cons-head, cons-tail, step_length}
 use Rattle.split_forms.proofs.SplitLemmas.{lists_proper, lists_lossless}
 
@@ -128,45 +129,24 @@ module _ (n : ℕ) (ds : List Dependency) (form : Form) where
       abbrev after : List Attributes
       after = earlier ++ union x y ∷ difference (attributes scheme) y ∷ later
 
+      next_step : IsSplitStep Whole (IsCutBy n ds form) (schemes_of xs) after
+      next_step = record {
+        earlier = earlier;
+        scheme = attributes scheme;
+        later = later;
+        list = list;
+        whole = walked.whole;
+        x = x;
+        y = y;
+        cut = cut;
+        replaced = refl;
+      }
+
       next_reached : ReachedList n ds form after
-      next_reached = (
-        suc walked.reached.0,
-        (
-          schemes_of xs,
-          walked.reached.1,
-          record {
-            earlier = earlier;
-            scheme = attributes scheme;
-            later = later;
-            list = list;
-            whole = walked.whole;
-            x =
-                x;
-            y = y;
-            cut = cut;
-            replaced = refl;
-          },
-        ),
-      )
+      next_reached = (suc walked.reached.0, (schemes_of xs, walked.reached.1, next_step))
 
       next_length : length after ≡ length xs + 1
-      next_length = omega (
-        arith,
-        length-map xs attributes,
-        step_length Whole (IsCutBy n ds form) (schemes_of xs) after
-            (record {
-              earlier = earlier;
-              scheme = attributes scheme;
-              later = later;
-              list = list;
-              whole = walked.whole;
-              x =
-                  x;
-              y = y;
-              cut = cut;
-              replaced = refl;
-            }),
-      )
+      next_length = omega (arith, length-map xs attributes, step_length Whole (IsCutBy n ds form) (schemes_of xs) after next_step)
 
       pub walk_many : (limit : ℕ) → length xs ≤ limit → limit ≤ length xs → HasTooManySchemes n ds form limit
       walk_many limit few many =

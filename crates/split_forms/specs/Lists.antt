@@ -20,7 +20,8 @@ pub record IsSplitStep (Whole : Attributes → Type 0) (Cut : Attributes → Att
   pub replaced : after ≡ earlier ++ union x y ∷ difference scheme y ∷ later
 
 -- a list that so many steps lead to, from the universe alone
-abbrev pub ReachedIn : ℕ → (Attributes → Type 0) → (Attributes → Attributes → Attributes → Type 0) → ℕ → List Attributes → Type 0
+abbrev pub ReachedIn : ℕ → (Attributes → Type 0) → (Attributes → Attributes → Attributes → Type 0)
+    → ℕ → List Attributes → Type 0
 ReachedIn n Whole Cut zero schemes = schemes ≡ below n ∷ []
 ReachedIn n Whole Cut (suc count) schemes =
     (before : List Attributes) × ReachedIn n Whole Cut count before × IsSplitStep Whole Cut before schemes

@@ -40,5 +40,6 @@ IsUnionCompatible n whole = Unit {0}
 IsUnionCompatible n (values_on x) = Unit {0}
 IsUnionCompatible n (several x y) = Unit {0}
 IsUnionCompatible n (join p q) = IsUnionCompatible n p × IsUnionCompatible n q
-IsUnionCompatible n (except p q) = IsUnionCompatible n p × IsUnionCompatible n q × (attributes_of n p ≡ attributes_of n q)
+IsUnionCompatible n (except p q) =
+    IsUnionCompatible n p × IsUnionCompatible n q × (attributes_of n p ≡ attributes_of n q)
 IsUnionCompatible n (kept name q) = IsUnionCompatible n q

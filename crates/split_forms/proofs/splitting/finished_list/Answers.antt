@@ -10,9 +10,16 @@ use Rattle.split_forms.specs.Splitting.{StaysWhole, IsCutBy, IsStuckScheme, IsTo
 use Rattle.split_forms.proofs.SplitLemmas.{stuck_few, finished_few, finished_not_stuck}
 use Rattle.split_forms.proofs.WalkLemmas.{walk_on, walk_many, walk_cut, walk_stuck, walk_within, walk_end}
 use Rattle.split_forms.proofs.splitting.finished_list.Goals as goal
+use Rattle.split_forms.proofs.splitting.finished_list.Goals.{In-Cut}
 
 some_attributes : (s : Schema) → 0 < width_of s
 some_attributes s = s.valid.some_names
+
+-- the scheme is cut by what was found
+is_cut : (c : In-Cut) → IsCutBy (width_of c.args.schema.now) (theory_of c.args.schema.now) c.args.form (attributes c.index-scheme.result.now) (attributes c.in-Cut.breach.lhs) (attributes c.in-Cut.breach.rhs)
+is_cut c =
+    let s = c.args.schema.now in
+    subst (λ (o : Outcome). IsOutcome (width_of s) (theory_of s) c.args.form (attributes c.index-scheme.result.now) o) c.in-Cut.is c.in_ok-found_outcome.ensures.outcome
 
 pub found_outcome-requires-clause-scheme : goal.found_outcome-requires-clause-scheme
 found_outcome-requires-clause-scheme c =
@@ -56,9 +63,7 @@ returns-then-len-most-clause-refused c =
     let ds = theory_of s in
     let scheme = c.index-scheme.result.now in
     let breach = c.in-Cut.breach in
-    let cut : IsCutBy n ds c.args.form (attributes scheme) (attributes breach.lhs) (attributes breach.rhs) =
-    subst (λ (o : Outcome). IsOutcome n ds c.args.form (attributes scheme) o) c.in-Cut.is
-    c.in_ok-found_outcome.ensures.outcome in
+    let cut = is_cut (goal.at.returns-then-len-most-clause-refused c).In-Cut in
     let many : HasTooManySchemes n ds c.args.form c.args.limit =
     walk_many n ds c.args.form c.loop-at.schemes.items c.loop-at.at scheme (omega arith) (sym c.index-scheme.ensures)
     c.loop-at.invariant.walked (attributes breach.lhs) (attributes breach.rhs) cut c.args.limit
@@ -72,9 +77,7 @@ loop-at-preserved c =
     let ds = theory_of s in
     let scheme = c.index-scheme.result.now in
     let breach = c.in-Cut.breach in
-    let cut : IsCutBy n ds c.args.form (attributes scheme) (attributes breach.lhs) (attributes breach.rhs) =
-    subst (λ (o : Outcome). IsOutcome n ds c.args.form (attributes scheme) o) c.in-Cut.is
-    c.in_ok-found_outcome.ensures.outcome in
+    let cut = is_cut (goal.at.loop-at-preserved c).In-Cut in
     let made = walk_cut n ds c.args.form c.loop-at.schemes.items c.loop-at.at scheme (omega arith)
     (sym c.index-scheme.ensures) c.loop-at.invariant.walked (attributes breach.lhs) (attributes breach.rhs) cut
     c.cut_at.new.schemes.items c.in_ok-cut_at-in-Cut.ensures.cut in
@@ -91,9 +94,7 @@ loop-at-smaller c =
     let ds = theory_of s in
     let scheme = c.index-scheme.result.now in
     let breach = c.in-Cut.breach in
-    let cut : IsCutBy n ds c.args.form (attributes scheme) (attributes breach.lhs) (attributes breach.rhs) =
-    subst (λ (o : Outcome). IsOutcome n ds c.args.form (attributes scheme) o) c.in-Cut.is
-    c.in_ok-found_outcome.ensures.outcome in
+    let cut = is_cut (goal.at.loop-at-smaller c).In-Cut in
     let made = walk_cut n ds c.args.form c.loop-at.schemes.items c.loop-at.at scheme (omega arith)
     (sym c.index-scheme.ensures) c.loop-at.invariant.walked (attributes breach.lhs) (attributes breach.rhs) cut
     c.cut_at.new.schemes.items c.in_ok-cut_at-in-Cut.ensures.cut in
