@@ -1,6 +1,6 @@
 -- Reading a plan text line by line, and a line word by word.
-use Rattle.std.proofs.Common.{◌≡◌, ◌<◌, ◌+◌, ◌^◌, ℕ, Bool, true, false, List, [], ◌∷◌, ◌++◌, length, Some, None, Result, Ok, Err, refl, sym, ◌∙◌, arith}
-use Rattle.attr_sets.specs.Attributes.{Attributes, none, only, union}
+use Rattle.std.proofs.Common.{◌≡◌, ◌<◌, ◌+◌, ◌^◌, ℕ, Bool, true, false, List, [], ◌∷◌, ◌++◌, length, Result, Ok, Err, refl, ◌∙◌, arith}
+use Rattle.attr_sets.specs.Attributes.{Attributes, only, union}
 use Rattle.lexer.specs.declared.token.Mode.TheVariants as mode
 use Rattle.lexer.specs.Lines.{line_texts, CutsAt}
 use Rattle.lexer.specs.Tokens.{Mark, lex}

@@ -1,6 +1,6 @@
 -- The lines of a certificate, and how one is read from left to right: for the meaning, the reading
 -- and the printing of certificates.
-use Rattle.std.specs.Prelude.{ℕ, List, Option, Some, None, Result, Ok, Err, ok_or}
+use Rattle.std.specs.Prelude.{ℕ, List, Result, Ok, ok_or}
 use Rattle.dep_model.specs.Dependencies.{Dependency}
 use Rattle.derivation.specs.Trees.{Step, augmentation, maugmentation, complementation, replication, Pair, transitivity, mtransitivity, coalescence}
 use Rattle.lexer.specs.Tokens.{Mark}

@@ -1,5 +1,5 @@
 -- A line is read by what comes next on it: the names after a declaring word, or a dependency.
-use Rattle.std.proofs.Common.{◌≡◌, ◌∙◌, ℕ, Bool, true, false, List, length, Some, None, Ok, Err, ap, refl, sym}
+use Rattle.std.proofs.Common.{◌≡◌, ℕ, Bool, true, false, List, length, Some, None, Ok, Err, ap, refl, sym}
 use Rattle.dep_model.specs.declared.column_type.ColumnType.{ColumnType}
 use Rattle.lexer.specs.declared.token.Mode.TheVariants as mode
 use Rattle.lexer.specs.Tokens.{Mark, lex}
@@ -8,7 +8,7 @@ use Rattle.schema_grammar.specs.declared.refusal.SchemaRefusal.{SchemaRefusal}
 use Rattle.schema_grammar.specs.declared.refusal.SchemaRefusalKind.{SchemaRefusalKind}
 use Rattle.schema_grammar.specs.declared.refusal.SchemaRefusalKind.TheVariants as kind
 use Rattle.schema_grammar.specs.declared.refusal.What.TheVariants as what
-use Rattle.schema_grammar.specs.Declarations.{Declarations, list_names, list_names_rest, name_step, dependency_rest, line_of_marks, line_from, read_line}
+use Rattle.schema_grammar.specs.Declarations.{Declarations, list_names, list_names_rest, name_step, dependency_rest, line_of_marks, read_line}
 use Rattle.schema_grammar.specs.Refusals.{refusal}
 use Rattle.schema_grammar.specs.Rests.{Rest, rest_from}
 use Rattle.schema_grammar.specs.Words.{column_type_of_token}

@@ -1,6 +1,6 @@
 -- What the reader's values stand for, in the words of the grammar: for tokens and the readers
 -- above it. `Desk` does not cite it.
-use Rattle.std.specs.Prelude.{◌≡◌, ◌<◌, ℕ, ◌+◌, true, Option, Some, None, List, [], ◌∷◌, length}
+use Rattle.std.specs.Prelude.{◌≡◌, ◌<◌, ℕ, ◌+◌, true, Some, None, List, [], ◌∷◌, length}
 use Rattle.dep_model.specs.Names.{is_bare_name}
 use Rattle.dep_model.specs.Schemas.{names_of}
 use Rattle.lexer.specs.declared.token.LexError.{LexError}

@@ -1,5 +1,4 @@
 use Rattle.std.proofs.Common.{◌∙◌, refl}
-use Rattle.schema_grammar.specs.Reading.{follow_rest}
 use Rattle.schema_grammar.proofs.RefusalLemmas.{ok_whole, err_whole}
 use Rattle.dep_model.specs.Deps.{dependency_of}
 use Rattle.schema_reader.proofs.FollowLemmas.{follow_ended, follow_stopped, follow_refused, follow_more}

@@ -1,4 +1,4 @@
-use Rattle.std.proofs.Common.{◌≡◌, ◌∙◌, Err, refl, ap, sym}
+use Rattle.std.proofs.Common.{◌∙◌, Err, refl, ap, sym}
 use Rattle.dep_model.proofs.FailureLemmas.{refused_is}
 use Rattle.schema_grammar.specs.declared.refusal.SchemaRefusal.{SchemaRefusal}
 use Rattle.schema_reader.proofs.ListLemmas.{names_ended, names_wanted, names_stopped, names_refused, names_more}

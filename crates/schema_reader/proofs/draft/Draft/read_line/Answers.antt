@@ -1,4 +1,4 @@
-use Rattle.std.proofs.Common.{◌∙◌, sym, Option, ap}
+use Rattle.std.proofs.Common.{◌∙◌, sym}
 use Rattle.schema_grammar.proofs.RefusalLemmas.{on_ok_whole, refuses_whole}
 use Rattle.schema_reader.proofs.ListLemmas.{line_whole, line_ended, line_stopped, line_names, line_states}
 use Rattle.schema_reader.proofs.draft.Draft.read_line.Goals as goal
