@@ -1,15 +1,16 @@
 -- The types of the columns of a schema without types of its own: all text.
-use Rattle.std.proofs.Common.{◌≡◌, ℕ, ◌<◌, zero, suc, List, IsTrue, Some, All, Contains, length, replicate, refl, sym, ◌∙◌, arith}
+use Rattle.std.proofs.Common.{true, ◌≡◌, ℕ, ◌<◌, zero, suc, List, IsTrue, Some, All, Contains, length, replicate, get_or, refl, sym, ◌∙◌, arith}
 use Rattle.std.specs.List.{slice_get}
-use Rattle.std.proofs.lemmas.Bool.{true≢false}
+use Rattle.std.proofs.lemmas.Bool.{true≢false, false≢true}
 use Rattle.std.proofs.lemmas.List.{length-replicate, get_or-replicate}
 use Rattle.std.proofs.lemmas.List.Elements.{All-replicate}
 use Rattle.attr_sets.specs.Attributes.{Attributes, IsEmpty}
+use Rattle.dep_model.specs.declared.column_type.ColumnType.{ColumnType}
 use Rattle.dep_model.specs.declared.column_type.ColumnType.TheVariants.{Text, Integer}
 use Rattle.dep_model.specs.declared.naming.Naming.TheVariants.{Bare}
 use Rattle.dep_model.specs.Names.{is_bare_name}
 use Rattle.dep_model.specs.Columns.{is_column_type, is_plain_type}
-use Rattle.dep_model.specs.Validity.{AreDeclared}
+use Rattle.dep_model.specs.Validity.{AreColumns, AreDeclared}
 
 pub slice_get-texts : (n i : ℕ) → i < n → slice_get (replicate n Text) i ≡ Some Text
 slice_get-texts zero i low = absurd (omega arith)
@@ -41,4 +42,21 @@ AreDeclared-text names nullable bare none = record {
     };
     none_nullable = none;
   };
+}
+
+-- ---- types beside bare names
+plain_is_type : (column : ColumnType) → is_plain_type column ≡ true → is_column_type column ≡ true
+plain_is_type Text plain = refl
+plain_is_type Integer plain = refl
+plain_is_type column plain = absurd (false≢true plain)
+
+-- types that fit bare names, none of them nullable, are columns
+pub AreDeclared-bare : (names : List (List ℕ)) (columns : List ColumnType) (nullable : Attributes)
+    → All (λ name. IsTrue (is_bare_name name)) names → AreColumns names columns → IsEmpty nullable
+    → AreDeclared Bare names columns nullable
+AreDeclared-bare names columns nullable bare are none = record {
+  one_each = are.one_each;
+  each = λ k d low. plain_is_type (get_or columns k d) (are.plain k d low);
+  nullable_within = λ k inside. absurd (true≢false (sym inside ∙ none k));
+  bare = λ is_bare. record { each_bare = bare; are_columns = are; none_nullable = none };
 }

@@ -1,7 +1,7 @@
 ghost use Rattle.std.specs.Prelude.{◌≡◌, ℕ, ◌<◌, IsTrue, length, All, slice_get, Some, position};
 ghost use Rattle.attr_sets.specs.Sets.{attributes};
 ghost use Rattle.dep_model.specs.Names.{is_bare_name, same_name};
-ghost use Rattle.dep_model.specs.Columns.{types_or_text};
+ghost use Rattle.dep_model.specs.Columns.{types_or_text, is_column_type};
 ghost use Rattle.dep_model.specs.Validity.{IsSchema, AreDeclared};
 
 use crate::{ColumnType, Dep, Name, Naming};
@@ -104,6 +104,7 @@ impl Schema {
     pub fn column(&self, i: u8) -> ColumnType
         requires { i < width_of self.now }
         ensures column { slice_get (types_of self.now) i ≡ Some result }
+        ensures valid { IsTrue (is_column_type result) }
     {
         match &self.types {
             None => ColumnType::Text,
