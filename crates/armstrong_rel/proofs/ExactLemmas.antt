@@ -9,17 +9,17 @@ use Rattle.std.proofs.lemmas.List.Elements.{Contains-get_or}
 use Rattle.std.proofs.lemmas.Option.{slice_get_within}
 use Rattle.attr_sets.specs.Attributes.{Attributes, below, intersection, IsSubset}
 use Rattle.attr_sets.proofs.AttributesLemmas.{tell_subset, same_at}
+use Rattle.dep_model.specs.declared.column_type.ColumnType.{ColumnType}
 use Rattle.dep_model.specs.declared.column_type.ColumnType.TheVariants.{Integer}
 use Rattle.attr_sets.specs.Sets.{attributes}
 use Rattle.dep_model.specs.declared.schema.Schema.{Schema}
-use Rattle.dep_model.specs.Schemas.{width_of, theory_of, deps_of, LegalFor, TypedFor}
-use Rattle.dep_model.specs.Columns.{columns_on, IsTyped}
+use Rattle.dep_model.specs.Schemas.{width_of, types_of, theory_of, deps_of, LegalFor, TypedFor}
+use Rattle.dep_model.specs.Columns.{IsTyped}
 use Rattle.dep_model.specs.Integers.{IsIntegerText}
 use Rattle.dep_model.specs.Tuples.{Tuple, Relation, value_at, AgreeOn, IsOver}
 use Rattle.dep_model.specs.Dependencies.{Dependency, fd, ObeysFd, is_fd, functional_part, left_of, right_of, IsWithin}
 use Rattle.dep_model.specs.Implication.{IsLegal, Implies}
 use Rattle.dep_model.specs.TwoTuples.{all_zeros}
-use Rattle.dep_model.proofs.ColumnLemmas.{length-columns_on}
 use Rattle.dep_model.proofs.DepLemmas.{dependencies_all-from}
 use Rattle.dep_model.proofs.ListLemmas.{Contains-head}
 use Rattle.dep_model.proofs.PreservationLemmas.{fd-obeys, fd-obeyed}
@@ -159,14 +159,14 @@ decimal_integer v few = elim (cases_eq v 0) [
       }))
 ]
 
-pub tuples_typed : (n : ℕ) (integers : Attributes) (sets : List Attributes) → length sets < 2 ^ 63
-    → IsTyped (columns_on n integers) (tuples_for n sets)
-tuples_typed n integers sets few i d l k is_integer =
+pub tuples_typed : (n : ℕ) (columns : List ColumnType) (sets : List Attributes) → length columns ≡ n → length sets < 2 ^ 63
+    → IsTyped columns (tuples_for n sets)
+tuples_typed n columns sets one_each few i d l k is_integer =
     let low : k < n = omega (
       arith,
       slice_get_within
-          (columns_on n integers) k Integer is_integer,
-      length-columns_on n integers,
+          columns k Integer is_integer,
+      one_each,
     ) in
     let t : Tuple = get_or (tuples_for n sets) i d in
     let found = tuple_of_number n sets t (Contains-get_or (tuples_for n sets) i d l) in
@@ -196,5 +196,5 @@ tuples_for_exhibit s sets same are few =
       armstrong = armstrong;
       legal = armstrong_legal (width_of s) (theory_of s) (tuples_for (width_of s) sets) within same
           (tuples_over (width_of s) sets) armstrong;
-      typed = tuples_typed (width_of s) (attributes s.integers) sets few;
+      typed = tuples_typed (width_of s) (types_of s) sets s.typed.one_each few;
     }

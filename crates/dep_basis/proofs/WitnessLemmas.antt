@@ -7,12 +7,12 @@ use Rattle.std.proofs.lemmas.List.Elements.{All-cons, All-nil}
 use Rattle.std.specs.Prelude.{slice_get}
 use Rattle.std.proofs.Common.{Some}
 use Rattle.attr_sets.specs.Attributes.{Attributes}
+use Rattle.dep_model.specs.declared.column_type.ColumnType.{ColumnType}
 use Rattle.dep_model.specs.declared.column_type.ColumnType.TheVariants.{Integer}
 use Rattle.dep_model.specs.Tuples.{Tuple, value_at}
-use Rattle.dep_model.specs.Columns.{columns_on, IsTyped}
+use Rattle.dep_model.specs.Columns.{IsTyped}
 use Rattle.dep_model.specs.Integers.{IsIntegerText}
 use Rattle.dep_model.specs.TwoTuples.{zero_text, one_text, all_zeros, zeros_on, two_tuples}
-use Rattle.dep_model.proofs.ColumnLemmas.{length-columns_on}
 use Rattle.dep_model.proofs.TwoTupleLemmas.{length-all_zeros, length-zeros_on, value_at-all_zeros, value_at-zeros_on, two_tuples-is}
 
 pub zeros_on-none : (x : Attributes) → zeros_on 0 x ≡ []
@@ -43,16 +43,16 @@ digit_integer true = zero_integer
 digit_integer false = one_integer
 
 -- ---- so the two tuples fit columns of either type
-abbrev FitsTypes : ℕ → Attributes → Tuple → Type 0
-FitsTypes n integers t = (k : ℕ) → slice_get (columns_on n integers) k ≡ Some Integer → IsIntegerText (value_at t k)
+abbrev FitsTypes : List ColumnType → Tuple → Type 0
+FitsTypes columns t = (k : ℕ) → slice_get columns k ≡ Some Integer → IsIntegerText (value_at t k)
 
-integer_column-below : (n : ℕ) (integers : Attributes) (k : ℕ) → slice_get (columns_on n integers) k ≡ Some Integer → k < n
-integer_column-below n integers k e = omega (arith, slice_get_within (columns_on n integers) k Integer e, length-columns_on n integers)
+integer_column-below : (n : ℕ) (columns : List ColumnType) → length columns ≡ n → (k : ℕ) → slice_get columns k ≡ Some Integer → k < n
+integer_column-below n columns one_each k e = omega (arith, slice_get_within columns k Integer e, one_each)
 
-pub two_tuples-typed : (n : ℕ) (integers x : Attributes) → IsTyped (columns_on n integers) (two_tuples n x)
-two_tuples-typed n integers x = rw (two_tuples-is n x)
-    (All-cons (FitsTypes n integers) (all_zeros n) (zeros_on n x ∷ [])
-    (λ (k : ℕ) e. rw (value_at-all_zeros n k (integer_column-below n integers k e)) zero_integer)
-    (All-cons (FitsTypes n integers) (zeros_on n x) []
-    (λ (k : ℕ) e. rw (value_at-zeros_on n x k (integer_column-below n integers k e)) (digit_integer (x k)))
-    (All-nil (FitsTypes n integers))))
+pub two_tuples-typed : (n : ℕ) (columns : List ColumnType) (x : Attributes) → length columns ≡ n → IsTyped columns (two_tuples n x)
+two_tuples-typed n columns x one_each = rw (two_tuples-is n x)
+    (All-cons (FitsTypes columns) (all_zeros n) (zeros_on n x ∷ [])
+    (λ (k : ℕ) e. rw (value_at-all_zeros n k (integer_column-below n columns one_each k e)) zero_integer)
+    (All-cons (FitsTypes columns) (zeros_on n x) []
+    (λ (k : ℕ) e. rw (value_at-zeros_on n x k (integer_column-below n columns one_each k e)) (digit_integer (x k)))
+    (All-nil (FitsTypes columns))))

@@ -1,13 +1,19 @@
 -- What is printed so far of a set or of a declaring line, and what is still to print.
-use Rattle.std.proofs.Common.{◌≡◌, ◌<◌, ◌+◌, ⊎_elim, ℕ, Bool, true, false, cond, List, [], ◌∷◌, ◌++◌, length, drop, refl, sym, ◌∙◌, ap, subst, append_assoc, add-one, drop-cons, get_or, Some}
+use Rattle.std.proofs.Common.{◌≡◌, ◌<◌, ◌≤◌, ◌+◌, ⊎_elim, inl, inr, zero, suc, arith, ℕ, Bool, true, false, cond, List, [], ◌∷◌, ◌++◌, length, drop, refl, sym, ◌∙◌, ap, subst, append_assoc, add-one, drop-cons, get_or, Some}
 use Rattle.std.specs.List.{slice_get}
-use Rattle.std.proofs.lemmas.Bool.{cases_Bool}
+use Rattle.std.proofs.lemmas.Bool.{cases_Bool, cases_eq, eqb-true, false≢true}
+use Rattle.std.proofs.lemmas.Slice.Eq.{bytes_eq-Decides}
+use Rattle.dep_model.specs.declared.column_type.ColumnType.TheVariants.{Text, Integer, Date, Timestamp, Decimal, Uuid, Other}
+use Rattle.std.proofs.lemmas.Bool.Decides.{nat_tests}
+use Rattle.std.proofs.lemmas.List.{drop_all}
+use Rattle.std.specs.Result.{OnOk}
+use Rattle.std.specs.Prelude.{Result, Ok, Err}
 use Rattle.std.proofs.lemmas.Option.{get_or_from_slice_get, slice_get_within}
 use Rattle.std.proofs.lemmas.List.{append-nil}
-use Rattle.std.specs.Prelude.{map}
-use Rattle.attr_sets.specs.Attributes.{Attributes}
+use Rattle.std.specs.Prelude.{map, codes}
+use Rattle.attr_sets.specs.Attributes.{Attributes, IsEmpty, IsSubset, below}
 use Rattle.dep_model.specs.declared.column_type.ColumnType.{ColumnType}
-use Rattle.schema_printer.specs.Printing.{words_text, members_from, side_text, set_text, runs_of, in_front, run_line, lines_text, type_word, same_column, Run}
+use Rattle.schema_printer.specs.Printing.{words_text, members_from, side_text, set_text, runs_of, in_front, run_line, lines_text, type_word, same_column, is_integer, nullable_lines, Run}
 
 -- what is still to print of a set, where a name stood before or not
 abbrev pub rest_text : Bool → List (List ℕ) → List ℕ
@@ -105,3 +111,92 @@ runs_begin (d ∷ columns) (first ∷ names) before text c name first_type first
     d ++ ((32 ∷ first) ++ after_text d columns names) =
     rw led.whole (simp (append_assoc, led.text)) in
     record { same = rw (whole, added, type_is, name_is) (simp append_assoc) }
+
+-- ---- attributes of which a value may be missing
+pub members_empty : (x : Attributes) (k : ℕ) (names : List (List ℕ)) → IsEmpty x → members_from x k names ≡ []
+members_empty x k [] none = refl
+members_empty x k (name ∷ names) none = rw (none k) (members_empty x (k + 1) names none)
+
+cons_not_nil : (name : List ℕ) (names : List (List ℕ)) → name ∷ names ≡ [] → ⊥
+cons_not_nil name names same = cc
+
+members_none : (x : Attributes) (k : ℕ) (names : List (List ℕ)) → members_from x k names ≡ []
+    → (j : ℕ) → k ≤ j → j < k + length names → x j ≡ false
+members_none x k [] none j from low = absurd (omega arith)
+members_none x k (name ∷ names) none j from low =
+    elim (cases_Bool (x k)) [
+      | inl inside ↦ absurd (cons_not_nil name (members_from x (k + 1) names) (rw inside at none))
+      | inr outside ↦
+          let rest : members_from x (k + 1) names ≡ [] = rw outside at none in
+          elim (cases_eq k j) [
+            | inl here ↦ subst (λ (i : ℕ). x i ≡ false) here outside
+            | inr other ↦ members_none x (k + 1) names rest j (omega arith) (omega arith)
+          ]
+    ]
+
+-- a set within the names of which no name is printed is empty
+pub empty_from_members : (x : Attributes) (names : List (List ℕ)) → IsSubset x (below (length names))
+    → members_from x 0 names ≡ [] → IsEmpty x
+empty_from_members x names within none j =
+    elim (cases_Bool (x j)) [
+      | inl inside ↦ members_none x 0 names none j (omega arith) (grind (arith, nat_tests, within j inside))
+      | inr outside ↦ outside
+    ]
+
+nullable_line : (words : List (List ℕ)) → (words ≡ [] → ⊥)
+    → codes "nullable " ++ side_text words ++ 10 ∷ [] ≡ lines_text (nullable_lines words)
+unfolding nullable_lines
+nullable_line [] some = absurd (some refl)
+nullable_line (word ∷ words) some = simp (append_assoc, append-nil)
+
+pub nullable_printed : (x : Attributes) (names : List (List ℕ)) → (members_from x 0 names ≡ [] → ⊥)
+    → codes "nullable " ++ set_text names x ++ 10 ∷ [] ≡ lines_text (nullable_lines (members_from x 0 names))
+unfolding set_text
+nullable_printed x names some = nullable_line (members_from x 0 names) some
+
+pub nullable_nothing : (x : Attributes) (names : List (List ℕ)) → IsEmpty x
+    → lines_text (nullable_lines (members_from x 0 names)) ≡ []
+unfolding nullable_lines
+nullable_nothing x names none = rw (members_empty x 0 names none) refl
+
+-- all of a set is printed
+pub set_done : (names : List (List ℕ)) (x : Attributes) (before text : List ℕ) (some : Bool) (k : ℕ)
+    → PrintsSet names x before text some k → length names ≤ k → text ++ rest_text some [] ≡ before ++ set_text names x
+set_done names x before text some k prints past =
+    let none : drop k names ≡ [] = drop_all k names past in
+    rw none at prints.same
+
+-- ---- what is added unless there is no memory
+pub added_as : {T E : Type 0} (r : Result T E) (old a b new : List ℕ) → a ≡ b → OnOk r (new ≡ old ++ a) → OnOk r (new ≡ old ++ b)
+added_as r old a b new same added = subst (λ (t : List ℕ). OnOk r (new ≡ old ++ t)) same added
+
+-- parts in front of what is added last
+pub added_after : {T E : Type 0} (r : Result T E) (old a t b new : List ℕ) → t ≡ old ++ a → OnOk r (new ≡ t ++ b) → OnOk r (new ≡ old ++ (a ++ b))
+added_after (Ok x) old a t b new first last = last ∙ ap (λ (u : List ℕ). u ++ b) first ∙ append_assoc old a b
+added_after (Err e) old a t b new first last = tt
+
+pub added_before : {T E : Type 0} (r : Result T E) (before text a b new : List ℕ) → text ++ a ≡ before ++ b
+    → OnOk r (new ≡ text ++ a) → OnOk r (new ≡ before ++ b)
+added_before (Ok x) before text a b new whole last = last ∙ whole
+added_before (Err e) before text a b new whole last = tt
+
+-- an element within a list
+pub slice_get-get_or : {X : Type 0} (xs : List X) (i : ℕ) (d : X) → i < length xs → slice_get xs i ≡ Some (get_or xs i d)
+slice_get-get_or [] i d low = absurd (omega arith)
+slice_get-get_or (x ∷ xs) zero d low = refl
+slice_get-get_or (x ∷ xs) (suc i) d low = slice_get-get_or xs i d (omega arith)
+
+-- ---- types of columns
+pub same_column-is : (c d : ColumnType) → same_column c d ≡ true → c ≡ d
+same_column-is Text Text same = refl
+same_column-is Integer Integer same = refl
+same_column-is Date Date same = refl
+same_column-is Timestamp Timestamp same = refl
+same_column-is (Decimal scale) (Decimal other) same = ap Decimal (eqb-true scale other same)
+same_column-is Uuid Uuid same = refl
+same_column-is (Other text) (Other other) same = ap Other ((bytes_eq-Decides text other).0 same)
+same_column-is c d same = absurd (false≢true same)
+
+pub integer_is : (c : ColumnType) → is_integer c ≡ true → c ≡ Integer
+integer_is Integer same = refl
+integer_is c same = absurd (false≢true same)

@@ -1,2 +1,3 @@
 -- The definitions of schema_printer: the texts of sets, dependencies and schemas.
 pub mod Printing
+pub mod Spelling

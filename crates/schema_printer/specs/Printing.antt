@@ -1,11 +1,16 @@
 -- The texts of sets, dependencies and schemas: for schema_printer, and for every text that names
 -- attributes.
-use Rattle.std.specs.Prelude.{ℕ, ◌+◌, Bool, true, false, if◌then◌else◌, List, [], ◌∷◌, ◌++◌, map, codes}
+use Rattle.std.specs.Prelude.{ℕ, ◌+◌, ◌==◌, Bool, true, false, if◌then◌else◌, List, [], ◌∷◌, ◌++◌, map, codes, decimal, bytes_eq}
 use Rattle.std.specs.List.{flat_map, list_any}
 use Rattle.attr_sets.specs.Attributes.{Attributes}
 use Rattle.dep_model.specs.declared.column_type.ColumnType.{ColumnType}
-use Rattle.dep_model.specs.declared.column_type.ColumnType.TheVariants.{Text, Integer}
+use Rattle.dep_model.specs.declared.column_type.ColumnType.TheVariants.{Text, Integer, Date, Timestamp, Decimal, Uuid, Other}
+use Rattle.dep_model.specs.declared.naming.Naming.{Naming}
+use Rattle.dep_model.specs.declared.naming.Naming.TheVariants.{Bare, Any}
+use Rattle.dep_model.specs.declared.schema.Schema.{Schema}
 use Rattle.dep_model.specs.Dependencies.{Dependency, fd, mvd}
+use Rattle.dep_model.specs.Schemas.{naming_of, types_of, nullable_of}
+use Rattle.schema_printer.specs.Spelling.{quoted, printed_names_of}
 
 -- words, each after a blank
 abbrev pub words_text : List (List ℕ) → List ℕ
@@ -37,14 +42,19 @@ pub record Run : Type 0 where
   pub names : List (List ℕ)
 
 abbrev pub is_integer : ColumnType → Bool
-is_integer Text = false
 is_integer Integer = true
+is_integer column = false
 
+-- whether two types of columns are one type
 abbrev pub same_column : ColumnType → ColumnType → Bool
 same_column Text Text = true
-same_column Text Integer = false
-same_column Integer Text = false
 same_column Integer Integer = true
+same_column Date Date = true
+same_column Timestamp Timestamp = true
+same_column (Decimal scale) (Decimal other) = scale == other
+same_column Uuid Uuid = true
+same_column (Other text) (Other other) = bytes_eq text other
+same_column column other = false
 
 -- an attribute in front of runs
 abbrev pub in_front : ColumnType → List ℕ → List Run → List Run
@@ -60,26 +70,50 @@ runs_of [] names = []
 runs_of (column ∷ columns) [] = []
 runs_of (column ∷ columns) (name ∷ names) = in_front column name (runs_of columns names)
 
+-- the word, or the two words, that declare columns of a type
 abbrev pub type_word : ColumnType → List ℕ
 type_word Text = codes "text"
 type_word Integer = codes "integer"
+type_word Date = codes "date"
+type_word Timestamp = codes "timestamp"
+type_word (Decimal scale) = codes "decimal " ++ decimal scale
+type_word Uuid = codes "uuid"
+type_word (Other text) = codes "other " ++ quoted text
 
 abbrev pub run_line : Run → List ℕ
 run_line run = type_word run.column ++ words_text run.names
 
--- the lines that declare attributes: one where all columns are text columns, else a version line and
--- a line for each run
+-- the lines that declare attributes with bare names: one where all columns are text columns, else a
+-- version line and a line for each run
 unfoldable pub declaring_lines : List ColumnType → List (List ℕ) → List (List ℕ)
 declaring_lines columns names =
     if list_any is_integer columns
     then codes "version 2" ∷ map run_line (runs_of columns names)
     else (codes "attributes" ++ words_text names) ∷ []
 
+-- the line of the attributes of which a value may be missing, where there are any
+unfoldable pub nullable_lines : List (List ℕ) → List (List ℕ)
+nullable_lines [] = []
+nullable_lines (name ∷ names) = (codes "nullable " ++ side_text (name ∷ names)) ∷ []
+
+-- the lines that declare the attributes of a schema, by the names as they are printed
+unfoldable pub schema_lines : Naming → List ColumnType → List (List ℕ) → Attributes → List (List ℕ)
+schema_lines Bare columns names nullable = declaring_lines columns names
+schema_lines Any columns names nullable =
+    codes "version 3" ∷ (map run_line (runs_of columns names)
+    ++ nullable_lines (members_from nullable 0 names))
+
 -- lines, each with a line feed at its end
 abbrev pub lines_text : List (List ℕ) → List ℕ
 lines_text lines = flat_map (λ line. line ++ 10 ∷ []) lines
 
--- the declaring lines of a schema, and dependencies over its names
+-- the declaring lines of attributes with bare names, and dependencies over them
 unfoldable pub declared_text : List ColumnType → List (List ℕ) → List Dependency → List ℕ
 declared_text columns names deps =
     lines_text (declaring_lines columns names ++ map (dependency_text names) deps)
+
+-- the declaring lines of a schema, and dependencies over its names
+unfoldable pub schema_text : Schema → List Dependency → List ℕ
+schema_text s deps =
+    lines_text (schema_lines (naming_of s) (types_of s) (printed_names_of s) (nullable_of s)
+    ++ map (dependency_text (printed_names_of s)) deps)

@@ -4,8 +4,11 @@
 //! the grammar, which stands above.
 #![tactic(auto)]
 
+pub mod laws;
 mod printing;
+mod spelling;
 
 pub use printing::{
-    add, add_dep, add_number, add_set, print_dep, print_deps, print_schema, print_set,
+    add, add_dep, add_digit, add_number, add_set, print_dep, print_deps, print_schema, print_set,
 };
+pub use spelling::{add_name, add_quoted};

@@ -1,13 +1,16 @@
-ghost use Rattle.std.specs.Prelude.{◌≡◌, ◌∷◌, ◌++◌, if◌then◌else◌, map, decimal, IfOk, OnOk, All};
+ghost use Rattle.std.specs.Prelude.{◌≡◌, ◌-◌, [], ◌∷◌, slice_index_or, codes, ◌++◌, if◌then◌else◌, ◌<◌, map, decimal, IfOk, IsTrue, OnOk, All};
 ghost use Rattle.std.specs.List.{list_any};
 ghost use Rattle.attr_sets.specs.Attributes.{IsSubset};
 ghost use Rattle.attr_sets.specs.Sets.{attributes};
 ghost use Rattle.dep_model.specs.Deps.{dependency_of, dependencies_of, IsDepWithin};
-ghost use Rattle.dep_model.specs.Schemas.{names_of, types_of, theory_of, universe_of};
-ghost use Rattle.schema_printer.specs.Printing.{set_text, dependency_text, declared_text, declaring_lines, lines_text, words_text, run_line, runs_of, type_word, same_column, is_integer};
+ghost use Rattle.dep_model.specs.Columns.{is_column_type};
+ghost use Rattle.dep_model.specs.Schemas.{naming_of, width_of, types_of, nullable_of, theory_of, universe_of};
+ghost use Rattle.schema_printer.specs.Printing.{set_text, dependency_text, members_from, schema_text, schema_lines, nullable_lines, declaring_lines, lines_text, words_text, run_line, runs_of, type_word, same_column, is_integer};
+ghost use Rattle.schema_printer.specs.Spelling.{spelling, quoted, printed_names_of};
 
+use crate::spelling::{add_name, add_quoted};
 use attr_sets::AttrSet;
-use dep_model::{ColumnType, Dep, OutOfMemory, Schema};
+use dep_model::{ColumnType, Dep, Name, Naming, OutOfMemory, Schema};
 use std::alloc::Global;
 
 /// The schema in the one form: the lines that declare its attributes, and a line for each dependency.
@@ -17,19 +20,17 @@ use std::alloc::Global;
 /// the text that the law `printed_schema_means` of the grammar is about.
 pub fn print_schema(alloc: Global, schema: &Schema) -> Result<Vec<u8>, OutOfMemory>
     ensures text { IfOk result
-        (λ text. text.items ≡ declared_text (types_of schema.now) (names_of schema.now)
-        (theory_of schema.now)) }
+        (λ text. text.items ≡ schema_text schema.now (theory_of schema.now)) }
 {
     print_deps(alloc, schema, schema.deps())
 }
 
 /// The lines that declare the schema's attributes, and a line for each of these dependencies.
-#[tactic(auto, unfolding(crate::specs::Printing::declared_text))]
+#[tactic(auto, unfolding(crate::specs::Printing::schema_text))]
 pub fn print_deps(alloc: Global, schema: &Schema, deps: &[Dep]) -> Result<Vec<u8>, OutOfMemory>
     requires { All (IsDepWithin (universe_of schema.now)) deps.now }
     ensures text { IfOk result
-        (λ text. text.items ≡ declared_text (types_of schema.now) (names_of schema.now)
-        (dependencies_of deps.now)) }
+        (λ text. text.items ≡ schema_text schema.now (dependencies_of deps.now)) }
 {
     let mut text = Vec::new(alloc);
     add_declarations(&mut text, schema)?;
@@ -44,7 +45,7 @@ pub fn print_deps(alloc: Global, schema: &Schema, deps: &[Dep]) -> Result<Vec<u8
 pub fn print_dep(alloc: Global, schema: &Schema, dep: Dep) -> Result<Vec<u8>, OutOfMemory>
     requires { IsDepWithin (universe_of schema.now) dep }
     ensures text { IfOk result
-        (λ text. text.items ≡ dependency_text (names_of schema.now) (dependency_of dep)) }
+        (λ text. text.items ≡ dependency_text (printed_names_of schema.now) (dependency_of dep)) }
 {
     let mut text = Vec::new(alloc);
     add_dep(&mut text, schema, dep)?;
@@ -54,7 +55,7 @@ pub fn print_dep(alloc: Global, schema: &Schema, dep: Dep) -> Result<Vec<u8>, Ou
 /// The names of the set's members in ascending order, one blank between, or `()` for the empty set.
 pub fn print_set(alloc: Global, schema: &Schema, set: AttrSet) -> Result<Vec<u8>, OutOfMemory>
     requires { IsSubset (attributes set) (universe_of schema.now) }
-    ensures text { IfOk result (λ text. text.items ≡ set_text (names_of schema.now) (attributes set)) }
+    ensures text { IfOk result (λ text. text.items ≡ set_text (printed_names_of schema.now) (attributes set)) }
 {
     let mut text = Vec::new(alloc);
     add_set(&mut text, schema, set)?;
@@ -81,7 +82,7 @@ pub fn add_number(text: &mut Vec<u8>, alloc: Global, number: u32) -> Result<(), 
 #[tactic(auto, unfolding(crate::specs::Printing::dependency_text))]
 pub fn add_dep(text: &mut Vec<u8>, schema: &Schema, dep: Dep) -> Result<(), OutOfMemory>
     ensures added { OnOk result (text.new.items
-        ≡ text.old.items ++ dependency_text (names_of schema.now) (dependency_of dep)) }
+        ≡ text.old.items ++ dependency_text (printed_names_of schema.now) (dependency_of dep)) }
 {
     match dep {
         Dep::Fd { lhs, rhs } => add_sides(text, schema, lhs, b" -> ", rhs),
@@ -97,8 +98,8 @@ fn add_sides(
     rhs: AttrSet,
 ) -> Result<(), OutOfMemory>
     ensures added { OnOk result (text.new.items
-        ≡ text.old.items ++ (set_text (names_of schema.now) (attributes lhs) ++ arrow.now
-        ++ set_text (names_of schema.now) (attributes rhs))) }
+        ≡ text.old.items ++ (set_text (printed_names_of schema.now) (attributes lhs) ++ arrow.now
+        ++ set_text (printed_names_of schema.now) (attributes rhs))) }
 {
     add_set(text, schema, lhs)?;
     add(text, arrow)?;
@@ -108,12 +109,12 @@ fn add_sides(
 /// Adds the names of a set's members to a text, or `()`.
 pub fn add_set(text: &mut Vec<u8>, schema: &Schema, set: AttrSet) -> Result<(), OutOfMemory>
     ensures added { OnOk result (text.new.items
-        ≡ text.old.items ++ set_text (names_of schema.now) (attributes set)) }
+        ≡ text.old.items ++ set_text (printed_names_of schema.now) (attributes set)) }
 {
     let mut some = false;
     for attribute in 0..schema.width() {
         if set.contains(attribute) {
-            add_member(text, some, schema.name(attribute).bytes())?;
+            add_member(text, some, schema.naming(), schema.name(attribute))?;
             some = true;
         }
     }
@@ -121,20 +122,69 @@ pub fn add_set(text: &mut Vec<u8>, schema: &Schema, set: AttrSet) -> Result<(), 
 }
 
 /// A name; after a blank where another one stands before it.
-fn add_member(text: &mut Vec<u8>, some: bool, name: &[u8]) -> Result<(), OutOfMemory>
+fn add_member(
+    text: &mut Vec<u8>,
+    some: bool,
+    naming: Naming,
+    name: &Name,
+) -> Result<(), OutOfMemory>
     ensures added { OnOk result (text.new.items
-        ≡ text.old.items ++ (if some then 32 ∷ name.now else name.now)) }
+        ≡ text.old.items ++ (if some then 32 ∷ spelling naming name.now else spelling naming name.now)) }
 {
     if some {
         add(text, b" ")?;
     }
-    add(text, name)
+    add_name(text, naming, name)
+}
+
+#[tactic(auto, unfolding(crate::specs::Printing::schema_lines))]
+fn add_declarations(text: &mut Vec<u8>, schema: &Schema) -> Result<(), OutOfMemory>
+    ensures added { OnOk result (text.new.items
+        ≡ text.old.items ++ lines_text (schema_lines (naming_of schema.now) (types_of schema.now)
+        (printed_names_of schema.now) (nullable_of schema.now))) }
+{
+    match schema.naming() {
+        Naming::Bare => add_bare_declarations(text, schema),
+        Naming::Any => {
+            add(text, b"version 3\n")?;
+            add_runs(text, schema)?;
+            add_nullable(text, schema)
+        }
+    }
+}
+
+/// The line of the attributes of which a value may be missing, where there are any.
+fn add_nullable(text: &mut Vec<u8>, schema: &Schema) -> Result<(), OutOfMemory>
+    ensures added { OnOk result (text.new.items ≡ text.old.items
+        ++ lines_text (nullable_lines
+        (members_from (nullable_of schema.now) 0 (printed_names_of schema.now)))) }
+{
+    let nullable = schema.nullable();
+    if nullable.is_empty() {
+        Ok(())
+    } else {
+        add_nullable_line(text, schema, nullable)
+    }
+}
+
+fn add_nullable_line(
+    text: &mut Vec<u8>,
+    schema: &Schema,
+    nullable: AttrSet,
+) -> Result<(), OutOfMemory>
+    ensures added { OnOk result (text.new.items ≡ text.old.items
+        ++ (codes "nullable " ++ set_text (printed_names_of schema.now) (attributes nullable)
+        ++ 10 ∷ [])) }
+{
+    add(text, b"nullable ")?;
+    add_set(text, schema, nullable)?;
+    add(text, b"\n")
 }
 
 #[tactic(auto, unfolding(crate::specs::Printing::declaring_lines))]
-fn add_declarations(text: &mut Vec<u8>, schema: &Schema) -> Result<(), OutOfMemory>
+fn add_bare_declarations(text: &mut Vec<u8>, schema: &Schema) -> Result<(), OutOfMemory>
     ensures added { OnOk result (text.new.items
-        ≡ text.old.items ++ lines_text (declaring_lines (types_of schema.now) (names_of schema.now))) }
+        ≡ text.old.items ++ lines_text (declaring_lines (types_of schema.now) (printed_names_of schema.now))) }
 {
     if has_integers(schema) {
         add(text, b"version 2\n")?;
@@ -161,18 +211,18 @@ fn is_integer(column: ColumnType) -> bool
     ensures exact { result ≡ is_integer column }
 {
     match column {
-        ColumnType::Text => false,
         ColumnType::Integer => true,
+        _ => false,
     }
 }
 
 /// Each name after a blank.
 fn add_names(text: &mut Vec<u8>, schema: &Schema) -> Result<(), OutOfMemory>
-    ensures added { OnOk result (text.new.items ≡ text.old.items ++ words_text (names_of schema.now)) }
+    ensures added { OnOk result (text.new.items ≡ text.old.items ++ words_text (printed_names_of schema.now)) }
 {
     for attribute in 0..schema.width() {
         add(text, b" ")?;
-        add(text, schema.name(attribute).bytes())?;
+        add_name(text, schema.naming(), schema.name(attribute))?;
     }
     Ok(())
 }
@@ -181,46 +231,105 @@ fn add_names(text: &mut Vec<u8>, schema: &Schema) -> Result<(), OutOfMemory>
 fn add_runs(text: &mut Vec<u8>, schema: &Schema) -> Result<(), OutOfMemory>
     ensures added { OnOk result (text.new.items
         ≡ text.old.items ++ lines_text
-        (map run_line (runs_of (types_of schema.now) (names_of schema.now)))) }
+        (map run_line (runs_of (types_of schema.now) (printed_names_of schema.now)))) }
 {
-    let mut last = schema.column(0);
-    add_typed(text, last, schema.name(0).bytes())?;
+    add_typed(text, schema, 0)?;
     for attribute in 1..schema.width() {
-        let column = schema.column(attribute);
-        let name = schema.name(attribute).bytes();
-        add_after(text, last, column, name)?;
-        last = column;
+        add_after(text, schema, attribute)?;
     }
     add(text, b"\n")
 }
 
-/// An attribute after one with a column of type `last`: in the same line where it has the same type.
-fn add_after(
-    text: &mut Vec<u8>,
-    last: ColumnType,
-    column: ColumnType,
-    name: &[u8],
-) -> Result<(), OutOfMemory>
-    ensures added { OnOk result (text.new.items
-        ≡ text.old.items ++ (if same_column last column then 32 ∷ name.now else 10
-        ∷ (type_word column ++ 32 ∷ name.now))) }
+/// An attribute after another one: in the same line where its column has the same type.
+fn add_after(text: &mut Vec<u8>, schema: &Schema, attribute: u8) -> Result<(), OutOfMemory>
+    requires after_another { 0 < attribute }
+    requires attribute { attribute < width_of schema.now }
+    ensures added { OnOk result (text.new.items ≡ text.old.items
+        ++ (if same_column (slice_index_or (types_of schema.now) (attribute - 1) ColumnType.Text)
+        (slice_index_or (types_of schema.now) attribute ColumnType.Text)
+        then 32 ∷ slice_index_or (printed_names_of schema.now) attribute []
+        else 10 ∷ (type_word (slice_index_or (types_of schema.now) attribute ColumnType.Text)
+        ++ 32 ∷ slice_index_or (printed_names_of schema.now) attribute []))) }
 {
-    if is_integer(column) == is_integer(last) {
+    let last = schema.column(attribute - 1);
+    let column = schema.column(attribute);
+    if is_same_type(&last, &column) {
         add(text, b" ")?;
-        add(text, name)
+        add_name(text, schema.naming(), schema.name(attribute))
     } else {
         add(text, b"\n")?;
-        add_typed(text, column, name)
+        add_typed(text, schema, attribute)
+    }
+}
+
+fn is_same_type(column: &ColumnType, other: &ColumnType) -> bool
+    ensures exact { result ≡ same_column column.now other.now }
+{
+    match column {
+        ColumnType::Text => matches!(other, ColumnType::Text),
+        ColumnType::Integer => matches!(other, ColumnType::Integer),
+        ColumnType::Date => matches!(other, ColumnType::Date),
+        ColumnType::Timestamp => matches!(other, ColumnType::Timestamp),
+        ColumnType::Decimal(scale) => match other {
+            ColumnType::Decimal(other) => *scale == *other,
+            _ => false,
+        },
+        ColumnType::Uuid => matches!(other, ColumnType::Uuid),
+        ColumnType::Other(text) => match other {
+            ColumnType::Other(other) => text.bytes() == other.bytes(),
+            _ => false,
+        },
     }
 }
 
 /// The beginning of a line of a run.
-fn add_typed(text: &mut Vec<u8>, column: ColumnType, name: &[u8]) -> Result<(), OutOfMemory>
-    ensures added { OnOk result (text.new.items ≡ text.old.items ++ (type_word column ++ 32 ∷ name.now)) }
+fn add_typed(text: &mut Vec<u8>, schema: &Schema, attribute: u8) -> Result<(), OutOfMemory>
+    requires attribute { attribute < width_of schema.now }
+    ensures added { OnOk result (text.new.items ≡ text.old.items
+        ++ (type_word (slice_index_or (types_of schema.now) attribute ColumnType.Text)
+        ++ 32 ∷ slice_index_or (printed_names_of schema.now) attribute [])) }
+{
+    let column = schema.column(attribute);
+    add_type_word(text, &column)?;
+    add(text, b" ")?;
+    add_name(text, schema.naming(), schema.name(attribute))
+}
+
+fn add_type_word(text: &mut Vec<u8>, column: &ColumnType) -> Result<(), OutOfMemory>
+    requires { IsTrue (is_column_type column.now) }
+    ensures added { OnOk result (text.new.items ≡ text.old.items ++ type_word column.now) }
 {
     match column {
-        ColumnType::Text => add(text, b"text ")?,
-        ColumnType::Integer => add(text, b"integer ")?,
+        ColumnType::Text => add(text, b"text"),
+        ColumnType::Integer => add(text, b"integer"),
+        ColumnType::Date => add(text, b"date"),
+        ColumnType::Timestamp => add(text, b"timestamp"),
+        ColumnType::Decimal(scale) => add_decimal_word(text, *scale),
+        ColumnType::Uuid => add(text, b"uuid"),
+        ColumnType::Other(other) => add_other_word(text, other.bytes()),
     }
-    add(text, name)
+}
+
+fn add_decimal_word(text: &mut Vec<u8>, scale: u8) -> Result<(), OutOfMemory>
+    requires { scale < 10 }
+    ensures added { OnOk result (text.new.items ≡ text.old.items ++ codes "decimal " ++ decimal scale) }
+{
+    add(text, b"decimal ")?;
+    add_digit(text, scale)
+}
+
+fn add_other_word(text: &mut Vec<u8>, other: &[u8]) -> Result<(), OutOfMemory>
+    ensures added { OnOk result (text.new.items ≡ text.old.items ++ codes "other " ++ quoted other.now) }
+{
+    add(text, b"other ")?;
+    add_quoted(text, other)
+}
+
+/// Adds a number of one digit to a text.
+pub fn add_digit(text: &mut Vec<u8>, digit: u8) -> Result<(), OutOfMemory>
+    requires digit { digit < 10 }
+    ensures added { OnOk result (text.new.items ≡ text.old.items ++ decimal digit) }
+{
+    text.push(b'0' + digit)?;
+    Ok(())
 }

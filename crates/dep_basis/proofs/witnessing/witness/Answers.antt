@@ -3,7 +3,7 @@ use Rattle.std.proofs.lemmas.Bool.{lt-ltb}
 use Rattle.attr_sets.specs.Sets.{attributes}
 use Rattle.dep_model.specs.Tuples.{Tuple, Relation}
 use Rattle.dep_model.specs.TwoTuples.{all_zeros, zeros_on, two_tuples}
-use Rattle.dep_model.specs.Schemas.{width_of, TypedFor}
+use Rattle.dep_model.specs.Schemas.{width_of, types_of, TypedFor}
 use Rattle.attr_sets.proofs.AttributesLemmas.{same_at}
 use Rattle.dep_model.proofs.TwoTupleLemmas.{two_tuples-is}
 use Rattle.dep_basis.proofs.WitnessLemmas.{zeros_on-all, two_tuples-typed}
@@ -25,5 +25,5 @@ returns c =
     ap (λ (t : Tuple). t ∷ second ∷ []) whole ∙ ap (λ (t : Tuple). all_zeros n ∷ t ∷ []) rest ∙ sym (two_tuples-is n (attributes c.args.agreement)) in
     record {
       rows = rows;
-      typed = subst (λ (r : Relation). TypedFor c.args.schema.now r) (sym rows) (two_tuples-typed n (attributes c.args.schema.now.integers) (attributes c.args.agreement));
+      typed = subst (λ (r : Relation). TypedFor c.args.schema.now r) (sym rows) (two_tuples-typed n (types_of c.args.schema.now) (attributes c.args.agreement) c.args.schema.now.typed.one_each);
     }

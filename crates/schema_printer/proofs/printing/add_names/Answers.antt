@@ -1,12 +1,24 @@
-use Rattle.std.proofs.Common.{sym, ◌∙◌, ap, Some, append_assoc, ◌++◌, ◌∷◌, []}
-use Rattle.dep_model.specs.Schemas.{names_of}
+use Rattle.std.proofs.lemmas.List.{drop_all}
+use Rattle.std.proofs.Common.{◌≤◌, length, arith, append-nil, sym, ◌∙◌, ap, Some, append_assoc, ◌++◌, ◌∷◌, []}
+use Rattle.schema_printer.specs.Spelling.{spelling, printed_names_of}
 use Rattle.schema_printer.proofs.PrintLemmas.{drop-item}
+use Rattle.schema_printer.proofs.SpellingLemmas.{printed_name, length_printed}
 use Rattle.schema_printer.proofs.printing.add_names.Goals as goal
 
 pub loop-attribute-preserved : goal.loop-attribute-preserved
 loop-attribute-preserved c =
-    let rest = drop-item (names_of c.args.schema.now) c.loop-attribute.attribute _
-    (c.name.ensures.name ∙ ap Some (sym c.bytes.ensures.value)) in
-    let added = c.in_ok-add-2.ensures.added ∙ ap (λ t. t ++ c.bytes.result.now) c.in_ok-add.ensures.added
-    ∙ append_assoc _ (32 ∷ []) c.bytes.result.now in
+    let word = spelling c.naming.result c.name.result.now in
+    let rest = drop-item (printed_names_of c.args.schema.now) c.loop-attribute.attribute word
+    (printed_name c.args.schema.now c.loop-attribute.attribute _ c.name.ensures.name
+    ∙ ap (λ n. Some (spelling n c.name.result.now)) (sym c.naming.ensures.naming)) in
+    let added = c.in_ok-add_name.ensures.added ∙ ap (λ t. t ++ word) c.in_ok-add.ensures.added
+    ∙ append_assoc _ (32 ∷ []) word in
     rw added (rw append_assoc (rw rest at c.loop-attribute.invariant))
+
+pub returns : goal.returns
+returns c =
+    let names = printed_names_of c.args.schema.now in
+    let past : length names ≤ c.loop-attribute.attribute =
+    omega (arith, c.loop-attribute-test.false, c.width-attribute-end.ensures.count, length_printed c.args.schema.now) in
+    let none = drop_all c.loop-attribute.attribute names past in
+    record { added = sym (append-nil c.loop-attribute.text.items) ∙ (rw none at c.loop-attribute.invariant) }

@@ -1,8 +1,9 @@
-use Rattle.std.proofs.Common.{◌≡◌, ◌<◌, ◌+◌, [], ◌∷◌, length, drop, get_or, sym, ◌∙◌, ap, Some, refl, arith, add-one, drop-cons}
+use Rattle.std.proofs.Common.{◌≡◌, ◌<◌, ◌≤◌, ◌+◌, append-nil, [], ◌∷◌, length, drop, get_or, sym, ◌∙◌, ap, Some, refl, arith, add-one, drop-cons}
 use Rattle.attr_sets.specs.Sets.{attributes}
-use Rattle.dep_model.specs.Schemas.{names_of}
+use Rattle.schema_printer.specs.Spelling.{spelling, printed_names_of}
 use Rattle.schema_printer.specs.Printing.{set_text}
-use Rattle.schema_printer.proofs.PrintLemmas.{set_inside}
+use Rattle.schema_printer.proofs.PrintLemmas.{set_inside, set_done, added_before}
+use Rattle.schema_printer.proofs.SpellingLemmas.{printed_name, length_printed}
 use Rattle.schema_printer.proofs.printing.add_set.Goals as goal
 use Rattle.schema_printer.proofs.printing.add_set.Goals.{then-contains+in_ok-add_member, else-contains}
 
@@ -13,13 +14,13 @@ loop-attribute-init c = record { same = refl }
 pub loop-attribute-preserved : goal.loop-attribute-preserved
 loop-attribute-preserved c = elim c.if-contains.branch [
   | then-contains+in_ok-add_member w ↦
-      set_inside (names_of c.args.schema.now) (attributes c.args.set) _ _ _ _ _ c.loop-attribute.attribute _ c.loop-attribute.invariant
-      (w.name.ensures.name ∙ ap Some (sym w.bytes.ensures.value)) w.if-contains.ensures.member
+      set_inside (printed_names_of c.args.schema.now) (attributes c.args.set) _ _ _ _ _ c.loop-attribute.attribute _ c.loop-attribute.invariant
+      (printed_name c.args.schema.now c.loop-attribute.attribute _ w.name.ensures.name ∙ ap (λ n. Some (spelling n w.name.result.now)) (sym w.naming.ensures.naming)) w.if-contains.ensures.member
       (ap (λ t. t.items) w.text-is ∙ w.in_ok-add_member.ensures.added) w.some-is
   | else-contains w ↦
-      let names = names_of c.args.schema.now in
+      let names = printed_names_of c.args.schema.now in
       let k = c.loop-attribute.attribute in
-      let inside : k < length names = omega (arith, c.loop-attribute-test.true, c.width-attribute-end.ensures.count) in
+      let inside : k < length names = omega (arith, c.loop-attribute-test.true, c.width-attribute-end.ensures.count, length_printed c.args.schema.now) in
       let rest : drop k names ≡ get_or names k [] ∷ drop (k + 1) names =
       rw (add-one, drop-cons names k [] inside) refl in
       record {
@@ -27,3 +28,21 @@ loop-attribute-preserved c = elim c.if-contains.branch [
             (rw (rest, ← w.if-contains.ensures.member) at c.loop-attribute.invariant.same);
       }
 ]
+
+pub returns-then-some : goal.returns-then-some
+returns-then-some c =
+    let past : length (printed_names_of c.args.schema.now) ≤ c.loop-attribute.attribute =
+    omega (arith, c.loop-attribute-test.false, c.width-attribute-end.ensures.count, length_printed c.args.schema.now) in
+    let done = set_done (printed_names_of c.args.schema.now) (attributes c.args.set) c.args.text.now.items c.loop-attribute.text.items c.loop-attribute.some c.loop-attribute.attribute c.loop-attribute.invariant past in
+    record { added = sym (append-nil c.loop-attribute.text.items) ∙ (rw c.if-some.true at done) }
+
+pub returns-else-some : goal.returns-else-some
+returns-else-some c =
+    let past : length (printed_names_of c.args.schema.now) ≤ c.loop-attribute.attribute =
+    omega (arith, c.loop-attribute-test.false, c.width-attribute-end.ensures.count, length_printed c.args.schema.now) in
+    let done = set_done (printed_names_of c.args.schema.now) (attributes c.args.set) c.args.text.now.items c.loop-attribute.text.items c.loop-attribute.some c.loop-attribute.attribute c.loop-attribute.invariant past in
+    record {
+      added = added_before c.add.result c.args.text.now.items c.loop-attribute.text.items (40 ∷ 41 ∷ [])
+          (set_text (printed_names_of c.args.schema.now) (attributes c.args.set)) c.add.new.text.items
+          (rw c.if-some.false at done) c.add.ensures.added;
+    }
