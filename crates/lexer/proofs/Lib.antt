@@ -1,5 +1,6 @@
 pub mod Cuts
 pub mod Digits
 pub mod LineEnds
+pub mod Quoting
 mod Runs
 pub mod Steps

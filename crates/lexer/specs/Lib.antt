@@ -1,4 +1,6 @@
 pub mod Bytes
 pub mod Lines
+pub mod Modes
 pub mod Pieces
+pub mod Quotes
 pub mod Tokens

@@ -7,8 +7,13 @@
 
 mod bytes;
 mod line;
+mod mode;
 mod piece;
+mod quotes;
 mod token;
+mod word;
 
 pub use line::{cut_line, without_mark};
-pub use token::{Flaw, LexError, Mode, Next, Token, TokenKind, next_token};
+pub use mode::Mode;
+pub use token::{Flaw, LexError, Next, Token, TokenKind, next_token};
+pub use word::Word;

@@ -22,7 +22,7 @@ use Rattle.proof_grammar.proofs.TokenLaws.{rule_spelling, named_back, rest_at}
 
 -- ---- a token of each form, over names that are all words of the grammar, and one more
 abbrev sample_of : TokenKind → List ℕ → Mark
-sample_of k word = record { kind = k; column = 0; word = word }
+sample_of k word = record { kind = k; column = 0; length = length word; word = word }
 
 abbrev sample_mark : TokenForm → Mark
 sample_mark a_number = sample_of (token.Number 0) (codes "a")

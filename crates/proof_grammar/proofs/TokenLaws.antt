@@ -125,7 +125,7 @@ abbrev pub rest_at : ℕ → ℕ → List Mark → Rest
 rest_at line next_column marks = record { line = line; next_column = next_column; marks = marks; stop = None }
 
 abbrev pub after_of : Mark → ℕ
-after_of m = m.column + length m.word
+after_of m = m.column + m.length
 
 pub named_back : (r : RuleName) → rule_word (rule_spelling r) ≡ Some r
 unfolding rule_word

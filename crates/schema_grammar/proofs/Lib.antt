@@ -22,3 +22,4 @@ pub mod SideLemmas
 pub mod SoundLemmas
 pub mod TextLaws
 pub mod WithinLemmas
+pub mod WordLemmas

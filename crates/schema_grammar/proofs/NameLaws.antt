@@ -23,23 +23,24 @@ use Rattle.schema_grammar.specs.declared.format.Format.{Format}
 use Rattle.schema_grammar.specs.Diagnostics.{NameDiagnostic, NamesDiagnostic, NamesWant, Carries, refusal_number, flaw_number, span_at, FitsNames}
 use Rattle.schema_grammar.specs.Declarations.{Declarations, add_name, declare, name_step, what_after_declaring, list_names}
 use Rattle.schema_grammar.specs.Refusals.{at, and_then, refused_by, refusal, kind_of_flaw}
-use Rattle.schema_grammar.specs.Words.{is_reserved}
+use Rattle.schema_grammar.specs.Words.{is_word_token, is_reserved_token}
+use Rattle.schema_grammar.proofs.WordLemmas.{name_step-word, name_step-other}
 use Rattle.schema_grammar.proofs.DiagnosticLaws.{flaw_numbered, flaw_carries, flaw_least, Carries-map, first_at, IsLeft, left_whole, left_next, Judged}
 
 -- what is wrong with one word, after names and so many of them
 abbrev WordDiagnostic : Format → List (List ℕ) → ℕ → Mark → ℕ → Type 0
 WordDiagnostic f names count m number =
-    ((m.kind ≡ token.Identifier)
-    × ((((number ≡ 3) × (is_reserved f m.word ≡ true))
+    ((is_word_token m.kind ≡ true)
+    × ((((number ≡ 3) × (is_reserved_token f m.kind m.word ≡ true))
     ⊎ ((number ≡ 4) × (is_some (attribute_named names m.word) ≡ true)))
     ⊎ ((number ≡ 7) × (MOST_ATTRIBUTES ≤ count))))
-    ⊎ ((number ≡ 6) × (m.kind ≡ token.Identifier → ⊥))
+    ⊎ ((number ≡ 6) × (is_word_token m.kind ≡ false))
 
 -- what a token after a declaring word tells
 abbrev NameTells : Format → ColumnType → Declarations → List (List ℕ) → ℕ → Bool → Mark
     → Result Declarations SchemaRefusalKind → Type 0
 NameTells f column d names count some m (Ok next) =
-    (next ≡ add_name d m.word column) × (m.kind ≡ token.Identifier) ×
+    (next ≡ add_name d m.word column) × (is_word_token m.kind ≡ true) ×
     ((n : ℕ) → WordDiagnostic f names count m n → ⊥)
 NameTells f column d names count some m (Err why) =
     WordDiagnostic f names count m (refusal_number why) ×
@@ -49,9 +50,9 @@ NameTells f column d names count some m (Err why) =
 name_tells : (f : Format) (column : ColumnType) (d : Declarations) (some : Bool) (m : Mark)
     → NameTells f column d d.names (length d.names) some m (name_step f column d some m.kind m.word)
 unfolding declare
-name_tells f column d some m = told m.kind refl
+name_tells f column d some m = told (is_word_token m.kind) refl
   where
-    word : m.kind ≡ token.Identifier → (a b c : Bool) → is_reserved f m.word ≡ a
+    word : is_word_token m.kind ≡ true → (a b c : Bool) → is_reserved_token f m.kind m.word ≡ a
         → is_some (attribute_named d.names m.word) ≡ b → nat_le MOST_ATTRIBUTES (length d.names) ≡ c
         → NameTells f column d d.names (length d.names) some m
         (cond a (Err kind.ReservedName)
@@ -65,12 +66,15 @@ name_tells f column d some m = told m.kind refl
     word is false false false free new full =
         (refl, is, λ n diagnostic. let room = leb-false _ _ full in grind arith)
 
-    told : (k : TokenKind) → m.kind ≡ k
-        → NameTells f column d d.names (length d.names) some m (name_step f column d some k m.word)
-    told token.Identifier is =
-        word is (is_reserved f m.word) (is_some (attribute_named d.names m.word))
-        (nat_le MOST_ATTRIBUTES (length d.names)) refl refl refl
-    told k is = (inr (refl, λ other. cc), (λ n diagnostic. grind arith), refl)
+    told : (b : Bool) → is_word_token m.kind ≡ b
+        → NameTells f column d d.names (length d.names) some m (name_step f column d some m.kind m.word)
+    told true is =
+        rw (name_step-word f column d some m.kind m.word is)
+        (word is (is_reserved_token f m.kind m.word) (is_some (attribute_named d.names m.word))
+        (nat_le MOST_ATTRIBUTES (length d.names)) refl refl refl)
+    told false is =
+        rw (name_step-other f column d some m.kind m.word is)
+        (inr (refl, is), (λ n diagnostic. grind arith), refl)
 
 abbrev words_in : List Mark → List (List ℕ)
 words_in ms = map (λ w. w.word) ms
@@ -80,7 +84,7 @@ judge_names : (f : Format) (column : ColumnType) (d : Declarations) (line first 
     (stop : Option LexError)
     (words : List Mark) (k from : ℕ) (some : Bool) (now : Declarations)
     → IsLeft line first whole stop k from words → now.names ≡ d.names ++ words_in (take k whole)
-    → All (λ w. w.kind ≡ token.Identifier) (take k whole) → NamesWant k (what_after_declaring some)
+    → All (λ w. is_word_token w.kind ≡ true) (take k whole) → NamesWant k (what_after_declaring some)
     → ((p n : ℕ) → p < k → NamesDiagnostic f d whole stop p n → ⊥)
     → Judged (NamesDiagnostic f d whole stop) NamesWant (span_at line first whole stop)
     (list_names f column line now some from words stop)
@@ -131,7 +135,7 @@ judge_names f column d line first whole stop (w ∷ words) k from some now left 
     let counted = subst (λ (c : ℕ). NameTells f column now now.names c some w read) count (name_tells f column now some w) in
     told read (subst (λ (t : List (List ℕ)). NameTells f column now t (length d.names + k) some w read) names counted)
     (λ next on each_word none. judge_names f column d line first whole stop words (suc k)
-    (w.column + length w.word) true next (left_next line first whole stop k from w words left) on each_word
+    (w.column + w.length) true next (left_next line first whole stop k from w words left) on each_word
     (inr (omega arith, refl)) none)
   where
     is : slice_get whole k ≡ Some w
@@ -158,19 +162,19 @@ judge_names f column d line first whole stop (w ∷ words) k from some now left 
     told : (o : Result Declarations SchemaRefusalKind)
         → NameTells f column now (d.names ++ words_in (take k whole)) (length d.names + k) some w o
         → ((next : Declarations) → next.names ≡ d.names ++ words_in (take (suc k) whole)
-        → All (λ x. x.kind ≡ token.Identifier) (take (suc k) whole)
+        → All (λ x. is_word_token x.kind ≡ true) (take (suc k) whole)
         → ((p n : ℕ) → p < suc k → NamesDiagnostic f d whole stop p n → ⊥)
         → Judged (NamesDiagnostic f d whole stop) NamesWant (span_at line first whole stop)
-        (list_names f column line next true (w.column + length w.word) words stop))
+        (list_names f column line next true (w.column + w.length) words stop))
         → Judged (NamesDiagnostic f d whole stop) NamesWant (span_at line first whole stop)
-        (and_then (at line w.column (length w.word) o)
-        (λ next. list_names f column line next true (w.column + length w.word) words stop))
+        (and_then (at line w.column w.length o)
+        (λ next. list_names f column line next true (w.column + w.length) words stop))
     told (Ok next) (same, word, none) rest = rest next
         (ap (λ x. x.names) same ∙ ap (λ t. t ++ w.word ∷ []) names ∙ append_assoc d.names
         (words_in (take k whole)) (w.word ∷ [])
         ∙ ap (λ t. d.names ++ t)
         (sym (map-append (λ x. x.word) (take k whole) (w ∷ [])) ∙ ap words_in (sym taken)))
-        (rw taken (All-push (λ x. x.kind ≡ token.Identifier) (take k whole) w each word))
+        (rw taken (All-push (λ x. is_word_token x.kind ≡ true) (take k whole) w each word))
         (λ p n small diagnostic. elim (cases_order p k) [
           | inl here ↦ none n (at_word n
               (subst (λ (q : ℕ). NamesDiagnostic f d whole stop q n) here diagnostic))
@@ -178,7 +182,7 @@ judge_names f column d line first whole stop (w ∷ words) k from some now left 
           | inr (inr later) ↦ absurd (omega arith)
         ])
     told (Err why) (stands, least, carries) rest =
-        first_at _ NamesWant _ (refusal line w.column (length w.word) why) k before
+        first_at _ NamesWant _ (refusal line w.column w.length why) k before
         (inl (inl (w, is, each, stands)))
         (Carries-map (λ x. x ≡ what_after_declaring some) (NamesWant k)
         (λ x same. subst (NamesWant k) (sym same) want) why carries)
@@ -190,7 +194,7 @@ pub names-law : (f : Format) (column : ColumnType) (d : Declarations) (line next
 names-law f column d line next_column words stop =
     fits (list_names f column line d false next_column words stop)
     (judge_names f column d line next_column words stop words 0 next_column false d
-    (left_whole line next_column words stop) (sym (append-nil d.names)) (All-nil (λ w. w.kind ≡ token.Identifier))
+    (left_whole line next_column words stop) (sym (append-nil d.names)) (All-nil (λ w. is_word_token w.kind ≡ true))
     (inl (refl, refl)) (λ p n less. absurd (omega arith)))
   where
     fits : (res : Result Declarations SchemaRefusal)

@@ -4,7 +4,7 @@ use Rattle.std.specs.Prelude.{ℕ, ◌+◌, ◌-◌, ◌==◌, Bool, false, if�
 use Rattle.std.specs.Str.{bytes_eq}
 use Rattle.dep_model.specs.declared.schema.Schema.{Schema}
 use Rattle.dep_model.specs.Schemas.{names_of, types_of, theory_of, lines_of}
-use Rattle.lexer.specs.declared.token.Mode.TheVariants as mode
+use Rattle.lexer.specs.Modes as mode
 use Rattle.lexer.specs.declared.token.LexError.{LexError}
 use Rattle.lexer.specs.declared.token.TokenKind.{TokenKind}
 use Rattle.lexer.specs.declared.token.TokenKind.TheVariants as token
@@ -37,12 +37,13 @@ read_lines f number d (line ∷ lines) =
 abbrev pub end_version : ℕ → List Mark → Option LexError → Result Declarations SchemaRefusal
 end_version line [] None = Ok no_declaration
 end_version line [] (Some stop) = Err (refused_by line stop)
-end_version line (m ∷ ms) stop = Err (refusal line m.column (length m.word) (kind.Expected what.LineEnd))
+end_version line (m ∷ ms) stop = Err (refusal line m.column m.length (kind.Expected what.LineEnd))
 
 -- the value of a number
 abbrev pub number_in : TokenKind → Option ℕ
 number_in (token.Number n) = Some n
 number_in token.Identifier = None
+number_in token.Quoted = None
 number_in token.Arrow = None
 number_in token.DoubleArrow = None
 number_in token.Empty = None
@@ -50,10 +51,10 @@ number_in token.Colon = None
 
 -- the first token after the word `version` is the number 2
 abbrev pub version_number : ℕ → Mark → List Mark → Option LexError → Option ℕ → Result Declarations SchemaRefusal
-version_number line m ms stop None = Err (refusal line m.column (length m.word) (kind.Expected what.Number))
+version_number line m ms stop None = Err (refusal line m.column m.length (kind.Expected what.Number))
 version_number line m ms stop (Some n) =
     if n == VERSION then end_version line ms stop
-    else Err (refusal line m.column (length m.word) kind.UnknownVersion)
+    else Err (refusal line m.column m.length kind.UnknownVersion)
 
 -- what stands after the word `version` in its line
 unfoldable pub read_version : ℕ → ℕ → List Mark → Option LexError → Result Declarations SchemaRefusal
@@ -75,6 +76,7 @@ read_typed number lines next_column l =
 -- whether the first token of a text makes its line a version line
 unfoldable pub is_version : TokenKind → List ℕ → Bool
 is_version token.Identifier word = bytes_eq word (codes "version")
+is_version token.Quoted word = false
 is_version (token.Number n) word = false
 is_version token.Arrow word = false
 is_version token.DoubleArrow word = false
@@ -89,15 +91,15 @@ opening_from number line lines later [] None = later
 opening_from number line lines later [] (Some stop) = read_lines format.Plain number no_declaration (line ∷ lines)
 opening_from number line lines later (m ∷ ms) stop =
     if is_version m.kind m.word
-    then read_typed number lines (m.column + length m.word) (record { marks = ms; stop = stop })
+    then read_typed number lines (m.column + m.length) (record { marks = ms; stop = stop })
     else read_lines format.Plain number no_declaration (line ∷ lines)
 
 -- what the lines of a text declare from its first token on
 unfoldable pub read_opening : ℕ → List (List ℕ) → Result Declarations SchemaRefusal
 read_opening number [] = finish (number - 1) no_declaration
 read_opening number (line ∷ lines) =
-    opening_from number line lines (read_opening (number + 1) lines) (lex mode.Numbered line).marks
-    (lex mode.Numbered line).stop
+    opening_from number line lines (read_opening (number + 1) lines) (lex mode.numbered line).marks
+    (lex mode.numbered line).stop
 
 -- what a schema text declares, or its refusal
 unfoldable pub read_text : List ℕ → Result Declarations SchemaRefusal

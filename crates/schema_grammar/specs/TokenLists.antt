@@ -1,8 +1,8 @@
 -- The tokens of a line as a list: for the function of schema_reader that shows them. `Desk` does
 -- not cite it.
 use Rattle.std.specs.Prelude.{ℕ, Bool, true, false, List, Option, Some, None, Result, Ok, Err, map}
-use Rattle.lexer.specs.declared.token.Mode.{Mode}
-use Rattle.lexer.specs.declared.token.Mode.TheVariants as mode
+use Rattle.lexer.specs.declared.mode.Mode.{Mode}
+use Rattle.lexer.specs.Modes as mode
 use Rattle.lexer.specs.declared.token.LexError.{LexError}
 use Rattle.lexer.specs.declared.token.Token.{Token}
 use Rattle.lexer.specs.Tokens.{Lexed, lex, token_of}
@@ -11,8 +11,8 @@ use Rattle.schema_grammar.specs.Refusals.{refused_by}
 
 -- which tokens a line has
 abbrev pub mode_of : Bool → Mode
-mode_of true = mode.Numbered
-mode_of false = mode.Plain
+mode_of true = mode.numbered
+mode_of false = mode.plain
 
 abbrev pub all_or_stop : List Token → Option LexError → Result (List Token) SchemaRefusal
 all_or_stop tokens None = Ok tokens
