@@ -1,5 +1,4 @@
-use Rattle.std.proofs.Common.{arith}
-use Rattle.std.proofs.Common.{sym}
+use Rattle.std.proofs.Common.{arith, sym}
 use Rattle.lexer.proofs.Steps.{is_some, is_none}
 use Rattle.lexer.proofs.Quoting.{spell_two, spell_one, too_long, spelled_all}
 use Rattle.lexer.proofs.quotes.name_between.Goals.{then-starts_with, else-starts_with}
@@ -15,11 +14,12 @@ returns-then-length-eq-MOST_NAME_BYTES-clause-name c = (
 
 pub loop-rest-preserved : goal.loop-rest-preserved
 loop-rest-preserved c =
-    let room = omega (arith, c.loop-rest.invariant.within, c.if-length-eq-MOST_NAME_BYTES.false) in
     elim c.if-starts_with.branch [
-      | then-starts_with w ↦ spell_two _ _ _ _ _ _ c.loop-rest.invariant room (sym w.if-starts_with.ensures.value) w.step-is
+      | then-starts_with w ↦ spell_two _ _ _ _ _ _ c.loop-rest.invariant
+          (omega (arith, c.loop-rest.invariant.within, c.if-length-eq-MOST_NAME_BYTES.false)) (sym w.if-starts_with.ensures.value) w.step-is
           c.split_at.ensures.back
-      | else-starts_with w ↦ spell_one _ _ _ _ _ _ c.loop-rest.invariant room (is_some _ c.loop-rest-test.ensures)
+      | else-starts_with w ↦ spell_one _ _ _ _ _ _ c.loop-rest.invariant
+          (omega (arith, c.loop-rest.invariant.within, c.if-length-eq-MOST_NAME_BYTES.false)) (is_some _ c.loop-rest-test.ensures)
           (sym w.if-starts_with.ensures.value) w.step-is c.split_at.ensures.back
     ]
 
