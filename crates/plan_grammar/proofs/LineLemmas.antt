@@ -12,8 +12,9 @@ use Rattle.schema_grammar.specs.declared.refusal.SchemaRefusalKind.{SchemaRefusa
 use Rattle.schema_grammar.specs.declared.refusal.SchemaRefusalKind.TheVariants as kind
 use Rattle.schema_grammar.specs.declared.refusal.What.TheVariants as what
 use Rattle.schema_grammar.specs.Diagnostics.{Carries, refusal_number, span_at}
-use Rattle.schema_grammar.specs.Refusals.{refusal, refused_by, and_then}
+use Rattle.schema_grammar.specs.Refusals.{refusal, refused_by}
 use Rattle.schema_grammar.specs.Words.{is_reserved_token}
+use Rattle.schema_grammar.specs.Rests.{◌>>=◌}
 use Rattle.schema_grammar.proofs.DiagnosticLaws.{flaw_numbered, flaw_carries}
 use Rattle.schema_grammar.proofs.DeclaringLaws.{has_tokens}
 use Rattle.plan_grammar.specs.declared.refusal.PlanRefusal.{PlanRefusal}
@@ -81,7 +82,7 @@ head_many earlier m n is h = ⊎_elim (λ other. absurd (true≢false (sym is �
 
 scheme_read : (names : List (List ℕ)) (line : ℕ) (schemes : List Attributes) (m : Mark) (ms : List Mark) (stop : Option LexError) (r : Result Attributes PlanRefusal)
     → is_scheme m.kind m.word ≡ true → length schemes < MOST_SCHEMES → WordsFit names line true none (m.column + m.length) ms stop r
-    → LineFits names line schemes (m ∷ ms) stop (and_then r (λ x. Ok (schemes ++ x ∷ [])))
+    → LineFits names line schemes (m ∷ ms) stop (r >>= (λ x. Ok (schemes ++ x ∷ [])))
 scheme_read names line schemes m ms stop (Ok x) is room fit = record {
   ended = fit.ended;
   adds = inr (record {
@@ -99,9 +100,8 @@ scheme_read names line schemes m ms stop (Err e) is room fit =
 
 head_fit : (names : List (List ℕ)) (line : ℕ) (schemes : List Attributes) (m : Mark) (ms : List Mark) (stop : Option LexError) (b l : Bool)
     → is_scheme m.kind m.word ≡ b → nat_le MOST_SCHEMES (length schemes) ≡ l
-    → LineFits names line schemes (m ∷ ms) stop (and_then
-    (cond b (cond l (Err (plan.TooManySchemes line)) (read_words names line true none ms stop)) (Err (plan.Text (refusal line m.column m.length (no_scheme m.kind m.word)))))
-    (λ x. Ok (schemes ++ x ∷ [])))
+    → LineFits names line schemes (m ∷ ms) stop (cond b (cond l (Err (plan.TooManySchemes line)) (read_words names line true none ms stop)) (Err (plan.Text (refusal line m.column m.length (no_scheme m.kind m.word))))
+    >>= (λ x. Ok (schemes ++ x ∷ [])))
 head_fit names line schemes m ms stop true true is many =
     first_here (SchemeLineDiagnostic names (length schemes) (m ∷ ms) stop) (SpansPosition line (span_at line 1 (m ∷ ms) stop) scheme_wanted) (plan.TooManySchemes line)
     (inr (is, leb-true MOST_SCHEMES (length schemes) many, refl)) refl (λ n h. head_many (length schemes) m n is h)
@@ -167,7 +167,7 @@ lines_after names number schemes line lines more (Err e) read fit =
 lines_join : (names : List (List ℕ)) (number : ℕ) (schemes : List Attributes) (line : List ℕ) (lines : List (List ℕ)) (r : Result (List Attributes) PlanRefusal)
     → ((more : List Attributes) → LinesFit names (number + 1) more lines (read_scheme_lines names (number + 1) more lines))
     → LineFits names number schemes (lex mode.plain line).marks (lex mode.plain line).stop r
-    → LinesFit names number schemes (line ∷ lines) (and_then r (λ more. read_scheme_lines names (number + 1) more lines))
+    → LinesFit names number schemes (line ∷ lines) (r >>= (λ more. read_scheme_lines names (number + 1) more lines))
 lines_join names number schemes line lines (Ok more) later fit = lines_after names number schemes line lines more (read_scheme_lines names (number + 1) more lines) fit (later more)
 lines_join names number schemes line lines (Err e) later fit = inl fit
 

@@ -13,8 +13,9 @@ use Rattle.schema_grammar.specs.declared.format.Format.TheVariants as format
 use Rattle.schema_grammar.specs.declared.refusal.SchemaRefusalKind.TheVariants as kind
 use Rattle.schema_grammar.specs.Diagnostics.{span_at}
 use Rattle.schema_grammar.specs.Meanings.{IsAttribute, attributes_of_words}
-use Rattle.schema_grammar.specs.Refusals.{refused_by, and_then, at}
+use Rattle.schema_grammar.specs.Refusals.{refused_by, at}
 use Rattle.schema_grammar.specs.Words.{is_word_token, is_reserved_token, known_attribute, look_up}
+use Rattle.schema_grammar.specs.Rests.{◌>>=◌}
 use Rattle.schema_grammar.proofs.DiagnosticLaws.{flaw_numbered, flaw_carries}
 use Rattle.schema_grammar.proofs.SideLemmas.{union-only, union-none, attributes_of_words-cons}
 use Rattle.plan_grammar.specs.declared.refusal.PlanRefusal.{PlanRefusal}
@@ -148,7 +149,7 @@ words_after names line after first x m ms stop a (Err e) is fit =
 words_join : (names : List (List ℕ)) (line after : ℕ) (first : Bool) (x : Attributes) (m : Mark) (ms : List Mark) (stop : Option LexError) (r : Result ℕ PlanRefusal)
     → ((a : ℕ) → WordsFit names line false (union x (only a)) (m.column + m.length) ms stop (read_words names line false (union x (only a)) ms stop))
     → Tells names line after m ms stop first r
-    → WordsFit names line first x after (m ∷ ms) stop (and_then r (λ a. read_words names line false (union x (only a)) ms stop))
+    → WordsFit names line first x after (m ∷ ms) stop (r >>= (λ a. read_words names line false (union x (only a)) ms stop))
 words_join names line after first x m ms stop (Ok a) later tells =
     words_after names line after first x m ms stop a (read_words names line false (union x (only a)) ms stop) tells (later a)
 words_join names line after first x m ms stop (Err e) later tells =

@@ -6,14 +6,14 @@ use Rattle.lexer.specs.Modes as mode
 use Rattle.lexer.specs.declared.token.LexError.{LexError}
 use Rattle.lexer.specs.declared.token.TokenKind.{TokenKind}
 use Rattle.lexer.specs.declared.token.TokenKind.TheVariants as token
-use Rattle.lexer.specs.Tokens.{Mark, Lexed, lex}
+use Rattle.lexer.specs.Tokens.{Mark, lex}
 use Rattle.schema_grammar.specs.declared.format.Format.TheVariants as format
 use Rattle.schema_grammar.specs.declared.refusal.SchemaRefusal.{SchemaRefusal}
 use Rattle.schema_grammar.specs.declared.refusal.SchemaRefusalKind.{SchemaRefusalKind}
 use Rattle.schema_grammar.specs.declared.refusal.SchemaRefusalKind.TheVariants as kind
 use Rattle.schema_grammar.specs.declared.refusal.What.TheVariants as what
-use Rattle.schema_grammar.specs.Refusals.{refusal, refused_by, and_then}
-use Rattle.schema_grammar.specs.Rests.{attribute_of_word}
+use Rattle.schema_grammar.specs.Refusals.{refusal, refused_by}
+use Rattle.schema_grammar.specs.Rests.{attribute_of_word, Rest, ◌>>=◌}
 use Rattle.schema_grammar.specs.Words.{is_reserved_token}
 use Rattle.plan_grammar.specs.declared.refusal.PlanRefusal.{PlanRefusal}
 use Rattle.plan_grammar.specs.declared.refusal.PlanRefusal.TheVariants as plan
@@ -49,11 +49,11 @@ read_words names line true x [] None = Err (plan.EmptyScheme line)
 read_words names line false x [] None = Ok x
 read_words names line first x [] (Some stop) = Err (plan.Text (refused_by line stop))
 read_words names line first x (m ∷ ms) stop =
-    and_then (attribute_of_token names line first m m.kind)
-    (λ a. read_words names line false (union x (only a)) ms stop)
+    attribute_of_token names line first m m.kind
+    >>= (λ a. read_words names line false (union x (only a)) ms stop)
 
-abbrev pub read_words_lexed : List (List ℕ) → ℕ → Bool → Attributes → Lexed → Result Attributes PlanRefusal
-read_words_lexed names line first x l = read_words names line first x l.marks l.stop
+abbrev pub read_words_rest : List (List ℕ) → Bool → Attributes → Rest → Result Attributes PlanRefusal
+read_words_rest names first x r = read_words names r.line first x r.marks r.stop
 
 -- why a line can't begin with a token
 abbrev pub no_scheme : TokenKind → List ℕ → SchemaRefusalKind
@@ -61,12 +61,12 @@ no_scheme k word = if is_reserved_token format.Plain k word then kind.ReservedNa
     else kind.Expected what.Scheme
 
 -- the scheme of a line that this token begins, where so many scheme lines stand before it
-abbrev pub read_scheme : List (List ℕ) → ℕ → ℕ → Mark → Lexed → Result Attributes PlanRefusal
-read_scheme names line earlier m l =
+abbrev pub read_scheme : List (List ℕ) → ℕ → Mark → Rest → Result Attributes PlanRefusal
+read_scheme names earlier m r =
     if is_scheme m.kind m.word
-    then (if nat_le MOST_SCHEMES earlier then Err (plan.TooManySchemes line)
-    else read_words_lexed names line true none l)
-    else Err (plan.Text (refusal line m.column m.length (no_scheme m.kind m.word)))
+    then (if nat_le MOST_SCHEMES earlier then Err (plan.TooManySchemes r.line)
+    else read_words_rest names true none r)
+    else Err (plan.Text (refusal r.line m.column m.length (no_scheme m.kind m.word)))
 
 -- the schemes with that of one line more
 unfoldable pub read_scheme_line : List (List ℕ) → ℕ → List Attributes → List Mark → Option LexError
@@ -74,13 +74,14 @@ unfoldable pub read_scheme_line : List (List ℕ) → ℕ → List Attributes �
 read_scheme_line names line schemes [] None = Ok schemes
 read_scheme_line names line schemes [] (Some stop) = Err (plan.Text (refused_by line stop))
 read_scheme_line names line schemes (m ∷ ms) stop =
-    and_then (read_scheme names line (length schemes) m (record { marks = ms; stop = stop }))
-    (λ x. Ok (schemes ++ x ∷ []))
+    read_scheme names (length schemes) m
+    (record { line = line; next_column = m.column + m.length; marks = ms; stop = stop })
+    >>= (λ x. Ok (schemes ++ x ∷ []))
 
 -- the schemes of lines, of which the first has this number, after other schemes
 unfoldable pub read_scheme_lines : List (List ℕ) → ℕ → List Attributes → List (List ℕ)
     → Result (List Attributes) PlanRefusal
 read_scheme_lines names number schemes [] = Ok schemes
 read_scheme_lines names number schemes (line ∷ lines) =
-    and_then (read_scheme_line names number schemes (lex mode.plain line).marks (lex mode.plain line).stop)
-    (λ more. read_scheme_lines names (number + 1) more lines)
+    read_scheme_line names number schemes (lex mode.plain line).marks (lex mode.plain line).stop
+    >>= (λ more. read_scheme_lines names (number + 1) more lines)

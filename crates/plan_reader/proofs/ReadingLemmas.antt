@@ -2,58 +2,72 @@
 use Rattle.std.proofs.Common.{◌≡◌, ◌<◌, ◌+◌, ◌^◌, ℕ, Bool, true, false, List, [], ◌∷◌, ◌++◌, length, Some, None, Result, Ok, Err, refl, sym, ◌∙◌, arith}
 use Rattle.attr_sets.specs.Attributes.{Attributes, none, only, union}
 use Rattle.lexer.specs.declared.token.Mode.TheVariants as mode
-use Rattle.lexer.specs.declared.token.LexError.{LexError}
-use Rattle.lexer.specs.declared.token.Token.{Token}
 use Rattle.lexer.specs.Lines.{line_texts, CutsAt}
-use Rattle.lexer.specs.Tokens.{Lexed, tokens_after, lex, Leads}
-use Rattle.schema_grammar.specs.Declarations.{mark_of}
-use Rattle.schema_grammar.specs.Refusals.{refused_by}
+use Rattle.lexer.specs.Tokens.{Mark, lex}
+use Rattle.schema_grammar.specs.declared.refusal.SchemaRefusal.{SchemaRefusal}
+use Rattle.schema_grammar.specs.Rests.{Rest, ◌>>=◌}
+use Rattle.tokens.specs.Views.{HasEnded, IsStopped, IsLed}
 use Rattle.plan_grammar.specs.declared.refusal.PlanRefusal.{PlanRefusal}
 use Rattle.plan_grammar.specs.declared.refusal.PlanRefusal.TheVariants as plan
-use Rattle.plan_grammar.specs.Reading.{attribute_of_token, read_words, read_words_lexed, read_scheme, read_scheme_line, read_scheme_lines}
+use Rattle.plan_grammar.specs.Reading.{attribute_of_token, read_words, read_words_rest, read_scheme, read_scheme_line, read_scheme_lines}
 
 -- ---- words
 -- to read the words that are left is to read all of them
-pub record GoesOn (names : List (List ℕ)) (line start : ℕ) (text : List ℕ) (first : Bool) (x : Attributes) (column : ℕ) (rest : List ℕ) : Type 0 where
-  pub same : read_words_lexed names line true none (tokens_after mode.Plain 0 start text) ≡ read_words_lexed names line first x (tokens_after mode.Plain 0 column rest)
-  pub room : column + length rest < 2 ^ 32
+pub record GoesOn (names : List (List ℕ)) (whole : Rest) (first : Bool) (x : Attributes) (rest : Rest) : Type 0 where
+  pub same : read_words_rest names true none whole ≡ read_words_rest names first x rest
 
-pub words_empty : (names : List (List ℕ)) (line : ℕ) (x : Attributes) (l : Lexed) → l ≡ record { marks = []; stop = None } → read_words_lexed names line true x l ≡ Err (plan.EmptyScheme line)
+pub words_empty : (names : List (List ℕ)) (first : Bool) (x : Attributes) (r : Rest) → first ≡ true → HasEnded r → read_words_rest names first x r ≡ Err (plan.EmptyScheme r.line)
 unfolding read_words
-words_empty names line x l e = rw e refl
+words_empty names first x r begun ended = rw (begun, ended.marks, ended.stop) refl
 
-pub words_end : (names : List (List ℕ)) (line : ℕ) (x : Attributes) (l : Lexed) → l ≡ record { marks = []; stop = None } → read_words_lexed names line false x l ≡ Ok x
+pub words_end : (names : List (List ℕ)) (first : Bool) (x : Attributes) (r : Rest) → first ≡ false → HasEnded r → read_words_rest names first x r ≡ Ok x
 unfolding read_words
-words_end names line x l e = rw e refl
+words_end names first x r begun ended = rw (begun, ended.marks, ended.stop) refl
 
-pub words_stop : (names : List (List ℕ)) (line : ℕ) (first : Bool) (x : Attributes) (stop : LexError) (l : Lexed) → l ≡ record { marks = []; stop = Some stop }
-    → read_words_lexed names line first x l ≡ Err (plan.Text (refused_by line stop))
+pub words_stop : (names : List (List ℕ)) (first : Bool) (x : Attributes) (r : Rest) (e : SchemaRefusal) → IsStopped r e
+    → read_words_rest names first x r ≡ Err (plan.Text e)
 unfolding read_words
-words_stop names line true x stop l e = rw e refl
-words_stop names line false x stop l e = rw e refl
+words_stop names true x r e stopped = rw (stopped.marks, stopped.stop, stopped.refusal) refl
+words_stop names false x r e stopped = rw (stopped.marks, stopped.stop, stopped.refusal) refl
 
-pub words_refused : (names : List (List ℕ)) (line : ℕ) (first : Bool) (x : Attributes) (t : Token) (word rest : List ℕ) (l : Lexed) (e : PlanRefusal) → Leads mode.Plain t word rest l
-    → attribute_of_token names line first (mark_of t word) t.kind ≡ Err e → read_words_lexed names line first x l ≡ Err e
+pub words_refused : (names : List (List ℕ)) (first : Bool) (x : Attributes) (r : Rest) (m : Mark) (after : Rest) (e : PlanRefusal) → IsLed r m after
+    → attribute_of_token names r.line first m m.kind ≡ Err e → read_words_rest names first x r ≡ Err e
 unfolding read_words
-words_refused names line true x t word rest l e leads is = rw (leads.all_tokens, is) refl
-words_refused names line false x t word rest l e leads is = rw (leads.all_tokens, is) refl
+words_refused names true x r m after e led is = rw (led.marks, is) refl
+words_refused names false x r m after e led is = rw (led.marks, is) refl
 
-pub words_more : (names : List (List ℕ)) (line : ℕ) (first : Bool) (x : Attributes) (t : Token) (word rest : List ℕ) (l : Lexed) (a : ℕ) → Leads mode.Plain t word rest l
-    → attribute_of_token names line first (mark_of t word) t.kind ≡ Ok a
-    → read_words_lexed names line first x l ≡ read_words_lexed names line false (union x (only a)) (tokens_after mode.Plain 0 (t.column + t.length) rest)
+pub words_more : (names : List (List ℕ)) (first : Bool) (x : Attributes) (r : Rest) (m : Mark) (after : Rest) (a : ℕ) → IsLed r m after
+    → attribute_of_token names r.line first m m.kind ≡ Ok a
+    → read_words_rest names first x r ≡ read_words_rest names false (union x (only a)) after
 unfolding read_words
-words_more names line true x t word rest l a leads is = rw (leads.all_tokens, is) refl
-words_more names line false x t word rest l a leads is = rw (leads.all_tokens, is) refl
+words_more names true x r m after a led is = rw (led.marks, is, led.stop, led.line) refl
+words_more names false x r m after a led is = rw (led.marks, is, led.stop, led.line) refl
 
 -- ---- one line
-pub line_ended : (names : List (List ℕ)) (number : ℕ) (schemes : List Attributes) (l : Lexed) → l ≡ record { marks = []; stop = None } → read_scheme_line names number schemes l.marks l.stop ≡ Ok schemes
-unfolding read_scheme_line
-line_ended names number schemes l e = rw e refl
+abbrev pub read_rest : List (List ℕ) → List Attributes → Rest → Result (List Attributes) PlanRefusal
+read_rest names schemes r = read_scheme_line names r.line schemes r.marks r.stop
 
-pub line_stopped : (names : List (List ℕ)) (number : ℕ) (schemes : List Attributes) (stop : LexError) (l : Lexed) → l ≡ record { marks = []; stop = Some stop }
-    → read_scheme_line names number schemes l.marks l.stop ≡ Err (plan.Text (refused_by number stop))
+pub line_ended : (names : List (List ℕ)) (schemes : List Attributes) (r : Rest) → HasEnded r → read_rest names schemes r ≡ Ok schemes
 unfolding read_scheme_line
-line_stopped names number schemes stop l e = rw e refl
+line_ended names schemes r ended = rw (ended.marks, ended.stop) refl
+
+pub line_stopped : (names : List (List ℕ)) (schemes : List Attributes) (r : Rest) (e : SchemaRefusal) → IsStopped r e
+    → read_rest names schemes r ≡ Err (plan.Text e)
+unfolding read_scheme_line
+line_stopped names schemes r e stopped = rw (stopped.marks, stopped.stop, stopped.refusal) refl
+
+led_read : (names : List (List ℕ)) (schemes : List Attributes) (r : Rest) (m : Mark) (after : Rest) → IsLed r m after
+    → read_rest names schemes r ≡ (read_scheme names (length schemes) m after >>= (λ x. Ok (schemes ++ x ∷ [])))
+unfolding read_scheme_line
+led_read names schemes r m after led = rw (led.marks, led.stop, ← led.line, ← led.column) refl
+
+pub scheme_refused : (names : List (List ℕ)) (schemes : List Attributes) (r : Rest) (m : Mark) (after : Rest) (e : PlanRefusal) → IsLed r m after
+    → read_scheme names (length schemes) m after ≡ Err e → read_rest names schemes r ≡ Err e
+scheme_refused names schemes r m after e led refused = led_read names schemes r m after led ∙ rw refused refl
+
+pub scheme_read : (names : List (List ℕ)) (schemes : List Attributes) (r : Rest) (m : Mark) (after : Rest) (x : Attributes) → IsLed r m after
+    → read_scheme names (length schemes) m after ≡ Ok x → read_rest names schemes r ≡ Ok (schemes ++ x ∷ [])
+scheme_read names schemes r m after x led read = led_read names schemes r m after led ∙ rw read refl
 
 -- ---- lines
 -- to read the lines that are left is to read all of them

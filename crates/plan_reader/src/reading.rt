@@ -5,24 +5,24 @@ ghost use Rattle.dep_model.specs.Failures.{RefusesAs};
 ghost use Rattle.dep_model.specs.Plans.{schemes_of};
 ghost use Rattle.dep_model.specs.Schemas.{names_of};
 ghost use Rattle.lexer.specs.Lines.{line_texts};
-ghost use Rattle.lexer.specs.Tokens.{tokens_after, lex};
-ghost use Rattle.tokens.specs.Views.{names_in};
+ghost use Rattle.lexer.specs.Tokens.{lex};
+ghost use Rattle.tokens.specs.Views.{names_in, rest_of};
 ghost use Rattle.schema_grammar.specs.Declarations.{mark_of};
 ghost use Rattle.schema_grammar.specs.Refusals.{Refuses, refusal};
 ghost use Rattle.plan_grammar.specs.Diagnostics.{RefusesPlan};
 ghost use Rattle.plan_grammar.specs.Meanings.{is_scheme, MeansPlan};
-ghost use Rattle.plan_grammar.specs.Reading.{attribute_of_token, no_scheme, read_words_lexed, read_scheme, read_scheme_line, read_scheme_lines};
+ghost use Rattle.plan_grammar.specs.Reading.{attribute_of_token, no_scheme, read_words_rest, read_scheme, read_scheme_line, read_scheme_lines};
 ghost use Rattle.plans.specs.Plans.{plan_of, IsPlanOver};
 
 use crate::covering::first_uncovered;
 use attr_sets::{AttrSet, MOST_ATTRIBUTES};
 use dep_model::{Failure, Schema};
-use lexer::{Mode, Next, Token, TokenKind, cut_line, next_token, without_mark};
+use lexer::{Mode, Token, TokenKind, cut_line, without_mark};
 use plan_grammar::{MOST_SCHEMES, PlanRefusal};
 use plans::Plan;
 use schema_grammar::{Format, SchemaRefusal, SchemaRefusalKind, What};
 use std::alloc::Global;
-use tokens::{Guide, Names, is_reserved, look_up};
+use tokens::{Cursor, Guide, Names, NextToken, is_reserved, look_up};
 
 /// The most bytes of a plan text.
 pub const MOST_PLAN_BYTES: usize = 1_048_576;
@@ -78,7 +78,6 @@ fn read_lines(
 }
 
 // Reads a line, and adds its scheme if it has tokens.
-#[tactic(auto, unfolding(plan_grammar::specs::Reading::read_scheme_line))]
 fn read_line(
     names: &Names<'_>,
     number: u32,
@@ -92,14 +91,12 @@ fn read_line(
     ensures err { IfErr result (λ failure. Refuses failure (read_scheme_line (names_in names.now) number
         (schemes_of schemes.old.items) (lex Mode.Plain line.now).marks (lex Mode.Plain line.now).stop)) }
 {
-    match next_token(Mode::Plain, 1, line) {
-        Next::End => Ok(()),
-        Next::Error(stop) => {
-            let refusal = PlanRefusal::Text(SchemaRefusal::by(number, stop));
-            Err(Failure::Refused(refusal))
-        }
-        Next::Token(token, word, rest) => {
-            match read_scheme(names, number, schemes.len(), token, word, rest) {
+    let start = Cursor::start(number, Mode::Plain, line);
+    match start.next() {
+        NextToken::End => Ok(()),
+        NextToken::Refusal(refusal) => Err(Failure::Refused(PlanRefusal::Text(refusal))),
+        NextToken::Token(token, word, rest) => {
+            match read_scheme(names, schemes.len(), token, word, rest) {
                 Err(refusal) => Err(Failure::Refused(refusal)),
                 Ok(scheme) => Ok(schemes.push(scheme)?),
             }
@@ -110,29 +107,25 @@ fn read_line(
 // The scheme of a line of which the first token is taken, where so many scheme lines stand before it.
 fn read_scheme(
     names: &Names<'_>,
-    number: u32,
     earlier: usize,
     token: Token,
     word: &[u8],
-    rest: &[u8],
+    rest: Cursor<'_>,
 ) -> Result<AttrSet, PlanRefusal>
     requires within_limit { length (names_in names.now) ≤ MOST_ATTRIBUTES }
-    requires fits_u32 { token.column + token.length + length rest.now < 2 ^ 32 }
     requires word { token.length ≡ length word.now }
-    ensures ok { IfOk result (λ scheme.
-        read_scheme (names_in names.now) number earlier (mark_of token word.now)
-        (tokens_after Mode.Plain 0 (token.column + token.length) rest.now) ≡ Ok (attributes scheme)) }
-    ensures err { IfErr result
-        (λ refusal. read_scheme (names_in names.now) number earlier (mark_of token word.now)
-        (tokens_after Mode.Plain 0 (token.column + token.length) rest.now) ≡ Err refusal) }
+    ensures ok { IfOk result (λ scheme. read_scheme (names_in names.now) earlier (mark_of token word.now)
+        (rest_of rest.entry) ≡ Ok (attributes scheme)) }
+    ensures err { IfErr result (λ refusal. read_scheme (names_in names.now) earlier
+        (mark_of token word.now) (rest_of rest.entry) ≡ Err refusal) }
 {
     if !is_scheme(token.kind, word) {
-        return Err(refusal_of_token(number, token, no_scheme(token.kind, word)));
+        return Err(refusal_of_token(rest.line(), token, no_scheme(token.kind, word)));
     }
     if earlier >= MOST_SCHEMES {
-        return Err(PlanRefusal::TooManySchemes { line: number });
+        return Err(PlanRefusal::TooManySchemes { line: rest.line() });
     }
-    read_words(names, number, token.column + token.length, rest)
+    read_words(names, rest)
 }
 
 // Whether a token is the word `scheme`, in lower case.
@@ -163,41 +156,33 @@ fn no_scheme(kind: TokenKind, word: &[u8]) -> SchemaRefusalKind
 }
 
 // The attributes that the tokens after the word `scheme` stand for.
-fn read_words(
-    names: &Names<'_>,
-    line: u32,
-    column: u32,
-    text: &[u8],
-) -> Result<AttrSet, PlanRefusal>
+fn read_words(names: &Names<'_>, start: Cursor<'_>) -> Result<AttrSet, PlanRefusal>
     requires within_limit { length (names_in names.now) ≤ MOST_ATTRIBUTES }
-    requires fits_u32 { column + length text.now < 2 ^ 32 }
-    ensures ok { IfOk result (λ scheme. read_words_lexed (names_in names.now) line true none
-        (tokens_after Mode.Plain 0 column text.now) ≡ Ok (attributes scheme)) }
-    ensures err { IfErr result (λ refusal. read_words_lexed (names_in names.now) line true none
-        (tokens_after Mode.Plain 0 column text.now) ≡ Err refusal) }
+    ensures ok { IfOk result (λ scheme. read_words_rest (names_in names.now) true none
+        (rest_of start.entry) ≡ Ok (attributes scheme)) }
+    ensures err { IfErr result (λ refusal. read_words_rest (names_in names.now) true none
+        (rest_of start.entry) ≡ Err refusal) }
 {
     let mut set = AttrSet::empty();
     let mut first = true;
-    let mut column = column;
-    let mut rest = text;
+    let mut rest = start;
     'words: loop {
-        match next_token(Mode::Plain, column, rest) {
-            Next::End => {
+        match rest.next() {
+            NextToken::End => {
                 return if first {
-                    Err(PlanRefusal::EmptyScheme { line })
+                    Err(PlanRefusal::EmptyScheme { line: rest.line() })
                 } else {
                     Ok(set)
                 };
             }
-            Next::Error(stop) => return Err(PlanRefusal::Text(SchemaRefusal::by(line, stop))),
-            Next::Token(token, word, others) => {
-                match attribute_of_token(names, line, first, token, word) {
+            NextToken::Refusal(refusal) => return Err(PlanRefusal::Text(refusal)),
+            NextToken::Token(token, word, after) => {
+                match attribute_of_token(names, rest.line(), first, token, word) {
                     Err(refusal) => return Err(refusal),
                     Ok(attribute) => {
                         set = set.with(attribute);
                         first = false;
-                        column = token.column + token.length;
-                        rest = others;
+                        rest = after;
                     }
                 }
             }

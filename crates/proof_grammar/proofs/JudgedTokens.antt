@@ -1,5 +1,5 @@
 -- Each token of a certificate line is read, or the line is refused there by its first diagnostic.
-use Rattle.std.proofs.Common.{◌≡◌, ◌+◌, inl, inr, ℕ, zero, suc, Bool, true, false, cond, List, [], ◌∷◌, length, Option, Some, None, Ok, Err, Result, refl, sym, ◌∙◌, ap, subst, arith}
+use Rattle.std.proofs.Common.{◌≡◌, ◌+◌, inl, inr, ℕ, zero, suc, Bool, true, false, cond, List, [], ◌∷◌, Option, Some, None, Ok, Err, Result, refl, sym, ◌∙◌, ap, subst, arith}
 use Rattle.std.proofs.lemmas.Bool.{true≢false, false≢true, cond_both}
 use Rattle.std.proofs.lemmas.Option.{none-some}
 use Rattle.std.specs.Prelude.{codes, ok_or, option_map}
@@ -12,11 +12,10 @@ use Rattle.schema_grammar.specs.declared.refusal.SchemaRefusal.{SchemaRefusal}
 use Rattle.schema_grammar.specs.declared.refusal.What.{What}
 use Rattle.schema_grammar.specs.declared.refusal.What.TheVariants as what
 use Rattle.schema_grammar.specs.declared.symbol.Sign.{Sign}
-use Rattle.schema_grammar.specs.Rests.{Rest, ◌>>=◌, take, take_from, refusal_of_token, number, arrow, arrow_in, refusal_at_end}
+use Rattle.schema_grammar.specs.Rests.{Rest, ◌>>=◌, take, take_from, refusal_of_token, number, arrow, arrow_in, refusal_at_end, number_in, unless}
 use Rattle.schema_grammar.specs.Words.{is_word_token}
-use Rattle.schema_grammar.specs.Texts.{number_in}
 use Rattle.proof_grammar.specs.declared.rule_name.RuleName.{RuleName}
-use Rattle.proof_grammar.specs.Lines.{Line, unless}
+use Rattle.proof_grammar.specs.Lines.{Line}
 use Rattle.proof_grammar.specs.LineDiagnostics.{TokenForm, token_form, word_form, a_with, a_rule, a_word}
 use Rattle.proof_grammar.specs.Readers.{colon, with_word, rule_name}
 use Rattle.proof_grammar.specs.Tokens.{is_colon, is_with, rule_named, rule_word}

@@ -10,13 +10,12 @@ use Rattle.lexer.specs.declared.token.TokenKind.TheVariants as token
 use Rattle.lexer.specs.Tokens.{Mark, lex}
 use Rattle.schema_grammar.specs.declared.refusal.What.TheVariants as what
 use Rattle.schema_grammar.specs.declared.symbol.Sign.{Sign}
-use Rattle.schema_grammar.specs.Texts.{number_in}
 use Rattle.schema_grammar.specs.declared.symbol.Sign.TheVariants as sign
 use Rattle.schema_grammar.specs.declared.format.Format.TheVariants as format
 use Rattle.schema_grammar.specs.Meanings.{IsArrow, IsDependency}
-use Rattle.proof_grammar.specs.Lines.{Line, body, stated_dependency, unless, certificate_line, certificate_line_from}
+use Rattle.proof_grammar.specs.Lines.{Line, body, stated_dependency, certificate_line, certificate_line_from}
 use Rattle.proof_grammar.specs.Meanings.{IsCertificateLine, MeansLine}
-use Rattle.schema_grammar.specs.Rests.{Rest, rest_from, take, refusal_of_token, number, arrow, refusal_at_end, side, arrow_in}
+use Rattle.schema_grammar.specs.Rests.{Rest, rest_from, take, refusal_of_token, number, arrow, refusal_at_end, side, arrow_in, number_in, unless}
 use Rattle.schema_grammar.specs.Words.{is_word_token}
 use Rattle.proof_grammar.specs.Readers.{colon, rule_name}
 use Rattle.proof_grammar.proofs.CheckedLemmas.{bind_ok}

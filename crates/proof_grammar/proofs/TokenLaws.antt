@@ -1,5 +1,5 @@
 -- A token of a line is read exactly where the grammar has it.
-use Rattle.std.proofs.Common.{◌≡◌, ◌+◌, ⊎_elim, ℕ, Bool, true, false, cond, List, length, Option, Some, None, Ok, Err, refl, ◌∙◌, ap, subst}
+use Rattle.std.proofs.Common.{◌≡◌, ◌+◌, ⊎_elim, ℕ, Bool, true, false, cond, List, Option, Some, None, Ok, Err, refl, ◌∙◌, ap, subst}
 use Rattle.std.specs.Prelude.{codes, ok_or}
 use Rattle.std.specs.Str.{bytes_eq}
 use Rattle.std.proofs.lemmas.Bool.{cases_Bool}
@@ -10,11 +10,10 @@ use Rattle.lexer.specs.declared.token.TokenKind.TheVariants as token
 use Rattle.lexer.specs.Tokens.{Mark}
 use Rattle.schema_grammar.specs.declared.refusal.What.{What}
 use Rattle.schema_grammar.specs.declared.refusal.What.TheVariants as what
-use Rattle.schema_grammar.specs.Texts.{number_in}
 use Rattle.proof_grammar.specs.declared.rule_name.RuleName.{RuleName}
 use Rattle.proof_grammar.specs.declared.rule_name.RuleName.TheVariants as rule
 use Rattle.proof_grammar.specs.Meanings.{IsColon, IsNumber, IsKeyword}
-use Rattle.schema_grammar.specs.Rests.{Rest, ◌>>=◌, take, refusal_of_token, number}
+use Rattle.schema_grammar.specs.Rests.{number_in, Rest, ◌>>=◌, take, refusal_of_token, number}
 use Rattle.proof_grammar.specs.Readers.{colon, with_word}
 use Rattle.proof_grammar.specs.Tokens.{is_colon, is_with, rule_named, rule_word}
 use Rattle.proof_grammar.proofs.CheckedLemmas.{bind_ok}

@@ -9,8 +9,7 @@ use Rattle.schema_grammar.specs.declared.refusal.What.TheVariants as what
 use Rattle.proof_grammar.specs.declared.rule_name.RuleName.{RuleName}
 use Rattle.proof_grammar.specs.declared.rule_name.RuleName.TheVariants as rule
 use Rattle.schema_grammar.specs.Grammar as grammar
-use Rattle.schema_grammar.specs.Rests.{Rest, ◌>>=◌, take, refusal_of_token, number, arrow, refusal_at_end, side}
-use Rattle.schema_grammar.specs.Texts.{number_in}
+use Rattle.schema_grammar.specs.Rests.{Rest, ◌>>=◌, take, refusal_of_token, number_in, number, arrow, refusal_at_end, unless, side}
 use Rattle.proof_grammar.specs.Readers.{colon, with_word, rule_name}
 
 -- what a line says of its dependency: the rule, and the lines of its premises
@@ -75,11 +74,6 @@ stated_dependency names start = do
   a ← arrow x.1
   y ← side names a.1
   Ok (grammar.dependency_of_sign a.0 x.0 y.0, y.1)
-
--- a value, unless the line does not end here
-abbrev pub unless : {A : Type 0} → Option SchemaRefusal → A → Result A SchemaRefusal
-unless None x = Ok x
-unless (Some e) x = Err e
 
 -- what follows the first token, which is a number: `:`, a dependency, `:`, the rule
 unfoldable pub certificate_line_from : List (List ℕ) → Mark → Rest → Result Line SchemaRefusal

@@ -12,8 +12,6 @@ use Rattle.dep_model.specs.Dependencies.{Dependency}
 use Rattle.dep_model.specs.Schemas.{attribute_named}
 use Rattle.lexer.specs.Modes as mode
 use Rattle.lexer.specs.declared.token.LexError.{LexError}
-use Rattle.lexer.specs.declared.token.TokenKind.{TokenKind}
-use Rattle.lexer.specs.declared.token.TokenKind.TheVariants as token
 use Rattle.lexer.specs.Tokens.{Mark, Lexed, lex}
 use Rattle.schema_grammar.specs.declared.refusal.SchemaRefusalKind.{SchemaRefusalKind}
 use Rattle.schema_grammar.specs.declared.refusal.SchemaRefusalKind.TheVariants as kind
@@ -22,7 +20,8 @@ use Rattle.schema_grammar.specs.Declarations.{Declarations, add_name, add_depend
 use Rattle.schema_grammar.specs.Grammar.{start}
 use Rattle.schema_grammar.specs.Meanings.{HasTokens}
 use Rattle.schema_grammar.specs.Reading.{step, follow}
-use Rattle.schema_grammar.specs.Refusals.{at, and_then}
+use Rattle.schema_grammar.specs.Refusals.{at}
+use Rattle.schema_grammar.specs.Rests.{◌>>=◌}
 use Rattle.schema_grammar.specs.Schemas.{IsNewName, DeclareNames, IsDeclaring, IsStating, MeansTextLine, MeansLines}
 use Rattle.schema_grammar.specs.Texts.{finish, read_lines}
 use Rattle.schema_grammar.specs.Words.{is_word_token, is_reserved_token, column_type_of_token}
@@ -120,7 +119,7 @@ dependency_there f line d whole m ms stop e =
     let three = and_then-ok (follow f d.names line two.x (m.column + m.length) ms stop) _ whole two.second in
     record {
       dep = three.x;
-      read = ap (λ s. and_then (at line m.column m.length s) (λ next. follow f d.names line next (m.column + m.length) ms stop)) (inner.first ∙ ap Ok same) ∙ three.first;
+      read = ap (λ s. at line m.column m.length s >>= (λ next. follow f d.names line next (m.column + m.length) ms stop)) (inner.first ∙ ap Ok same) ∙ three.first;
       room = leb-false _ _ room.0;
       adds = let eq : Ok (add_dependency d three.x line) ≡ Ok whole = three.second in cc;
     }

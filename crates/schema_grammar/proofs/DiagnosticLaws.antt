@@ -21,7 +21,8 @@ use Rattle.schema_grammar.specs.declared.format.Format.TheVariants as format
 use Rattle.schema_grammar.specs.Diagnostics.{IsStuck, DependencyWants, Carries, DiagnosesOfWord, DependencyDiagnostic, kinds, refusal_number, flaw_number, span_at, IsFirst, FitsDependency, FitsGoal, RefusesGoal}
 use Rattle.schema_grammar.specs.Grammar.{Reached, start, finish_dependency}
 use Rattle.schema_grammar.specs.Reading.{step, follow, read_goal}
-use Rattle.schema_grammar.specs.Refusals.{at, and_then, expect, refused_by, refusal, kind_of_flaw}
+use Rattle.schema_grammar.specs.Refusals.{at, expect, refused_by, refusal, kind_of_flaw}
+use Rattle.schema_grammar.specs.Rests.{◌>>=◌}
 use Rattle.schema_grammar.proofs.ShapeLemmas.{Shape, at_start, shape_of, advance_shape, is_final, runs, StepTells, step_tells, EndTells, end_tells, final_line, line_ends, runs-one, wanted_by, wants_from, begins_from, begins_to}
 
 pub flaw_numbered : (why : Flaw) → refusal_number (kind_of_flaw why) ≡ flaw_number why
@@ -213,8 +214,8 @@ judge {whole} {stop} {At} {Six} {Wanted} judges f declared line first (m ∷ ms)
         → Judged (LineDiagnostic Six f declared whole stop) Wanted (span_at line first whole stop)
         (follow f declared line next (m.column + m.length) ms stop))
         → Judged (LineDiagnostic Six f declared whole stop) Wanted (span_at line first whole stop)
-        (and_then (at line m.column m.length o)
-        (λ next. follow f declared line next (m.column + m.length) ms stop))
+        (at line m.column m.length o
+        >>= (λ next. follow f declared line next (m.column + m.length) ms stop))
     told (Ok next) tells rest =
         let on = judges.goes_on k (shape_of r) (shape_of next) m is reached tells.0 in
         rest next on.1 (λ p n less diagnostic. elim (cases_order p k) [

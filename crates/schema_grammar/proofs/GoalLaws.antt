@@ -21,10 +21,11 @@ use Rattle.schema_grammar.specs.declared.format.Format.{Format}
 use Rattle.schema_grammar.specs.declared.format.Format.TheVariants as format
 use Rattle.schema_grammar.specs.Grammar.{Reached, start, left, left_empty, after_sign, right, right_empty, advance, finish_dependency, dependency_of_sign}
 use Rattle.schema_grammar.specs.Meanings.{HasTokens, attributes_of_words, IsAttribute, IsSide, IsArrow, IsDependency, MeansGoal}
-use Rattle.schema_grammar.specs.Reading.{step, follow, follow_lexed, read_goal}
-use Rattle.schema_grammar.specs.Refusals.{at, and_then, expect}
+use Rattle.schema_grammar.specs.Reading.{step, follow, read_goal, follow_rest}
+use Rattle.schema_grammar.specs.Refusals.{at, expect}
 use Rattle.schema_grammar.specs.Words.{is_word_token, is_reserved_token, look_up, known_attribute}
 use Rattle.schema_grammar.proofs.WordLemmas.{symbol_of-word}
+use Rattle.schema_grammar.specs.Rests.{◌>>=◌, rest_from}
 
 -- after words of the left side: more words, an arrow, the right side
 pub record LeftRest (f : Format) (declared : List (List ℕ)) (x : Attributes) (ms : List Mark) (d : Dependency) : Type 0 where
@@ -81,8 +82,8 @@ mark k column size word = record { kind = k; column = column; length = size; wor
 -- a word that is read names an attribute, by which the reading goes on
 record ReadsWord (f : Format) (declared : List (List ℕ)) (line : ℕ) (r : Reached) (m : Mark) (ms : List Mark) (d : Dependency) : Type 0 where
   is : IsAttribute f declared m
-  goes_on : and_then (at line m.column m.length (expect (advance r (symbol.Attribute is.index))))
-      (λ next. follow f declared line next (m.column + m.length) ms None) ≡ Ok d
+  goes_on : (at line m.column m.length (expect (advance r (symbol.Attribute is.index)))
+      >>= (λ next. follow f declared line next (m.column + m.length) ms None)) ≡ Ok d
 
 reads_word : (f : Format) (declared : List (List ℕ)) (line : ℕ) (r : Reached) (from : ℕ) (m : Mark) (ms : List Mark) (d : Dependency)
     → is_word_token m.kind ≡ true → follow f declared line r from (m ∷ ms) None ≡ Ok d
@@ -90,15 +91,15 @@ reads_word : (f : Format) (declared : List (List ℕ)) (line : ℕ) (r : Reached
 unfolding follow step look_up
 reads_word f declared line r from m ms d is_word e =
     told (is_reserved_token f m.kind m.word) (attribute_named declared m.word) refl refl
-    (ap (λ o. and_then (at line m.column m.length (and_then o (λ s. expect (advance r s))))
-    (λ next. follow f declared line next (m.column + m.length) ms None))
+    (ap (λ o. at line m.column m.length (o >>= (λ s. expect (advance r s)))
+    >>= (λ next. follow f declared line next (m.column + m.length) ms None))
     (sym (symbol_of-word f declared m.kind m.word is_word)) ∙ e)
   where
     told : (b : Bool) (o : Option ℕ) → is_reserved_token f m.kind m.word ≡ b → attribute_named declared m.word ≡ o
-        → and_then (at line m.column m.length
-        (and_then (and_then (cond b (Err kind.ReservedName) (known_attribute o)) (λ a. Ok (symbol.Attribute a)))
-        (λ s. expect (advance r s))))
-        (λ next. follow f declared line next (m.column + m.length) ms None) ≡ Ok d
+        → (at line m.column m.length
+        (cond b (Err kind.ReservedName) (known_attribute o) >>= (λ a. Ok (symbol.Attribute a))
+        >>= (λ s. expect (advance r s)))
+        >>= (λ next. follow f declared line next (m.column + m.length) ms None)) ≡ Ok d
         → ReadsWord f declared line r m ms d
     told true o free lookup e = cc
     told false None free lookup e = cc
@@ -263,7 +264,7 @@ marks_make f declared line from r (m ∷ ms) d e =
 -- a word that names an attribute is read
 word_read : (f : Format) (declared : List (List ℕ)) (line : ℕ) (r : Reached) (from : ℕ) (m : Mark) (ms : List Mark) (stop : Option LexError) (attribute : IsAttribute f declared m)
     → follow f declared line r from (m ∷ ms) stop
-    ≡ and_then (at line m.column m.length (expect (advance r (symbol.Attribute attribute.index)))) (λ next. follow f declared line next (m.column + m.length) ms stop)
+    ≡ (at line m.column m.length (expect (advance r (symbol.Attribute attribute.index))) >>= (λ next. follow f declared line next (m.column + m.length) ms stop))
 unfolding follow step look_up
 word_read f declared line r from m ms stop attribute =
     rw (symbol_of-word f declared m.kind m.word attribute.word, attribute.free, attribute.known) refl
@@ -351,7 +352,7 @@ follow_has_no_stop f declared line r from (m ∷ ms) stop d e =
 
 -- only a line with a line's end is read
 pub no_stop : (f : Format) (declared : List (List ℕ)) (line : ℕ) (r : Reached) (from : ℕ) (l : Lexed) (d : Dependency)
-    → follow_lexed f declared line r from l ≡ Ok d → HasTokens l l.marks
+    → follow_rest f declared r (rest_from line from l) ≡ Ok d → HasTokens l l.marks
 no_stop f declared line r from l d e = told l.stop refl
   where
     told : (o : Option LexError) → l.stop ≡ o → HasTokens l l.marks
@@ -366,8 +367,8 @@ goal-law declared text d = (there, back)
     there : read_goal declared text ≡ Ok d → MeansGoal declared text d
     there e =
         let whole = no_stop format.Plain declared 1 start 1 (lex mode.goal text) d e in
-        let here : follow_lexed format.Plain declared 1 start 1 (record { marks = (lex mode.goal text).marks; stop = None }) ≡ Ok d = ap (follow_lexed format.Plain declared 1 start 1) (sym whole) ∙ e in
+        let here : follow_rest format.Plain declared start (rest_from 1 1 (record { marks = (lex mode.goal text).marks; stop = None })) ≡ Ok d = ap (λ l. follow_rest format.Plain declared start (rest_from 1 1 l)) (sym whole) ∙ e in
         record { marks = (lex mode.goal text).marks; tokens = whole; dependency = (dependency-law format.Plain declared 1 1 _ d).0 here }
 
     back : MeansGoal declared text d → read_goal declared text ≡ Ok d
-    back means = ap (follow_lexed format.Plain declared 1 start 1) means.tokens ∙ (dependency-law format.Plain declared 1 1 means.marks d).1 means.dependency
+    back means = ap (λ l. follow_rest format.Plain declared start (rest_from 1 1 l)) means.tokens ∙ (dependency-law format.Plain declared 1 1 means.marks d).1 means.dependency

@@ -15,7 +15,8 @@ use Rattle.schema_grammar.specs.Diagnostics.{IsStuck, HeadDiagnostic, TextLineDi
 use Rattle.schema_grammar.specs.Declarations.{Declarations, add_dependency, begin, dependency_line, line_from, line_of_marks}
 use Rattle.schema_grammar.specs.Grammar.{Reached, start}
 use Rattle.schema_grammar.specs.Reading.{step, follow}
-use Rattle.schema_grammar.specs.Refusals.{at, and_then, refused_by, refusal}
+use Rattle.schema_grammar.specs.Refusals.{at, refused_by, refusal}
+use Rattle.schema_grammar.specs.Rests.{◌>>=◌}
 use Rattle.schema_grammar.specs.Words.{column_type_of_token}
 use Rattle.schema_grammar.proofs.DiagnosticLaws.{flaw_numbered, flaw_carries, flaw_least, first_at, Carries-map, at_token, token_diagnoses, dependency_judges, line-law}
 use Rattle.schema_grammar.proofs.NameLaws.{names-law}
@@ -40,7 +41,7 @@ declaring_fits f d line m ms stop column (Err e) first = record {
 
 -- the diagnostics of a dependency line, where there is room for it
 with_room : (f : Format) (d : Declarations) (line : ℕ) (m : Mark) (ms : List Mark) (stop : Option LexError) (res : Result Dependency SchemaRefusal) → length d.deps < MOST_DEPENDENCY_LINES
-    → FitsDependency f d.names line (m ∷ ms) stop res → FitsHead f d line m ms stop None (and_then res (λ dep. Ok (add_dependency d dep line)))
+    → FitsDependency f d.names line (m ∷ ms) stop res → FitsHead f d line m ms stop None (res >>= (λ dep. Ok (add_dependency d dep line)))
 with_room f d line m ms stop (Ok dep) room none =
     λ p n diagnostic. ⊎_elim (none p n) (λ full. omega (arith, full.2)) diagnostic
 with_room f d line m ms stop (Err e) room first = record {
@@ -53,10 +54,10 @@ with_room f d line m ms stop (Err e) room first = record {
 
 begun_fits : (f : Format) (d : Declarations) (line : ℕ) (m : Mark) (ms : List Mark) (stop : Option LexError) (o : Result Reached SchemaRefusalKind) (b : Bool)
     → nat_le MOST_DEPENDENCY_LINES (length d.deps) ≡ b → StepTells f d.names start m o
-    → FitsDependency f d.names line (m ∷ ms) stop (and_then (at line m.column m.length o) (λ next. follow f d.names line next (m.column + m.length) ms stop))
+    → FitsDependency f d.names line (m ∷ ms) stop (at line m.column m.length o >>= (λ next. follow f d.names line next (m.column + m.length) ms stop))
     → FitsHead f d line m ms stop None
-    (and_then (at line m.column m.length (and_then o (λ next. cond b (Err kind.TooManyDependencies) (Ok next))))
-    (λ next. and_then (follow f d.names line next (m.column + m.length) ms stop) (λ dep. Ok (add_dependency d dep line))))
+    (at line m.column m.length (o >>= (λ next. cond b (Err kind.TooManyDependencies) (Ok next)))
+    >>= (λ next. follow f d.names line next (m.column + m.length) ms stop >>= (λ dep. Ok (add_dependency d dep line))))
 begun_fits f d line m ms stop (Err why) b full tells first =
     let here = first.least 0 (refusal_number why)
     (token_diagnoses (dependency_judges (m ∷ ms) stop) f d.names 0 start m why refl refl tells) in

@@ -9,7 +9,8 @@ use Rattle.schema_grammar.specs.declared.refusal.SchemaRefusalKind.TheVariants a
 use Rattle.schema_grammar.specs.declared.format.Format.{Format}
 use Rattle.schema_grammar.specs.Diagnostics.{TextLineDiagnostic, FitsTextLine, span_at}
 use Rattle.schema_grammar.specs.Declarations.{Declarations, read_line}
-use Rattle.schema_grammar.specs.Refusals.{and_then, refusal}
+use Rattle.schema_grammar.specs.Refusals.{refusal}
+use Rattle.schema_grammar.specs.Rests.{◌>>=◌}
 use Rattle.schema_grammar.specs.Schemas.{MeansTextLine, MeansLines, LinesDiagnostic, IsFirstOfLines, FitsLines}
 use Rattle.schema_grammar.specs.Texts.{finish, read_lines}
 use Rattle.schema_grammar.proofs.LineLaws.{text-line-law}
@@ -145,7 +146,7 @@ lines-law f first d [] = elim (cases_Bool (length d.names == 0)) [
 lines-law f first d (line ∷ lines) = told (λ next. lines-law f (first + 1) next lines) (read_line f first d line) refl (line-law f first d line)
   where
     told : ((next : Declarations) → FitsLines f (first + 1) next lines (read_lines f (first + 1) next lines)) → (o : Result Declarations SchemaRefusal) → read_line f first d line ≡ o → FitsTextLine f d first (lex mode.plain line).marks (lex mode.plain line).stop o
-        → FitsLines f first d (line ∷ lines) (and_then o (λ next. read_lines f (first + 1) next lines))
+        → FitsLines f first d (line ∷ lines) (o >>= (λ next. read_lines f (first + 1) next lines))
     told rest (Ok next) read fits =
         lines_after f first d next line lines (read_lines f (first + 1) next lines) read fits (rest next)
     told rest (Err e) read fits = inl (line_here f first d line lines e fits)

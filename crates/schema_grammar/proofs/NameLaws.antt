@@ -12,8 +12,6 @@ use Rattle.attr_sets.specs.declared.set.TheConstants.{MOST_ATTRIBUTES}
 use Rattle.dep_model.specs.declared.column_type.ColumnType.{ColumnType}
 use Rattle.dep_model.specs.Schemas.{attribute_named}
 use Rattle.lexer.specs.declared.token.LexError.{LexError}
-use Rattle.lexer.specs.declared.token.TokenKind.{TokenKind}
-use Rattle.lexer.specs.declared.token.TokenKind.TheVariants as token
 use Rattle.lexer.specs.Tokens.{Mark}
 use Rattle.schema_grammar.specs.declared.refusal.SchemaRefusal.{SchemaRefusal}
 use Rattle.schema_grammar.specs.declared.refusal.SchemaRefusalKind.{SchemaRefusalKind}
@@ -22,9 +20,10 @@ use Rattle.schema_grammar.specs.declared.refusal.What.TheVariants as what
 use Rattle.schema_grammar.specs.declared.format.Format.{Format}
 use Rattle.schema_grammar.specs.Diagnostics.{NameDiagnostic, NamesDiagnostic, NamesWant, Carries, refusal_number, flaw_number, span_at, FitsNames}
 use Rattle.schema_grammar.specs.Declarations.{Declarations, add_name, declare, name_step, what_after_declaring, list_names}
-use Rattle.schema_grammar.specs.Refusals.{at, and_then, refused_by, refusal, kind_of_flaw}
+use Rattle.schema_grammar.specs.Refusals.{at, refused_by, refusal, kind_of_flaw}
 use Rattle.schema_grammar.specs.Words.{is_word_token, is_reserved_token}
 use Rattle.schema_grammar.proofs.WordLemmas.{name_step-word, name_step-other}
+use Rattle.schema_grammar.specs.Rests.{◌>>=◌}
 use Rattle.schema_grammar.proofs.DiagnosticLaws.{flaw_numbered, flaw_carries, flaw_least, Carries-map, first_at, IsLeft, left_whole, left_next, Judged}
 
 -- what is wrong with one word, after names and so many of them
@@ -167,8 +166,8 @@ judge_names f column d line first whole stop (w ∷ words) k from some now left 
         → Judged (NamesDiagnostic f d whole stop) NamesWant (span_at line first whole stop)
         (list_names f column line next true (w.column + w.length) words stop))
         → Judged (NamesDiagnostic f d whole stop) NamesWant (span_at line first whole stop)
-        (and_then (at line w.column w.length o)
-        (λ next. list_names f column line next true (w.column + w.length) words stop))
+        (at line w.column w.length o
+        >>= (λ next. list_names f column line next true (w.column + w.length) words stop))
     told (Ok next) (same, word, none) rest = rest next
         (ap (λ x. x.names) same ∙ ap (λ t. t ++ w.word ∷ []) names ∙ append_assoc d.names
         (words_in (take k whole)) (w.word ∷ [])

@@ -12,7 +12,7 @@ use Rattle.schema_grammar.specs.declared.refusal.What.TheVariants as what
 use Rattle.schema_grammar.specs.Diagnostics.{TextLineWants, IsFirst, TextLineDiagnostic, FitsTextLine, FitsGoal, RefusesGoal, span_at}
 use Rattle.schema_grammar.specs.Declarations.{Declarations, no_declaration, read_line}
 use Rattle.schema_grammar.specs.Reading.{read_goal}
-use Rattle.schema_grammar.specs.Refusals.{and_then}
+use Rattle.schema_grammar.specs.Rests.{◌>>=◌}
 use Rattle.schema_grammar.specs.Schemas.{RefusesLines, FitsVersion, RefusesText, RefusesSchema}
 use Rattle.schema_grammar.specs.Texts.{read_lines, read_opening, read_text, finish}
 use Rattle.schema_grammar.proofs.DiagnosticLaws.{goal-diagnostic-law, goal_refused}
@@ -77,7 +77,7 @@ schema-refusal-law text e = (schema_refused text e, back)
         (lex mode.numbered has.version).stop) _ _ _
         (λ x none. none) (λ g first. first) (one_at_first what.Number) _ e (version-law _ _ _ _) first in
         typed_opening 1 lines has
-        ∙ ap (λ r. and_then r (λ d. read_lines format.Typed (length has.before + 1 + 1) d has.later)) refused
+        ∙ ap (λ r. r >>= (λ d. read_lines format.Typed (length has.before + 1 + 1) d has.later)) refused
     back (inr (has, inr (is, refuses))) =
         version_opening 1 lines has.before has.version has.later has.cut has.blank is
         ∙ lines_refused format.Typed (length has.before + 1 + 1) no_declaration has.later e refuses

@@ -5,7 +5,8 @@ use Rattle.dep_model.specs.declared.failure.Failure.{Failure}
 use Rattle.dep_model.specs.declared.failure.Failure.TheVariants.{Refused}
 use Rattle.dep_model.proofs.FailureLemmas.{refuses_also}
 use Rattle.schema_grammar.specs.declared.refusal.SchemaRefusal.{SchemaRefusal}
-use Rattle.schema_grammar.specs.Refusals.{Refuses, and_then}
+use Rattle.schema_grammar.specs.Refusals.{Refuses}
+use Rattle.schema_grammar.specs.Rests.{◌>>=◌}
 
 -- the refusal of a part is that of the whole
 pub Refuses-whole : {X Y : Type 0} (e : Failure SchemaRefusal) (part : Result X SchemaRefusal) (whole : Result Y SchemaRefusal)
@@ -46,7 +47,7 @@ pub record Steps {X Y E : Type 0} (r : Result X E) (next : X → Result Y E) (y 
   pub first : r ≡ Ok x
   pub second : next x ≡ Ok y
 
-pub and_then-ok : {X Y E : Type 0} (r : Result X E) (next : X → Result Y E) (y : Y) → and_then r next ≡ Ok y
+pub and_then-ok : {X Y E : Type 0} (r : Result X E) (next : X → Result Y E) (y : Y) → (r >>= next) ≡ Ok y
     → Steps r next y
 and_then-ok (Ok x) next y e = record { x = x; first = refl; second = e }
 and_then-ok (Err why) next y e = cc

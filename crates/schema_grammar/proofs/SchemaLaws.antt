@@ -14,8 +14,9 @@ use Rattle.schema_grammar.specs.declared.format.TheConstants.{VERSION}
 use Rattle.schema_grammar.specs.declared.format.Format.TheVariants as format
 use Rattle.schema_grammar.specs.Declarations.{Declarations, no_declaration}
 use Rattle.schema_grammar.specs.Meanings.{HasTokens}
+use Rattle.schema_grammar.specs.Rests.{number_in, take, refusal_at_end, refusal_at_end_from, unless}
 use Rattle.schema_grammar.specs.Schemas.{MeansLines, has_version_line, begins_version, HasVersionLine, IsPlainText, IsVersionLine, IsTypedText, MeansSchema}
-use Rattle.schema_grammar.specs.Texts.{read_lines, read_version, read_typed, read_opening, read_text, is_version, opening_from, end_version, version_number, number_in}
+use Rattle.schema_grammar.specs.Texts.{read_lines, read_version, read_typed, read_opening, read_text, is_version, opening_from, version_number}
 use Rattle.schema_grammar.proofs.BlankLemmas.{lexed_plain}
 use Rattle.schema_grammar.proofs.DeclaringLaws.{has_tokens, line_back, lines_there, lines_back}
 use Rattle.schema_grammar.proofs.RefusalLemmas.{and_then-ok}
@@ -25,15 +26,14 @@ IsBlankLine line = HasTokens (lex mode.numbered line) []
 
 -- a version line is read where it is the word `version` and the number 2
 pub version_there : (lines : List (List ℕ)) (text : HasVersionLine lines) (line : ℕ) (d : Declarations)
-    → read_version line (text.head.column + text.head.length) text.others
-    (lex mode.numbered text.version).stop ≡ Ok d
+    → read_version (record { line = line; next_column = text.head.column + text.head.length; marks = text.others; stop = (lex mode.numbered text.version).stop }) ≡ Ok d
     → IsVersionLine text.version × (d ≡ no_declaration)
-unfolding read_version
+unfolding read_version take refusal_at_end
 version_there lines text line d e = told text.others (lex mode.numbered text.version).stop refl refl e
   where
     ends : (m : Mark) (ms : List Mark) (stop : Option LexError) → text.others ≡ m ∷ ms
         → (lex mode.numbered text.version).stop ≡ stop
-        → m.kind ≡ token.Number VERSION → end_version line ms stop ≡ Ok d
+        → m.kind ≡ token.Number VERSION → unless (refusal_at_end_from line ms stop) no_declaration ≡ Ok d
         → IsVersionLine text.version × (d ≡ no_declaration)
     ends m [] None others stop is e = (
       record {
@@ -50,7 +50,7 @@ version_there lines text line d e = told text.others (lex mode.numbered text.ver
 
     numbered : (k : TokenKind) (m : Mark) (ms : List Mark) (stop : Option LexError) → m.kind ≡ k
         → text.others ≡ m ∷ ms → (lex mode.numbered text.version).stop ≡ stop
-        → version_number line m ms stop (number_in k) ≡ Ok d
+        → version_number m (record { line = line; next_column = m.column + m.length; marks = ms; stop = stop }) (number_in k) ≡ Ok d
         → IsVersionLine text.version × (d ≡ no_declaration)
     numbered (token.Number n) m ms stop is others same e = elim (cases_Bool (n == VERSION)) [
       | inl two ↦ ends m ms stop others same (is ∙ ap token.Number (eqb-true n VERSION two)) (rw two at e)
@@ -60,7 +60,7 @@ version_there lines text line d e = told text.others (lex mode.numbered text.ver
 
     told : (ms : List Mark) (stop : Option LexError) → text.others ≡ ms
         → (lex mode.numbered text.version).stop ≡ stop
-        → read_version line (text.head.column + text.head.length) ms stop ≡ Ok d
+        → read_version (record { line = line; next_column = text.head.column + text.head.length; marks = ms; stop = stop }) ≡ Ok d
         → IsVersionLine text.version × (d ≡ no_declaration)
     told [] None others stop e = cc
     told [] (Some s) others stop e = cc
@@ -144,8 +144,8 @@ blank_skipped number (line ∷ before) rest blank =
 -- a text with a version line is read from there on
 pub typed_opening : (number : ℕ) (lines : List (List ℕ)) (text : HasVersionLine lines)
     → read_opening number lines
-    ≡ read_typed (length text.before + number) text.later (text.head.column + text.head.length)
-    (record { marks = text.others; stop = (lex mode.numbered text.version).stop })
+    ≡ read_typed text.later
+    (record { line = length text.before + number; next_column = text.head.column + text.head.length; marks = text.others; stop = (lex mode.numbered text.version).stop })
 unfolding read_opening
 typed_opening number lines text =
     ap (read_opening number) text.cut ∙ blank_skipped number text.before
@@ -156,7 +156,7 @@ pub version_opening : (number : ℕ) (lines before : List (List ℕ)) (version :
     → lines ≡ before ++ version ∷ later
     → All IsBlankLine before → IsVersionLine version
     → read_opening number lines ≡ read_lines format.Typed (length before + number + 1) no_declaration later
-unfolding read_opening read_version
+unfolding read_opening read_version take refusal_at_end
 version_opening number lines before version later cut blank is =
     ap (read_opening number) cut ∙ blank_skipped number before (version ∷ later) blank ∙ rw
     (is.tokens, is.is_word, is.is_number) refl

@@ -18,8 +18,9 @@ use Rattle.schema_grammar.specs.declared.format.Format.TheVariants as format
 use Rattle.schema_grammar.specs.Diagnostics.{refusal_number, span_at}
 use Rattle.schema_grammar.specs.Grammar.{Reached, after_sign}
 use Rattle.schema_grammar.specs.Meanings.{IsSide}
-use Rattle.schema_grammar.specs.Reading.{follow_lexed}
-use Rattle.schema_grammar.specs.Refusals.{and_then}
+use Rattle.schema_grammar.specs.Reading.{follow_rest}
+use Rattle.schema_grammar.specs.Rests.{◌>>=◌, rest_from}
+use Rattle.schema_grammar.specs.Words.{is_word_token}
 use Rattle.schema_grammar.specs.Sets.{MeansSet, BeginsEmpty, IsOutOfPlace, SetDiagnostic, SetWants, FitsSet, RefusesSet, read_set}
 use Rattle.schema_grammar.proofs.DiagnosticLaws.{Judges, LineDiagnostic, Judged, judge, left_whole}
 use Rattle.schema_grammar.proofs.GoalLaws.{AfterSignRest, marks_make, side_read, no_stop}
@@ -32,19 +33,19 @@ abbrev from_arrow : Reached
 from_arrow = after_sign sign.Functional none
 
 abbrev set_of : Result Dependency SchemaRefusal → Result Attributes SchemaRefusal
-set_of r = and_then r (λ d. Ok (right_of d))
+set_of r = r >>= (λ d. Ok (right_of d))
 
 pub set-law : (declared : List (List ℕ)) (text : List ℕ) (x : Attributes) → (read_set declared text ≡ Ok x) ↔ MeansSet declared text x
 set-law declared text x = (there, back)
   where
     there : read_set declared text ≡ Ok x → MeansSet declared text x
     there e =
-        let two = and_then-ok (follow_lexed format.Plain declared 1 from_arrow 1 (lex mode.goal text))
+        let two = and_then-ok (follow_rest format.Plain declared from_arrow (rest_from 1 1 (lex mode.goal text)))
         (λ d. Ok (right_of d)) x e in
         let whole = no_stop format.Plain declared 1 from_arrow 1 (lex mode.goal text) two.x two.first in
-        let here : follow_lexed format.Plain declared 1 from_arrow 1
-        (record { marks = (lex mode.goal text).marks; stop = None }) ≡ Ok two.x =
-        ap (follow_lexed format.Plain declared 1 from_arrow 1) (sym whole) ∙ two.first in
+        let here : follow_rest format.Plain declared from_arrow
+        (rest_from 1 1 (record { marks = (lex mode.goal text).marks; stop = None })) ≡ Ok two.x =
+        ap (λ l. follow_rest format.Plain declared from_arrow (rest_from 1 1 l)) (sym whole) ∙ two.first in
         let more : AfterSignRest format.Plain declared sign.Functional none (lex mode.goal text).marks two.x =
         marks_make format.Plain declared 1 1 from_arrow _ two.x here in
         let is : right_of two.x ≡ x = (let second = two.second in cc) in
@@ -53,7 +54,7 @@ set-law declared text x = (there, back)
 
     back : MeansSet declared text x → read_set declared text ≡ Ok x
     back means =
-        ap (λ l. set_of (follow_lexed format.Plain declared 1 from_arrow 1 l)) means.tokens
+        ap (λ l. set_of (follow_rest format.Plain declared from_arrow (rest_from 1 1 l))) means.tokens
         ∙ ap set_of (side_read format.Plain declared 1 sign.Functional none x 1 means.marks means.side)
 
 -- ---- how it is refused
@@ -143,7 +144,7 @@ side_judges ms stop = record {
 -- a set is refused by its first diagnostic, and read where there is none
 pub set-diagnostic-law : (declared : List (List ℕ)) (text : List ℕ) → FitsSet declared text (read_set declared text)
 set-diagnostic-law declared text =
-    fits (follow_lexed format.Plain declared 1 from_arrow 1 (lex mode.goal text))
+    fits (follow_rest format.Plain declared from_arrow (rest_from 1 1 (lex mode.goal text)))
     (judge (side_judges marks stop) format.Plain declared 1 1 marks 0 1 from_arrow
     (left_whole 1 1 marks stop) refl (λ p n less. absurd (omega arith)))
   where

@@ -17,8 +17,9 @@ use Rattle.schema_grammar.specs.declared.symbol.Symbol.{Symbol}
 use Rattle.schema_grammar.specs.Diagnostics.{IsLine, BeginsLine, Wants, Carries, DiagnosesOfWord, kinds, refusal_number}
 use Rattle.schema_grammar.specs.Grammar.{Reached, start, left, left_empty, after_sign, right, right_empty, advance, finish_dependency}
 use Rattle.schema_grammar.specs.Reading.{step, follow}
-use Rattle.schema_grammar.specs.Refusals.{at, and_then, expect}
+use Rattle.schema_grammar.specs.Refusals.{at, expect}
 use Rattle.schema_grammar.specs.Words.{is_word_token, is_reserved, is_reserved_token, look_up, known_attribute}
+use Rattle.schema_grammar.specs.Rests.{◌>>=◌}
 use Rattle.schema_grammar.proofs.GoalLaws.{dependency-law}
 
 -- how far a dependency is read, but for its sets
@@ -144,8 +145,8 @@ step_tells f declared r m = told m.kind
     word : (k : TokenKind) → is_word_token k ≡ true → ((a : ℕ) → Turns r k (advance r (symbol.Attribute a)))
         → (b : Bool) (o : Option ℕ) → is_reserved_token f k m.word ≡ b → attribute_named declared m.word ≡ o
         → StepTells f declared r (record m { kind = k })
-        (and_then (and_then (cond b (Err kind.ReservedName) (known_attribute o)) (λ a. Ok (symbol.Attribute a)))
-        (λ s. expect (advance r s)))
+        (cond b (Err kind.ReservedName) (known_attribute o) >>= (λ a. Ok (symbol.Attribute a))
+        >>= (λ s. expect (advance r s)))
     word k is turns true o reserved lookup =
         (inl (is, inl (refl, reserved)), (λ n diagnostic. omega arith), omega arith, tt)
     word k is turns false None free lookup =
@@ -192,7 +193,7 @@ follow_runs f declared line r from (m ∷ ms) d e =
     told (step f declared r m.kind m.word) (step_tells f declared r m) (λ next h. follow_runs f declared line next (m.column + m.length) ms d h) e
   where
     told : (o : Result Reached SchemaRefusalKind) → StepTells f declared r m o → ((next : Reached) → follow f declared line next (m.column + m.length) ms None ≡ Ok d → Ends (shape_of next) (kinds ms))
-        → and_then (at line m.column m.length o) (λ next. follow f declared line next (m.column + m.length) ms None) ≡ Ok d → Ends (shape_of r) (m.kind ∷ kinds ms)
+        → (at line m.column m.length o >>= (λ next. follow f declared line next (m.column + m.length) ms None)) ≡ Ok d → Ends (shape_of r) (m.kind ∷ kinds ms)
     told (Ok next) tells rest e = let more = rest next e in record { last = more.last; leads = rw tells.0 more.leads; final = more.final }
     told (Err why) tells rest e = cc
 
@@ -234,7 +235,7 @@ runs_read r (k ∷ ks) s e final = told (step format.Plain one_name r k (97 ∷ 
           marks = sample_mark k ∷ more.marks;
           same = ap (λ t. k ∷ t) more.same;
           dep = more.dep;
-          read = ap (λ o. and_then (at 1 0 1 o) (λ n. follow format.Plain one_name 1 n 1 more.marks None)) is
+          read = ap (λ o. at 1 0 1 o >>= (λ n. follow format.Plain one_name 1 n 1 more.marks None)) is
               ∙ more.read;
         }
     told (Err why) is (inl (word, inl (number, reserved)), less, small, carries) rest = let free = sample_is_free k in cc

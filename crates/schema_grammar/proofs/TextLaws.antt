@@ -11,17 +11,18 @@ use Rattle.schema_grammar.specs.declared.format.TheConstants.{VERSION}
 use Rattle.schema_grammar.specs.declared.format.Format.TheVariants as format
 use Rattle.schema_grammar.specs.Diagnostics.{span_at}
 use Rattle.schema_grammar.specs.Declarations.{Declarations, no_declaration}
-use Rattle.schema_grammar.specs.Refusals.{and_then, refusal, refused_by}
+use Rattle.schema_grammar.specs.Refusals.{refusal, refused_by}
+use Rattle.schema_grammar.specs.Rests.{◌>>=◌, take, number_in, refusal_at_end, refusal_at_end_from, unless}
 use Rattle.schema_grammar.specs.Schemas.{FitsLines, VersionDiagnostic, VersionWants, FitsVersion, HasVersionLine, FitsText, FitsSchema, RefusesSchema, IsVersionLine, has_version_line}
-use Rattle.schema_grammar.specs.Texts.{read_lines, read_version, read_opening, read_text, end_version, version_number, number_in}
+use Rattle.schema_grammar.specs.Texts.{read_lines, read_version, read_opening, read_text, version_number}
 use Rattle.schema_grammar.proofs.DiagnosticLaws.{flaw_numbered, flaw_carries, flaw_least, first_at}
 use Rattle.schema_grammar.proofs.LinesLaws.{lines-law}
 use Rattle.schema_grammar.proofs.SchemaLaws.{version_there, version_line_or_none, plain_opening, typed_opening}
 
 -- a version line is read where nothing is wrong, or refused by its first diagnostic
 pub version-law : (line next_column : ℕ) (ms : List Mark) (stop : Option LexError)
-    → FitsVersion line next_column ms stop (read_version line next_column ms stop)
-unfolding read_version
+    → FitsVersion line next_column ms stop (read_version (record { line = line; next_column = next_column; marks = ms; stop = stop }))
+unfolding read_version take refusal_at_end
 version-law line next_column [] None =
     first_at (VersionDiagnostic [] None) VersionWants (span_at line next_column [] None)
     (refusal line next_column 0 (kind.Expected what.Number)) 0 (λ p n less. absurd (omega arith))
@@ -36,7 +37,7 @@ version-law line next_column (m ∷ ms) stop = told (number_in m.kind) refl
   where
     ends : (i : ℕ) → number_in m.kind ≡ Some i → (i == VERSION) ≡ true
         → (others : List Mark) (o : Option LexError)
-        → FitsVersion line next_column (m ∷ others) o (end_version line others o)
+        → FitsVersion line next_column (m ∷ others) o (unless (refusal_at_end_from line others o) no_declaration)
     ends i some two [] None = λ p n diagnostic. grind arith
     ends i some two [] (Some s) =
         first_at (VersionDiagnostic (m ∷ []) (Some s)) VersionWants
@@ -52,14 +53,14 @@ version-law line next_column (m ∷ ms) stop = told (number_in m.kind) refl
 
     number : (i : ℕ) (b : Bool) → number_in m.kind ≡ Some i → (i == VERSION) ≡ b
         → FitsVersion line next_column (m ∷ ms) stop
-        (cond b (end_version line ms stop) (Err (refusal line m.column m.length kind.UnknownVersion)))
+        (cond b (unless (refusal_at_end_from line ms stop) no_declaration) (Err (refusal line m.column m.length kind.UnknownVersion)))
     number i true some two = ends i some two ms stop
     number i false some other =
         first_at (VersionDiagnostic (m ∷ ms) stop) VersionWants (span_at line next_column (m ∷ ms) stop)
         (refusal line m.column m.length kind.UnknownVersion) 0 (λ p n less. absurd (omega arith))
         (inl (inr (inl (m, i, refl, some, other, refl, refl)))) tt refl (λ n diagnostic. grind arith)
 
-    told : (o : Option ℕ) → number_in m.kind ≡ o → FitsVersion line next_column (m ∷ ms) stop (version_number line m ms stop o)
+    told : (o : Option ℕ) → number_in m.kind ≡ o → FitsVersion line next_column (m ∷ ms) stop (version_number m (record { line = line; next_column = m.column + m.length; marks = ms; stop = stop }) o)
     told None none =
         first_at (VersionDiagnostic (m ∷ ms) stop) VersionWants (span_at line next_column (m ∷ ms) stop)
         (refusal line m.column m.length (kind.Expected what.Number)) 0
@@ -87,11 +88,10 @@ text-law text = fits (version_line_or_none lines)
     typed has is (Err e) later = inr (has, inr (is, later))
 
     version : (has : HasVersionLine lines) (o : Result Declarations SchemaRefusal)
-        → read_version (length has.before + 1) (has.head.column + has.head.length) has.others
-        (lex mode.numbered has.version).stop ≡ o
+        → read_version (record { line = length has.before + 1; next_column = has.head.column + has.head.length; marks = has.others; stop = (lex mode.numbered has.version).stop }) ≡ o
         → FitsVersion (length has.before + 1) (has.head.column + has.head.length) has.others
         (lex mode.numbered has.version).stop o
-        → FitsText 1 lines (and_then o (λ d. read_lines format.Typed (length has.before + 1 + 1) d has.later))
+        → FitsText 1 lines (o >>= (λ d. read_lines format.Typed (length has.before + 1 + 1) d has.later))
     version has (Ok d) read fine =
         let is = version_there lines has (length has.before + 1) d read in
         rw is.1 (typed has is.0 _

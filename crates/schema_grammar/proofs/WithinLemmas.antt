@@ -15,7 +15,8 @@ use Rattle.schema_grammar.specs.declared.symbol.Sign.{Sign}
 use Rattle.schema_grammar.specs.declared.symbol.Sign.TheVariants as sign
 use Rattle.schema_grammar.specs.Grammar.{Reached, start, left, left_empty, after_sign, right, right_empty, dependency_of_sign}
 use Rattle.schema_grammar.specs.Meanings.{is_at, attributes_of_words, IsSide}
-use Rattle.schema_grammar.specs.Reading.{follow, follow_lexed}
+use Rattle.schema_grammar.specs.Reading.{follow, follow_rest}
+use Rattle.schema_grammar.specs.Rests.{rest_from}
 use Rattle.schema_grammar.proofs.GoalLaws.{Rest, marks_make, no_stop}
 use Rattle.schema_grammar.proofs.RefusalLemmas.{when_ok, ok_at}
 
@@ -83,7 +84,7 @@ follow_within f declared line reading column ms stop h = when_ok _ _ (λ d e.
     let whole = no_stop f declared line reading column (record { marks = ms; stop = stop }) d e in
     rest_within f declared reading ms d h
     (marks_make f declared line column reading ms d
-    (ap (follow_lexed f declared line reading column) (sym whole) ∙ e)))
+    (ap (λ l. follow_rest f declared reading (rest_from line column l)) (sym whole) ∙ e)))
 
 -- what a call read lies within what the reading allows
 pub within_read : {X Y E F : Type 0} (P : Y → Type 0) (g : X → Y) (r : Result X E) (reading : Result Y F) → IfOk r (λ x. reading ≡ Ok (g x)) → IfOk reading P

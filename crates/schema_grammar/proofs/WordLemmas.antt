@@ -1,5 +1,5 @@
 -- Words and quoted names are read alike.
-use Rattle.std.proofs.Common.{◌≡◌, ℕ, Bool, true, false, List, Ok, Err, Result, refl}
+use Rattle.std.proofs.Common.{◌≡◌, ℕ, Bool, true, false, List, Ok, Err, refl}
 use Rattle.dep_model.specs.declared.column_type.ColumnType.{ColumnType}
 use Rattle.lexer.specs.declared.token.TokenKind.{TokenKind}
 use Rattle.lexer.specs.declared.token.TokenKind.TheVariants as token
@@ -8,11 +8,11 @@ use Rattle.schema_grammar.specs.declared.symbol.Symbol.TheVariants as symbol
 use Rattle.schema_grammar.specs.declared.format.Format.{Format}
 use Rattle.schema_grammar.specs.Declarations.{Declarations, declare, name_step, what_after_declaring}
 use Rattle.schema_grammar.specs.Reading.{symbol_of}
-use Rattle.schema_grammar.specs.Refusals.{and_then}
+use Rattle.schema_grammar.specs.Rests.{◌>>=◌}
 use Rattle.schema_grammar.specs.Words.{is_word_token, look_up}
 
 pub symbol_of-word : (f : Format) (declared : List (List ℕ)) (k : TokenKind) (word : List ℕ) → is_word_token k ≡ true
-    → symbol_of f declared k word ≡ and_then (look_up f declared k word) (λ a. Ok (symbol.Attribute a))
+    → symbol_of f declared k word ≡ (look_up f declared k word >>= (λ a. Ok (symbol.Attribute a)))
 symbol_of-word f declared token.Identifier word e = refl
 symbol_of-word f declared token.Quoted word e = refl
 symbol_of-word f declared k word e = cc

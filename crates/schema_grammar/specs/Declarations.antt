@@ -11,7 +11,7 @@ use Rattle.lexer.specs.declared.token.LexError.{LexError}
 use Rattle.lexer.specs.declared.token.Token.{Token}
 use Rattle.lexer.specs.declared.token.TokenKind.{TokenKind}
 use Rattle.lexer.specs.declared.token.TokenKind.TheVariants as token
-use Rattle.lexer.specs.Tokens.{Mark, Lexed, lex}
+use Rattle.lexer.specs.Tokens.{Mark, lex}
 use Rattle.schema_grammar.specs.declared.refusal.SchemaRefusal.{SchemaRefusal}
 use Rattle.schema_grammar.specs.declared.refusal.SchemaRefusalKind.{SchemaRefusalKind}
 use Rattle.schema_grammar.specs.declared.refusal.SchemaRefusalKind.TheVariants as kind
@@ -20,8 +20,9 @@ use Rattle.schema_grammar.specs.declared.refusal.What.TheVariants as what
 use Rattle.schema_grammar.specs.declared.format.Format.{Format}
 use Rattle.schema_grammar.specs.Grammar.{Reached, start}
 use Rattle.schema_grammar.specs.Reading.{step, follow}
-use Rattle.schema_grammar.specs.Refusals.{refused_by, and_then, at}
+use Rattle.schema_grammar.specs.Refusals.{refused_by, at}
 use Rattle.schema_grammar.specs.Words.{is_reserved_token, column_type_of_token}
+use Rattle.schema_grammar.specs.Rests.{Rest, ◌>>=◌}
 
 -- what a schema text declares: names and the types of their columns, dependencies and their lines
 pub record Declarations : Type 0 where
@@ -66,31 +67,29 @@ list_names f column line d true next_column [] None = Ok d
 list_names f column line d false next_column [] None = at line next_column 0 (Err (kind.Expected what.Name))
 list_names f column line d some next_column [] (Some stop) = Err (refused_by line stop)
 list_names f column line d some next_column (m ∷ ms) stop =
-    and_then (at line m.column m.length (name_step f column d some m.kind m.word))
-    (λ next. list_names f column line next true (m.column + m.length) ms stop)
+    at line m.column m.length (name_step f column d some m.kind m.word)
+    >>= (λ next. list_names f column line next true (m.column + m.length) ms stop)
 
-abbrev pub list_names_lexed : Format → ColumnType → ℕ → Declarations → Bool → ℕ → Lexed
-    → Result Declarations SchemaRefusal
-list_names_lexed f column line d some next_column l =
-    list_names f column line d some next_column l.marks l.stop
+abbrev pub list_names_rest : Format → ColumnType → Declarations → Bool → Rest → Result Declarations SchemaRefusal
+list_names_rest f column d some r = list_names f column r.line d some r.next_column r.marks r.stop
 
 -- the first token of a dependency line: what the line can't begin with comes before one dependency
 -- too many
 unfoldable pub begin : Format → Declarations → TokenKind → List ℕ → Result Reached SchemaRefusalKind
 begin f d k word =
-    and_then (step f d.names start k word)
-    (λ next. if nat_le MOST_DEPENDENCY_LINES (length d.deps) then Err kind.TooManyDependencies else Ok next)
+    step f d.names start k word
+    >>= (λ next. if nat_le MOST_DEPENDENCY_LINES (length d.deps) then Err kind.TooManyDependencies else Ok next)
 
 -- a dependency line with this first token
 unfoldable pub dependency_line : Format → ℕ → Declarations → Mark → List Mark → Option LexError
     → Result Declarations SchemaRefusal
 dependency_line f line d m ms stop =
-    and_then (at line m.column m.length (begin f d m.kind m.word))
-    (λ next. and_then (follow f d.names line next (m.column + m.length) ms stop)
-    (λ dep. Ok (add_dependency d dep line)))
+    at line m.column m.length (begin f d m.kind m.word)
+    >>= (λ next. follow f d.names line next (m.column + m.length) ms stop
+    >>= (λ dep. Ok (add_dependency d dep line)))
 
-abbrev pub dependency_lexed : Format → ℕ → Declarations → Mark → Lexed → Result Declarations SchemaRefusal
-dependency_lexed f line d m l = dependency_line f line d m l.marks l.stop
+abbrev pub dependency_rest : Format → Declarations → Mark → Rest → Result Declarations SchemaRefusal
+dependency_rest f d m r = dependency_line f r.line d m r.marks r.stop
 
 -- a token with its bytes
 abbrev pub mark_of : Token → List ℕ → Mark

@@ -24,11 +24,6 @@ kind_of_flaw flaw.BadName = kind.BadName
 abbrev pub refused_by : ℕ → LexError → SchemaRefusal
 refused_by line stop = refusal line stop.column stop.length (kind_of_flaw stop.flaw)
 
--- what follows a value, and nothing after an error
-abbrev pub and_then : {X Y E : Type 0} → Result X E → (X → Result Y E) → Result Y E
-and_then (Ok x) next = next x
-and_then (Err e) next = Err e
-
 -- an error gets its place
 abbrev pub at : {X : Type 0} → ℕ → ℕ → ℕ → Result X SchemaRefusalKind → Result X SchemaRefusal
 at line column length (Ok x) = Ok x

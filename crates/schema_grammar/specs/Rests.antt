@@ -1,6 +1,6 @@
--- What is left of a line, and what is read of it token by token: for the reading of plans and
--- certificates.
-use Rattle.std.specs.Prelude.{ℕ, ◌+◌, if◌then◌else◌, List, [], ◌∷◌, length, Option, Some, None, Result, Ok, Err, ok_or}
+-- What is left of a line, and what is read of it token by token: for the reading of schema texts,
+-- goals, plans and certificates.
+use Rattle.std.specs.Prelude.{ℕ, ◌+◌, if◌then◌else◌, List, [], ◌∷◌, Option, Some, None, Result, Ok, Err, ok_or}
 use Rattle.attr_sets.specs.Attributes.{Attributes, only, none, union}
 use Rattle.lexer.specs.declared.token.LexError.{LexError}
 use Rattle.lexer.specs.declared.token.TokenKind.{TokenKind}
@@ -14,8 +14,17 @@ use Rattle.schema_grammar.specs.declared.refusal.What.TheVariants as what
 use Rattle.schema_grammar.specs.declared.symbol.Sign.{Sign}
 use Rattle.schema_grammar.specs.declared.symbol.Sign.TheVariants.{Functional, Multivalued}
 use Rattle.schema_grammar.specs.Refusals.{refusal, refused_by, at}
-use Rattle.schema_grammar.specs.Texts.{number_in}
 use Rattle.schema_grammar.specs.Words.{is_word_token, look_up}
+
+-- the value of a number
+abbrev pub number_in : TokenKind → Option ℕ
+number_in (token.Number n) = Some n
+number_in token.Identifier = None
+number_in token.Quoted = None
+number_in token.Arrow = None
+number_in token.DoubleArrow = None
+number_in token.Empty = None
+number_in token.Colon = None
 
 -- the arrow that a token is
 abbrev pub arrow_in : TokenKind → Option Sign
@@ -38,6 +47,7 @@ abbrev pub rest_from : ℕ → ℕ → Lexed → Rest
 rest_from line next_column l =
     record { line = line; next_column = next_column; marks = l.marks; stop = l.stop }
 
+-- what follows a value, and nothing after an error
 infixl 10 ◌>>=◌
 abbrev pub ◌>>=◌ : {A B E : Type 0} → Result A E → (A → Result B E) → Result B E
 (Ok x) >>= f = f x
@@ -77,6 +87,11 @@ refusal_at_end_from line (m ∷ ms) stop = Some (refusal line m.column m.length 
 
 unfoldable pub refusal_at_end : Rest → Option SchemaRefusal
 refusal_at_end r = refusal_at_end_from r.line r.marks r.stop
+
+-- a value, unless the line does not end here
+abbrev pub unless : {A : Type 0} → Option SchemaRefusal → A → Result A SchemaRefusal
+unless None x = Ok x
+unless (Some e) x = Err e
 
 -- words that stand here, added to a set
 unfoldable pub words_from : List (List ℕ) → ℕ → Attributes → ℕ → List Mark → Option LexError

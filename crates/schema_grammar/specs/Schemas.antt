@@ -22,8 +22,9 @@ use Rattle.schema_grammar.specs.declared.format.Format.{Format}
 use Rattle.schema_grammar.specs.declared.format.Format.TheVariants as format
 use Rattle.schema_grammar.specs.Declarations.{Declarations, no_declaration, add_name, add_dependency}
 use Rattle.schema_grammar.specs.Meanings.{HasTokens, IsDependency}
-use Rattle.schema_grammar.specs.Texts.{is_version, number_in}
+use Rattle.schema_grammar.specs.Texts.{is_version}
 use Rattle.schema_grammar.specs.Words.{is_word_token, is_reserved_token, column_type_of_token}
+use Rattle.schema_grammar.specs.Rests.{number_in}
 
 -- a word or a quoted name that declares one name more
 pub record IsNewName (f : Format) (d : Declarations) (m : Mark) : Type 0 where

@@ -1,6 +1,6 @@
 -- A set of attributes as a text of its own, as the right side of a goal: what it means, how it is
 -- refused and how it is read. For `read_set` and the command `basis` (`desk_cli/Inputs`).
-use Rattle.std.specs.Prelude.{◌≡◌, ◌⊎◌, ℕ, zero, suc, true, false, List, [], length, Option, Some, None, Result, Ok, Err, slice_get}
+use Rattle.std.specs.Prelude.{◌≡◌, ◌⊎◌, ℕ, zero, suc, false, List, [], length, Option, Some, None, Result, Ok, Err, slice_get}
 use Rattle.attr_sets.specs.Attributes.{Attributes, none}
 use Rattle.dep_model.specs.Dependencies.{right_of}
 use Rattle.lexer.specs.Modes as mode
@@ -16,9 +16,9 @@ use Rattle.schema_grammar.specs.declared.symbol.Sign.TheVariants as sign
 use Rattle.schema_grammar.specs.Diagnostics.{DiagnosesOfWord, IsFirst, AtFirst, flaw_number, span_at}
 use Rattle.schema_grammar.specs.Grammar.{after_sign}
 use Rattle.schema_grammar.specs.Meanings.{HasTokens, IsSide}
-use Rattle.schema_grammar.specs.Reading.{follow_lexed}
-use Rattle.schema_grammar.specs.Refusals.{and_then}
+use Rattle.schema_grammar.specs.Reading.{follow_rest}
 use Rattle.schema_grammar.specs.Words.{is_word_token}
+use Rattle.schema_grammar.specs.Rests.{◌>>=◌, rest_from}
 
 -- a text over declared names means a set of attributes: it is a side
 pub record MeansSet (declared : List (List ℕ)) (text : List ℕ) (x : Attributes) : Type 0 where
@@ -69,5 +69,5 @@ FitsSet declared text (Err e) = RefusesSet declared text e
 -- the set that a text states over declared names, or its refusal: it is read as what follows `() ->`
 abbrev pub read_set : List (List ℕ) → List ℕ → Result Attributes SchemaRefusal
 read_set declared text =
-    and_then (follow_lexed format.Plain declared 1 (after_sign sign.Functional none) 1 (lex mode.goal text))
-    (λ d. Ok (right_of d))
+    follow_rest format.Plain declared (after_sign sign.Functional none) (rest_from 1 1 (lex mode.goal text))
+    >>= (λ d. Ok (right_of d))

@@ -9,7 +9,7 @@ use Rattle.lexer.specs.declared.token.LexError.{LexError}
 use Rattle.lexer.specs.declared.token.TokenKind.{TokenKind}
 use Rattle.lexer.specs.declared.token.TokenKind.TheVariants as token
 use Rattle.lexer.specs.Lines.{line_texts, without_mark}
-use Rattle.lexer.specs.Tokens.{Mark, Lexed, lex}
+use Rattle.lexer.specs.Tokens.{Mark, lex}
 use Rattle.schema_grammar.specs.declared.refusal.SchemaRefusal.{SchemaRefusal}
 use Rattle.schema_grammar.specs.declared.refusal.SchemaRefusalKind.TheVariants as kind
 use Rattle.schema_grammar.specs.declared.refusal.What.TheVariants as what
@@ -17,7 +17,8 @@ use Rattle.schema_grammar.specs.declared.format.TheConstants.{VERSION}
 use Rattle.schema_grammar.specs.declared.format.Format.{Format}
 use Rattle.schema_grammar.specs.declared.format.Format.TheVariants as format
 use Rattle.schema_grammar.specs.Declarations.{Declarations, no_declaration, read_line}
-use Rattle.schema_grammar.specs.Refusals.{refusal, refused_by, and_then}
+use Rattle.schema_grammar.specs.Refusals.{refusal}
+use Rattle.schema_grammar.specs.Rests.{Rest, ◌>>=◌, take, refusal_of_token, number_in, refusal_at_end, unless}
 
 abbrev pub declarations_of : Schema → Declarations
 declarations_of s =
@@ -31,47 +32,22 @@ finish last d = if length d.names == 0 then Err (refusal last 1 0 kind.NoAttribu
 unfoldable pub read_lines : Format → ℕ → Declarations → List (List ℕ) → Result Declarations SchemaRefusal
 read_lines f number d [] = finish (number - 1) d
 read_lines f number d (line ∷ lines) =
-    and_then (read_line f number d line) (λ next. read_lines f (number + 1) next lines)
+    read_line f number d line >>= (λ next. read_lines f (number + 1) next lines)
 
--- after the number of a version line no token stands
-abbrev pub end_version : ℕ → List Mark → Option LexError → Result Declarations SchemaRefusal
-end_version line [] None = Ok no_declaration
-end_version line [] (Some stop) = Err (refused_by line stop)
-end_version line (m ∷ ms) stop = Err (refusal line m.column m.length (kind.Expected what.LineEnd))
-
--- the value of a number
-abbrev pub number_in : TokenKind → Option ℕ
-number_in (token.Number n) = Some n
-number_in token.Identifier = None
-number_in token.Quoted = None
-number_in token.Arrow = None
-number_in token.DoubleArrow = None
-number_in token.Empty = None
-number_in token.Colon = None
-
--- the first token after the word `version` is the number 2
-abbrev pub version_number : ℕ → Mark → List Mark → Option LexError → Option ℕ → Result Declarations SchemaRefusal
-version_number line m ms stop None = Err (refusal line m.column m.length (kind.Expected what.Number))
-version_number line m ms stop (Some n) =
-    if n == VERSION then end_version line ms stop
-    else Err (refusal line m.column m.length kind.UnknownVersion)
+-- the first token after the word `version` is the number 2, and no other stands after it
+abbrev pub version_number : Mark → Rest → Option ℕ → Result Declarations SchemaRefusal
+version_number m r None = Err (refusal_of_token what.Number m r)
+version_number m r (Some n) =
+    if n == VERSION then unless (refusal_at_end r) no_declaration
+    else Err (refusal r.line m.column m.length kind.UnknownVersion)
 
 -- what stands after the word `version` in its line
-unfoldable pub read_version : ℕ → ℕ → List Mark → Option LexError → Result Declarations SchemaRefusal
-read_version line next_column [] None = Err (refusal line next_column 0 (kind.Expected what.Number))
-read_version line next_column [] (Some stop) = Err (refused_by line stop)
-read_version line next_column (m ∷ ms) stop = version_number line m ms stop (number_in m.kind)
+unfoldable pub read_version : Rest → Result Declarations SchemaRefusal
+read_version r = take what.Number r >>= (λ t. version_number t.0 t.1 (number_in t.0.kind))
 
-abbrev pub end_version_lexed : ℕ → Lexed → Result Declarations SchemaRefusal
-end_version_lexed line l = end_version line l.marks l.stop
-
-abbrev pub read_version_lexed : ℕ → ℕ → Lexed → Result Declarations SchemaRefusal
-read_version_lexed line next_column l = read_version line next_column l.marks l.stop
-
--- what a text declares from after the word `version` on
-abbrev pub read_typed : ℕ → List (List ℕ) → ℕ → Lexed → Result Declarations SchemaRefusal
-read_typed number lines next_column l =
-    and_then (read_version_lexed number next_column l) (λ d. read_lines format.Typed (number + 1) d lines)
+-- what a text declares from after the word `version` on, after whose line these stand
+abbrev pub read_typed : List (List ℕ) → Rest → Result Declarations SchemaRefusal
+read_typed lines r = read_version r >>= (λ d. read_lines format.Typed (r.line + 1) d lines)
 
 -- whether the first token of a text makes its line a version line
 unfoldable pub is_version : TokenKind → List ℕ → Bool
@@ -91,7 +67,7 @@ opening_from number line lines later [] None = later
 opening_from number line lines later [] (Some stop) = read_lines format.Plain number no_declaration (line ∷ lines)
 opening_from number line lines later (m ∷ ms) stop =
     if is_version m.kind m.word
-    then read_typed number lines (m.column + m.length) (record { marks = ms; stop = stop })
+    then read_typed lines (record { line = number; next_column = m.column + m.length; marks = ms; stop = stop })
     else read_lines format.Plain number no_declaration (line ∷ lines)
 
 -- what the lines of a text declare from its first token on

@@ -1,7 +1,6 @@
 ghost use Rattle.std.specs.Prelude.{◌≡◌, ◌+◌, ◌<◌, ◌≤◌, ◌^◌, true, false, length, OnOk, IfOk, IfErr};
 ghost use Rattle.dep_model.specs.Deps.{dependency_of};
 ghost use Rattle.dep_model.specs.Names.{is_bare_name};
-ghost use Rattle.lexer.specs.Tokens.{tokens_after};
 ghost use Rattle.schema_reader.specs.Views.{reached_of};
 ghost use Rattle.schema_grammar.specs.Refusals.{Refuses};
 
@@ -10,12 +9,12 @@ use crate::stage::Stage;
 use crate::words::column_type_of_token;
 use attr_sets::MOST_ATTRIBUTES;
 use dep_model::{ColumnType, Dep, Failure, Name, OutOfMemory};
-use lexer::{Mode, Next, Token, TokenKind, next_token};
+use lexer::{Mode, Token, TokenKind};
 use schema_grammar::{
     Format, MOST_DEPENDENCY_LINES, SchemaRefusal, SchemaRefusalKind, What,
 };
 use std::alloc::Global;
-use tokens::{Names, is_reserved, position_among};
+use tokens::{Cursor, Names, NextToken, is_reserved, position_among};
 
 /// What a schema text declares, as far as it is read.
 #[derive(Drop)]
@@ -27,8 +26,9 @@ pub struct Draft {
 }
 
 impl Draft {
-    ghost use Rattle.schema_grammar.specs.Declarations.{no_declaration, declare, name_step, list_names_lexed, add_name, add_dependency, begin, dependency_lexed, mark_of, read_line};
+    ghost use Rattle.schema_grammar.specs.Declarations.{no_declaration, declare, name_step, list_names_rest, add_name, add_dependency, begin, dependency_rest, mark_of, read_line};
     ghost use Rattle.schema_reader.specs.Views.{declarations_of_draft};
+    ghost use Rattle.tokens.specs.Views.{rest_of};
 
     pub fn new(alloc: Global) -> Draft
         ensures empty { declarations_of_draft result ≡ no_declaration }
@@ -42,7 +42,6 @@ impl Draft {
     }
 
     /// Reads one line more.
-    #[tactic(auto, unfolding(schema_grammar::specs::Declarations::read_line))]
     pub fn read_line(
         &mut self,
         format: Format,
@@ -57,14 +56,14 @@ impl Draft {
             (λ failure. Refuses failure (read_line format line
             (declarations_of_draft self.old) text.now)) }
     {
-        match next_token(Mode::Plain, 1, text) {
-            Next::End => Ok(()),
-            Next::Error(stop) => Err(Failure::Refused(SchemaRefusal::by(line, stop))),
-            Next::Token(token, word, rest) => {
-                let next_column = token.column + token.length;
+        let start = Cursor::start(line, Mode::Plain, text);
+        match start.next() {
+            NextToken::End => Ok(()),
+            NextToken::Refusal(refusal) => Err(Failure::Refused(refusal)),
+            NextToken::Token(token, word, rest) => {
                 match column_type_of_token(format, token.kind, word) {
-                    Some(column) => self.list_names(format, column, line, next_column, rest),
-                    None => self.read_dependency(format, line, token, word, rest),
+                    Some(column) => self.list_names(format, column, rest),
+                    None => self.read_dependency(format, token, word, rest),
                 }
             }
         }
@@ -75,47 +74,35 @@ impl Draft {
         &mut self,
         format: Format,
         column: ColumnType,
-        line: u32,
-        next_column: u32,
-        text: &[u8],
+        start: Cursor<'_>,
     ) -> Result<(), Failure<SchemaRefusal>>
-        requires fits_u32 { next_column + length text.now < 2 ^ 32 }
-        ensures ok { OnOk result
-            (list_names_lexed format column line (declarations_of_draft self.old) false next_column
-            (tokens_after Mode.Plain 0 next_column text.now) ≡ Ok (declarations_of_draft self.new)) }
-        ensures err { IfErr result
-            (λ failure. Refuses failure
-            (list_names_lexed format column line (declarations_of_draft self.old) false next_column
-            (tokens_after Mode.Plain 0 next_column text.now))) }
+        ensures ok { OnOk result (list_names_rest format column (declarations_of_draft self.old) false
+            (rest_of start.entry) ≡ Ok (declarations_of_draft self.new)) }
+        ensures err { IfErr result (λ failure. Refuses failure
+            (list_names_rest format column (declarations_of_draft self.old) false
+            (rest_of start.entry))) }
     {
         let mut some = false;
-        let mut next_column = next_column;
-        let mut rest = text;
+        let mut rest = start;
         'names: loop {
-            match next_token(Mode::Plain, next_column, rest) {
-                Next::End => {
+            match rest.next() {
+                NextToken::End => {
                     return if some {
                         Ok(())
                     } else {
-                        let kind = SchemaRefusalKind::Expected(What::Name);
-                        let refusal = SchemaRefusal::at(line, next_column, 0, kind);
-                        Err(Failure::Refused(refusal))
+                        Err(Failure::Refused(rest.refusal_of_end(What::Name)))
                     };
                 }
-                Next::Error(stop) => {
-                    return Err(Failure::Refused(SchemaRefusal::by(line, stop)));
-                }
-                Next::Token(token, word, others) => {
+                NextToken::Refusal(refusal) => return Err(Failure::Refused(refusal)),
+                NextToken::Token(token, word, after) => {
                     match self.name_step(format, column, some, token.kind, word) {
                         Err(Failure::Refused(kind)) => {
-                            let refusal = SchemaRefusal::at(line, token.column, token.length, kind);
-                            return Err(Failure::Refused(refusal));
+                            return Err(Failure::Refused(rest.refusal_of(token, kind)));
                         }
                         Err(Failure::OutOfMemory) => return Err(Failure::OutOfMemory),
                         Ok(()) => {
                             some = true;
-                            next_column = token.column + token.length;
-                            rest = others;
+                            rest = after;
                         }
                     }
                 }
@@ -190,37 +177,30 @@ impl Draft {
     fn read_dependency(
         &mut self,
         format: Format,
-        line: u32,
         token: Token,
         word: &[u8],
-        rest: &[u8],
+        rest: Cursor<'_>,
     ) -> Result<(), Failure<SchemaRefusal>>
         requires within_limit { length (declarations_of_draft self.old).names ≤ MOST_ATTRIBUTES }
-        requires fits_u32 { token.column + token.length + length rest.now < 2 ^ 32 }
         requires word { token.length ≡ length word.now }
+        requires follows { (rest_of rest.entry).next_column ≡ token.column + token.length }
         ensures ok { OnOk result
-            (dependency_lexed format line (declarations_of_draft self.old) (mark_of token word.now)
-            (tokens_after Mode.Plain 0 (token.column + token.length) rest.now)
-            ≡ Ok (declarations_of_draft self.new)) }
-        ensures err { IfErr result
-            (λ failure. Refuses failure
-            (dependency_lexed format line (declarations_of_draft self.old) (mark_of token word.now)
-            (tokens_after Mode.Plain 0 (token.column + token.length) rest.now))) }
+            (dependency_rest format (declarations_of_draft self.old) (mark_of token word.now)
+            (rest_of rest.entry) ≡ Ok (declarations_of_draft self.new)) }
+        ensures err { IfErr result (λ failure. Refuses failure
+            (dependency_rest format (declarations_of_draft self.old) (mark_of token word.now)
+            (rest_of rest.entry))) }
     {
         let stage = match self.begin(format, token.kind, word) {
             Ok(stage) => stage,
-            Err(kind) => {
-                let refusal = SchemaRefusal::at(line, token.column, token.length, kind);
-                return Err(Failure::Refused(refusal));
-            }
+            Err(kind) => return Err(Failure::Refused(rest.refusal_of(token, kind))),
         };
-        let next_column = token.column + token.length;
         let names = Names::Listed(&self.names);
-        let dep = match follow(&names, format, Mode::Plain, line, stage, next_column, rest) {
+        let dep = match follow(&names, format, stage, rest) {
             Ok(dep) => dep,
             Err(refusal) => return Err(Failure::Refused(refusal)),
         };
-        self.add_dependency(dep, line)?;
+        self.add_dependency(dep, rest.line())?;
         Ok(())
     }
 

@@ -2,21 +2,20 @@ ghost use Rattle.std.specs.Prelude.{◌≡◌, ◌+◌, ◌<◌, ◌≤◌, ◌^
 ghost use Rattle.attr_sets.specs.Attributes.{below};
 ghost use Rattle.dep_model.specs.Deps.{dependency_of, IsDepWithin};
 ghost use Rattle.dep_model.specs.Schemas.{names_of, universe_of};
-ghost use Rattle.lexer.specs.Tokens.{tokens_after};
 ghost use Rattle.schema_grammar.specs.Grammar.{finish_dependency, IsInRange};
 ghost use Rattle.schema_reader.specs.Views.{reached_of};
-ghost use Rattle.tokens.specs.Views.{names_in};
+ghost use Rattle.tokens.specs.Views.{names_in, rest_of};
 ghost use Rattle.schema_grammar.specs.Diagnostics.{RefusesGoal};
 ghost use Rattle.schema_grammar.specs.Meanings.{MeansGoal};
-ghost use Rattle.schema_grammar.specs.Reading.{symbol_of, step, follow_lexed};
+ghost use Rattle.schema_grammar.specs.Reading.{symbol_of, step, follow_rest};
 ghost use Rattle.schema_grammar.specs.Refusals.{at, expect};
 
 use crate::stage::{Stage, advance, finish};
 use attr_sets::MOST_ATTRIBUTES;
 use dep_model::{Dep, Schema};
-use lexer::{Mode, Next, TokenKind, next_token};
+use lexer::{Mode, TokenKind};
 use schema_grammar::{Format, SchemaRefusal, SchemaRefusalKind, Sign, Symbol};
-use tokens::{Names, look_up};
+use tokens::{Cursor, Names, NextToken, look_up};
 
 /// The most bytes of a goal.
 pub const MOST_GOAL_BYTES: usize = 16_384;
@@ -29,55 +28,35 @@ pub fn read_goal(schema: &Schema, text: &[u8]) -> Result<Dep, SchemaRefusal>
     ensures err { IfErr result (RefusesGoal (names_of schema.now) text.now) }
     ensures within { IfOk result (IsDepWithin (universe_of schema.now)) }
 {
-    follow(
-        &Names::Of(schema),
-        Format::Plain,
-        Mode::Goal,
-        1,
-        Stage::Start,
-        1,
-        text,
-    )
+    let start = Cursor::start(1, Mode::Goal, text);
+    follow(&Names::Of(schema), Format::Plain, Stage::Start, start)
 }
 
 /// The dependency that the tokens of a line from here on state.
 pub fn follow(
     names: &Names<'_>,
     format: Format,
-    mode: Mode,
-    line: u32,
     stage: Stage,
-    column: u32,
-    text: &[u8],
+    start: Cursor<'_>,
 ) -> Result<Dep, SchemaRefusal>
     requires within_limit { length (names_in names.now) ≤ MOST_ATTRIBUTES }
-    requires fits_u32 { column + length text.now < 2 ^ 32 }
-    ensures ok { IfOk result
-        (λ dep. follow_lexed format (names_in names.now) line (reached_of stage) column
-        (tokens_after mode 0 column text.now) ≡ Ok (dependency_of dep)) }
-    ensures err { IfErr result
-        (λ refusal. follow_lexed format (names_in names.now) line (reached_of stage) column
-        (tokens_after mode 0 column text.now) ≡ Err refusal) }
+    ensures ok { IfOk result (λ dep. follow_rest format (names_in names.now) (reached_of stage)
+        (rest_of start.entry) ≡ Ok (dependency_of dep)) }
+    ensures err { IfErr result (λ refusal. follow_rest format (names_in names.now) (reached_of stage)
+        (rest_of start.entry) ≡ Err refusal) }
 {
     let mut stage = stage;
-    let mut column = column;
-    let mut rest = text;
+    let mut rest = start;
     'tokens: loop {
-        match next_token(mode, column, rest) {
-            Next::End => return end_line(line, stage, column),
-            Next::Error(stop) => return Err(SchemaRefusal::by(line, stop)),
-            Next::Token(token, word, others) => {
+        match rest.next() {
+            NextToken::End => return end_line(rest, stage),
+            NextToken::Refusal(refusal) => return Err(refusal),
+            NextToken::Token(token, word, after) => {
                 match step(names, format, stage, token.kind, word) {
-                    Err(kind) => return Err(SchemaRefusal::at(
-                        line,
-                        token.column,
-                        token.length,
-                        kind,
-                    )),
+                    Err(kind) => return Err(rest.refusal_of(token, kind)),
                     Ok(next) => {
                         stage = next;
-                        column = token.column + token.length;
-                        rest = others;
+                        rest = after;
                     }
                 }
             }
@@ -86,16 +65,17 @@ pub fn follow(
 }
 
 /// The dependency that is read where the line ends.
-fn end_line(line: u32, stage: Stage, column: u32) -> Result<Dep, SchemaRefusal>
+fn end_line(rest: Cursor<'_>, stage: Stage) -> Result<Dep, SchemaRefusal>
     ensures ok { IfOk result
-        (λ dep. at line column 0 (expect (finish_dependency (reached_of stage)))
-        ≡ Ok (dependency_of dep)) }
+        (λ dep. at (rest_of rest.entry).line (rest_of rest.entry).next_column 0
+        (expect (finish_dependency (reached_of stage))) ≡ Ok (dependency_of dep)) }
     ensures err { IfErr result
-        (λ refusal. at line column 0 (expect (finish_dependency (reached_of stage))) ≡ Err refusal) }
+        (λ refusal. at (rest_of rest.entry).line (rest_of rest.entry).next_column 0
+        (expect (finish_dependency (reached_of stage))) ≡ Err refusal) }
 {
     match finish(stage) {
         Ok(dep) => Ok(dep),
-        Err(what) => Err(SchemaRefusal::at(line, column, 0, SchemaRefusalKind::Expected(what))),
+        Err(what) => Err(rest.refusal_of_end(what)),
     }
 }
 

@@ -10,7 +10,7 @@ use attr_sets::AttrSet;
 use dep_model::{Schema, sides};
 use lexer::Mode;
 use schema_grammar::{Format, SchemaRefusal};
-use tokens::Names;
+use tokens::{Cursor, Names};
 
 /// The most bytes of a set.
 pub const MOST_SET_BYTES: usize = 16_384;
@@ -23,15 +23,8 @@ pub fn read_set(schema: &Schema, text: &[u8]) -> Result<AttrSet, SchemaRefusal>
     ensures err { IfErr result (RefusesSet (names_of schema.now) text.now) }
     ensures within { IfOk result (λ set. IsSubset (attributes set) (universe_of schema.now)) }
 {
-    match follow(
-        &Names::Of(schema),
-        Format::Plain,
-        Mode::Goal,
-        1,
-        after_arrow(),
-        1,
-        text,
-    ) {
+    let start = Cursor::start(1, Mode::Goal, text);
+    match follow(&Names::Of(schema), Format::Plain, after_arrow(), start) {
         Ok(dep) => {
             let (_, set) = sides(dep);
             Ok(set)

@@ -3,18 +3,19 @@ ghost use Rattle.dep_model.specs.Failures.{RefusesAs};
 ghost use Rattle.dep_model.specs.Schemas.{names_of};
 ghost use Rattle.schema_grammar.specs.Words.{is_reserved};
 ghost use Rattle.lexer.specs.Lines.{line_texts, lines_after};
-ghost use Rattle.lexer.specs.Tokens.{tokens_after};
+ghost use Rattle.tokens.specs.Views.{rest_of};
 ghost use Rattle.schema_grammar.specs.Declarations.{no_declaration};
 ghost use Rattle.schema_reader.specs.Views.{declarations_of_draft, AreAtMostAll};
 ghost use Rattle.schema_grammar.specs.Refusals.{Refuses};
 ghost use Rattle.schema_grammar.specs.Schemas.{MeansSchema, RefusesSchema};
-ghost use Rattle.schema_grammar.specs.Texts.{finish, is_version, number_in, end_version_lexed, read_lines, read_version_lexed, read_typed, read_opening, declarations_of};
+ghost use Rattle.schema_grammar.specs.Texts.{finish, is_version, read_lines, read_version, read_typed, read_opening, declarations_of};
 
 use crate::draft::Draft;
 use dep_model::{Failure, Schema};
-use lexer::{Mode, Next, TokenKind, cut_line, next_token, without_mark};
+use lexer::{Mode, TokenKind, cut_line, without_mark};
 use schema_grammar::{Format, SchemaRefusal, SchemaRefusalKind, VERSION, What};
 use std::alloc::Global;
+use tokens::{Cursor, NextToken, number_in};
 
 /// The most bytes of a schema text.
 pub const MOST_TEXT_BYTES: usize = 1_048_576;
@@ -52,16 +53,17 @@ fn read_opening(alloc: Global, text: &[u8]) -> Result<Draft, Failure<SchemaRefus
     let mut rest = text;
     'lines: loop {
         let (line, after) = cut_line(rest);
-        match next_token(Mode::Numbered, 1, line) {
-            Next::Error(_) => return read_lines(alloc, Format::Plain, number, rest),
-            Next::Token(token, word, others) => {
+        let start = Cursor::start(number, Mode::Numbered, line);
+        match start.next() {
+            NextToken::Refusal(_) => return read_lines(alloc, Format::Plain, number, rest),
+            NextToken::Token(token, word, others) => {
                 return if is_version(token.kind, word) {
-                    read_typed(alloc, number, token.column + token.length, others, after)
+                    read_typed(alloc, others, after)
                 } else {
                     read_lines(alloc, Format::Plain, number, rest)
                 };
             }
-            Next::End => match after {
+            NextToken::End => match after {
                 None => return finish(number, Draft::new(alloc)),
                 Some(lines) => {
                     rest = lines;
@@ -72,25 +74,20 @@ fn read_opening(alloc: Global, text: &[u8]) -> Result<Draft, Failure<SchemaRefus
     }
 }
 
-/// Reads a text from after the word `version`.
+/// Reads a text from after the word `version`, after whose line others may stand.
 fn read_typed(
     alloc: Global,
-    number: u32,
-    next_column: u32,
-    others: &[u8],
+    version: Cursor<'_>,
     after: Option<&[u8]>,
 ) -> Result<Draft, Failure<SchemaRefusal>>
-    requires fits_u32 { next_column + length others.now < 2 ^ 32 }
-    requires lines { AreAtMostAll number after }
-    ensures ok { IfOk result
-        (λ draft. read_typed number (lines_after after.entry) next_column
-        (tokens_after Mode.Numbered 0 next_column others.now) ≡ Ok (declarations_of_draft draft)) }
-    ensures err { IfErr result
-        (λ failure. Refuses failure
-        (read_typed number (lines_after after.entry) next_column
-        (tokens_after Mode.Numbered 0 next_column others.now))) }
+    requires lines { AreAtMostAll (rest_of version.entry).line after }
+    ensures ok { IfOk result (λ draft. read_typed (lines_after after.entry) (rest_of version.entry)
+        ≡ Ok (declarations_of_draft draft)) }
+    ensures err { IfErr result (λ failure. Refuses failure
+        (read_typed (lines_after after.entry) (rest_of version.entry))) }
 {
-    match read_version(number, next_column, others) {
+    let number = version.line();
+    match read_version(version) {
         Err(refusal) => Err(Failure::Refused(refusal)),
         Ok(()) => match after {
             None => finish(number, Draft::new(alloc)),
@@ -100,64 +97,20 @@ fn read_typed(
 }
 
 /// Reads a line from after the word `version`: the number 2, and nothing more.
-fn read_version(line: u32, next_column: u32, text: &[u8]) -> Result<(), SchemaRefusal>
-    requires { next_column + length text.now < 2 ^ 32 }
-    ensures ok { OnOk result (read_version_lexed line next_column
-        (tokens_after Mode.Numbered 0 next_column text.now)
-        ≡ Ok no_declaration) }
-    ensures err { IfErr result
-        (λ refusal. read_version_lexed line next_column
-        (tokens_after Mode.Numbered 0 next_column text.now)
-        ≡ Err refusal) }
+#[tactic(auto, unfolding(schema_grammar::specs::Texts::read_version))]
+fn read_version(start: Cursor<'_>) -> Result<(), SchemaRefusal>
+    ensures ok { OnOk result (read_version (rest_of start.entry) ≡ Ok no_declaration) }
+    ensures err { IfErr result (λ refusal. read_version (rest_of start.entry) ≡ Err refusal) }
 {
-    match next_token(Mode::Numbered, next_column, text) {
-        Next::End => {
-            let kind = SchemaRefusalKind::Expected(What::Number);
-            Err(SchemaRefusal::at(line, next_column, 0, kind))
-        }
-        Next::Error(stop) => Err(SchemaRefusal::by(line, stop)),
-        Next::Token(token, _, rest) => match number_in(token.kind) {
-            None => {
-                let kind = SchemaRefusalKind::Expected(What::Number);
-                Err(SchemaRefusal::at(line, token.column, token.length, kind))
+    let (token, _, rest) = start.take(What::Number)?;
+    match number_in(token.kind) {
+        None => Err(rest.refusal_of_token(token, What::Number)),
+        Some(version) => {
+            if version == VERSION {
+                rest.end()
+            } else {
+                Err(rest.refusal_of(token, SchemaRefusalKind::UnknownVersion))
             }
-            Some(version) => {
-                if version == VERSION {
-                    end_version(line, token.column + token.length, rest)
-                } else {
-                    let kind = SchemaRefusalKind::UnknownVersion;
-                    Err(SchemaRefusal::at(line, token.column, token.length, kind))
-                }
-            }
-        },
-    }
-}
-
-/// The value of a number.
-fn number_in(kind: TokenKind) -> Option<u32>
-    ensures exact { result ≡ number_in kind }
-{
-    match kind {
-        TokenKind::Number(value) => Some(value),
-        _ => None,
-    }
-}
-
-/// Reads the rest of a version line, in which no token may stand.
-fn end_version(line: u32, next_column: u32, text: &[u8]) -> Result<(), SchemaRefusal>
-    requires { next_column + length text.now < 2 ^ 32 }
-    ensures ok { OnOk result (end_version_lexed line (tokens_after Mode.Numbered 0 next_column text.now)
-        ≡ Ok no_declaration) }
-    ensures err { IfErr result
-        (λ refusal. end_version_lexed line (tokens_after Mode.Numbered 0 next_column text.now)
-        ≡ Err refusal) }
-{
-    match next_token(Mode::Numbered, next_column, text) {
-        Next::End => Ok(()),
-        Next::Error(stop) => Err(SchemaRefusal::by(line, stop)),
-        Next::Token(token, _, _) => {
-            let kind = SchemaRefusalKind::Expected(What::LineEnd);
-            Err(SchemaRefusal::at(line, token.column, token.length, kind))
         }
     }
 }

@@ -1,8 +1,10 @@
 ghost use Rattle.std.specs.Prelude.{◌≡◌, ◌+◌, ◌<◌, ◌≤◌, ◌^◌, length, OnOk, IfOk, IfErr, Ok, Err, Some, None};
 ghost use Rattle.attr_sets.specs.Attributes.{below, IsSubset};
 ghost use Rattle.attr_sets.specs.Sets.{attributes};
+ghost use Rattle.lexer.specs.Tokens.{lex};
 ghost use Rattle.schema_grammar.specs.Declarations.{mark_of};
 ghost use Rattle.schema_grammar.specs.Refusals.{refusal};
+ghost use Rattle.schema_grammar.specs.Rests.{rest_from};
 
 use crate::names::{Names, attribute_of_word};
 use crate::tokens::{arrow_in, is_word, number_in};
@@ -13,55 +15,108 @@ use schema_grammar::{SchemaRefusal, SchemaRefusalKind, Sign, What};
 /// What is left of a line, from a column on.
 #[derive(Clone, Copy)]
 pub struct Cursor<'a> {
-    pub line: u32,
-    pub column: u32,
-    pub text: &'a [u8],
-    pub mode: Mode,
+    line: u32,
+    mode: Mode,
+    column: u32,
+    text: &'a [u8],
     pub ghost room: { column + length text.now < 2 ^ 32 },
 }
 
+/// What comes next on a line.
+#[derive(Clone, Copy)]
+pub enum NextToken<'a> {
+    /// No token: the line ends, but for blanks and a comment.
+    End,
+    /// A token, its bytes, and what is left after it.
+    Token(Token, &'a [u8], Cursor<'a>),
+    /// Bytes that are no token.
+    Refusal(SchemaRefusal),
+}
+
 impl<'a> Cursor<'a> {
-    ghost use Rattle.tokens.specs.Views.{names_in, rest_of};
+    ghost use Rattle.tokens.specs.Views.{names_in, rest_of, ComesNext, bytes_left};
     ghost use Rattle.schema_grammar.specs.Rests.{take, refusal_of_token, number, arrow, refusal_at_end, side, words};
 
+    /// A whole line, which has this number.
+    #[tactic(auto, unfolding(crate::specs::Views::rest_of))]
+    pub fn start(line: u32, mode: Mode, text: &'a [u8]) -> Cursor<'a>
+        requires { 1 + length text.now < 2 ^ 32 }
+        ensures whole { rest_of result ≡ rest_from line 1 (lex mode text.now) }
+    {
+        Cursor {
+            line,
+            mode,
+            column: 1,
+            text,
+        }
+    }
+
+    /// The number of the line.
+    #[tactic(auto, unfolding(crate::specs::Views::rest_of))]
+    pub fn line(self) -> u32
+        ensures line { result ≡ (rest_of self.entry).line }
+    {
+        self.line
+    }
+
+    /// What comes next.
+    #[tactic(auto, unfolding(crate::specs::Views::rest_of))]
+    pub fn next(self) -> NextToken<'a>
+        ensures exact { ComesNext self.entry result }
+    {
+        match next_token(self.mode, self.column, self.text) {
+            Next::End => NextToken::End,
+            Next::Error(stop) => NextToken::Refusal(SchemaRefusal::by(self.line, stop)),
+            Next::Token(token, word, text) => {
+                let after = Cursor {
+                    line: self.line,
+                    mode: self.mode,
+                    column: token.column + token.length,
+                    text,
+                };
+                NextToken::Token(token, word, after)
+            }
+        }
+    }
+
     /// The next token, its bytes, and what stands after it; `want` is what the line wants there.
-    #[tactic(auto, unfolding(schema_grammar::specs::Rests::take))]
     pub fn take(self, want: What) -> Result<(Token, &'a [u8], Cursor<'a>), SchemaRefusal>
         ensures ok { IfOk result (λ x.
             take want (rest_of self.entry) ≡ Ok (mark_of x.0 x.1.now, rest_of x.2)) }
         ensures length { IfOk result (λ x. x.0.length ≡ length x.1.now) }
-        ensures shorter { IfOk result (λ x. length x.2.text.now < length self.entry.text.now) }
         ensures err { IfErr result (λ e. take want (rest_of self.entry) ≡ Err e) }
     {
-        match next_token(self.mode, self.column, self.text) {
-            Next::End => {
-                let kind = SchemaRefusalKind::Expected(want);
-                Err(SchemaRefusal::at(self.line, self.column, 0, kind))
-            }
-            Next::Error(stop) => Err(SchemaRefusal::by(self.line, stop)),
-            Next::Token(token, word, text) => {
-                let column = token.column + token.length;
-                Ok((
-                    token,
-                    word,
-                    Cursor {
-                        line: self.line,
-                        column,
-                        text,
-                        mode: self.mode,
-                    },
-                ))
-            }
+        match self.next() {
+            NextToken::End => Err(self.refusal_of_end(want)),
+            NextToken::Refusal(refusal) => Err(refusal),
+            NextToken::Token(token, word, rest) => Ok((token, word, rest)),
         }
+    }
+
+    /// The refusal of the line's end, where the line wants something else.
+    #[tactic(auto, unfolding(crate::specs::Views::rest_of))]
+    pub fn refusal_of_end(self, want: What) -> SchemaRefusal
+        ensures refusal { result ≡ refusal (rest_of self.entry).line (rest_of self.entry).next_column 0
+            (SchemaRefusalKind.Expected want) }
+    {
+        let kind = SchemaRefusalKind::Expected(want);
+        SchemaRefusal::at(self.line, self.column, 0, kind)
+    }
+
+    /// The refusal of a token of this line.
+    pub fn refusal_of(self, token: Token, kind: SchemaRefusalKind) -> SchemaRefusal
+        ensures refusal { result
+            ≡ refusal (rest_of self.entry).line token.column token.length kind }
+    {
+        SchemaRefusal::at(self.line(), token.column, token.length, kind)
     }
 
     /// The refusal of a token of this line in place of which the line wants something else.
     pub fn refusal_of_token(self, token: Token, want: What) -> SchemaRefusal
         ensures refusal { result
-            ≡ refusal self.entry.line token.column token.length (SchemaRefusalKind.Expected want) }
+            ≡ refusal (rest_of self.entry).line token.column token.length (SchemaRefusalKind.Expected want) }
     {
-        let kind = SchemaRefusalKind::Expected(want);
-        SchemaRefusal::at(self.line, token.column, token.length, kind)
+        self.refusal_of(token, SchemaRefusalKind::Expected(want))
     }
 
     /// A number.
@@ -91,17 +146,14 @@ impl<'a> Cursor<'a> {
     }
 
     /// The line's end.
-    #[tactic(auto, unfolding(schema_grammar::specs::Rests::refusal_at_end, schema_grammar::specs::Rests::take))]
     pub fn end(self) -> Result<(), SchemaRefusal>
         ensures ok { OnOk result (refusal_at_end (rest_of self.entry) ≡ None) }
         ensures err { IfErr result (λ e. refusal_at_end (rest_of self.entry) ≡ Some e) }
     {
-        match next_token(self.mode, self.column, self.text) {
-            Next::End => Ok(()),
-            _ => match self.take(What::LineEnd) {
-                Ok((token, _, rest)) => Err(rest.refusal_of_token(token, What::LineEnd)),
-                Err(refusal) => Err(refusal),
-            },
+        match self.next() {
+            NextToken::End => Ok(()),
+            NextToken::Refusal(refusal) => Err(refusal),
+            NextToken::Token(token, _, _) => Err(self.refusal_of_token(token, What::LineEnd)),
         }
     }
 
@@ -118,7 +170,7 @@ impl<'a> Cursor<'a> {
         let (token, word, rest) = self.take(What::Side)?;
         match token.kind {
             TokenKind::Identifier => {
-                let first = attribute_of_word(names, rest.line, token, word)?;
+                let first = attribute_of_word(names, rest.line(), token, word)?;
                 rest.words(names, AttrSet::single(first))
             }
             TokenKind::Empty => Ok((AttrSet::empty(), rest)),
@@ -138,49 +190,21 @@ impl<'a> Cursor<'a> {
         ensures err { IfErr result (λ e.
             words (names_in names.now) (attributes set) (rest_of self.entry) ≡ Err e) }
     {
-        let line = self.line;
-        let mode = self.mode;
         let mut set = set;
-        let mut column = self.column;
-        let mut text = self.text;
+        let mut rest = self;
         'words: loop {
-            match next_token(mode, column, text) {
-                Next::End => return Ok((
-                    set,
-                    Cursor {
-                        line,
-                        column,
-                        text,
-                        mode,
-                    },
-                )),
-                Next::Error(_) => return Ok((
-                    set,
-                    Cursor {
-                        line,
-                        column,
-                        text,
-                        mode,
-                    },
-                )),
-                Next::Token(token, word, after) => {
+            match rest.next() {
+                NextToken::End => return Ok((set, rest)),
+                NextToken::Refusal(_) => return Ok((set, rest)),
+                NextToken::Token(token, word, after) => {
                     if !is_word(token.kind) {
-                        return Ok((
-                            set,
-                            Cursor {
-                                line,
-                                column,
-                                text,
-                                mode,
-                            },
-                        ));
+                        return Ok((set, rest));
                     }
-                    match attribute_of_word(names, line, token, word) {
+                    match attribute_of_word(names, rest.line(), token, word) {
                         Err(refusal) => return Err(refusal),
                         Ok(attribute) => {
                             set = set.with(attribute);
-                            column = token.column + token.length;
-                            text = after;
+                            rest = after;
                         }
                     }
                 }

@@ -1,8 +1,8 @@
-//! Reached a line of text token by token: what the readers of all texts share.
+//! A line of text, read token by token: what the readers of all texts share.
 //!
-//! A `Cursor` is what is left of a line. Its calls take a token, a number, an arrow, a side or the line's
-//! end, or refuse the line at its place, by what it wants there. `look_up` gives the attribute that a word
-//! of a side stands for.
+//! A `Cursor` is what is left of a line. `next` says what comes next; the other calls take a token, a
+//! number, an arrow, a side or the line's end, or refuse the line at its place, by what it wants there.
+//! `look_up` gives the attribute that a word of a side stands for.
 #![tactic(auto)]
 
 mod cursor;
@@ -10,6 +10,6 @@ mod guide;
 mod names;
 mod tokens;
 
-pub use cursor::Cursor;
+pub use cursor::{Cursor, NextToken};
 pub use guide::Guide;
 pub use names::{Names, attribute_of_word, is_reserved, look_up, position_among};

@@ -1,6 +1,5 @@
 ghost use Rattle.std.specs.Prelude.{◌≡◌};
-ghost use Rattle.schema_grammar.specs.Rests.{is_word_token, arrow_in};
-ghost use Rattle.schema_grammar.specs.Texts.{number_in};
+ghost use Rattle.schema_grammar.specs.Rests.{is_word_token, number_in, arrow_in};
 
 use lexer::TokenKind;
 use schema_grammar::Sign;

@@ -1,11 +1,10 @@
-use Rattle.std.proofs.Common.{length}
 use Rattle.attr_sets.specs.Sets.{attributes}
-use Rattle.tokens.specs.Views.{names_in}
+use Rattle.tokens.specs.Views.{names_in, rest_of, bytes_left}
 use Rattle.plan_reader.proofs.ReadingLemmas.{GoesOn}
 use Rattle.plan_reader.proofs.reading.read_words.Given as goal
 
 abbrev pub invariant-words : goal.invariant-words
-invariant-words l = GoesOn (names_in l.names) l.line l.fn.column l.fn.text l.first (attributes l.set) l.column l.rest
+invariant-words l = GoesOn (names_in l.names) (rest_of l.fn.start) l.first (attributes l.set) (rest_of l.rest)
 
 abbrev pub decreases-words : goal.decreases-words
-decreases-words l = length l.rest
+decreases-words l = bytes_left l.rest

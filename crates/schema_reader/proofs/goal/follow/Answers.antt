@@ -1,32 +1,26 @@
-use Rattle.std.proofs.Common.{refl, arith}
-use Rattle.schema_grammar.specs.Reading.{follow}
+use Rattle.std.proofs.Common.{◌∙◌, refl}
+use Rattle.schema_grammar.specs.Reading.{follow_rest}
+use Rattle.schema_grammar.proofs.RefusalLemmas.{ok_whole, err_whole}
+use Rattle.dep_model.specs.Deps.{dependency_of}
+use Rattle.schema_reader.proofs.FollowLemmas.{follow_ended, follow_stopped, follow_refused, follow_more}
 use Rattle.schema_reader.proofs.goal.follow.Goals as goal
 
-pub returns-in-End-clause-ok : goal.returns-in-End-clause-ok
-unfolding follow
-returns-in-End-clause-ok c = rw (c.tokens.invariant.same, c.in-End.ensures.exact) c.end_line.ensures.ok
+pub returns-in-End : goal.returns-in-End
+returns-in-End c =
+    let here = c.tokens.invariant ∙ follow_ended _ _ _ _ c.in-End.ensures in
+    record {
+      ok = ok_whole dependency_of _ _ _ here c.end_line.ensures.ok;
+      err = err_whole _ _ _ here c.end_line.ensures.err;
+    }
 
-pub returns-in-End-clause-err : goal.returns-in-End-clause-err
-unfolding follow
-returns-in-End-clause-err c = rw (c.tokens.invariant.same, c.in-End.ensures.exact) c.end_line.ensures.err
-
-pub returns-in-Error-clause-err : goal.returns-in-Error-clause-err
-unfolding follow
-returns-in-Error-clause-err c = rw (c.tokens.invariant.same, c.in-Error.ensures.exact, c.by.ensures.refusal) refl
+pub returns-in-Refusal-clause-err : goal.returns-in-Refusal-clause-err
+returns-in-Refusal-clause-err c = c.tokens.invariant ∙ follow_stopped _ _ _ _ _ c.in-Refusal.ensures
 
 pub returns-in-Err-clause-err : goal.returns-in-Err-clause-err
-unfolding follow
 returns-in-Err-clause-err c =
-    let leads = c.in-Token.ensures.exact in
-    rw (c.tokens.invariant.same, leads.all_tokens, c.in-Err.ensures.err, c.at.ensures.refusal)
-    (rw leads.same_length refl)
+    c.tokens.invariant ∙ follow_refused _ _ _ _ _ _ _ c.in-Token.ensures.led c.in-Err.ensures.err
+    ∙ rw (c.refusal_of.ensures.refusal, c.in-Token.ensures.same_length) refl
 
 pub tokens-preserved : goal.tokens-preserved
-unfolding follow
 tokens-preserved c =
-    let leads = c.in-Token.ensures.exact in
-    let fits = c.in-Token.ensures.advances.fits in
-    record {
-      same = rw (c.tokens.invariant.same, leads.all_tokens, c.in-Ok.ensures.ok, ← leads.same_length) refl;
-      room = omega (arith, c.tokens.invariant.room, fits);
-    }
+    c.tokens.invariant ∙ follow_more _ _ _ _ _ _ _ c.in-Token.ensures.led c.in-Ok.ensures.ok

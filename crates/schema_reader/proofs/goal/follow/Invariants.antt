@@ -1,11 +1,14 @@
-use Rattle.std.proofs.Common.{length}
+use Rattle.std.proofs.Common.{◌≡◌}
+use Rattle.schema_grammar.specs.Reading.{follow_rest}
 use Rattle.schema_reader.specs.Views.{reached_of}
-use Rattle.tokens.specs.Views.{names_in}
-use Rattle.schema_reader.proofs.FollowLemmas.{GoesOn}
+use Rattle.tokens.specs.Views.{names_in, rest_of, bytes_left}
 use Rattle.schema_reader.proofs.goal.follow.Given as goal
 
+-- to follow what is left of a dependency is to follow the whole
 abbrev pub invariant-tokens : goal.invariant-tokens
-invariant-tokens l = GoesOn l.format (names_in l.names) l.line l.mode (reached_of l.fn.stage) l.fn.column l.fn.text (reached_of l.stage) l.column l.rest
+invariant-tokens l =
+    follow_rest l.format (names_in l.names) (reached_of l.fn.stage) (rest_of l.fn.start)
+    ≡ follow_rest l.format (names_in l.names) (reached_of l.stage) (rest_of l.rest)
 
 abbrev pub decreases-tokens : goal.decreases-tokens
-decreases-tokens l = length l.rest
+decreases-tokens l = bytes_left l.rest

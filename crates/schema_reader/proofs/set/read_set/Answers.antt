@@ -9,7 +9,7 @@ use Rattle.schema_grammar.specs.declared.format.Format.TheVariants as format
 use Rattle.schema_grammar.specs.declared.refusal.SchemaRefusal.{SchemaRefusal}
 use Rattle.schema_grammar.specs.Grammar.{Reached}
 use Rattle.schema_grammar.specs.Reading.{follow_lexed}
-use Rattle.schema_grammar.specs.Refusals.{and_then}
+use Rattle.schema_grammar.specs.Rests.{◌>>=◌}
 use Rattle.schema_grammar.specs.Sets.{MeansSet}
 use Rattle.schema_grammar.proofs.RefusalLemmas.{ok_at}
 use Rattle.schema_grammar.proofs.SetLaws.{set-law, set_refused}
@@ -22,7 +22,7 @@ abbrev reading : List (List ℕ) → List ℕ → Reached → Result Dependency 
 reading names text r = follow_lexed format.Plain names 1 r 1 (lex mode.Goal text)
 
 abbrev set_in : Result Dependency SchemaRefusal → Result Attributes SchemaRefusal
-set_in o = and_then o (λ d. Ok (right_of d))
+set_in o = o >>= (λ d. Ok (right_of d))
 
 pub returns-in-Ok : goal.returns-in-Ok
 returns-in-Ok c =
