@@ -26,10 +26,10 @@ side_named : (names words : List (List ℕ)) (x : Attributes) → (IsEmpty x →
 side_named names [] x some side =
     ⊎_elim
     (λ empty. absurd (some (λ k. ap (λ (y : Attributes). y k) empty.nothing)))
-    (λ named. absurd (no_word (All-head (IsAttribute format.Plain names) (record { kind = token.Empty; column = 8; length = length (40 ∷ 41 ∷ []); word = 40 ∷ 41 ∷ [] }) [] named.each)))
+    (λ named. absurd (no_word (All-head (IsAttribute format.Plain names) (record { kind = token.Empty; column = 8; length = 2; word = 40 ∷ 41 ∷ [] }) [] named.each)))
     side
   where
-    no_word : IsAttribute format.Plain names (record { kind = token.Empty; column = 8; length = length (40 ∷ 41 ∷ []); word = 40 ∷ 41 ∷ [] }) → ⊥
+    no_word : IsAttribute format.Plain names (record { kind = token.Empty; column = 8; length = 2; word = 40 ∷ 41 ∷ [] }) → ⊥
     no_word is = let wrong : false ≡ true = is.word in cc
 side_named names (word ∷ words) x some side =
     ⊎_elim

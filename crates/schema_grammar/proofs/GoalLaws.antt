@@ -1,5 +1,6 @@
 -- A goal is read exactly where the grammar has its dependency.
-use Rattle.std.proofs.Common.{◌≡◌, ◌<◌, ◌+◌, inl, inr, ℕ, Bool, true, false, cond, List, [], ◌∷◌, ◌++◌, length, Option, Some, None, Ok, Err, refl, sym, ◌∙◌, ap, arith}
+use Rattle.std.proofs.Common.{◌≡◌, ◌<◌, ◌+◌, inl, inr, ℕ, Bool, true, false, cond, List, [], ◌∷◌, ◌++◌, length, Option, Some, None, Ok, Err, refl, sym, ◌∙◌, ap, arith, ⊎_elim}
+use Rattle.std.proofs.lemmas.Bool.{cases_Bool}
 use Rattle.std.specs.List.{All}
 use Rattle.std.proofs.lemmas.List.Elements.{All-cons, All-nil, All-head, All-tail}
 use Rattle.schema_grammar.proofs.RefusalLemmas.{and_then-ok}
@@ -192,14 +193,11 @@ word_makes f declared line from (right_empty s x) m ms d is_word rest e =
 
 -- and what another token does
 token_makes : (f : Format) (declared : List (List ℕ)) (line from : ℕ) (r : Reached) (k : TokenKind) (column size : ℕ) (word : List ℕ) (ms : List Mark) (d : Dependency)
+    → is_word_token k ≡ false
     → ((next : Reached) → follow f declared line next (column + size) ms None ≡ Ok d → Rest f declared next ms d)
     → follow f declared line r from (mark k column size word ∷ ms) None ≡ Ok d → Rest f declared r (mark k column size word ∷ ms) d
 unfolding follow step advance
-token_makes f declared line from r token.Identifier column size word ms d rest e =
-    word_makes f declared line from r (mark token.Identifier column size word) ms d refl rest e
-token_makes f declared line from r token.Quoted column size word ms d rest e =
-    word_makes f declared line from r (mark token.Quoted column size word) ms d refl rest e
-token_makes f declared line from start token.Empty column size word ms d rest e =
+token_makes f declared line from start token.Empty column size word ms d other rest e =
     let more : ArrowRest f declared ms d = rest left_empty e in
     record {
       lhs = mark token.Empty column size word ∷ [];
@@ -214,7 +212,7 @@ token_makes f declared line from start token.Empty column size word ms d rest e 
       right_side = more.right_side;
       states = more.states;
     }
-token_makes f declared line from (left x) token.Arrow column size word ms d rest e =
+token_makes f declared line from (left x) token.Arrow column size word ms d other rest e =
     let more : AfterSignRest f declared sign.Functional x ms d = rest (after_sign sign.Functional x) e in
     record {
       words = [];
@@ -228,7 +226,7 @@ token_makes f declared line from (left x) token.Arrow column size word ms d rest
       right_side = more.right_side;
       states = more.states ∙ ap (λ z. dependency_of_sign sign.Functional z more.y) (sym (union-none x (attributes_of_words declared []) refl));
     }
-token_makes f declared line from (left x) token.DoubleArrow column size word ms d rest e =
+token_makes f declared line from (left x) token.DoubleArrow column size word ms d other rest e =
     let more : AfterSignRest f declared sign.Multivalued x ms d = rest (after_sign sign.Multivalued x) e in
     record {
       words = [];
@@ -242,16 +240,16 @@ token_makes f declared line from (left x) token.DoubleArrow column size word ms 
       right_side = more.right_side;
       states = more.states ∙ ap (λ z. dependency_of_sign sign.Multivalued z more.y) (sym (union-none x (attributes_of_words declared []) refl));
     }
-token_makes f declared line from left_empty token.Arrow column size word ms d rest e =
+token_makes f declared line from left_empty token.Arrow column size word ms d other rest e =
     let more : AfterSignRest f declared sign.Functional none ms d = rest (after_sign sign.Functional none) e in
     record { arrow = mark token.Arrow column size word; rhs = ms; y = more.y; sign = sign.Functional; whole = refl; is_arrow = refl; right_side = more.right_side; states = more.states }
-token_makes f declared line from left_empty token.DoubleArrow column size word ms d rest e =
+token_makes f declared line from left_empty token.DoubleArrow column size word ms d other rest e =
     let more : AfterSignRest f declared sign.Multivalued none ms d = rest (after_sign sign.Multivalued none) e in
     record { arrow = mark token.DoubleArrow column size word; rhs = ms; y = more.y; sign = sign.Multivalued; whole = refl; is_arrow = refl; right_side = more.right_side; states = more.states }
-token_makes f declared line from (after_sign s x) token.Empty column size word ms d rest e =
+token_makes f declared line from (after_sign s x) token.Empty column size word ms d other rest e =
     let more : EndRest s x ms d = rest (right_empty s x) e in
     record { y = none; right_side = inl (record { mark = mark token.Empty column size word; alone = ap (λ t. mark token.Empty column size word ∷ t) more.nothing; is_empty = refl; nothing = refl }); states = more.states }
-token_makes f declared line from r k column size word ms d rest e = cc
+token_makes f declared line from r k column size word ms d other rest e = cc
 
 -- the tokens that are read make the dependency
 pub marks_make : (f : Format) (declared : List (List ℕ)) (line from : ℕ) (r : Reached) (ms : List Mark) (d : Dependency)
@@ -259,7 +257,11 @@ pub marks_make : (f : Format) (declared : List (List ℕ)) (line from : ℕ) (r 
 unfolding follow
 marks_make f declared line from r [] d e = end_makes f declared line from r d e
 marks_make f declared line from r (m ∷ ms) d e =
-    token_makes f declared line from r m.kind m.column m.length m.word ms d (λ next h. marks_make f declared line (m.column + m.length) next ms d h) e
+    ⊎_elim
+    (λ is. word_makes f declared line from r m ms d is (λ next h. marks_make f declared line (m.column + m.length) next ms d h) e)
+    (λ other. token_makes f declared line from r m.kind m.column m.length m.word ms d other
+    (λ next h. marks_make f declared line (m.column + m.length) next ms d h) e)
+    (cases_Bool (is_word_token m.kind))
 
 -- a word that names an attribute is read
 word_read : (f : Format) (declared : List (List ℕ)) (line : ℕ) (r : Reached) (from : ℕ) (m : Mark) (ms : List Mark) (stop : Option LexError) (attribute : IsAttribute f declared m)

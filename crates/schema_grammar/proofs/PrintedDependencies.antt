@@ -44,9 +44,9 @@ sign_text sign.Functional = codes " -> "
 sign_text sign.Multivalued = codes " ->> "
 
 abbrev sign_mark : Sign → ℕ → Mark
-sign_mark sign.Functional column = record { kind = token.Arrow; column = column; length = length (45 ∷ 62 ∷ []); word = 45 ∷ 62 ∷ [] }
+sign_mark sign.Functional column = record { kind = token.Arrow; column = column; length = 2; word = 45 ∷ 62 ∷ [] }
 sign_mark sign.Multivalued column =
-    record { kind = token.DoubleArrow; column = column; length = length (45 ∷ 62 ∷ 62 ∷ []); word = 45 ∷ 62 ∷ 62 ∷ [] }
+    record { kind = token.DoubleArrow; column = column; length = 3; word = 45 ∷ 62 ∷ 62 ∷ [] }
 
 abbrev right_column : Sign → List (List ℕ) → ℕ
 right_column sign.Functional left = side_end 1 left + 1 + 2 + 1

@@ -101,7 +101,7 @@ words_lexed m column (word ∷ words) rest names apart =
 
 -- a side
 abbrev pub side_marks : ℕ → List (List ℕ) → List Mark
-side_marks column [] = record { kind = token.Empty; column = column; length = length (40 ∷ 41 ∷ []); word = 40 ∷ 41 ∷ [] } ∷ []
+side_marks column [] = record { kind = token.Empty; column = column; length = 2; word = 40 ∷ 41 ∷ [] } ∷ []
 side_marks column (word ∷ words) = record { kind = token.Identifier; column = column; length = length word; word = word } ∷ word_marks (column + length word) words
 
 abbrev pub side_end : ℕ → List (List ℕ) → ℕ
@@ -118,15 +118,15 @@ side_lexed m column (word ∷ words) rest names apart =
     ∙ ap (led_by_mark (record { kind = token.Identifier; column = column; length = length word; word = word })) (words_lexed m (column + length word) words rest names.1 apart)
 
 pub arrow_lexed : (m : Mode) (column : ℕ) (rest : List ℕ) → tokens_after m 0 column (32 ∷ 45 ∷ 62 ∷ 32 ∷ rest)
-    ≡ led_by_mark (record { kind = token.Arrow; column = column + 1; length = length (45 ∷ 62 ∷ []); word = 45 ∷ 62 ∷ [] }) (tokens_after m 0 (column + 1 + 2 + 1) rest)
+    ≡ led_by_mark (record { kind = token.Arrow; column = column + 1; length = 2; word = 45 ∷ 62 ∷ [] }) (tokens_after m 0 (column + 1 + 2 + 1) rest)
 unfolding front_piece
 arrow_lexed m column rest =
     blank_lexed m column (45 ∷ 62 ∷ 32 ∷ rest) ∙ at_token m (column + 1) (45 ∷ 62 ∷ 32 ∷ rest) token.Arrow 2 (omega arith) refl
-    ∙ ap (led_by_mark (record { kind = token.Arrow; column = column + 1; length = length (45 ∷ 62 ∷ []); word = 45 ∷ 62 ∷ [] })) (blank_lexed m (column + 1 + 2) rest)
+    ∙ ap (led_by_mark (record { kind = token.Arrow; column = column + 1; length = 2; word = 45 ∷ 62 ∷ [] })) (blank_lexed m (column + 1 + 2) rest)
 
 pub double_arrow_lexed : (m : Mode) (column : ℕ) (rest : List ℕ) → tokens_after m 0 column (32 ∷ 45 ∷ 62 ∷ 62 ∷ 32 ∷ rest)
-    ≡ led_by_mark (record { kind = token.DoubleArrow; column = column + 1; length = length (45 ∷ 62 ∷ 62 ∷ []); word = 45 ∷ 62 ∷ 62 ∷ [] }) (tokens_after m 0 (column + 1 + 3 + 1) rest)
+    ≡ led_by_mark (record { kind = token.DoubleArrow; column = column + 1; length = 3; word = 45 ∷ 62 ∷ 62 ∷ [] }) (tokens_after m 0 (column + 1 + 3 + 1) rest)
 unfolding front_piece
 double_arrow_lexed m column rest =
     blank_lexed m column (45 ∷ 62 ∷ 62 ∷ 32 ∷ rest) ∙ at_token m (column + 1) (45 ∷ 62 ∷ 62 ∷ 32 ∷ rest) token.DoubleArrow 3 (omega arith) refl
-    ∙ ap (led_by_mark (record { kind = token.DoubleArrow; column = column + 1; length = length (45 ∷ 62 ∷ 62 ∷ []); word = 45 ∷ 62 ∷ 62 ∷ [] })) (blank_lexed m (column + 1 + 3) rest)
+    ∙ ap (led_by_mark (record { kind = token.DoubleArrow; column = column + 1; length = 3; word = 45 ∷ 62 ∷ 62 ∷ [] })) (blank_lexed m (column + 1 + 3) rest)

@@ -221,13 +221,13 @@ version_line : IsVersionLine (codes "version 2")
 unfolding front_piece run_piece is_number is_version
 version_line = record {
   head = record { kind = token.Identifier; column = 1; length = length (codes "version"); word = codes "version" };
-  number = record { kind = token.Number 2; column = 9; length = length (50 ∷ []); word = 50 ∷ [] };
+  number = record { kind = token.Number 2; column = 9; length = 1; word = 50 ∷ [] };
   tokens =
       name_lexed mode.numbered 1 (codes "version") (32 ∷ 50 ∷ []) refl refl
       ∙ ap (led_by_mark (record { kind = token.Identifier; column = 1; length = length (codes "version"); word = codes "version" }))
       (blank_lexed mode.numbered 8 (50 ∷ []) ∙ at_token mode.numbered 9 (50 ∷ []) (token.Number 2) 1
       (omega arith) refl
-      ∙ ap (led_by_mark (record { kind = token.Number 2; column = 9; length = length (50 ∷ []); word = 50 ∷ [] }))
+      ∙ ap (led_by_mark (record { kind = token.Number 2; column = 9; length = 1; word = 50 ∷ [] }))
       (nothing_left mode.numbered 10));
   is_word = refl;
   is_number = refl;

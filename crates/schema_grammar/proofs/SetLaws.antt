@@ -26,7 +26,7 @@ use Rattle.schema_grammar.proofs.DiagnosticLaws.{Judges, LineDiagnostic, Judged,
 use Rattle.schema_grammar.proofs.GoalLaws.{AfterSignRest, marks_make, side_read, no_stop}
 use Rattle.schema_grammar.proofs.OneRefusal.{one_refused, one_at_first}
 use Rattle.schema_grammar.proofs.RefusalLemmas.{and_then-ok}
-use Rattle.schema_grammar.proofs.ShapeLemmas.{Shape, past_arrow, in_right, past_end, advance_shape, is_final, wanted_by}
+use Rattle.schema_grammar.proofs.ShapeLemmas.{Shape, past_arrow, in_right, past_end, advance_shape, is_final, wanted_by, stuck_first, stuck_later}
 
 -- ---- what a set means
 abbrev from_arrow : Reached

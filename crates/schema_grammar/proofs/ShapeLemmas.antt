@@ -199,7 +199,7 @@ follow_runs f declared line r from (m ∷ ms) d e =
 
 -- a token of each kind, over the one name `a`
 abbrev sample_mark : TokenKind → Mark
-sample_mark k = record { kind = k; column = 0; length = length (97 ∷ []); word = 97 ∷ [] }
+sample_mark k = record { kind = k; column = 0; length = 1; word = 97 ∷ [] }
 
 abbrev one_name : List (List ℕ)
 one_name = (97 ∷ []) ∷ []

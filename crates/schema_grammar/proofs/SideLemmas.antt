@@ -4,6 +4,7 @@ use mathlib.Core.Path.{fun_ext}
 use Rattle.std.proofs.Math.Bool.{or_assoc, or-false}
 use Rattle.attr_sets.specs.Attributes.{Attributes, only, none, union}
 use Rattle.dep_model.specs.Schemas.{attribute_named}
+use Rattle.lexer.specs.declared.token.TokenKind.{TokenKind}
 use Rattle.lexer.specs.Tokens.{Mark}
 use Rattle.schema_grammar.specs.declared.format.Format.{Format}
 use Rattle.schema_grammar.specs.Meanings.{is_at, attributes_of_words}
