@@ -7,7 +7,8 @@ use Rattle.dep_model.specs.declared.schema.Schema.{Schema}
 use Rattle.plan_reader.specs.declared.reading.TheConstants.{MOST_PLAN_BYTES}
 use Rattle.plan_grammar.specs.Diagnostics.{RefusesPlan}
 use Rattle.plan_grammar.specs.Meanings.{MeansPlan}
-use Rattle.plan_grammar.specs.Refusals.{plan_refusal_number}
+use Rattle.schema_grammar.specs.DiagnosticKinds.{number_of}
+use Rattle.plan_grammar.specs.Refusals.{plan_diagnostic_kind}
 use Rattle.plan_grammar.specs.declared.refusal.PlanRefusal.{PlanRefusal}
 use Rattle.plan_grammar.specs.declared.refusal.PlanRefusal.TheVariants as plan
 use Rattle.desk_cli.specs.declared.status.Status.TheVariants.{Refused}
@@ -30,7 +31,7 @@ plan_reason_text names (plan.TooManySchemes at) = decimal at ++ codes " too many
 -- a refusal of a plan
 abbrev pub plan_refusal_text : List (List ℕ) → List ℕ → PlanRefusal → List ℕ
 plan_refusal_text names file refusal =
-    line (codes "refused: plan " ++ decimal (plan_refusal_number refusal) ++ codes " at " ++ file
+    line (codes "refused: plan " ++ decimal (number_of (plan_diagnostic_kind refusal)) ++ codes " at " ++ file
     ++ codes ":" ++ plan_reason_text names refusal)
 
 -- ---- plans

@@ -101,8 +101,8 @@ printed_within files schema goal text r said alike =
     let moved = spells_alike said.of r (yes_text ++ canonical_certificate said.of t) t alike printed.0 in
     let within : SpellsWithin r (yes_text ++ canonical_certificate said.of t) t = record {
       spells = moved.0;
-      few_lines = omega (arith, moved.1, printed.1, said.is_proof.size.few_nodes);
-      few_levels = said.is_proof.size.few_levels;
+      lines_fit = omega (arith, moved.1, printed.1, said.is_proof.size.few_nodes);
+      levels_fit = said.is_proof.size.few_levels;
     } in
     subst (λ (bytes : List ℕ). SpellsWithin r bytes t) (sym said.printed) within
 

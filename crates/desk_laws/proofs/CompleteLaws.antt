@@ -122,7 +122,7 @@ implies_answered files name goal schema dep file is response answered =
 within_alike : (s r : Schema) (text : List ℕ) (t : Tree) → AreSame s r → SpellsWithin s text t → SpellsWithin r text t
 within_alike s r text t same within =
     let moved = spells_alike s r text t (AreSame-alike s r same) within.spells in
-    record { spells = moved.0; few_lines = omega (arith, moved.1, within.few_lines); few_levels = within.few_levels }
+    record { spells = moved.0; lines_fit = omega (arith, moved.1, within.lines_fit); levels_fit = within.levels_fit }
 
 after_proof : (files : Files) (s r : Schema) (name : List ℕ) (t : Tree) (rest : Tree → Allowed) (response : ResponseValue)
     → AreSame s r → IsProofFile (known_files files) s name t

@@ -8,7 +8,7 @@ use Rattle.schema_grammar.specs.declared.refusal.What.TheVariants as what
 use Rattle.schema_grammar.specs.declared.refusal.SchemaRefusalKind.{SchemaRefusalKind}
 use Rattle.schema_grammar.specs.declared.refusal.SchemaRefusalKind.TheVariants as kind
 use Rattle.schema_grammar.specs.declared.refusal.SchemaRefusal.{SchemaRefusal}
-use Rattle.schema_grammar.specs.Diagnostics.{refusal_number}
+use Rattle.schema_grammar.specs.DiagnosticKinds.{number_of, diagnostic_kind}
 use Rattle.schema_printer.specs.Printing.{set_text}
 use Rattle.csv_text.specs.Rows.{rows_text}
 use Rattle.dep_model.specs.Tuples.{Relation}
@@ -64,7 +64,7 @@ kind_text kind.UnknownVersion = codes "unknown version"
 -- a refusal of a text at its place: the kind of text, its name, the line and the column
 abbrev pub refusal_text : List ℕ → List ℕ → SchemaRefusal → List ℕ
 refusal_text group name refusal =
-    line (codes "refused: " ++ group ++ codes " " ++ decimal (refusal_number refusal.kind)
+    line (codes "refused: " ++ group ++ codes " " ++ decimal (number_of (diagnostic_kind refusal.kind))
     ++ codes " at " ++ name
     ++ codes ":" ++ decimal refusal.span.line ++ codes ":" ++ decimal refusal.span.column ++ codes " "
     ++ kind_text refusal.kind)

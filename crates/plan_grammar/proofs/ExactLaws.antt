@@ -1,5 +1,5 @@
 -- A plan text has one meaning or one refusal, and never both.
-use Rattle.std.proofs.Common.{◌≡◌, ◌<◌, ◌≤◌, ◌+◌, ℕ, suc, Bool, true, false, not, List, [], ◌∷◌, length, Some, None, sym, ap, subst, ◌∙◌, inl, inr, ⊎_elim, arith}
+use Rattle.std.proofs.Common.{◌≡◌, ◌<◌, ◌≤◌, ◌+◌, ℕ, suc, Bool, true, false, not, List, [], ◌∷◌, length, Some, None, refl, sym, ap, subst, ◌∙◌, inl, inr, ⊎_elim, arith}
 use Rattle.std.specs.Prelude.{All}
 use Rattle.std.specs.List.{list_any}
 use Rattle.std.proofs.lemmas.Bool.{false≢true, true≢false, ltb-true, and_parts, not-true, cases_order}
@@ -17,71 +17,62 @@ use Rattle.schema_grammar.specs.declared.refusal.SchemaRefusalKind.{SchemaRefusa
 use Rattle.schema_grammar.specs.declared.refusal.SchemaRefusalKind.TheVariants as kind
 use Rattle.schema_grammar.specs.declared.refusal.Span.{Span}
 use Rattle.schema_grammar.specs.declared.refusal.What.{What}
-use Rattle.schema_grammar.specs.Diagnostics.{refusal_number, span_at}
+use Rattle.schema_grammar.specs.DiagnosticKinds.{DiagnosticKind, empty_scheme, not_covered, too_many_schemes, diagnostic_kind}
+use Rattle.schema_grammar.specs.Diagnostics.{span_at}
 use Rattle.schema_grammar.specs.Meanings.{HasTokens, IsAttribute, attributes_of_words}
 use Rattle.schema_grammar.proofs.OneRefusal.{both_least, same_carried, same_refusal}
 use Rattle.plan_grammar.specs.declared.refusal.PlanRefusal.{PlanRefusal}
 use Rattle.plan_grammar.specs.declared.refusal.PlanRefusal.TheVariants as plan
 use Rattle.plan_grammar.specs.declared.refusal.TheConstants.{MOST_SCHEMES}
 use Rattle.plan_grammar.specs.Meanings.{IsSchemeLine, MeansScheme, MeansSchemeLines, MeansPlan}
-use Rattle.plan_grammar.specs.Refusals.{plan_refusal_number}
+use Rattle.plan_grammar.specs.Refusals.{plan_diagnostic_kind}
 use Rattle.plan_grammar.specs.Diagnostics.{WordDiagnostic, WordsDiagnostic, SchemeLineDiagnostic, SpansPosition, IsFirstOf, IsFine, RefusesSchemeLines, scheme_count, scheme_wanted, uncovered_attributes, RefusesPlan}
 use Rattle.plan_grammar.proofs.FirstLemmas.{later_fine, no_flaw}
 
 -- ---- one refusal
-not_ten : (k : SchemaRefusalKind) → refusal_number k ≡ 10 → ⊥
-not_ten kind.StrangeByte e = omega (arith, e)
-not_ten kind.BadName e = omega (arith, e)
-not_ten kind.ReservedName e = omega (arith, e)
-not_ten kind.DoubleName e = omega (arith, e)
-not_ten kind.UnknownName e = omega (arith, e)
-not_ten (kind.Expected what) e = omega (arith, e)
-not_ten kind.TooManyAttributes e = omega (arith, e)
-not_ten kind.TooManyDependencies e = omega (arith, e)
-not_ten kind.NoAttributes e = omega (arith, e)
-not_ten kind.UnknownVersion e = omega (arith, e)
+-- the kinds that only plans have
+abbrev is_plan_kind : DiagnosticKind → Bool
+is_plan_kind empty_scheme = true
+is_plan_kind not_covered = true
+is_plan_kind too_many_schemes = true
+is_plan_kind why = false
 
-not_twelve : (k : SchemaRefusalKind) → refusal_number k ≡ 12 → ⊥
-not_twelve kind.StrangeByte e = omega (arith, e)
-not_twelve kind.BadName e = omega (arith, e)
-not_twelve kind.ReservedName e = omega (arith, e)
-not_twelve kind.DoubleName e = omega (arith, e)
-not_twelve kind.UnknownName e = omega (arith, e)
-not_twelve (kind.Expected what) e = omega (arith, e)
-not_twelve kind.TooManyAttributes e = omega (arith, e)
-not_twelve kind.TooManyDependencies e = omega (arith, e)
-not_twelve kind.NoAttributes e = omega (arith, e)
-not_twelve kind.UnknownVersion e = omega (arith, e)
+not_plan_kind : (k : SchemaRefusalKind) → is_plan_kind (diagnostic_kind k) ≡ false
+not_plan_kind (kind.Expected what) = refl
+not_plan_kind k = refl
 
-same_there : (line : ℕ) (span : ℕ → Span) (want : ℕ → What) (p : ℕ) (e f : PlanRefusal) → SpansPosition line span want p e → SpansPosition line span want p f → plan_refusal_number e ≡ plan_refusal_number f → e ≡ f
+other_kinds : (k : SchemaRefusalKind) (why : DiagnosticKind) → is_plan_kind why ≡ true → diagnostic_kind k ≡ why → ⊥
+other_kinds k why of_plan same = true≢false (sym of_plan ∙ ap is_plan_kind (sym same) ∙ not_plan_kind k)
+
+same_there : (line : ℕ) (span : ℕ → Span) (want : ℕ → What) (p : ℕ) (e f : PlanRefusal) → SpansPosition line span want p e → SpansPosition line span want p f → plan_diagnostic_kind e ≡ plan_diagnostic_kind f → e ≡ f
 same_there line span want p (plan.Text a) (plan.Text b) first second same =
     ap (λ (t : SchemaRefusal). plan.Text t)
     (same_refusal a b (first.0 ∙ sym second.0) (same_carried (λ w. w ≡ want p) a b (λ w v h g. h ∙ sym g) first.1 second.1 same))
-same_there line span want p (plan.Text a) (plan.EmptyScheme l) first second same = absurd (not_ten a.kind same)
-same_there line span want p (plan.Text a) (plan.TooManySchemes l) first second same = absurd (not_twelve a.kind same)
+same_there line span want p (plan.Text a) (plan.EmptyScheme l) first second same = absurd (other_kinds a.kind empty_scheme refl same)
+same_there line span want p (plan.Text a) (plan.TooManySchemes l) first second same = absurd (other_kinds a.kind too_many_schemes refl same)
 same_there line span want p (plan.Text a) (plan.NotCovered b) first second same = absurd second
-same_there line span want p (plan.EmptyScheme l) (plan.Text b) first second same = absurd (not_ten b.kind (sym same))
+same_there line span want p (plan.EmptyScheme l) (plan.Text b) first second same = absurd (other_kinds b.kind empty_scheme refl (sym same))
 same_there line span want p (plan.EmptyScheme l) (plan.EmptyScheme m) first second same = ap (λ (n : ℕ). plan.EmptyScheme n) (first ∙ sym second)
-same_there line span want p (plan.EmptyScheme l) (plan.TooManySchemes m) first second same = absurd (omega (arith, same))
+same_there line span want p (plan.EmptyScheme l) (plan.TooManySchemes m) first second same = cc
 same_there line span want p (plan.EmptyScheme l) (plan.NotCovered b) first second same = absurd second
-same_there line span want p (plan.TooManySchemes l) (plan.Text b) first second same = absurd (not_twelve b.kind (sym same))
-same_there line span want p (plan.TooManySchemes l) (plan.EmptyScheme m) first second same = absurd (omega (arith, same))
+same_there line span want p (plan.TooManySchemes l) (plan.Text b) first second same = absurd (other_kinds b.kind too_many_schemes refl (sym same))
+same_there line span want p (plan.TooManySchemes l) (plan.EmptyScheme m) first second same = cc
 same_there line span want p (plan.TooManySchemes l) (plan.TooManySchemes m) first second same = ap (λ (n : ℕ). plan.TooManySchemes n) (first ∙ sym second)
 same_there line span want p (plan.TooManySchemes l) (plan.NotCovered b) first second same = absurd second
 same_there line span want p (plan.NotCovered a) f first second same = absurd first
 
-one_first : (Diagnostic : ℕ → ℕ → Type 0) (line : ℕ) (span : ℕ → Span) (want : ℕ → What) (e f : PlanRefusal)
+one_first : (Diagnostic : ℕ → DiagnosticKind → Type 0) (line : ℕ) (span : ℕ → Span) (want : ℕ → What) (e f : PlanRefusal)
     → IsFirstOf Diagnostic (SpansPosition line span want) e → IsFirstOf Diagnostic (SpansPosition line span want) f → e ≡ f
 one_first Diagnostic line span want e f first second =
-    let same = both_least first.position second.position (plan_refusal_number e) (plan_refusal_number f) (first.least second.position (plan_refusal_number f) second.diagnostic) (second.least first.position (plan_refusal_number e) first.diagnostic) in
+    let same = both_least first.position second.position (plan_diagnostic_kind e) (plan_diagnostic_kind f) (first.least second.position (plan_diagnostic_kind f) second.diagnostic) (second.least first.position (plan_diagnostic_kind e) first.diagnostic) in
     same_there line span want first.position e f first.there (subst (λ (p : ℕ). SpansPosition line span want p f) (sym same.0) second.there) same.1
 
 pub one_refusal : (names : List (List ℕ)) (number earlier : ℕ) (lines : List (List ℕ)) (e f : PlanRefusal) → RefusesSchemeLines names number earlier lines e → RefusesSchemeLines names number earlier lines f → e ≡ f
 one_refusal names number earlier [] e f first second = absurd first
 one_refusal names number earlier (line ∷ lines) e f (inl first) (inl second) =
     one_first (SchemeLineDiagnostic names earlier (lex mode.plain line).marks (lex mode.plain line).stop) number (span_at number 1 (lex mode.plain line).marks (lex mode.plain line).stop) scheme_wanted e f first second
-one_refusal names number earlier (line ∷ lines) e f (inl first) (inr second) = absurd (second.0 first.position (plan_refusal_number e) first.diagnostic)
-one_refusal names number earlier (line ∷ lines) e f (inr first) (inl second) = absurd (first.0 second.position (plan_refusal_number f) second.diagnostic)
+one_refusal names number earlier (line ∷ lines) e f (inl first) (inr second) = absurd (second.0 first.position (plan_diagnostic_kind e) first.diagnostic)
+one_refusal names number earlier (line ∷ lines) e f (inr first) (inl second) = absurd (first.0 second.position (plan_diagnostic_kind f) second.diagnostic)
 one_refusal names number earlier (line ∷ lines) e f (inr first) (inr second) =
     one_refusal names (number + 1) (earlier + scheme_count (lex mode.plain line).marks) lines e f first.1 second.1
 
@@ -110,7 +101,7 @@ one_meaning names (line ∷ lines) xs ys (inr first) (inr second) =
     ∙ ap (λ (zs : List Attributes). second.0 ∷ zs) (one_meaning names lines first.1 second.1 first.3 second.3) ∙ sym second.4
 
 -- ---- never both
-attribute_fine : (names : List (List ℕ)) (first : Bool) (m : Mark) (n : ℕ) → IsAttribute format.Plain names m → WordDiagnostic names first m n → ⊥
+attribute_fine : (names : List (List ℕ)) (first : Bool) (m : Mark) (n : DiagnosticKind) → IsAttribute format.Plain names m → WordDiagnostic names first m n → ⊥
 attribute_fine names first m n is h =
     ⊎_elim
     (λ word. ⊎_elim (λ three. true≢false (sym three.1 ∙ is.free)) (λ five. unknown (sym five.1 ∙ is.known)) word.1)
@@ -120,7 +111,7 @@ attribute_fine names first m n is h =
     unknown : None ≡ Some is.index → ⊥
     unknown e = cc
 
-words_fine : (names : List (List ℕ)) (first : Bool) (ms : List Mark) → All (IsAttribute format.Plain names) ms → (first ≡ true → 0 < length ms) → (p n : ℕ) → WordsDiagnostic names first ms None p n → ⊥
+words_fine : (names : List (List ℕ)) (first : Bool) (ms : List Mark) → All (IsAttribute format.Plain names) ms → (first ≡ true → 0 < length ms) → (p : ℕ) (n : DiagnosticKind) → WordsDiagnostic names first ms None p n → ⊥
 words_fine names first [] each some p n h = ⊎_elim (λ ended. omega (arith, some ended.1)) (λ flaw. no_flaw n flaw) h.1
 words_fine names first (m ∷ ms) each some p n h =
     later_fine (WordsDiagnostic names first (m ∷ ms) None) (λ k g. attribute_fine names first m k (All-head (IsAttribute format.Plain names) m ms each) g)
@@ -137,7 +128,7 @@ pub never_both : (names : List (List ℕ)) (number earlier : ℕ) (lines : List 
     → RefusesSchemeLines names number earlier lines e → ⊥
 never_both names number earlier [] xs e means few refused = refused
 never_both names number earlier (line ∷ lines) xs e (inl blank) few (inl first) =
-    no_flaw (plan_refusal_number e) (subst (λ (l : Lexed). SchemeLineDiagnostic names earlier l.marks l.stop first.position (plan_refusal_number e)) blank.0 first.diagnostic).1
+    no_flaw (plan_diagnostic_kind e) (subst (λ (l : Lexed). SchemeLineDiagnostic names earlier l.marks l.stop first.position (plan_diagnostic_kind e)) blank.0 first.diagnostic).1
 never_both names number earlier (line ∷ lines) xs e (inl blank) few (inr later) =
     let same : earlier + scheme_count (lex mode.plain line).marks ≡ earlier = ap (λ (l : Lexed). earlier + scheme_count l.marks) blank.0 ∙ zero_more earlier in
     never_both names (number + 1) earlier lines xs e blank.1 few (subst (λ (n : ℕ). RefusesSchemeLines names (number + 1) n lines e) same later.1)
@@ -146,8 +137,8 @@ never_both names number earlier (line ∷ lines) xs e (inl blank) few (inr later
     zero_more n = omega arith
 never_both names number earlier (line ∷ lines) xs e (inr adds) few (inl first) =
     let count : length xs ≡ suc (length adds.1) = ap (λ (zs : List Attributes). length zs) adds.4 in
-    scheme_fine names earlier adds.2.marks adds.0 adds.2.scheme (omega (arith, few, count)) first.position (plan_refusal_number e)
-    (subst (λ (l : Lexed). SchemeLineDiagnostic names earlier l.marks l.stop first.position (plan_refusal_number e)) adds.2.tokens first.diagnostic)
+    scheme_fine names earlier adds.2.marks adds.0 adds.2.scheme (omega (arith, few, count)) first.position (plan_diagnostic_kind e)
+    (subst (λ (l : Lexed). SchemeLineDiagnostic names earlier l.marks l.stop first.position (plan_diagnostic_kind e)) adds.2.tokens first.diagnostic)
 never_both names number earlier (line ∷ lines) xs e (inr adds) few (inr later) =
     let count : length xs ≡ suc (length adds.1) = ap (λ (zs : List Attributes). length zs) adds.4 in
     let one : scheme_count (lex mode.plain line).marks ≡ 1 = ap (λ (l : Lexed). scheme_count l.marks) adds.2.tokens ∙ ap (λ (ms : List Mark). scheme_count ms) adds.2.scheme.whole in
@@ -170,7 +161,7 @@ one_least x a b first second =
     (cases_order a b)
 
 pub plan_never_both : (names : List (List ℕ)) (text : List ℕ) (schemes : List Attributes) (e : PlanRefusal) → MeansPlan names text schemes → RefusesPlan names text e → ⊥
-plan_never_both names text schemes e means (inl lines) = never_both names 1 0 (line_texts (without_mark text)) schemes e means.lines (omega (arith, means.few)) lines
+plan_never_both names text schemes e means (inl lines) = never_both names 1 0 (line_texts (without_mark text)) schemes e means.lines (omega (arith, means.schemes_fit)) lines
 plan_never_both names text schemes e means (inr left) =
     let same = one_meaning names (line_texts (without_mark text)) left.schemes schemes left.means means.lines in
     Covers-none_left_out (length names) schemes left.attribute means.covers (subst (λ (xs : List Attributes). IsFirstFrom (uncovered_attributes (length names) xs) 0 left.attribute) same left.least)
@@ -180,9 +171,9 @@ plan_one_meaning names text xs ys first second = one_meaning names (line_texts (
 
 pub plan_one_refusal : (names : List (List ℕ)) (text : List ℕ) (e f : PlanRefusal) → RefusesPlan names text e → RefusesPlan names text f → e ≡ f
 plan_one_refusal names text e f (inl first) (inl second) = one_refusal names 1 0 (line_texts (without_mark text)) e f first second
-plan_one_refusal names text e f (inl first) (inr second) = absurd (never_both names 1 0 (line_texts (without_mark text)) second.schemes e second.means (omega (arith, second.few)) first)
-plan_one_refusal names text e f (inr first) (inl second) = absurd (never_both names 1 0 (line_texts (without_mark text)) first.schemes f first.means (omega (arith, first.few)) second)
+plan_one_refusal names text e f (inl first) (inr second) = absurd (never_both names 1 0 (line_texts (without_mark text)) second.schemes e second.means (omega (arith, second.schemes_fit)) first)
+plan_one_refusal names text e f (inr first) (inl second) = absurd (never_both names 1 0 (line_texts (without_mark text)) first.schemes f first.means (omega (arith, first.schemes_fit)) second)
 plan_one_refusal names text e f (inr first) (inr second) =
     let schemes = one_meaning names (line_texts (without_mark text)) second.schemes first.schemes second.means first.means in
     let same = one_least (uncovered_attributes (length names) first.schemes) first.attribute second.attribute first.least (subst (λ (xs : List Attributes). IsFirstFrom (uncovered_attributes (length names) xs) 0 second.attribute) schemes second.least) in
-    first.told ∙ ap (λ (a : ℕ). plan.NotCovered a) same ∙ sym second.told
+    first.is ∙ ap (λ (a : ℕ). plan.NotCovered a) same ∙ sym second.is

@@ -11,11 +11,12 @@ use Rattle.schema_grammar.specs.declared.format.Format.TheVariants as format
 use Rattle.schema_grammar.specs.declared.refusal.SchemaRefusalKind.{SchemaRefusalKind}
 use Rattle.schema_grammar.specs.declared.refusal.SchemaRefusalKind.TheVariants as kind
 use Rattle.schema_grammar.specs.declared.refusal.What.TheVariants as what
-use Rattle.schema_grammar.specs.Diagnostics.{Carries, refusal_number, span_at}
+use Rattle.schema_grammar.specs.Diagnostics.{Carries, span_at}
 use Rattle.schema_grammar.specs.Refusals.{refusal, refused_by}
 use Rattle.schema_grammar.specs.Words.{is_reserved_token}
 use Rattle.schema_grammar.specs.Rests.{◌>>=◌}
-use Rattle.schema_grammar.proofs.DiagnosticLaws.{flaw_numbered, flaw_carries}
+use Rattle.schema_grammar.proofs.DiagnosticLaws.{flaw_carries, flaw_kind, flaw_least}
+use Rattle.schema_grammar.specs.DiagnosticKinds.{DiagnosticKind, reserved_name, expected, too_many_schemes, number_of, diagnostic_kind}
 use Rattle.schema_grammar.proofs.DeclaringLaws.{has_tokens}
 use Rattle.plan_grammar.specs.declared.refusal.PlanRefusal.{PlanRefusal}
 use Rattle.plan_grammar.specs.declared.refusal.PlanRefusal.TheVariants as plan
@@ -23,7 +24,7 @@ use Rattle.plan_grammar.specs.declared.refusal.TheConstants.{MOST_SCHEMES}
 use Rattle.plan_grammar.specs.Meanings.{is_scheme, IsSchemeLine, MeansSchemeLines}
 use Rattle.plan_grammar.specs.Diagnostics.{FirstTokenDiagnostic, SchemeLineDiagnostic, SpansPosition, IsFine, RefusesLine, RefusesSchemeLines, scheme_count, scheme_wanted}
 use Rattle.plan_grammar.specs.Reading.{no_scheme, read_words, read_scheme_line, read_scheme_lines}
-use Rattle.plan_grammar.proofs.FirstLemmas.{first_here, first_later, later_fine, no_flaw, flaw_least}
+use Rattle.plan_grammar.proofs.FirstLemmas.{first_here, first_later, later_fine, no_flaw}
 use Rattle.plan_grammar.proofs.WordLemmas.{WordsFit, words_fit}
 
 -- ---- one line
@@ -46,14 +47,17 @@ LineFits names line schemes ms stop (Err e) = RefusesLine names line (length sch
 
 -- why a line can't begin with a token
 record IsOther (earlier : ℕ) (m : Mark) (why : SchemaRefusalKind) : Type 0 where
-  diagnostic : FirstTokenDiagnostic earlier m (refusal_number why)
+  diagnostic : FirstTokenDiagnostic earlier m (diagnostic_kind why)
   carries : Carries (λ w. w ≡ scheme_wanted 0) why
-  least : (n : ℕ) → FirstTokenDiagnostic earlier m n → refusal_number why ≤ n
+  least : (n : DiagnosticKind) → FirstTokenDiagnostic earlier m n → number_of (diagnostic_kind why) ≤ number_of n
 
-head_least : (earlier : ℕ) (m : Mark) (low n : ℕ) → is_scheme m.kind m.word ≡ false → (low ≤ 6) → (is_reserved_token format.Plain m.kind m.word ≡ true → low ≤ 3) → FirstTokenDiagnostic earlier m n → low ≤ n
+head_least : (earlier : ℕ) (m : Mark) (low n : DiagnosticKind) → is_scheme m.kind m.word ≡ false
+    → number_of low ≤ number_of expected
+    → (is_reserved_token format.Plain m.kind m.word ≡ true → number_of low ≤ number_of reserved_name)
+    → FirstTokenDiagnostic earlier m n → number_of low ≤ number_of n
 head_least earlier m low n other most reserved h =
     ⊎_elim
-    (λ not_scheme. ⊎_elim (λ three. omega (arith, reserved three.1, three.0)) (λ six. omega (arith, most, six)) not_scheme.1)
+    (λ not_scheme. ⊎_elim (λ three. omega (arith, reserved three.1, ap number_of three.0)) (λ six. omega (arith, most, ap number_of six)) not_scheme.1)
     (λ many. absurd (true≢false (sym many.0 ∙ other)))
     h
 
@@ -61,7 +65,7 @@ other_six : (earlier : ℕ) (m : Mark) → is_scheme m.kind m.word ≡ false →
 other_six earlier m other free = record {
   diagnostic = inl (other, inr refl);
   carries = refl;
-  least = λ n h. head_least earlier m 6 n other (omega arith) (λ reserved. absurd (free reserved)) h;
+  least = λ n h. head_least earlier m expected n other (omega arith) (λ reserved. absurd (free reserved)) h;
 }
 
 other_word : (earlier : ℕ) (m : Mark) (b : Bool) → is_reserved_token format.Plain m.kind m.word ≡ b → is_scheme m.kind m.word ≡ false
@@ -69,16 +73,16 @@ other_word : (earlier : ℕ) (m : Mark) (b : Bool) → is_reserved_token format.
 other_word earlier m true reserved other = record {
   diagnostic = inl (other, inl (refl, reserved));
   carries = tt;
-  least = λ n h. head_least earlier m 3 n other (omega arith) (λ _. omega arith) h;
+  least = λ n h. head_least earlier m reserved_name n other (omega arith) (λ _. omega arith) h;
 }
 other_word earlier m false free other = other_six earlier m other (λ reserved. true≢false (sym reserved ∙ free))
 
 -- the first token of a scheme line for which there is room
-head_fine : (earlier : ℕ) (m : Mark) (n : ℕ) → is_scheme m.kind m.word ≡ true → earlier < MOST_SCHEMES → FirstTokenDiagnostic earlier m n → ⊥
+head_fine : (earlier : ℕ) (m : Mark) (n : DiagnosticKind) → is_scheme m.kind m.word ≡ true → earlier < MOST_SCHEMES → FirstTokenDiagnostic earlier m n → ⊥
 head_fine earlier m n is room h = ⊎_elim (λ other. true≢false (sym is ∙ other.0)) (λ many. omega (arith, many.1, room)) h
 
-head_many : (earlier : ℕ) (m : Mark) (n : ℕ) → is_scheme m.kind m.word ≡ true → FirstTokenDiagnostic earlier m n → 12 ≤ n
-head_many earlier m n is h = ⊎_elim (λ other. absurd (true≢false (sym is ∙ other.0))) (λ many. omega (arith, many.2)) h
+head_many : (earlier : ℕ) (m : Mark) (n : DiagnosticKind) → is_scheme m.kind m.word ≡ true → FirstTokenDiagnostic earlier m n → number_of too_many_schemes ≤ number_of n
+head_many earlier m n is h = ⊎_elim (λ other. absurd (true≢false (sym is ∙ other.0))) (λ many. omega (arith, ap number_of many.2)) h
 
 scheme_read : (names : List (List ℕ)) (line : ℕ) (schemes : List Attributes) (m : Mark) (ms : List Mark) (stop : Option LexError) (r : Result Attributes PlanRefusal)
     → is_scheme m.kind m.word ≡ true → length schemes < MOST_SCHEMES → WordsFit names line true none (m.column + m.length) ms stop r
@@ -119,7 +123,7 @@ unfolding read_scheme_line
 line_fits names line schemes [] None = record { ended = refl; adds = inl (refl, refl); fine = λ p n h. no_flaw n h.1 }
 line_fits names line schemes [] (Some s) =
     first_here (SchemeLineDiagnostic names (length schemes) [] (Some s)) (SpansPosition line (span_at line 1 [] (Some s)) scheme_wanted) (plan.Text (refused_by line s))
-    (refl, (s, refl, flaw_numbered s.flaw)) (refl, flaw_carries (λ w. w ≡ scheme_wanted 0) s.flaw) (λ n h. flaw_least s n h.1)
+    (refl, (s, refl, flaw_kind s.flaw)) (refl, flaw_carries (λ w. w ≡ scheme_wanted 0) s.flaw) (λ n h. flaw_least s h.1.0 n h.1.1 h.1.2)
 line_fits names line schemes (m ∷ ms) stop =
     head_fit names line schemes m ms stop (is_scheme m.kind m.word) (nat_le MOST_SCHEMES (length schemes)) refl refl
 

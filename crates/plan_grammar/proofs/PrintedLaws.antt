@@ -88,6 +88,6 @@ printed_plan_means names schemes are plan few = record {
   lines = subst (λ (lines : List (List ℕ)). MeansSchemeLines names lines schemes)
       (sym (ap (λ (text : List ℕ). line_texts text) (no_mark names schemes) ∙ lines_cut (map (scheme_text names) schemes) (each_bytes names schemes are)))
       (lines_mean names schemes are plan.within plan.some);
-  few = few;
+  schemes_fit = few;
   covers = plan.covers;
 }

@@ -1,6 +1,6 @@
 -- What is wrong with a plan text, and which refusal is the first: for `read_plan` and the commands
 -- that read plans (`desk_cli/Plans`).
-use Rattle.std.specs.Prelude.{◌≡◌, ◌<◌, ◌≤◌, ◌⊎◌, ℕ, ◌+◌, zero, suc, Bool, true, false, not, ◌&&◌, if◌then◌else◌, List, [], ◌∷◌, length, Option, Some, None}
+use Rattle.std.specs.Prelude.{◌≡◌, ◌≤◌, ◌⊎◌, ℕ, ◌+◌, zero, suc, Bool, true, false, not, ◌&&◌, if◌then◌else◌, List, [], ◌∷◌, length, Option, Some, None}
 use Rattle.std.specs.List.{list_any}
 use Rattle.attr_sets.specs.Attributes.{Attributes, below, IsFirstFrom}
 use Rattle.lexer.specs.Modes as mode
@@ -12,49 +12,50 @@ use Rattle.schema_grammar.specs.declared.format.Format.TheVariants as format
 use Rattle.schema_grammar.specs.declared.refusal.Span.{Span}
 use Rattle.schema_grammar.specs.declared.refusal.What.{What}
 use Rattle.schema_grammar.specs.declared.refusal.What.TheVariants as what
-use Rattle.schema_grammar.specs.Diagnostics.{DiagnosesOfWord, Carries, flaw_number, span_at}
+use Rattle.schema_grammar.specs.Diagnostics.{DiagnosesOfWord, Carries, span_at}
 use Rattle.schema_grammar.specs.Words.{is_word_token, is_reserved_token}
+use Rattle.schema_grammar.specs.DiagnosticKinds.{DiagnosticKind, reserved_name, expected, empty_scheme, too_many_schemes, IsNoLater, diagnostic_of_flaw}
 use Rattle.plan_grammar.specs.declared.refusal.PlanRefusal.{PlanRefusal}
 use Rattle.plan_grammar.specs.declared.refusal.PlanRefusal.TheVariants as plan
 use Rattle.plan_grammar.specs.declared.refusal.TheConstants.{MOST_SCHEMES}
 use Rattle.plan_grammar.specs.Meanings.{is_scheme, MeansSchemeLines}
-use Rattle.plan_grammar.specs.Refusals.{plan_refusal_number}
+use Rattle.plan_grammar.specs.Refusals.{plan_diagnostic_kind}
 
 -- bytes that are no token
-abbrev pub FlawDiagnostic : Option LexError → ℕ → Type 0
-FlawDiagnostic stop number = (s : LexError) × (stop ≡ Some s) × (number ≡ flaw_number s.flaw)
+abbrev pub FlawDiagnostic : Option LexError → DiagnosticKind → Type 0
+FlawDiagnostic stop why = (s : LexError) × (stop ≡ Some s) × (why ≡ diagnostic_of_flaw s.flaw)
 
 -- what is wrong with the first token of a line, before which so many scheme lines stand: it is another
 -- one than the word `scheme`, or begins one scheme line too many
-abbrev pub FirstTokenDiagnostic : ℕ → Mark → ℕ → Type 0
-FirstTokenDiagnostic earlier m number =
+abbrev pub FirstTokenDiagnostic : ℕ → Mark → DiagnosticKind → Type 0
+FirstTokenDiagnostic earlier m why =
     ((is_scheme m.kind m.word ≡ false)
-    × (((number ≡ 3) × (is_reserved_token format.Plain m.kind m.word ≡ true))
-    ⊎ (number ≡ 6)))
-    ⊎ ((is_scheme m.kind m.word ≡ true) × (MOST_SCHEMES ≤ earlier) × (number ≡ 12))
+    × (((why ≡ reserved_name) × (is_reserved_token format.Plain m.kind m.word ≡ true))
+    ⊎ (why ≡ expected)))
+    ⊎ ((is_scheme m.kind m.word ≡ true) × (MOST_SCHEMES ≤ earlier) × (why ≡ too_many_schemes))
 
 -- what is wrong with a token after the word `scheme`; `first` is whether it stands right after it
-abbrev pub WordDiagnostic : List (List ℕ) → Bool → Mark → ℕ → Type 0
-WordDiagnostic names first m number =
-    DiagnosesOfWord format.Plain names m number
-    ⊎ (((first ≡ true) × (m.kind ≡ token.Empty) × (number ≡ 10))
-    ⊎ ((is_word_token m.kind ≡ false) × (first ≡ true → m.kind ≡ token.Empty → ⊥) × (number ≡ 6)))
+abbrev pub WordDiagnostic : List (List ℕ) → Bool → Mark → DiagnosticKind → Type 0
+WordDiagnostic names first m why =
+    DiagnosesOfWord format.Plain names m why
+    ⊎ (((first ≡ true) × (m.kind ≡ token.Empty) × (why ≡ empty_scheme))
+    ⊎ ((is_word_token m.kind ≡ false) × (first ≡ true → m.kind ≡ token.Empty → ⊥) × (why ≡ expected)))
 
 -- what is wrong after the word `scheme` at a position, before which so many tokens stand there
-abbrev pub WordsDiagnostic : List (List ℕ) → Bool → List Mark → Option LexError → ℕ → ℕ → Type 0
-WordsDiagnostic names first [] stop position number =
-    (position ≡ 0) × (((stop ≡ None) × (first ≡ true) × (number ≡ 10)) ⊎ FlawDiagnostic stop number)
-WordsDiagnostic names first (m ∷ ms) stop zero number = WordDiagnostic names first m number
-WordsDiagnostic names first (m ∷ ms) stop (suc position) number = WordsDiagnostic names false ms stop position number
+abbrev pub WordsDiagnostic : List (List ℕ) → Bool → List Mark → Option LexError → ℕ → DiagnosticKind → Type 0
+WordsDiagnostic names first [] stop position why =
+    (position ≡ 0) × (((stop ≡ None) × (first ≡ true) × (why ≡ empty_scheme)) ⊎ FlawDiagnostic stop why)
+WordsDiagnostic names first (m ∷ ms) stop zero why = WordDiagnostic names first m why
+WordsDiagnostic names first (m ∷ ms) stop (suc position) why = WordsDiagnostic names false ms stop position why
 
 -- what is wrong with a line at a position, before which so many of its tokens stand
-abbrev pub SchemeLineDiagnostic : List (List ℕ) → ℕ → List Mark → Option LexError → ℕ → ℕ → Type 0
-SchemeLineDiagnostic names earlier [] stop position number = (position ≡ 0) × FlawDiagnostic stop number
-SchemeLineDiagnostic names earlier (m ∷ ms) stop zero number = FirstTokenDiagnostic earlier m number
-SchemeLineDiagnostic names earlier (m ∷ ms) stop (suc position) number =
-    WordsDiagnostic names true ms stop position number
+abbrev pub SchemeLineDiagnostic : List (List ℕ) → ℕ → List Mark → Option LexError → ℕ → DiagnosticKind → Type 0
+SchemeLineDiagnostic names earlier [] stop position why = (position ≡ 0) × FlawDiagnostic stop why
+SchemeLineDiagnostic names earlier (m ∷ ms) stop zero why = FirstTokenDiagnostic earlier m why
+SchemeLineDiagnostic names earlier (m ∷ ms) stop (suc position) why =
+    WordsDiagnostic names true ms stop position why
 
--- what a refusal 6 carries at a position after the word `scheme`
+-- what is expected at a position after the word `scheme`
 abbrev pub wanted_after : Bool → ℕ → What
 wanted_after first zero = if first then what.Name else what.LineEnd
 wanted_after first (suc position) = wanted_after false position
@@ -72,12 +73,12 @@ SpansPosition line span want position (plan.TooManySchemes l) = l ≡ line
 SpansPosition line span want position (plan.NotCovered a) = ⊥
 
 -- a refusal is the diagnostic at the first position, and there that of the least number
-pub record IsFirstOf (Diagnostic : ℕ → ℕ → Type 0) (Stands : ℕ → PlanRefusal → Type 0) (e : PlanRefusal)
+pub record IsFirstOf (Diagnostic : ℕ → DiagnosticKind → Type 0) (Stands : ℕ → PlanRefusal → Type 0) (e : PlanRefusal)
     : Type 0 where
   pub position : ℕ
-  pub diagnostic : Diagnostic position (plan_refusal_number e)
+  pub diagnostic : Diagnostic position (plan_diagnostic_kind e)
   pub there : Stands position e
-  pub least : (p n : ℕ) → Diagnostic p n → (position < p) ⊎ ((position ≡ p) × (plan_refusal_number e ≤ n))
+  pub least : (p : ℕ) (why : DiagnosticKind) → Diagnostic p why → IsNoLater position (plan_diagnostic_kind e) p why
 
 -- a line is refused by its first diagnostic
 abbrev pub RefusesLine : List (List ℕ) → ℕ → ℕ → List Mark → Option LexError → PlanRefusal → Type 0
@@ -87,7 +88,8 @@ RefusesLine names line earlier ms stop e =
 
 -- nothing is wrong with it
 abbrev pub IsFine : List (List ℕ) → ℕ → List Mark → Option LexError → Type 0
-IsFine names earlier ms stop = (position number : ℕ) → SchemeLineDiagnostic names earlier ms stop position number → ⊥
+IsFine names earlier ms stop =
+    (position : ℕ) (why : DiagnosticKind) → SchemeLineDiagnostic names earlier ms stop position why → ⊥
 
 -- how many scheme lines a line is with which nothing is wrong
 abbrev pub scheme_count : List Mark → ℕ
@@ -110,10 +112,10 @@ uncovered_attributes n schemes k = below n k && not (list_any (λ scheme. scheme
 pub record LeavesOut (names : List (List ℕ)) (lines : List (List ℕ)) (e : PlanRefusal) : Type 0 where
   pub schemes : List Attributes
   pub means : MeansSchemeLines names lines schemes
-  pub few : length schemes ≤ MOST_SCHEMES
+  pub schemes_fit : length schemes ≤ MOST_SCHEMES
   pub attribute : ℕ
   pub least : IsFirstFrom (uncovered_attributes (length names) schemes) 0 attribute
-  pub told : e ≡ plan.NotCovered attribute
+  pub is : e ≡ plan.NotCovered attribute
 
 -- a plan text over declared names is refused so
 abbrev pub RefusesPlan : List (List ℕ) → List ℕ → PlanRefusal → Type 0

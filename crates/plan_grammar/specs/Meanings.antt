@@ -51,5 +51,5 @@ MeansSchemeLines names (line ∷ lines) schemes =
 -- a plan text over declared names means schemes
 pub record MeansPlan (names : List (List ℕ)) (text : List ℕ) (schemes : List Attributes) : Type 0 where
   pub lines : MeansSchemeLines names (line_texts (without_mark text)) schemes
-  pub few : length schemes ≤ MOST_SCHEMES
+  pub schemes_fit : length schemes ≤ MOST_SCHEMES
   pub covers : Covers (length names) schemes

@@ -1,12 +1,12 @@
--- The numbers of the refusals of a plan text: by them it is decided which refusal is the first.
-use Rattle.std.specs.Prelude.{ℕ}
-use Rattle.schema_grammar.specs.Diagnostics.{refusal_number}
+-- The kind of diagnostic that a refusal of a plan text is: for which refusal is the first, and for what is
+-- printed of it (`desk_cli/Plans`).
+use Rattle.schema_grammar.specs.DiagnosticKinds.{DiagnosticKind, empty_scheme, not_covered, too_many_schemes, diagnostic_kind}
 use Rattle.plan_grammar.specs.declared.refusal.PlanRefusal.{PlanRefusal}
 use Rattle.plan_grammar.specs.declared.refusal.PlanRefusal.TheVariants as plan
 
--- the number of a refusal
-abbrev pub plan_refusal_number : PlanRefusal → ℕ
-plan_refusal_number (plan.Text e) = refusal_number e.kind
-plan_refusal_number (plan.EmptyScheme line) = 10
-plan_refusal_number (plan.NotCovered attribute) = 11
-plan_refusal_number (plan.TooManySchemes line) = 12
+-- the kind of diagnostic that a refusal is
+abbrev pub plan_diagnostic_kind : PlanRefusal → DiagnosticKind
+plan_diagnostic_kind (plan.Text e) = diagnostic_kind e.kind
+plan_diagnostic_kind (plan.EmptyScheme line) = empty_scheme
+plan_diagnostic_kind (plan.NotCovered attribute) = not_covered
+plan_diagnostic_kind (plan.TooManySchemes line) = too_many_schemes

@@ -1,5 +1,6 @@
 ghost use Rattle.std.specs.Prelude.{◌≡◌};
-ghost use Rattle.plan_grammar.specs.Refusals.{plan_refusal_number};
+ghost use Rattle.schema_grammar.specs.DiagnosticKinds.{number_of};
+ghost use Rattle.plan_grammar.specs.Refusals.{plan_diagnostic_kind};
 
 use schema_grammar::SchemaRefusal;
 
@@ -22,7 +23,7 @@ pub enum PlanRefusal {
 impl PlanRefusal {
     /// The number by which the documents and the program name it.
     pub fn number(self) -> u32
-        ensures number { result ≡ plan_refusal_number self }
+        ensures number { result ≡ number_of (plan_diagnostic_kind self) }
     {
         match self {
             PlanRefusal::Text(refusal) => refusal.kind.number(),

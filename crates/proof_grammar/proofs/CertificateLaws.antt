@@ -43,16 +43,16 @@ late_unused s prior _ _ n are late = absurd are
 
 -- ---- what is read
 -- what a text says of the tree or the refusal that is read of it
-abbrev pub Tells : Schema → List ℕ → Result Tree LineDiagnostic → Type 0
-Tells s text (Ok t) = SpellsWithin s text t
-Tells s text (Err e) = IsRefusedCertificate s text e
+abbrev pub TextFits : Schema → List ℕ → Result Tree LineDiagnostic → Type 0
+TextFits s text (Ok t) = SpellsWithin s text t
+TextFits s text (Err e) = IsRefusedCertificate s text e
 
 -- all lines are read
-end_tells : (s : Schema) (text : List ℕ) (fresh : Bool) (lines : List Line) (trees : List Tree) (book : CheckerStateValue)
+end_fits : (s : Schema) (text : List ℕ) (fresh : Bool) (lines : List Line) (trees : List Tree) (book : CheckerStateValue)
     (last : ℕ) (r : Result Tree LineDiagnostic) → last ≡ length (line_texts (without_mark text))
     → HasReadLines s text (line_texts (without_mark text)) fresh lines trees book
-    → Finishes (λ n. uses n lines) trees last book.lines r → read_proof s text ≡ r → Tells s text r
-end_tells s text fresh lines trees book last (Ok t) count afterwards done is =
+    → Finishes (λ n. uses n lines) trees last book.lines r → read_proof s text ≡ r → TextFits s text r
+end_fits s text fresh lines trees book last (Ok t) count afterwards done is =
     let size = nodes_size s [] lines trees afterwards.read.nodes in
     let whole = length_push done.before t in
     record {
@@ -65,10 +65,10 @@ end_tells s text fresh lines trees book last (Ok t) count afterwards done is =
           used = λ n low high. done.each n low (omega (arith, high, size, whole, ap length done.trees));
         };
       };
-      few_lines = afterwards.read.few_lines;
-      few_levels = (read_proof_checked s text t is).few_levels;
+      lines_fit = afterwards.read.lines_fit;
+      levels_fit = (read_proof_checked s text t is).levels_fit;
     }
-end_tells s text fresh lines trees book last (Err e) count afterwards (inl none) is =
+end_fits s text fresh lines trees book last (Err e) count afterwards (inl none) is =
     let size = nodes_size s [] lines trees afterwards.read.nodes in
     inr (record {
       lines = lines;
@@ -81,7 +81,7 @@ end_tells s text fresh lines trees book last (Err e) count afterwards (inl none)
         is = ap (λ (c : LineDiagnostic). c.diagnostic) none.1;
       });
     })
-end_tells s text fresh lines trees book last (Err e) count afterwards (inr first) is =
+end_fits s text fresh lines trees book last (Err e) count afterwards (inr first) is =
     let size = nodes_size s [] lines trees afterwards.read.nodes in
     let position = afterwards.positions first.at (omega (arith, first.inside, afterwards.size)) in
     inr (record {
@@ -105,29 +105,29 @@ end_tells s text fresh lines trees book last (Err e) count afterwards (inr first
     })
 
 -- what is read of the lines after some others
-abbrev TellsOn : Schema → List ℕ → ℕ → List (List ℕ) → Type 0
-TellsOn s text number texts =
+abbrev FitsOn : Schema → List ℕ → ℕ → List (List ℕ) → Type 0
+FitsOn s text number texts =
     (before : List (List ℕ)) (fresh : Bool) (lines : List Line) (trees : List Tree) (book : CheckerStateValue)
     → line_texts (without_mark text) ≡ before ++ texts → number ≡ length before + 1
     → HasReadLines s text before fresh lines trees book
     → read_proof s text ≡ read_certificate_lines s fresh number book texts
-    → Tells s text (read_certificate_lines s fresh number book texts)
+    → TextFits s text (read_certificate_lines s fresh number book texts)
 
-line_tells : (k : LineKind) (s : Schema) (text : List ℕ) (number : ℕ) (here : List ℕ) (texts before : List (List ℕ))
+line_fits : (k : LineKind) (s : Schema) (text : List ℕ) (number : ℕ) (here : List ℕ) (texts before : List (List ℕ))
     (fresh : Bool) (lines : List Line) (trees : List Tree) (book : CheckerStateValue)
     → line_texts (without_mark text) ≡ before ++ here ∷ texts → number ≡ length before + 1
-    → HasReadLines s text before fresh lines trees book → Counts k fresh here → TellsOn s text (number + 1) texts
+    → HasReadLines s text before fresh lines trees book → Counts k fresh here → FitsOn s text (number + 1) texts
     → read_proof s text ≡ read_from s number texts (read_as k s fresh number book here)
-    → Tells s text (read_from s number texts (read_as k s fresh number book here))
-line_tells Blank s text number here texts before fresh lines trees book cut count afterwards counts on is =
+    → TextFits s text (read_from s number texts (read_as k s fresh number book here))
+line_fits Blank s text number here texts before fresh lines trees book cut count afterwards counts on is =
     on (before ++ here ∷ []) fresh lines trees book (cut ∙ sym (append_assoc before (here ∷ []) texts))
     (omega (arith, count, length-append before (here ∷ [])))
     (line_passed_over s text before fresh fresh lines trees book here afterwards counts) is
-line_tells Opening s text number here texts before fresh lines trees book cut count afterwards counts on is =
+line_fits Opening s text number here texts before fresh lines trees book cut count afterwards counts on is =
     on (before ++ here ∷ []) false lines trees book (cut ∙ sym (append_assoc before (here ∷ []) texts))
     (omega (arith, count, length-append before (here ∷ [])))
     (line_passed_over s text before fresh false lines trees book here afterwards counts) is
-line_tells Certificate s text number here texts before fresh lines trees book cut count afterwards counts on is =
+line_fits Certificate s text number here texts before fresh lines trees book cut count afterwards counts on is =
     told (certificate_line (names_of s) (rest_from number 1 (lex mode.numbered here))) refl is
   where
     stands : StandsAt text before here number
@@ -141,7 +141,7 @@ line_tells Certificate s text number here texts before fresh lines trees book cu
     told : (r : Result Line SchemaRefusal)
         → certificate_line (names_of s) (rest_from number 1 (lex mode.numbered here)) ≡ r
         → read_proof s text ≡ read_from s number texts (in_line r >>= λ l. without_more_yes (enter_line s number book l))
-        → Tells s text (read_from s number texts (in_line r >>= λ l. without_more_yes (enter_line s number book l)))
+        → TextFits s text (read_from s number texts (in_line r >>= λ l. without_more_yes (enter_line s number book l)))
     told (Err refusal) grammar is = inl (record {
       before = before;
       here = here;
@@ -164,7 +164,7 @@ line_tells Certificate s text number here texts before fresh lines trees book cu
 
         by_line : (r : Result CheckerStateValue Diagnostic) → enter_line s number book l ≡ r → Enters s lines trees l r
             → read_proof s text ≡ read_from s number texts (without_more_yes r)
-            → Tells s text (read_from s number texts (without_more_yes r))
+            → TextFits s text (read_from s number texts (without_more_yes r))
         by_line (Err c) enter first is = inl (record {
           before = before;
           here = here;
@@ -181,27 +181,27 @@ line_tells Certificate s text number here texts before fresh lines trees book cu
             (one_more s text before fresh lines trees book here number l enters.0 next afterwards counts stands means
             enter enters.1) is
 
-lines_tell : (s : Schema) (text : List ℕ) (number : ℕ) (texts : List (List ℕ)) → TellsOn s text number texts
+all_lines_fit : (s : Schema) (text : List ℕ) (number : ℕ) (texts : List (List ℕ)) → FitsOn s text number texts
 unfolding read_certificate_lines read_one
-lines_tell s text number [] before fresh lines trees book cut count afterwards is =
+all_lines_fit s text number [] before fresh lines trees book cut count afterwards is =
     let whole : line_texts (without_mark text) ≡ before = cut ∙ append-nil before in
-    end_tells s text fresh lines trees book (number - 1) (finished_certificate (number - 1) book)
+    end_fits s text fresh lines trees book (number - 1) (finished_certificate (number - 1) book)
     (omega (arith, count, ap length whole))
     (subst (λ (ls : List (List ℕ)). HasReadLines s text ls fresh lines trees book) (sym whole) afterwards)
     (finishes s (λ n. uses n lines) trees book.unused (number - 1) book.lines afterwards.follows.slots
     afterwards.follows.fresh) is
-lines_tell s text number (here ∷ texts) before fresh lines trees book cut count afterwards is =
-    line_tells (line_kind fresh (lex mode.numbered here)) s text number here texts before fresh lines trees book cut
-    count afterwards (kind_counts fresh here _ refl) (lines_tell s text (number + 1) texts) is
+all_lines_fit s text number (here ∷ texts) before fresh lines trees book cut count afterwards is =
+    line_fits (line_kind fresh (lex mode.numbered here)) s text number here texts before fresh lines trees book cut
+    count afterwards (kind_counts fresh here _ refl) (all_lines_fit s text (number + 1) texts) is
 
-pub text_tells : (s : Schema) (text : List ℕ) → Tells s text (read_proof s text)
+pub text_fits : (s : Schema) (text : List ℕ) → TextFits s text (read_proof s text)
 unfolding read_proof
-text_tells s text =
-    lines_tell s text 1 (line_texts (without_mark text)) [] true [] [] (record { lines = []; unused = [] })
+text_fits s text =
+    all_lines_fit s text 1 (line_texts (without_mark text)) [] true [] [] (record { lines = []; unused = [] })
     refl refl (at_start s text) refl
 
 pub spelled_there : (s : Schema) (text : List ℕ) (t : Tree) → read_proof s text ≡ Ok t → SpellsWithin s text t
-spelled_there s text t h = subst (Tells s text) h (text_tells s text)
+spelled_there s text t h = subst (TextFits s text) h (text_fits s text)
 
 -- ---- from what a text spells
 -- a text whose lines are read is read as they are finished
@@ -234,10 +234,10 @@ spelled_back s text t spelled =
       once = λ n low. ⊎_elim (λ less. omega (arith, are.used n low less))
           (λ late. omega (arith, late_unused s [] lines trees n are.nodes (omega (arith, late))))
           (cases_lt n (length lines));
-      few_lines = spelled.few_lines;
-      few_levels = λ k d inside. omega (
+      lines_fit = spelled.lines_fit;
+      levels_fit = λ k d inside. omega (
         arith,
-        spelled.few_levels,
+        spelled.levels_fit,
         no_deeper s lines t are k (get_or trees k d) (slice_get-get_or trees k d inside),
       );
     })

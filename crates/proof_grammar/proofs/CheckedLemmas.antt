@@ -160,8 +160,8 @@ bind_each P (Err e) f each = tt
 
 -- what passes the limits concludes what was prepared
 record PassesLimits (before levels : ℕ) (outcome : Result (Tree × Dependency) FaultKind) (o : Opened) : Type 0 where
-  few_lines : before < MOST_NODES
-  few_levels : levels ≤ MOST_LEVELS
+  lines_fit : before < MOST_NODES
+  levels_fit : levels ≤ MOST_LEVELS
   same_levels : o.levels ≡ levels
   prepared_so : outcome ≡ Ok (o.tree, o.conclusion)
 
@@ -188,8 +188,8 @@ within_limits_ok before l levels outcome =
     (λ flat. IfOk-weaker last (λ o. (outcome ≡ Ok (o.tree, o.conclusion)) × (o.levels ≡ levels))
     (PassesLimits before levels outcome)
     (λ o ok. record {
-      few_lines = grind (arith, nat_tests, few);
-      few_levels = grind (arith, nat_tests, flat);
+      lines_fit = grind (arith, nat_tests, few);
+      levels_fit = grind (arith, nat_tests, flat);
       same_levels = ok.1;
       prepared_so = ok.0;
     })
@@ -214,12 +214,12 @@ entered_keeps s at book l is =
     let stands : Stands s o = record {
       proves = prep.proves o.tree o.conclusion at_end.prepared_so;
       levels = deep;
-      few = omega (arith, at_end.same_levels, at_end.few_levels);
+      levels_fit = omega (arith, at_end.same_levels, at_end.levels_fit);
     } in
     record {
       stand = AllStand-push s p.unused o prep.stand stands;
       count = omega (arith, all_nodes-push p.unused o, prep.counted o.tree o.conclusion at_end.prepared_so, longer, prep.same_length, is.count);
-      few = omega (arith, longer, prep.same_length, at_end.few_lines);
+      lines_fit = omega (arith, longer, prep.same_length, at_end.lines_fit);
     })))
     (λ other. tt)
 
@@ -251,8 +251,8 @@ finished_checked s last book None (Some u) is e =
     record {
       conclusion = u.conclusion;
       proves = stands.proves;
-      few_nodes = omega (arith, counted, is.count, is.few);
-      few_levels = omega (arith, stands.levels, stands.few);
+      nodes_fit = omega (arith, counted, is.count, is.lines_fit);
+      levels_fit = omega (arith, stands.levels, stands.levels_fit);
     }
 
 pub at_line-ok : {A : Type 0} (n : ℕ) (r : Result A Diagnostic) (x : A) → at_line n r ≡ Ok x → r ≡ Ok x
@@ -276,7 +276,7 @@ unfolding read_proof
 read_proof_checked s text t h =
     ok_at (IsChecked s) _ t h
     (read_lines_checked s true 1 (record { lines = []; unused = [] }) (line_texts (without_mark text))
-    (record { stand = tt {0}; count = refl; few = omega arith }))
+    (record { stand = tt {0}; count = refl; lines_fit = omega arith }))
 
 -- the last line of a checker state proves what it concludes
 pub root_proves : (s : Schema) (book : CheckerStateValue) (t : Tree) (d : Dependency) → IsCheckerState s book → root_conclusion book.unused ≡ Some (t, d) → Proves s t d

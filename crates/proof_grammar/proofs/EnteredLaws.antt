@@ -21,8 +21,8 @@ used_after used l n = used n + times n (premises_of l.body)
 -- a node within the limits, after which the checker state follows
 pub record IsEntered (s : Schema) (used : ℕ → ℕ) (ts : List Tree) (l : Line) (next : CheckerStateValue) (t : Tree) : Type 0 where
   pub node : IsNode s ts l t
-  pub few_lines : length ts < MOST_NODES
-  pub few_levels : depth t ≤ MOST_LEVELS
+  pub lines_fit : length ts < MOST_NODES
+  pub levels_fit : depth t ≤ MOST_LEVELS
   pub follows : Follows s (used_after used l) (ts ++ t ∷ []) next
 
 -- a line uses none but earlier lines

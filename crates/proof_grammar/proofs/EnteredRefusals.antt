@@ -32,8 +32,8 @@ use Rattle.proof_grammar.proofs.WrongLemmas.{first_of, no_fault, one_of_rank}
 
 -- ---- what passes the limits
 record PassesLimits (before : ℕ) (l : Line) (p : Prepared) (o : Opened) : Type 0 where
-  few_lines : before < MOST_NODES
-  few_levels : p.levels ≤ MOST_LEVELS
+  lines_fit : before < MOST_NODES
+  levels_fit : p.levels ≤ MOST_LEVELS
   same_levels : o.levels ≡ p.levels
   concludes : p.outcome ≡ Ok (o.tree, o.conclusion)
   same : same_dependency l.stated o.conclusion ≡ true
@@ -61,14 +61,14 @@ checks_limits s lines ts l p number earlier once is =
     stated : (u : Tree) (d : Dependency) (b : Bool) → length ts < MOST_NODES → p.levels ≤ MOST_LEVELS
         → p.outcome ≡ Ok (u, d) → same_dependency l.stated d ≡ b → ChecksLimits s lines ts l p
         (cond b (Ok (record { tree = u; levels = p.levels; conclusion = d })) (Err (states_other l.stated d)))
-    stated u d true few_lines few_levels concludes same = record {
-      few_lines = few_lines;
-      few_levels = few_levels;
+    stated u d true lines_fit levels_fit concludes same = record {
+      lines_fit = lines_fit;
+      levels_fit = levels_fit;
       same_levels = refl;
       concludes = concludes;
       same = same;
     }
-    stated u d false few_lines few_levels concludes same =
+    stated u d false lines_fit levels_fit concludes same =
         let gives = is.gives u d concludes in
         let other : l.stated ≡ d → ⊥ = λ e. true≢false (sym (same_self l.stated)
         ∙ ap (same_dependency l.stated) e ∙ same) in
@@ -78,8 +78,8 @@ checks_limits s lines ts l p number earlier once is =
             number,
             named,
             twice,
-            few_lines,
-            flat few_levels,
+            lines_fit,
+            flat levels_fit,
             λ why fault. no_fault s ts l l.body u d why gives.0 gives.1 fault,
           );
         }
@@ -140,8 +140,8 @@ Follows-push s at lines ts book l p (Ok o) follows own number once is checks_lim
       t,
       record {
         node = record { number = number; tree = gives.0; states = subst (Proves s t) (sym same) gives.1 };
-        few_lines = checks_limits.few_lines;
-        few_levels = omega (arith, checks_limits.few_levels, levels);
+        lines_fit = checks_limits.lines_fit;
+        levels_fit = omega (arith, checks_limits.levels_fit, levels);
         follows = record {
           slots = slots_push s used 0 ts p.unused t (Some o) is.slots (
             later (0 + length ts + 1) (omega arith),
@@ -238,6 +238,6 @@ refused_entered s at lines ts book l c follows own first =
   where
     told : (r : Result CheckerStateValue Diagnostic) → Enters s lines ts l r → r ≡ Err c
     told (Ok next) is =
-        absurd (nothing_wrong s lines ts l is.0 c is.1.node is.1.few_lines is.1.few_levels is.2 first.wrong)
+        absurd (nothing_wrong s lines ts l is.0 c is.1.node is.1.lines_fit is.1.levels_fit is.2 first.wrong)
     told (Err d) other = ap Err (one_of_rank s lines ts l d c
         (omega (arith, other.first c first.wrong, first.first d other.wrong)) other.wrong first.wrong)

@@ -19,6 +19,7 @@ use Rattle.proof_grammar.proofs.JudgedLines.{Judged, WrongAt}
 use Rattle.proof_grammar.proofs.JudgedRules.{line_judged}
 use Rattle.proof_grammar.proofs.LineLaws.{line_reads, marks_read}
 use Rattle.proof_grammar.proofs.TokenLaws.{rule_spelling, named_back, rest_at}
+use Rattle.schema_grammar.specs.DiagnosticKinds.{DiagnosticKind}
 
 -- ---- a token of each form, over names that are all words of the grammar, and one more
 abbrev sample_of : TokenKind → List ℕ → Mark
@@ -56,7 +57,7 @@ sample_is_name (a_rule rule.Given) = (_, refl, refl)
 sample_is_name _ = (_, refl, refl)
 
 -- nothing is wrong with samples that lead to an end
-sample_fine : (o : Option Shape) (fs : List TokenForm) (last : Shape) (p n : ℕ) → runs o fs ≡ Some last
+sample_fine : (o : Option Shape) (fs : List TokenForm) (last : Shape) (p : ℕ) (n : DiagnosticKind) → runs o fs ≡ Some last
     → is_final last ≡ true
     → WrongAt all_words None n (runs o (take p (token_forms (map sample_mark fs)))) (slice_get (map sample_mark fs) p) → ⊥
 sample_fine o (f ∷ fs) last (suc p) n leads final h =

@@ -1,6 +1,6 @@
 -- A part of a certificate line is read, or refused by its first diagnostic, by the shape that is
 -- reached.
-use Rattle.std.proofs.Common.{◌≡◌, ◌<◌, ◌≤◌, ◌+◌, ◌⊎◌, inl, inr, ⊎_elim, ℕ, zero, suc, true, false, List, [], ◌∷◌, length, take, slice_get, Option, Some, None, Ok, Err, Result, refl, sym, ◌∙◌, ap, subst, arith}
+use Rattle.std.proofs.Common.{◌≡◌, ◌≤◌, ◌+◌, ◌⊎◌, inl, inr, ⊎_elim, ℕ, zero, suc, true, false, List, [], ◌∷◌, length, take, slice_get, Option, Some, None, Ok, Err, Result, refl, sym, ◌∙◌, ap, subst, arith}
 use Rattle.std.proofs.lemmas.Option.{none-some, same_Some}
 use Rattle.lexer.specs.declared.token.LexError.{LexError}
 use Rattle.lexer.specs.Tokens.{Mark}
@@ -8,9 +8,10 @@ use Rattle.schema_grammar.specs.declared.format.Format.TheVariants as format
 use Rattle.schema_grammar.specs.declared.refusal.SchemaRefusal.{SchemaRefusal}
 use Rattle.schema_grammar.specs.declared.refusal.SchemaRefusalKind.TheVariants as kind
 use Rattle.schema_grammar.specs.declared.refusal.What.{What}
-use Rattle.schema_grammar.specs.Diagnostics.{DiagnosesOfWord, Carries, IsFirst, flaw_number, refusal_number, span_at}
+use Rattle.schema_grammar.specs.DiagnosticKinds.{DiagnosticKind, expected, number_of, IsNoLater, diagnostic_kind, diagnostic_of_flaw}
+use Rattle.schema_grammar.specs.Diagnostics.{DiagnosesOfWord, Carries, IsFirst, span_at}
 use Rattle.schema_grammar.specs.Refusals.{refusal, refused_by}
-use Rattle.schema_grammar.proofs.DiagnosticLaws.{Carries-map, flaw_carries, flaw_numbered}
+use Rattle.schema_grammar.proofs.DiagnosticLaws.{Carries-map, flaw_carries, flaw_kind}
 use Rattle.proof_grammar.specs.Lines.{Line}
 use Rattle.proof_grammar.specs.LineDiagnostics.{TokenForm, token_form, token_forms}
 use Rattle.proof_grammar.proofs.FormShapes.{Shape, Ends, is_final, runs, takes_words, shape_after, wanted_by}
@@ -20,19 +21,19 @@ form m = token_form m.kind m.word
 
 -- ---- what is wrong, by shapes
 -- where a shape is reached, a word is no name, or the grammar can't go on at a token or at the line's end
-abbrev pub WrongAt : List (List ℕ) → Option LexError → ℕ → Option Shape → Option Mark → Type 0
+abbrev pub WrongAt : List (List ℕ) → Option LexError → DiagnosticKind → Option Shape → Option Mark → Type 0
 WrongAt names stop n None m = ⊥
-WrongAt names stop n (Some s) None = (n ≡ 6) × (stop ≡ None) × (is_final s ≡ false)
+WrongAt names stop n (Some s) None = (n ≡ expected) × (stop ≡ None) × (is_final s ≡ false)
 WrongAt names stop n (Some s) (Some m) =
-    ((takes_words s ≡ true) × DiagnosesOfWord format.Plain names m n) ⊎ ((n ≡ 6) × (shape_after s (form m) ≡ None))
+    ((takes_words s ≡ true) × DiagnosesOfWord format.Plain names m n) ⊎ ((n ≡ expected) × (shape_after s (form m) ≡ None))
 
-abbrev pub TokenWrong : Option Shape → List (List ℕ) → List Mark → Option LexError → ℕ → ℕ → Type 0
+abbrev pub TokenWrong : Option Shape → List (List ℕ) → List Mark → Option LexError → ℕ → DiagnosticKind → Type 0
 TokenWrong o names ms stop p n = (p ≤ length ms) × WrongAt names stop n (runs o (take p (token_forms ms))) (slice_get ms p)
 
-abbrev pub Flawed : List Mark → Option LexError → ℕ → ℕ → Type 0
-Flawed ms stop p n = (s : LexError) × (stop ≡ Some s) × (p ≡ length ms) × (n ≡ flaw_number s.flaw)
+abbrev pub Flawed : List Mark → Option LexError → ℕ → DiagnosticKind → Type 0
+Flawed ms stop p n = (s : LexError) × (stop ≡ Some s) × (p ≡ length ms) × (n ≡ diagnostic_of_flaw s.flaw)
 
-abbrev pub Wrong : Shape → List (List ℕ) → List Mark → Option LexError → ℕ → ℕ → Type 0
+abbrev pub Wrong : Shape → List (List ℕ) → List Mark → Option LexError → ℕ → DiagnosticKind → Type 0
 Wrong s names ms stop p n = TokenWrong (Some s) names ms stop p n ⊎ Flawed ms stop p n
 
 -- what is wanted at a position
@@ -42,18 +43,18 @@ ShapeWants s ms p w = (t : Shape) × (runs (Some s) (take p (token_forms ms)) �
 -- what a reading says of the tokens from here on
 abbrev pub Judged : Shape → List (List ℕ) → ℕ → ℕ → List Mark → Option LexError → Result Line SchemaRefusal → Type 0
 Judged s names line next_column ms stop (Ok l) = Ends s (token_forms ms) × (stop ≡ None) ×
-    ((p n : ℕ) → Wrong s names ms stop p n → ⊥)
+    ((p : ℕ) (n : DiagnosticKind) → Wrong s names ms stop p n → ⊥)
 Judged s names line next_column ms stop (Err e) = IsFirst (Wrong s names ms stop) (ShapeWants s ms)
     (span_at line next_column ms stop) e
 
 -- no word of a side that is wrong
 abbrev pub IsRight : Shape → List (List ℕ) → Mark → Type 0
-IsRight s names m = (n : ℕ) → takes_words s ≡ true → DiagnosesOfWord format.Plain names m n → ⊥
+IsRight s names m = (n : DiagnosticKind) → takes_words s ≡ true → DiagnosesOfWord format.Plain names m n → ⊥
 
 -- ---- one token later
 -- where a token leads on, what is wrong comes later
 wrong_later : (s t : Shape) (names : List (List ℕ)) (m : Mark) (ms : List Mark) (stop : Option LexError)
-    → shape_after s (form m) ≡ Some t → IsRight s names m → (p n : ℕ) → Wrong s names (m ∷ ms) stop p n
+    → shape_after s (form m) ≡ Some t → IsRight s names m → (p : ℕ) (n : DiagnosticKind) → Wrong s names (m ∷ ms) stop p n
     → (q : ℕ) × (p ≡ suc q) × Wrong t names ms stop q n
 wrong_later s t names m ms stop goes right zero n (inl (low, inl word)) = absurd (right n word.0 word.1)
 wrong_later s t names m ms stop goes right zero n (inl (low, inr six)) = absurd (none-some t (sym six.1 ∙ goes))
@@ -76,7 +77,7 @@ goes_on s t names line next_column m ms stop (Err e) goes right rest = record {
   position = suc rest.position;
   stands = ⊎_elim (λ here. inl (
     omega (arith, here.0),
-    subst (λ o. WrongAt names stop (refusal_number e.kind) (runs o (take rest.position (token_forms ms)))
+    subst (λ o. WrongAt names stop (diagnostic_kind e.kind) (runs o (take rest.position (token_forms ms)))
         (slice_get ms rest.position)) (sym goes) here.1,
   ))
       (λ flaw. inr (flaw.0, flaw.1, omega (arith, flaw.2), flaw.3)) rest.stands;
@@ -92,9 +93,9 @@ goes_on s t names line next_column m ms stop (Err e) goes right rest = record {
 -- ---- the reading ends here
 -- the first diagnostic stands here
 pub first_here : (s : Shape) (names : List (List ℕ)) (line next_column : ℕ) (ms : List Mark) (stop : Option LexError)
-    (e : SchemaRefusal) → Wrong s names ms stop 0 (refusal_number e.kind) → Carries (ShapeWants s ms 0) e.kind
+    (e : SchemaRefusal) → Wrong s names ms stop 0 (diagnostic_kind e.kind) → Carries (ShapeWants s ms 0) e.kind
     → e.span ≡ span_at line next_column ms stop 0
-    → ((n : ℕ) → Wrong s names ms stop 0 n → refusal_number e.kind ≤ n)
+    → ((n : DiagnosticKind) → Wrong s names ms stop 0 n → number_of (diagnostic_kind e.kind) ≤ number_of n)
     → Judged s names line next_column ms stop (Err e)
 first_here s names line next_column ms stop e stands carries there small = record {
   position = 0;
@@ -104,7 +105,8 @@ first_here s names line next_column ms stop e stands carries there small = recor
   least = least;
 }
   where
-    least : (p n : ℕ) → Wrong s names ms stop p n → (0 < p) ⊎ ((0 ≡ p) × (refusal_number e.kind ≤ n))
+    least : (p : ℕ) (n : DiagnosticKind) → Wrong s names ms stop p n
+        → IsNoLater 0 (diagnostic_kind e.kind) p n
     least zero n wrong = inr (refl, small n wrong)
     least (suc p) n wrong = inl (omega arith)
 
@@ -115,7 +117,7 @@ pub stuck_here : (s : Shape) (names : List (List ℕ)) (line next_column : ℕ) 
 stuck_here s names line next_column m ms stop w cannot right wants =
     first_here s names line next_column (m ∷ ms) stop (refusal line m.column m.length (kind.Expected w))
     (inl (omega arith, inr (refl, cannot))) (s, refl, wants) refl
-    (λ n wrong. ⊎_elim (λ here. ⊎_elim (λ word. absurd (right n word.0 word.1)) (λ six. omega (arith, six.0)) here.1)
+    (λ n wrong. ⊎_elim (λ here. ⊎_elim (λ word. absurd (right n word.0 word.1)) (λ six. omega (arith, ap number_of six.0)) here.1)
     (λ flaw. absurd (omega (arith, flaw.2))) wrong)
 
 -- the line's end at which it can't
@@ -125,14 +127,14 @@ pub end_here : (s : Shape) (names : List (List ℕ)) (line next_column : ℕ) (w
 end_here s names line next_column w open_end wants =
     first_here s names line next_column [] None (refusal line next_column 0 (kind.Expected w))
     (inl (omega arith, (refl, refl, open_end))) (s, refl, wants) refl
-    (λ n wrong. ⊎_elim (λ here. omega (arith, here.1.0)) (λ flaw. absurd (none-some flaw.0 flaw.1)) wrong)
+    (λ n wrong. ⊎_elim (λ here. omega (arith, ap number_of here.1.0)) (λ flaw. absurd (none-some flaw.0 flaw.1)) wrong)
 
 -- bytes that are no token
 pub flaw_here : (s : Shape) (names : List (List ℕ)) (line next_column : ℕ) (stop : LexError)
     → Judged s names line next_column [] (Some stop) (Err (refused_by line stop))
 flaw_here s names line next_column stop =
     first_here s names line next_column [] (Some stop) (refused_by line stop)
-    (inr (stop, refl, refl, flaw_numbered stop.flaw)) (flaw_carries (ShapeWants s [] 0) stop.flaw) refl
+    (inr (stop, refl, refl, flaw_kind stop.flaw)) (flaw_carries (ShapeWants s [] 0) stop.flaw) refl
     (λ n wrong. ⊎_elim (λ here. absurd (none-some stop (sym here.1.1)))
-    (λ flaw. let same = ap (λ (x : LexError). flaw_number x.flaw) (same_Some stop flaw.0 flaw.1) in
-    omega (arith, same, flaw.3, flaw_numbered stop.flaw)) wrong)
+    (λ flaw. let same = ap (λ (x : LexError). diagnostic_of_flaw x.flaw) (same_Some stop flaw.0 flaw.1) in
+    omega (arith, ap number_of (flaw_kind stop.flaw ∙ same ∙ sym flaw.3))) wrong)

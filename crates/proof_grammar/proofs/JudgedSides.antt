@@ -21,6 +21,7 @@ use Rattle.proof_grammar.specs.LineDiagnostics.{token_form, word_form}
 use Rattle.proof_grammar.proofs.FormShapes.{Part, Shape, at_side, past, shape_after, takes_words}
 use Rattle.proof_grammar.proofs.JudgedLines.{Judged, first_here, goes_on, stuck_here, end_here, flaw_here}
 use Rattle.proof_grammar.proofs.JudgedTokens.{left_at, in_row, word_forms, NoWord, not_word}
+use Rattle.schema_grammar.specs.DiagnosticKinds.{number_of}
 
 -- where each word leads, a quoted name leads
 word_leads : (s t : Shape) → ((o : Option RuleName) (b : Bool) → shape_after s (word_form o b) ≡ Some t)
@@ -44,13 +45,14 @@ word_judged s k names line next_column m ms stop g word takes stays rest =
     told true o reserved named =
         first_here s names line next_column (m ∷ ms) stop (refusal line m.column m.length kind.ReservedName)
         (inl (omega arith, inl (takes, (word, inl (refl, reserved))))) tt refl
-        (λ n wrong. ⊎_elim (λ here. ⊎_elim (λ c. ⊎_elim (λ three. omega (arith, three.0)) (λ five. omega (arith, five.0))
-        c.1.1) (λ six. omega (arith, six.0)) here.1) (λ flaw. absurd (omega (arith, flaw.2))) wrong)
+        (λ n wrong. ⊎_elim (λ here. ⊎_elim (λ c. ⊎_elim (λ three. omega (arith, ap number_of three.0))
+        (λ five. omega (arith, ap number_of five.0))
+        c.1.1) (λ six. omega (arith, ap number_of six.0)) here.1) (λ flaw. absurd (omega (arith, flaw.2))) wrong)
     told false None free named =
         first_here s names line next_column (m ∷ ms) stop (refusal line m.column m.length kind.UnknownName)
         (inl (omega arith, inl (takes, (word, inr (refl, named))))) tt refl
         (λ n wrong. ⊎_elim (λ here. ⊎_elim (λ c. ⊎_elim (λ three. absurd (true≢false (sym three.1 ∙ free)))
-        (λ five. omega (arith, five.0)) c.1.1) (λ six. omega (arith, six.0)) here.1)
+        (λ five. omega (arith, ap number_of five.0)) c.1.1) (λ six. omega (arith, ap number_of six.0)) here.1)
         (λ flaw. absurd (omega (arith, flaw.2))) wrong)
     told false (Some a) free named =
         goes_on s (past true k) names line next_column m ms stop (g a)

@@ -21,6 +21,7 @@ use Rattle.proof_grammar.specs.Readers.{colon, with_word, rule_name}
 use Rattle.proof_grammar.specs.Tokens.{is_colon, is_with, rule_named, rule_word}
 use Rattle.proof_grammar.proofs.FormShapes.{Part, lhs, rhs, After, first, Shape, at_number, at_side, past, at_rule, at_with, past_arrow, past_colon, shape_of_rule, past_number, shape_after, is_last, is_final, takes_words, wanted_after, wanted_by}
 use Rattle.proof_grammar.proofs.JudgedLines.{form, IsRight, Judged, Wrong, goes_on, stuck_here, end_here, flaw_here}
+use Rattle.schema_grammar.specs.DiagnosticKinds.{DiagnosticKind}
 
 -- what is left of a line
 abbrev pub left_at : ℕ → ℕ → List Mark → Option LexError → Rest
@@ -241,7 +242,7 @@ pub end_judged : (words : Bool) (k : Part) (names : List (List ℕ)) (line next_
 unfolding refusal_at_end
 end_judged words k names line next_column [] None l is none = ((past words k, refl, is.3), refl, fine)
   where
-    fine : (p n : ℕ) → Wrong (past words k) names [] None p n → ⊥
+    fine : (p : ℕ) (n : DiagnosticKind) → Wrong (past words k) names [] None p n → ⊥
     fine zero n (inl here) = true≢false (sym is.3 ∙ here.1.2)
     fine (suc p) n (inl here) = absurd (omega (arith, here.0))
     fine p n (inr flaw) = none-some flaw.0 flaw.1

@@ -10,7 +10,8 @@ use Rattle.lexer.specs.Tokens.{Mark, lex}
 use Rattle.schema_grammar.specs.declared.refusal.SchemaRefusal.{SchemaRefusal}
 use Rattle.schema_grammar.specs.declared.refusal.What.{What}
 use Rattle.schema_grammar.specs.declared.refusal.What.TheVariants as what
-use Rattle.schema_grammar.specs.Diagnostics.{refusal_number, span_at}
+use Rattle.schema_grammar.specs.DiagnosticKinds.{DiagnosticKind, expected, diagnostic_kind}
+use Rattle.schema_grammar.specs.Diagnostics.{span_at}
 use Rattle.schema_grammar.specs.Rests.{rest_from}
 use Rattle.schema_grammar.proofs.DiagnosticLaws.{Carries-map}
 use Rattle.schema_grammar.proofs.OneRefusal.{OneWant, one_first}
@@ -88,14 +89,14 @@ runs_next o [] p m at = cc
 runs_next o (k ∷ ms) zero m at = ap (λ (x : Mark). then_turn o (form x)) (same_Some k m at)
 runs_next o (k ∷ ms) (suc p) m at = runs_next (then_turn o (form k)) ms p m at
 
-diagnostic_there : (names : List (List ℕ)) (ms : List Mark) (stop : Option LexError) (p n : ℕ)
+diagnostic_there : (names : List (List ℕ)) (ms : List Mark) (stop : Option LexError) (p : ℕ) (n : DiagnosticKind)
     → Wrong at_start names ms stop p n → TokensDiagnostic names ms stop p n
 diagnostic_there names ms stop p n (inr flaw) = inr flaw
 diagnostic_there names ms stop p n (inl (low, wrong)) =
     inl (told (runs (Some at_start) (take p (token_forms ms))) (slice_get ms p) refl refl wrong)
   where
     told : (o : Option Shape) (k : Option Mark) → runs (Some at_start) (take p (token_forms ms)) ≡ o → slice_get ms p ≡ k
-        → WrongAt names stop n o k → SideWordDiagnostic names ms p n ⊎ ((n ≡ 6) × CannotGoOn (token_forms ms) stop p)
+        → WrongAt names stop n o k → SideWordDiagnostic names ms p n ⊎ ((n ≡ expected) × CannotGoOn (token_forms ms) stop p)
     told None k reached at wrong = absurd wrong
     told (Some s) (Some m) reached at (inl (takes, word)) =
         inl (m, at, (names_at (take p (token_forms ms)) s reached).0 takes, word)
@@ -131,7 +132,7 @@ diagnostic_there names ms stop p n (inl (low, wrong)) =
           },
         )
 
-diagnostic_back : (names : List (List ℕ)) (ms : List Mark) (stop : Option LexError) (p n : ℕ)
+diagnostic_back : (names : List (List ℕ)) (ms : List Mark) (stop : Option LexError) (p : ℕ) (n : DiagnosticKind)
     → TokensDiagnostic names ms stop p n → Wrong at_start names ms stop p n
 diagnostic_back names ms stop p n (inr flaw) = inr flaw
 diagnostic_back names ms stop p n (inl (inl (m, at, takes, word))) =
@@ -169,13 +170,13 @@ judged_refuses : (names : List (List ℕ)) (at : ℕ) (ms : List Mark) (stop : O
     (e : SchemaRefusal) → Judged at_start names at 1 ms stop r → (r ≡ Err e) ↔ RefusesTokens names at ms stop e
 judged_refuses names at ms stop (Ok l) e judged = (
   λ is. cc,
-  λ refuses. absurd (judged.2 refuses.position (refusal_number e.kind)
-      (diagnostic_back names ms stop refuses.position (refusal_number e.kind) refuses.stands)),
+  λ refuses. absurd (judged.2 refuses.position (diagnostic_kind e.kind)
+      (diagnostic_back names ms stop refuses.position (diagnostic_kind e.kind) refuses.stands)),
 )
 judged_refuses names at ms stop (Err f) e first =
     let refuses : RefusesTokens names at ms stop f = record {
       position = first.position;
-      stands = diagnostic_there names ms stop first.position (refusal_number f.kind) first.stands;
+      stands = diagnostic_there names ms stop first.position (diagnostic_kind f.kind) first.stands;
       carries = Carries-map (ShapeWants at_start ms first.position) (TokensWant ms first.position)
           (λ w wants. subst (FormsWant (take first.position (token_forms ms))) (sym wants.2)
           (wants_from (take first.position (token_forms ms)) wants.0 wants.1)) f.kind first.carries;

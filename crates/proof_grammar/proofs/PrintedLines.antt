@@ -2,14 +2,16 @@
 use Rattle.std.proofs.Common.{◌≡◌, ◌+◌, ℕ, List, [], ◌∷◌, ◌++◌, length, refl, append_assoc}
 use Rattle.std.specs.Prelude.{codes, decimal}
 use Rattle.std.proofs.lemmas.List.{append-nil}
-use Rattle.attr_sets.specs.Attributes.{Attributes, below}
+use Rattle.attr_sets.specs.Attributes.{Attributes, IsSubset, below}
 use Rattle.dep_model.specs.Dependencies.{Dependency, fd, mvd, left_of, right_of, IsWithin}
 use Rattle.derivation.specs.Trees.{Step, augmentation, complementation, maugmentation, replication, transitivity, mtransitivity, coalescence}
 use Rattle.lexer.specs.declared.token.TokenKind.TheVariants as token
 use Rattle.lexer.specs.Tokens.{Mark}
 use Rattle.schema_grammar.specs.declared.format.Format.TheVariants as format
+use Rattle.schema_grammar.specs.declared.symbol.Sign.{Sign}
 use Rattle.schema_grammar.specs.declared.symbol.Sign.TheVariants as sign
-use Rattle.schema_grammar.specs.Meanings.{IsDependency}
+use Rattle.schema_grammar.specs.Grammar.{dependency_of_sign}
+use Rattle.schema_grammar.specs.Meanings.{IsArrow, IsDependency}
 use Rattle.schema_printer.specs.Printing.{members_from, set_text, dependency_text}
 use Rattle.schema_grammar.specs.Printed.{AreNames}
 use Rattle.schema_grammar.proofs.PrintedLexing.{side_marks, side_end}
@@ -18,7 +20,7 @@ use Rattle.schema_grammar.proofs.PrintedTexts.{Bytes}
 use Rattle.proof_grammar.specs.Lines.{Body, by_given, by_reflexivity, by_mreflexivity, by_step, by_pair, Line}
 use Rattle.proof_grammar.specs.Meanings.{step_name, pair_name, IsRule, MeansLine}
 use Rattle.proof_grammar.specs.Printing.{step_word, pair_word, body_text, certificate_line_text, IsBodyWithin}
-use Rattle.proof_grammar.specs.Printable.{FewDigits, IsPrintableLine}
+use Rattle.proof_grammar.specs.Printable.{DigitsFit, IsPrintableLine}
 use Rattle.proof_grammar.proofs.PrintedTokens.{Part, keyword, number, side, Gap, blank, first_colon, colon, arrow, double_arrow, gap_end, text_of, marks_of, AreProper, parts_lexed, parts_bytes}
 
 -- ---- the parts of a line
@@ -90,7 +92,7 @@ unfolding certificate_line_text
 line_text_is names l = rw (body_is names l.body) (simp (append_assoc, dependency_is names l.stated))
 
 -- ---- the parts are proper
-body_proper : (names : List (List ℕ)) (b : Body) → AreNames format.Plain names → FewDigits b
+body_proper : (names : List (List ℕ)) (b : Body) → AreNames format.Plain names → DigitsFit b
     → AreProper ((colon, keyword (body_name b)) ∷ body_parts names b)
 body_proper names (by_given k) are few = (refl, (few, tt))
 body_proper names by_reflexivity are few = (refl, tt)
@@ -109,7 +111,7 @@ line_proper : (names : List (List ℕ)) (l : Line) → AreNames format.Plain nam
     → AreProper (line_parts names l)
 line_proper names l are is = (
   printed_names format.Plain names (left_of l.stated) are,
-  (printed_names format.Plain names (right_of l.stated) are, body_proper names l.body are is.few_digits),
+  (printed_names format.Plain names (right_of l.stated) are, body_proper names l.body are is.digits_fit),
 )
 
 pub line_bytes : (names : List (List ℕ)) (l : Line) → AreNames format.Plain names → IsPrintableLine names l
@@ -182,34 +184,33 @@ abbrev stated_marks : List (List ℕ) → Dependency → ℕ → List Mark
 stated_marks names d column =
     marks_of column (side_of names (left_of d)) ((arrow_of d, side_of names (right_of d)) ∷ [])
 
+-- the sides of a printed dependency, with an arrow between them
+printed_sides : (names : List (List ℕ)) (x y : Attributes) (s : Sign) (column : ℕ) (between : Mark) (next : ℕ)
+    → AreNames format.Plain names → IsSubset x (below (length names)) → IsSubset y (below (length names))
+    → IsArrow s between.kind
+    → IsDependency format.Plain names
+    (side_marks column (members_from x 0 names) ++ between ∷ side_marks next (members_from y 0 names))
+    (dependency_of_sign s x y)
+printed_sides names x y s column between next are x_within y_within is_arrow = record {
+  lhs = side_marks column (members_from x 0 names);
+  arrow = between;
+  rhs = side_marks next (members_from y 0 names);
+  x = x;
+  y = y;
+  sign = s;
+  whole = refl;
+  left_side = printed_side format.Plain names x column are x_within;
+  is_arrow = is_arrow;
+  right_side = printed_side format.Plain names y next are y_within;
+  states = refl;
+}
+
 dependency_means : (names : List (List ℕ)) (d : Dependency) (column : ℕ) → AreNames format.Plain names
     → IsWithin (below (length names)) d → IsDependency format.Plain names (stated_marks names d column) d
-dependency_means names (fd x y) column are within = record {
-  lhs = side_marks column (members_from x 0 names);
-  arrow = _;
-  rhs = _;
-  x = x;
-  y = y;
-  sign = sign.Functional;
-  whole = refl;
-  left_side = printed_side format.Plain names x column are within.0;
-  is_arrow = refl;
-  right_side = printed_side format.Plain names y _ are within.1;
-  states = refl;
-}
-dependency_means names (mvd x y) column are within = record {
-  lhs = side_marks column (members_from x 0 names);
-  arrow = _;
-  rhs = _;
-  x = x;
-  y = y;
-  sign = sign.Multivalued;
-  whole = refl;
-  left_side = printed_side format.Plain names x column are within.0;
-  is_arrow = refl;
-  right_side = printed_side format.Plain names y _ are within.1;
-  states = refl;
-}
+dependency_means names (fd x y) column are within =
+    printed_sides names x y sign.Functional column _ _ are within.0 within.1 refl
+dependency_means names (mvd x y) column are within =
+    printed_sides names x y sign.Multivalued column _ _ are within.0 within.1 refl
 
 pub printed_means : (names : List (List ℕ)) (l : Line) → AreNames format.Plain names → IsPrintableLine names l → MeansLine names (text_of_line names l) l
 printed_means names l are is =

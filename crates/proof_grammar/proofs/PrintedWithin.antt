@@ -37,12 +37,12 @@ leaf_printable s n (given k) d within h few =
       stated = within;
       body = tt {0};
       number = few;
-      few_digits = omega (arith, inside, length-map (deps_of s) dependency_of, s.valid.few_deps);
+      digits_fit = omega (arith, inside, length-map (deps_of s) dependency_of, s.valid.few_deps);
     }
 leaf_printable s n (reflexivity x y) d within h few =
-    record { stated = within; body = tt {0}; number = few; few_digits = tt {0} }
+    record { stated = within; body = tt {0}; number = few; digits_fit = tt {0} }
 leaf_printable s n (mreflexivity x y) d within h few =
-    record { stated = within; body = tt {0}; number = few; few_digits = tt {0} }
+    record { stated = within; body = tt {0}; number = few; digits_fit = tt {0} }
 
 pub step_within : (s : Schema) (rule : Step) (x d : Dependency) → StepOfAttributes rule
     → step_conclusion s rule x ≡ Ok d → IsStepWithin (universe_of s) rule
@@ -73,7 +73,7 @@ tree_printable s (step rule t) d n own proves few =
       stated = conclusion_within s (step rule t) d own proves;
       body = step_within s rule proves.0 d own.0 proves.2;
       number = omega (arith, few);
-      few_digits = omega (arith, few);
+      digits_fit = omega (arith, few);
     } in
     let concludes : conclusion_after s 0 (step rule t) ≡ Ok d = conclusion_after-from s 0 (step rule t) d proves in
     rw concludes (printable_append (names_of s) (node_lines_after s n t) _
@@ -87,7 +87,7 @@ tree_printable s (pair rule t u) d n own proves few =
       stated = conclusion_within s (pair rule t u) d own proves;
       body = tt {0};
       number = omega (arith, few);
-      few_digits = (omega (arith, few), omega (arith, few));
+      digits_fit = (omega (arith, few), omega (arith, few));
     } in
     let first = tree_printable s t proves.0 n own.0 proves.2 (omega (arith, few)) in
     let second = tree_printable s u proves.1 (n + nodes t) own.1 proves.3 (omega (arith, few)) in

@@ -26,6 +26,6 @@ printed_is_read answered s p d are proves few flat =
     spelled_back s (answer_text answered ++ canonical_certificate s (tree_of p)) (tree_of p)
     (record {
       spells = w;
-      few_lines = omega (arith, lines_count s w.lines (tree_of p) w.nodes, few);
-      few_levels = flat;
+      lines_fit = omega (arith, lines_count s w.lines (tree_of p) w.nodes, few);
+      levels_fit = flat;
     })

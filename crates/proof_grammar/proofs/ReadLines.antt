@@ -108,7 +108,7 @@ pub at_start : (s : Schema) (text : List ℕ) → HasReadLines s text [] true []
 at_start s text = record {
   counts = λ more. refl;
   mean = tt;
-  read = record { nodes = tt; once = λ n h. omega arith; few_lines = omega arith; few_levels = λ k t h. absurd (omega (arith, h)) };
+  read = record { nodes = tt; once = λ n h. omega arith; lines_fit = omega arith; levels_fit = λ k t h. absurd (omega (arith, h)) };
   follows = record { slots = tt; fresh = λ n low. refl };
   size = refl;
   positions = λ i h. absurd (omega (arith, h));
@@ -185,8 +185,8 @@ one_more s text before fresh lines trees book here at l u next afterwards counts
       read = record {
         nodes = AreNodes-append s [] lines trees (l ∷ []) (u ∷ []) afterwards.read.nodes (is.node, tt);
         once = λ n low. follows_once s used (trees ++ u ∷ []) next n follows low;
-        few_lines = omega (arith, is.few_lines, count, length-append lines (l ∷ []));
-        few_levels = All-push (λ t. depth t ≤ MOST_LEVELS) trees u afterwards.read.few_levels is.few_levels;
+        lines_fit = omega (arith, is.lines_fit, count, length-append lines (l ∷ []));
+        levels_fit = All-push (λ t. depth t ≤ MOST_LEVELS) trees u afterwards.read.levels_fit is.levels_fit;
       };
       follows = follows;
       size = ap length adds

@@ -3,14 +3,14 @@ use Rattle.std.proofs.Common.{◌≡◌, ℕ, List, [], ◌∷◌, ◌++◌, Non
 use Rattle.std.specs.Prelude.{codes}
 use Rattle.std.proofs.lemmas.List.{append-nil}
 use Rattle.std.proofs.lemmas.Slice.Eq.{bytes_eq-Decides}
-use Rattle.derivation.specs.Trees.{augmentation, complementation, maugmentation, replication, Pair, transitivity, mtransitivity, coalescence}
+use Rattle.derivation.specs.Trees.{Step, augmentation, complementation, maugmentation, replication, Pair, transitivity, mtransitivity, coalescence}
 use Rattle.derivation.proofs.RuleTableLemmas.{the_ok}
 use Rattle.lexer.specs.Tokens.{Mark}
 use Rattle.schema_grammar.specs.declared.refusal.What.TheVariants as what
 use Rattle.proof_grammar.specs.declared.rule_name.RuleName.{RuleName}
 use Rattle.proof_grammar.specs.declared.rule_name.RuleName.TheVariants as rule
 use Rattle.proof_grammar.specs.Lines.{Body, by_given, by_reflexivity, by_mreflexivity, by_step, by_pair, one_premise, two_premises, augmentation_body, maugmentation_body, body}
-use Rattle.proof_grammar.specs.Meanings.{IsNumber, IsKeyword, pair_name, IsRule}
+use Rattle.proof_grammar.specs.Meanings.{IsNumber, IsKeyword, pair_name, IsRule, step_name, HasSets}
 use Rattle.schema_grammar.specs.Rests.{Rest, ◌>>=◌, take, number, side}
 use Rattle.schema_grammar.specs.Words.{is_word_token}
 use Rattle.proof_grammar.specs.Readers.{colon, with_word, rule_name}
@@ -64,36 +64,46 @@ two_premises_there names rule name r b says e =
       stop = second.takes.stop ∙ first.takes.stop;
     })
 
+-- a premise, and the sets of the rule
+premise_there : (names : List (List ℕ)) (rule : Step) (name : Mark) (r : Rest) (p : ℕ × Rest) (next : Rest)
+    → IsKeyword (step_name rule) name → number r ≡ Ok p → (next.marks ≡ [] → HasSets names p.1.marks rule)
+    → next.stop ≡ p.1.stop → Rule names name r (by_step rule p.0, next)
+premise_there names rule name r p next says e sets stop =
+    let premise = number_there r p e in
+    record {
+      is_rule = λ ended. record {
+        name = name;
+        premise = premise.mark;
+        sets = p.1.marks;
+        whole = ap (λ t. name ∷ t) premise.takes.marks;
+        says = says;
+        number = premise.holds;
+        has_sets = sets ended;
+      };
+      stop = stop ∙ premise.takes.stop;
+    }
+
 augmentation_there : (names : List (List ℕ)) (name : Mark) (r : Rest) (b : Body × Rest) → IsKeyword (codes "augmentation") name → augmentation_body names r ≡ Ok b → Rule names name r b
 unfolding augmentation_body
 augmentation_there names name r b says e =
     let p = bind_ok (number r) _ b e in
     let w = bind_ok (with_word p.0.1) _ b p.2 in
     let z = bind_ok (side names w.0) _ b w.2 in
-    let premise = number_there r p.0 p.1 in
     let keyword = with_there p.0.1 w.0 w.1 in
     let sides = side_there names w.0 z.0 z.1 in
-    subst (Rule names name r) (the_ok _ b z.2) (record {
-      is_rule = λ ended.
-          let end : w.0.marks ≡ sides.marks =
-          sides.whole ∙ ap (λ t. sides.marks ++ t) ended ∙ append-nil sides.marks in
-          record {
-            name = name;
-            premise = premise.mark;
-            sets = p.0.1.marks;
-            whole = ap (λ t. name ∷ t) premise.takes.marks;
-            says = says;
-            number = premise.holds;
-            has_sets = record {
-              keyword = keyword.mark;
-              sides = sides.marks;
-              whole = keyword.takes.marks ∙ ap (λ t. keyword.mark ∷ t) end;
-              says = keyword.holds;
-              side = sides.is_side;
-            };
-          };
-      stop = sides.stop ∙ keyword.takes.stop ∙ premise.takes.stop;
+    subst (Rule names name r) (the_ok _ b z.2)
+    (premise_there names (augmentation z.0.0) name r p.0 z.0.1 says p.1
+    (λ ended.
+    let end : w.0.marks ≡ sides.marks =
+    sides.whole ∙ ap (λ t. sides.marks ++ t) ended ∙ append-nil sides.marks in
+    record {
+      keyword = keyword.mark;
+      sides = sides.marks;
+      whole = keyword.takes.marks ∙ ap (λ t. keyword.mark ∷ t) end;
+      says = keyword.holds;
+      side = sides.is_side;
     })
+    (sides.stop ∙ keyword.takes.stop))
 
 maugmentation_there : (names : List (List ℕ)) (name : Mark) (r : Rest) (b : Body × Rest) → IsKeyword (codes "maugmentation") name → maugmentation_body names r ≡ Ok b → Rule names name r b
 unfolding maugmentation_body
@@ -103,38 +113,35 @@ maugmentation_there names name r b says e =
     let x = bind_ok (side names w.0) _ b w.2 in
     let c = bind_ok (colon x.0.1) _ b x.2 in
     let z = bind_ok (side names c.0) _ b c.2 in
-    let premise = number_there r p.0 p.1 in
     let keyword = with_there p.0.1 w.0 w.1 in
     let wide = side_there names w.0 x.0 x.1 in
     let between = colon_there x.0.1 c.0 c.1 in
     let narrow = side_there names c.0 z.0 z.1 in
-    subst (Rule names name r) (the_ok _ b z.2) (record {
-      is_rule = λ ended.
-          let end : c.0.marks ≡ narrow.marks =
-          narrow.whole ∙ ap (λ t. narrow.marks ++ t) ended ∙ append-nil narrow.marks in
-          let sides : w.0.marks ≡ wide.marks ++ between.mark ∷ narrow.marks = wide.whole
-          ∙ ap (λ t. wide.marks ++ t) (between.takes.marks ∙ ap (λ t. between.mark ∷ t) end) in
-          record {
-            name = name;
-            premise = premise.mark;
-            sets = p.0.1.marks;
-            whole = ap (λ t. name ∷ t) premise.takes.marks;
-            says = says;
-            number = premise.holds;
-            has_sets = record {
-              keyword = keyword.mark;
-              wide = wide.marks;
-              colon = between.mark;
-              narrow = narrow.marks;
-              whole = keyword.takes.marks ∙ ap (λ t. keyword.mark ∷ t) sides;
-              says = keyword.holds;
-              wide_side = wide.is_side;
-              is_colon = between.holds;
-              narrow_side = narrow.is_side;
-            };
-          };
-      stop = narrow.stop ∙ between.takes.stop ∙ wide.stop ∙ keyword.takes.stop ∙ premise.takes.stop;
+    subst (Rule names name r) (the_ok _ b z.2)
+    (premise_there names (maugmentation x.0.0 z.0.0) name r p.0 z.0.1 says p.1
+    (λ ended.
+    let end : c.0.marks ≡ narrow.marks =
+    narrow.whole ∙ ap (λ t. narrow.marks ++ t) ended ∙ append-nil narrow.marks in
+    let sides : w.0.marks ≡ wide.marks ++ between.mark ∷ narrow.marks = wide.whole
+    ∙ ap (λ t. wide.marks ++ t) (between.takes.marks ∙ ap (λ t. between.mark ∷ t) end) in
+    record {
+      keyword = keyword.mark;
+      wide = wide.marks;
+      colon = between.mark;
+      narrow = narrow.marks;
+      whole = keyword.takes.marks ∙ ap (λ t. keyword.mark ∷ t) sides;
+      says = keyword.holds;
+      wide_side = wide.is_side;
+      is_colon = between.holds;
+      narrow_side = narrow.is_side;
     })
+    (narrow.stop ∙ between.takes.stop ∙ wide.stop ∙ keyword.takes.stop))
+
+-- a rule without sets
+without_sets : (names : List (List ℕ)) (rule : Step) (name : Mark) → IsKeyword (step_name rule) name
+    → HasSets names [] rule → (p : ℕ) (m : Mark) → IsNumber p m → IsRule names (name ∷ m ∷ []) (by_step rule p)
+without_sets names rule name says none p m is =
+    record { name = name; premise = m; sets = []; whole = refl; says = says; number = is; has_sets = none }
 
 body_there : (names : List (List ℕ)) (r : RuleName) (name : Mark) (start : Rest) (b : Body × Rest) → IsKeyword (rule_spelling r) name → body names r start ≡ Ok b → Rule names name start b
 unfolding body one_premise
@@ -154,25 +161,9 @@ body_there names rule.MReflexivity name start b says e =
 body_there names rule.Augmentation name start b says e = augmentation_there names name start b says e
 body_there names rule.MAugmentation name start b says e = maugmentation_there names name start b says e
 body_there names rule.Complementation name start b says e =
-    numbered_there names (by_step complementation) name start b (λ p m is. record {
-      name = name;
-      premise = m;
-      sets = [];
-      whole = refl;
-      says = says;
-      number = is;
-      has_sets = refl;
-    }) e
+    numbered_there names (by_step complementation) name start b (without_sets names complementation name says refl) e
 body_there names rule.Replication name start b says e =
-    numbered_there names (by_step replication) name start b (λ p m is. record {
-      name = name;
-      premise = m;
-      sets = [];
-      whole = refl;
-      says = says;
-      number = is;
-      has_sets = refl;
-    }) e
+    numbered_there names (by_step replication) name start b (without_sets names replication name says refl) e
 body_there names rule.Transitivity name start b says e = two_premises_there names transitivity name start b says e
 body_there names rule.MTransitivity name start b says e = two_premises_there names mtransitivity name start b says e
 body_there names rule.Coalescence name start b says e = two_premises_there names coalescence name start b says e

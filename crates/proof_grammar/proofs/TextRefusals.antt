@@ -18,7 +18,7 @@ use Rattle.proof_grammar.specs.Meanings.{certificate_lines_of}
 use Rattle.proof_grammar.specs.Refusals.{StandsAt, IsBadLine, IsWrongLine, IsRefusedCertificate, RefusesProof}
 use Rattle.proof_grammar.specs.Spelling.{uses}
 use Rattle.proof_grammar.specs.Texts.{read_as, line_kind, read_one, read_certificate_lines, read_proof}
-use Rattle.proof_grammar.proofs.CertificateLaws.{Tells, text_tells, end_back}
+use Rattle.proof_grammar.proofs.CertificateLaws.{TextFits, text_fits, end_back}
 use Rattle.proof_grammar.proofs.CountedLines.{lines_to_read, Counts, kind_counts, line_of_attributes}
 use Rattle.proof_grammar.proofs.DepthLemmas.{nodes_size}
 use Rattle.proof_grammar.proofs.EnteredRefusals.{refused_entered}
@@ -31,7 +31,7 @@ use Rattle.proof_grammar.proofs.WalkedLines.{read_lines_walked}
 -- what is refused goes wrong so
 pub refused_there : (s : Schema) (text : List ℕ) (e : LineDiagnostic) → read_proof s text ≡ Err e
     → IsRefusedCertificate s text e
-refused_there s text e h = subst (Tells s text) h (text_tells s text)
+refused_there s text e h = subst (TextFits s text) h (text_fits s text)
 
 -- ---- from what goes wrong
 -- a line that stands in a text counts

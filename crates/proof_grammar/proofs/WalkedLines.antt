@@ -98,11 +98,11 @@ walk_more Certificate s text after whole all grown number here texts (l ∷ more
     let means = subst (λ (ls : List (List ℕ)). MeanLines (names_of s) ls (l ∷ more)) (counts texts) w.mean in
     let size = nodes_size s [] w.lines w.trees w.afterwards.read.nodes in
     let room : length w.trees < MOST_NODES =
-    omega (arith, read.few_lines, ap length w.all_lines, length-append w.lines (l ∷ more), size) in
+    omega (arith, read.lines_fit, ap length w.all_lines, length-append w.lines (l ∷ more), size) in
     let inside : length w.trees < length grown = omega (arith, ap length w.all_trees, length-append w.trees (u ∷ us)) in
     let flat : depth u ≤ MOST_LEVELS = omega (
       arith,
-      read.few_levels (length w.trees) u inside,
+      read.levels_fit (length w.trees) u inside,
       ap depth (get_or-append_seam w.trees u us u),
       ap (λ ts. depth (get_or ts (length w.trees) u)) w.all_trees,
     ) in

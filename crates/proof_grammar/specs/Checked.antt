@@ -11,5 +11,5 @@ use Rattle.derivation.specs.declared.measures.TheConstants.{MOST_NODES, MOST_LEV
 pub record IsChecked (s : Schema) (t : Tree) : Type 0 where
   pub conclusion : Dependency
   pub proves : Proves s t conclusion
-  pub few_nodes : nodes t ≤ MOST_NODES
-  pub few_levels : depth t ≤ MOST_LEVELS
+  pub nodes_fit : nodes t ≤ MOST_NODES
+  pub levels_fit : depth t ≤ MOST_LEVELS

@@ -46,8 +46,8 @@ OneTree = (s : Schema) (text : List ℕ) (t u : Tree) → Spells s text t → Sp
 abbrev pub LinesAreNodes : Type 0
 LinesAreNodes = (s : Schema) (text : List ℕ) (t : Tree) (w : Spells s text t) → length w.lines ≡ nodes t
 
-abbrev pub RefusedAsTold : Type 0
-RefusedAsTold = (s : Schema) (text : List ℕ) (e : LineDiagnostic)
+abbrev pub CertificateRefusal : Type 0
+CertificateRefusal = (s : Schema) (text : List ℕ) (e : LineDiagnostic)
     → (read_proof s text ≡ Err e) ↔ IsRefusedCertificate s text e
 
 -- ---- printing

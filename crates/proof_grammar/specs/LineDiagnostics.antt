@@ -10,7 +10,8 @@ use Rattle.schema_grammar.specs.declared.format.Format.TheVariants as format
 use Rattle.schema_grammar.specs.declared.refusal.SchemaRefusal.{SchemaRefusal}
 use Rattle.schema_grammar.specs.declared.refusal.What.{What}
 use Rattle.schema_grammar.specs.declared.refusal.What.TheVariants as what
-use Rattle.schema_grammar.specs.Diagnostics.{DiagnosesOfWord, IsFirst, flaw_number, span_at}
+use Rattle.schema_grammar.specs.DiagnosticKinds.{DiagnosticKind, expected, diagnostic_of_flaw}
+use Rattle.schema_grammar.specs.Diagnostics.{DiagnosesOfWord, IsFirst, span_at}
 use Rattle.proof_grammar.specs.declared.rule_name.RuleName.{RuleName}
 use Rattle.proof_grammar.specs.declared.rule_name.RuleName.TheVariants as rule
 use Rattle.proof_grammar.specs.Lines.{Line}
@@ -72,16 +73,16 @@ pub record CannotGoOn (fs : List TokenForm) (stop : Option LexError) (position :
       ⊎ ((position ≡ length fs) × (stop ≡ None) × (AreLine fs → ⊥))
 
 -- a word of a side is reserved, or no name is it
-abbrev pub SideWordDiagnostic : List (List ℕ) → List Mark → ℕ → ℕ → Type 0
-SideWordDiagnostic names ms position number =
+abbrev pub SideWordDiagnostic : List (List ℕ) → List Mark → ℕ → DiagnosticKind → Type 0
+SideWordDiagnostic names ms position why =
     (m : Mark) × (slice_get ms position ≡ Some m) × TakesNames (take position (token_forms ms))
-    × DiagnosesOfWord format.Plain names m number
+    × DiagnosesOfWord format.Plain names m why
 
 -- what is wrong with tokens at a position, before which so many of them stand
-abbrev pub TokensDiagnostic : List (List ℕ) → List Mark → Option LexError → ℕ → ℕ → Type 0
-TokensDiagnostic names ms stop position number =
-    (SideWordDiagnostic names ms position number ⊎ ((number ≡ 6) × CannotGoOn (token_forms ms) stop position))
-    ⊎ ((s : LexError) × (stop ≡ Some s) × (position ≡ length ms) × (number ≡ flaw_number s.flaw))
+abbrev pub TokensDiagnostic : List (List ℕ) → List Mark → Option LexError → ℕ → DiagnosticKind → Type 0
+TokensDiagnostic names ms stop position why =
+    (SideWordDiagnostic names ms position why ⊎ ((why ≡ expected) × CannotGoOn (token_forms ms) stop position))
+    ⊎ ((s : LexError) × (stop ≡ Some s) × (position ≡ length ms) × (why ≡ diagnostic_of_flaw s.flaw))
 
 -- what is wanted after tokens of these forms: a side where `()` can follow, the line's end where they are a
 -- line, and any other token where it can follow; a word of the grammar, though, where no other word can

@@ -7,19 +7,19 @@ use Rattle.proof_grammar.specs.Lines.{Body, by_given, by_reflexivity, by_mreflex
 use Rattle.proof_grammar.specs.Printing.{IsBodyWithin}
 
 -- each number of a body has at most 9 digits
-abbrev pub FewDigits : Body → Type 0
-FewDigits (by_given k) = k < 10 ^ 9
-FewDigits by_reflexivity = Unit {0}
-FewDigits by_mreflexivity = Unit {0}
-FewDigits (by_step rule p) = p < 10 ^ 9
-FewDigits (by_pair rule p q) = (p < 10 ^ 9) × (q < 10 ^ 9)
+abbrev pub DigitsFit : Body → Type 0
+DigitsFit (by_given k) = k < 10 ^ 9
+DigitsFit by_reflexivity = Unit {0}
+DigitsFit by_mreflexivity = Unit {0}
+DigitsFit (by_step rule p) = p < 10 ^ 9
+DigitsFit (by_pair rule p q) = (p < 10 ^ 9) × (q < 10 ^ 9)
 
 -- the sets are of declared attributes, and the numbers have at most 9 digits
 pub record IsPrintableLine (names : List (List ℕ)) (l : Line) : Type 0 where
   pub stated : IsWithin (below (length names)) l.stated
   pub body : IsBodyWithin (below (length names)) l.body
   pub number : l.number < 10 ^ 9
-  pub few_digits : FewDigits l.body
+  pub digits_fit : DigitsFit l.body
 
 abbrev pub ArePrintableLines : List (List ℕ) → List Line → Type 0
 ArePrintableLines names [] = Unit {0}

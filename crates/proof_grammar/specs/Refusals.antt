@@ -47,13 +47,13 @@ pub record IsRefusedAt (s : Schema) (text : List ℕ) (e : LineDiagnostic) : Typ
   pub why : IsBadLine (names_of s) here e.line e.diagnostic ⊎ IsWrongLine s lines trees here e.diagnostic
 
 -- ---- at the end
--- there is no line; this is told at the last line of the text
+-- there is no line; this is refused at the last line of the text
 pub record IsEmptyProof (text : List ℕ) (lines : List Line) (e : LineDiagnostic) : Type 0 where
   pub none : lines ≡ []
   pub at : e.line ≡ length (line_texts (without_mark text))
   pub is : e.diagnostic ≡ empty_proof
 
--- the first line but the last that no line uses; it is told at its line of the text
+-- the first line but the last that no line uses; it is refused at its line of the text
 pub record IsNeverUsed (text : List ℕ) (lines : List Line) (e : LineDiagnostic) : Type 0 where
   pub number : ℕ
   pub some : 0 < number

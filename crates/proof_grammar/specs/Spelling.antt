@@ -85,5 +85,5 @@ pub record Spells (s : Schema) (text : List ℕ) (t : Tree) : Type 0 where
 -- the same within the limits of a certificate
 pub record SpellsWithin (s : Schema) (text : List ℕ) (t : Tree) : Type 0 where
   pub spells : Spells s text t
-  pub few_lines : length spells.lines ≤ MOST_NODES
-  pub few_levels : depth t ≤ MOST_LEVELS
+  pub lines_fit : length spells.lines ≤ MOST_NODES
+  pub levels_fit : depth t ≤ MOST_LEVELS

@@ -48,7 +48,8 @@ abbrev pub in_line : {A : Type 0} → Result A SchemaRefusal → Result A Diagno
 in_line (Ok x) = Ok x
 in_line (Err e) = Err (bad_line e)
 
-abbrev pub read_as : LineKind → Schema → Bool → ℕ → CheckerStateValue → List ℕ → Result (Bool × CheckerStateValue) Diagnostic
+abbrev pub read_as : LineKind → Schema → Bool → ℕ → CheckerStateValue → List ℕ
+    → Result (Bool × CheckerStateValue) Diagnostic
 read_as Blank s fresh number book text = Ok (fresh, book)
 read_as Opening s fresh number book text = Ok (false, book)
 read_as Certificate s fresh number book text =
@@ -67,7 +68,8 @@ at_line number (Ok x) = Ok x
 at_line number (Err why) = Err (diagnostic_at number why)
 
 -- the tree of lines, of which the first has this number
-unfoldable pub read_certificate_lines : Schema → Bool → ℕ → CheckerStateValue → List (List ℕ) → Result Tree LineDiagnostic
+unfoldable pub read_certificate_lines : Schema → Bool → ℕ → CheckerStateValue → List (List ℕ)
+    → Result Tree LineDiagnostic
 read_certificate_lines s fresh number book [] = finished_certificate (number - 1) book
 read_certificate_lines s fresh number book (text ∷ texts) =
     at_line number (read_one s fresh number book text)

@@ -11,7 +11,7 @@ use Rattle.proof_grammar.specs.CheckerStates.{Opened, CheckerStateValue}
 pub record Stands (s : Schema) (o : Opened) : Type 0 where
   pub proves : Proves s o.tree o.conclusion
   pub levels : depth o.tree ≡ o.levels
-  pub few : o.levels ≤ MOST_LEVELS
+  pub levels_fit : o.levels ≤ MOST_LEVELS
 
 abbrev pub IfOpen : Schema → Option Opened → Type 0
 IfOpen s None = Unit {0}
@@ -34,4 +34,4 @@ all_nodes (o ∷ os) = open_nodes o + all_nodes os
 pub record IsCheckerState (s : Schema) (book : CheckerStateValue) : Type 0 where
   pub stand : AllStand s book.unused
   pub count : all_nodes book.unused ≡ length book.unused
-  pub few : length book.unused ≤ MOST_NODES
+  pub lines_fit : length book.unused ≤ MOST_NODES

@@ -16,8 +16,8 @@ use Rattle.proof_grammar.specs.Spelling.{IsTreeAt, IsTreeOf, AreNodes, uses}
 pub record AreRead (s : Schema) (lines : List Line) (trees : List Tree) : Type 0 where
   pub nodes : AreNodes s [] lines trees
   pub once : (n : ℕ) → 0 < n → uses n lines ≤ 1
-  pub few_lines : length lines ≤ MOST_NODES
-  pub few_levels : All (λ t. depth t ≤ MOST_LEVELS) trees
+  pub lines_fit : length lines ≤ MOST_NODES
+  pub levels_fit : All (λ t. depth t ≤ MOST_LEVELS) trees
 
 -- ---- premises
 -- a premise is 0, or no line before has its number
@@ -94,7 +94,7 @@ Wrong s lines trees l (bad_line e) = ⊥
 Wrong s lines trees l never_used = ⊥
 Wrong s lines trees l empty_proof = ⊥
 
--- the order in which diagnostics about one line are told
+-- the order of the diagnostics about one line
 abbrev pub rank : Diagnostic → ℕ
 rank (bad_line e) = 1
 rank wrong_number = 2

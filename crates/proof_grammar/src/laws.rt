@@ -2,7 +2,7 @@
 //! function that does nothing, whose clause is the law; so the gate asks for its proof.
 
 ghost use Rattle.std.specs.Prelude.{[], codes};
-ghost use Rattle.proof_grammar.specs.Laws.{LineMeaning, LineRefusal, PrintedLineMeans, PrintedNodes, SpelledIsRead, OneTree, LinesAreNodes, RefusedAsTold, PrintedSpells, PrintedIsRead};
+ghost use Rattle.proof_grammar.specs.Laws.{LineMeaning, LineRefusal, PrintedLineMeans, PrintedNodes, SpelledIsRead, OneTree, LinesAreNodes, CertificateRefusal, PrintedSpells, PrintedIsRead};
 
 /// A line of a certificate is read as a value exactly where it means that value, by its grammar.
 pub fn line_meaning()
@@ -58,6 +58,6 @@ pub fn lines_are_nodes()
 /// A certificate is refused exactly at the first line that goes wrong, and there for the first
 /// diagnostic; where no line does, at its end, since it has no line, or for the first line but the last
 /// that no line uses.
-pub fn refused_as_told()
-    ensures law { RefusedAsTold }
+pub fn certificate_refusal()
+    ensures law { CertificateRefusal }
 {}

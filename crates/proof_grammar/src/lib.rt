@@ -13,8 +13,8 @@ mod refusal;
 mod rule_name;
 
 pub use laws::{
-    line_meaning, line_refusal, lines_are_nodes, one_tree, printed_is_read, printed_line_means,
-    printed_nodes, printed_spells, refused_as_told, spelled_is_read,
+    certificate_refusal, line_meaning, line_refusal, lines_are_nodes, one_tree, printed_is_read,
+    printed_line_means, printed_nodes, printed_spells, spelled_is_read,
 };
 pub use line_kind::LineKind;
 pub use refusal::{ProofRefusal, ProofRefusalKind};

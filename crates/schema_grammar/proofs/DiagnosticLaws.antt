@@ -18,16 +18,17 @@ use Rattle.schema_grammar.specs.declared.refusal.Span.{Span}
 use Rattle.schema_grammar.specs.declared.refusal.What.{What}
 use Rattle.schema_grammar.specs.declared.format.Format.{Format}
 use Rattle.schema_grammar.specs.declared.format.Format.TheVariants as format
-use Rattle.schema_grammar.specs.Diagnostics.{IsStuck, DependencyWants, Carries, DiagnosesOfWord, DependencyDiagnostic, kinds, refusal_number, flaw_number, span_at, IsFirst, FitsDependency, FitsGoal, RefusesGoal}
+use Rattle.schema_grammar.specs.DiagnosticKinds.{DiagnosticKind, expected, number_of, diagnostic_kind, diagnostic_of_flaw}
+use Rattle.schema_grammar.specs.Diagnostics.{IsStuck, DependencyWants, Carries, DiagnosesOfWord, DependencyDiagnostic, kinds, span_at, IsFirst, FitsDependency, FitsGoal, RefusesGoal}
 use Rattle.schema_grammar.specs.Grammar.{Reached, start, finish_dependency}
 use Rattle.schema_grammar.specs.Reading.{step, follow, read_goal}
 use Rattle.schema_grammar.specs.Refusals.{at, expect, refused_by, refusal, kind_of_flaw}
 use Rattle.schema_grammar.specs.Rests.{◌>>=◌}
-use Rattle.schema_grammar.proofs.ShapeLemmas.{Shape, at_start, shape_of, advance_shape, is_final, runs, StepTells, step_tells, EndTells, end_tells, final_line, line_ends, runs-one, wanted_by, wants_from, begins_from, begins_to}
+use Rattle.schema_grammar.proofs.ShapeLemmas.{Shape, at_start, shape_of, advance_shape, is_final, runs, final_line, line_ends, runs-one, wanted_by, wants_from, begins_from, begins_to, StepFits, step_fits, EndFits, end_fits}
 
-pub flaw_numbered : (why : Flaw) → refusal_number (kind_of_flaw why) ≡ flaw_number why
-flaw_numbered flaw.StrangeByte = refl
-flaw_numbered flaw.BadName = refl
+pub flaw_kind : (why : Flaw) → diagnostic_kind (kind_of_flaw why) ≡ diagnostic_of_flaw why
+flaw_kind flaw.StrangeByte = refl
+flaw_kind flaw.BadName = refl
 
 pub Carries-map : (P Q : What → Type 0) → ((w : What) → P w → Q w) → (why : SchemaRefusalKind) → Carries P why → Carries Q why
 Carries-map P Q f (kind.Expected w) h = f w h
@@ -44,19 +45,19 @@ pub same_mark : (m : Mark) (ms : List Mark) (k : Mark) → slice_get (m ∷ ms) 
 same_mark m ms k e = cc
 
 -- the bytes that are no token have one flaw
-pub flaw_least : (s t : LexError) (n : ℕ) → Some s ≡ Some t → n ≡ flaw_number t.flaw
-    → refusal_number (kind_of_flaw s.flaw) ≤ n
+pub flaw_least : (s t : LexError) (n : DiagnosticKind) → Some s ≡ Some t → n ≡ diagnostic_of_flaw t.flaw
+    → number_of (diagnostic_kind (kind_of_flaw s.flaw)) ≤ number_of n
 flaw_least s t n is why =
     let same : s ≡ t = cc in
-    let numbers = flaw_numbered s.flaw in
-    let again = ap (λ (x : LexError). flaw_number x.flaw) same in omega arith
+    let kind = flaw_kind s.flaw ∙ ap (λ (x : LexError). diagnostic_of_flaw x.flaw) same ∙ sym why in
+    omega (arith, ap number_of kind)
 
 -- a diagnostic of a position before which there is none is the first
-pub first_at : (Diagnostic : ℕ → ℕ → Type 0) (Wanted : ℕ → What → Type 0) (span : ℕ → Span) (e : SchemaRefusal)
+pub first_at : (Diagnostic : ℕ → DiagnosticKind → Type 0) (Wanted : ℕ → What → Type 0) (span : ℕ → Span) (e : SchemaRefusal)
     (position : ℕ)
-    → ((p n : ℕ) → p < position → Diagnostic p n → ⊥) → Diagnostic position (refusal_number e.kind)
+    → ((p : ℕ) (n : DiagnosticKind) → p < position → Diagnostic p n → ⊥) → Diagnostic position (diagnostic_kind e.kind)
     → Carries (Wanted position) e.kind → e.span ≡ span position
-    → ((n : ℕ) → Diagnostic position n → refusal_number e.kind ≤ n) → IsFirst Diagnostic Wanted span e
+    → ((n : DiagnosticKind) → Diagnostic position n → number_of (diagnostic_kind e.kind) ≤ number_of n) → IsFirst Diagnostic Wanted span e
 first_at Diagnostic Wanted span e position before stands carries there least = record {
   position = position;
   stands = stands;
@@ -95,64 +96,64 @@ left_next line first whole stop k from m ms rest = record {
 }
 
 -- a diagnostic about tokens: of a word, of the grammar, or of bytes that are no token
-abbrev pub LineDiagnostic : (ℕ → Type 0) → Format → List (List ℕ) → List Mark → Option LexError → ℕ → ℕ → Type 0
-LineDiagnostic Six f declared ms stop position number =
+abbrev pub LineDiagnostic : (ℕ → Type 0) → Format → List (List ℕ) → List Mark → Option LexError → ℕ → DiagnosticKind → Type 0
+LineDiagnostic Stuck f declared ms stop position number =
     (((m : Mark) × (slice_get ms position ≡ Some m) × DiagnosesOfWord f declared m number)
-    ⊎ ((number ≡ 6) × Six position))
-    ⊎ ((s : LexError) × (stop ≡ Some s) × (position ≡ length ms) × (number ≡ flaw_number s.flaw))
+    ⊎ ((number ≡ expected) × Stuck position))
+    ⊎ ((s : LexError) × (stop ≡ Some s) × (position ≡ length ms) × (number ≡ diagnostic_of_flaw s.flaw))
 
--- where the grammar can't go on, and what is wanted: `Six` is a position of a diagnostic 6, and `At` how
+-- where the grammar can't go on, and what is wanted: `Stuck` is a position where it can't, and `At` how
 -- far the line is read before a position
-pub record Judges (ms : List Mark) (stop : Option LexError) (At : ℕ → Shape → Type 0) (Six : ℕ → Type 0)
+pub record Judges (ms : List Mark) (stop : Option LexError) (At : ℕ → Shape → Type 0) (Stuck : ℕ → Type 0)
     (Wanted : ℕ → What → Type 0) : Type 0 where
   pub wants : (p : ℕ) (s : Shape) → At p s → Wanted p (wanted_by s)
   pub goes_on : (p : ℕ) (s t : Shape) (m : Mark) → slice_get ms p ≡ Some m → At p s
-      → advance_shape s m.kind ≡ Some t → (Six p → ⊥) × At (suc p) t
+      → advance_shape s m.kind ≡ Some t → (Stuck p → ⊥) × At (suc p) t
   pub stuck : (p : ℕ) (s : Shape) (m : Mark) → slice_get ms p ≡ Some m → At p s → advance_shape s m.kind ≡ None
-      → Six p
-  pub ends : (p : ℕ) (s : Shape) → p ≡ length ms → At p s → is_final s ≡ true → Six p → ⊥
-  pub open_end : (p : ℕ) (s : Shape) → p ≡ length ms → stop ≡ None → At p s → is_final s ≡ false → Six p
-  pub flawed : (p : ℕ) (x : LexError) → p ≡ length ms → stop ≡ Some x → Six p → ⊥
-  pub inside : (p : ℕ) → Six p → p ≤ length ms
+      → Stuck p
+  pub ends : (p : ℕ) (s : Shape) → p ≡ length ms → At p s → is_final s ≡ true → Stuck p → ⊥
+  pub open_end : (p : ℕ) (s : Shape) → p ≡ length ms → stop ≡ None → At p s → is_final s ≡ false → Stuck p
+  pub flawed : (p : ℕ) (x : LexError) → p ≡ length ms → stop ≡ Some x → Stuck p → ⊥
+  pub inside : (p : ℕ) → Stuck p → p ≤ length ms
 
 -- a diagnostic at a token is of its word, or of the grammar
-pub at_token : (Six : ℕ → Type 0) (f : Format) (declared : List (List ℕ)) (ms : List Mark)
+pub at_token : (Stuck : ℕ → Type 0) (f : Format) (declared : List (List ℕ)) (ms : List Mark)
     (stop : Option LexError) (p : ℕ) (m : Mark) → slice_get ms p ≡ Some m
-    → (n : ℕ) → LineDiagnostic Six f declared ms stop p n → DiagnosesOfWord f declared m n ⊎ ((n ≡ 6) × Six p)
-at_token Six f declared ms stop p m is n (inl (inl (k, here, word))) =
+    → (n : DiagnosticKind) → LineDiagnostic Stuck f declared ms stop p n → DiagnosesOfWord f declared m n ⊎ ((n ≡ expected) × Stuck p)
+at_token Stuck f declared ms stop p m is n (inl (inl (k, here, word))) =
     inl (subst (λ (x : Mark). DiagnosesOfWord f declared x n) (let same : k ≡ m = cc in same) word)
-at_token Six f declared ms stop p m is n (inl (inr six)) = inr six
-at_token Six f declared ms stop p m is n (inr (s, stops, position, number)) =
+at_token Stuck f declared ms stop p m is n (inl (inr six)) = inr six
+at_token Stuck f declared ms stop p m is n (inr (s, stops, position, number)) =
     let less = slice_get_within ms p m is in absurd (omega arith)
 
--- what a step tells in place of a token stands there
-pub token_diagnoses : {ms : List Mark} {stop : Option LexError} {At : ℕ → Shape → Type 0} {Six : ℕ → Type 0}
+-- what a step gives in place of a token stands there
+pub token_diagnoses : {ms : List Mark} {stop : Option LexError} {At : ℕ → Shape → Type 0} {Stuck : ℕ → Type 0}
     {Wanted : ℕ → What → Type 0}
-    (judges : Judges ms stop At Six Wanted) (f : Format) (declared : List (List ℕ)) (p : ℕ) (r : Reached)
+    (judges : Judges ms stop At Stuck Wanted) (f : Format) (declared : List (List ℕ)) (p : ℕ) (r : Reached)
     (m : Mark) (why : SchemaRefusalKind)
-    → slice_get ms p ≡ Some m → At p (shape_of r) → StepTells f declared r m (Err why)
-    → LineDiagnostic Six f declared ms stop p (refusal_number why)
-token_diagnoses judges f declared p r m why is reached tells =
+    → slice_get ms p ≡ Some m → At p (shape_of r) → StepFits f declared r m (Err why)
+    → LineDiagnostic Stuck f declared ms stop p (diagnostic_kind why)
+token_diagnoses judges f declared p r m why is reached fit =
     ⊎_elim (λ word. inl (inl (m, is, word)))
-    (λ six. inl (inr (six.0, judges.stuck p (shape_of r) m is reached six.1))) tells.0
+    (λ six. inl (inr (six.0, judges.stuck p (shape_of r) m is reached six.1))) fit.0
 
 -- a reading is refused by the first diagnostic, and has none where it ends well
-abbrev pub Judged : {X : Type 0} → (ℕ → ℕ → Type 0) → (ℕ → What → Type 0) → (ℕ → Span)
+abbrev pub Judged : {X : Type 0} → (ℕ → DiagnosticKind → Type 0) → (ℕ → What → Type 0) → (ℕ → Span)
     → Result X SchemaRefusal → Type 0
-Judged Diagnostic Wanted span (Ok x) = (p n : ℕ) → Diagnostic p n → ⊥
+Judged Diagnostic Wanted span (Ok x) = (p : ℕ) (n : DiagnosticKind) → Diagnostic p n → ⊥
 Judged Diagnostic Wanted span (Err e) = IsFirst Diagnostic Wanted span e
 
 -- a line is refused by its first diagnostic, and read where there is none
-pub judge : {whole : List Mark} {stop : Option LexError} {At : ℕ → Shape → Type 0} {Six : ℕ → Type 0}
+pub judge : {whole : List Mark} {stop : Option LexError} {At : ℕ → Shape → Type 0} {Stuck : ℕ → Type 0}
     {Wanted : ℕ → What → Type 0}
-    (judges : Judges whole stop At Six Wanted) (f : Format) (declared : List (List ℕ)) (line first : ℕ)
+    (judges : Judges whole stop At Stuck Wanted) (f : Format) (declared : List (List ℕ)) (line first : ℕ)
     (ms : List Mark) (k from : ℕ) (r : Reached)
     → IsLeft line first whole stop k from ms → At k (shape_of r)
-    → ((p n : ℕ) → p < k → LineDiagnostic Six f declared whole stop p n → ⊥)
-    → Judged (LineDiagnostic Six f declared whole stop) Wanted (span_at line first whole stop)
+    → ((p : ℕ) (n : DiagnosticKind) → p < k → LineDiagnostic Stuck f declared whole stop p n → ⊥)
+    → Judged (LineDiagnostic Stuck f declared whole stop) Wanted (span_at line first whole stop)
     (follow f declared line r from ms stop)
 unfolding follow
-judge {whole} {stop} {At} {Six} {Wanted} judges f declared line first [] k from r left reached before =
+judge {whole} {stop} {At} {Stuck} {Wanted} judges f declared line first [] k from r left reached before =
     told stop refl
   where
     all : k ≡ length whole
@@ -161,24 +162,24 @@ judge {whole} {stop} {At} {Six} {Wanted} judges f declared line first [] k from 
     there : span_at line first whole stop k ≡ span_at line from [] stop 0
     there = left.spans 0 k (omega arith)
 
-    ended : (n : ℕ) → LineDiagnostic Six f declared whole stop k n
-        → ((n ≡ 6) × Six k) ⊎ ((s : LexError) × (stop ≡ Some s) × (n ≡ flaw_number s.flaw))
+    ended : (n : DiagnosticKind) → LineDiagnostic Stuck f declared whole stop k n
+        → ((n ≡ expected) × Stuck k) ⊎ ((s : LexError) × (stop ≡ Some s) × (n ≡ diagnostic_of_flaw s.flaw))
     ended n (inl (inl (m, is, word))) = let less = slice_get_within whole k m is in absurd (omega arith)
     ended n (inl (inr six)) = inl six
     ended n (inr (s, is, position, number)) = inr (s, is, number)
 
-    past : (p n : ℕ) → LineDiagnostic Six f declared whole stop p n → k < p → ⊥
+    past : (p : ℕ) (n : DiagnosticKind) → LineDiagnostic Stuck f declared whole stop p n → k < p → ⊥
     past p n (inl (inl (m, is, word))) later = let less = slice_get_within whole p m is in omega arith
     past p n (inl (inr (six, cannot))) later = let within = judges.inside p cannot in omega arith
     past p n (inr (s, is, position, number)) later = omega arith
 
-    ending : stop ≡ None → (o : Result Dependency What) → EndTells r o
-        → Judged (LineDiagnostic Six f declared whole stop) Wanted (span_at line first whole stop)
+    ending : stop ≡ None → (o : Result Dependency What) → EndFits r o
+        → Judged (LineDiagnostic Stuck f declared whole stop) Wanted (span_at line first whole stop)
         (at line from 0 (expect o))
     ending none (Ok d) final = λ p n diagnostic. elim (cases_order p k) [
       | inl here ↦ ⊎_elim (λ six. judges.ends k (shape_of r) all reached final six.1)
           (λ flaw. let wrong = flaw.1 in cc)
-          (ended n (subst (λ (q : ℕ). LineDiagnostic Six f declared whole stop q n) here diagnostic))
+          (ended n (subst (λ (q : ℕ). LineDiagnostic Stuck f declared whole stop q n) here diagnostic))
       | inr (inl earlier) ↦ before p n earlier diagnostic
       | inr (inr later) ↦ past p n diagnostic later
     ]
@@ -187,51 +188,51 @@ judge {whole} {stop} {At} {Six} {Wanted} judges f declared line first [] k from 
         (inl (inr (refl, judges.open_end k (shape_of r) all none reached open_end)))
         (subst (Wanted k) (sym wants) (judges.wants k (shape_of r) reached))
         (sym (there ∙ ap (λ o. span_at line from [] o 0) none))
-        (λ n diagnostic. ⊎_elim (λ six. omega (arith, six.0)) (λ flaw. let wrong = flaw.1 in cc)
+        (λ n diagnostic. ⊎_elim (λ six. omega (arith, ap number_of six.0)) (λ flaw. let wrong = flaw.1 in cc)
         (ended n diagnostic))
 
     told : (o : Option LexError) → stop ≡ o
-        → Judged (LineDiagnostic Six f declared whole stop) Wanted (span_at line first whole stop)
+        → Judged (LineDiagnostic Stuck f declared whole stop) Wanted (span_at line first whole stop)
         (follow f declared line r from [] o)
-    told None is = ending is (finish_dependency r) (end_tells r)
+    told None is = ending is (finish_dependency r) (end_fits r)
     told (Some s) is =
-        first_at _ Wanted _ (refused_by line s) k before (inr (s, is, all, flaw_numbered s.flaw))
+        first_at _ Wanted _ (refused_by line s) k before (inr (s, is, all, flaw_kind s.flaw))
         (flaw_carries (Wanted k) s.flaw)
         (sym (there ∙ ap (λ o. span_at line from [] o 0) is))
         (λ n diagnostic. ⊎_elim (λ six. absurd (judges.flawed k s all is six.1))
         (λ flaw. flaw_least s flaw.0 n (sym is ∙ flaw.1) flaw.2) (ended n diagnostic))
-judge {whole} {stop} {At} {Six} {Wanted} judges f declared line first (m ∷ ms) k from r left reached before =
-    told (step f declared r m.kind m.word) (step_tells f declared r m)
+judge {whole} {stop} {At} {Stuck} {Wanted} judges f declared line first (m ∷ ms) k from r left reached before =
+    told (step f declared r m.kind m.word) (step_fits f declared r m)
     (λ next there none. judge judges f declared line first ms (suc k) (m.column + m.length) next
     (left_next line first whole stop k from m ms left) there none)
   where
     is : slice_get whole k ≡ Some m
     is = left.marks 0 k (omega arith)
 
-    told : (o : Result Reached SchemaRefusalKind) → StepTells f declared r m o
+    told : (o : Result Reached SchemaRefusalKind) → StepFits f declared r m o
         → ((next : Reached) → At (suc k) (shape_of next)
-        → ((p n : ℕ) → p < suc k → LineDiagnostic Six f declared whole stop p n → ⊥)
-        → Judged (LineDiagnostic Six f declared whole stop) Wanted (span_at line first whole stop)
+        → ((p : ℕ) (n : DiagnosticKind) → p < suc k → LineDiagnostic Stuck f declared whole stop p n → ⊥)
+        → Judged (LineDiagnostic Stuck f declared whole stop) Wanted (span_at line first whole stop)
         (follow f declared line next (m.column + m.length) ms stop))
-        → Judged (LineDiagnostic Six f declared whole stop) Wanted (span_at line first whole stop)
+        → Judged (LineDiagnostic Stuck f declared whole stop) Wanted (span_at line first whole stop)
         (at line m.column m.length o
         >>= (λ next. follow f declared line next (m.column + m.length) ms stop))
-    told (Ok next) tells rest =
-        let on = judges.goes_on k (shape_of r) (shape_of next) m is reached tells.0 in
+    told (Ok next) fit rest =
+        let on = judges.goes_on k (shape_of r) (shape_of next) m is reached fit.0 in
         rest next on.1 (λ p n less diagnostic. elim (cases_order p k) [
-          | inl here ↦ ⊎_elim (tells.1 n) (λ six. on.0 six.1)
-              (at_token Six f declared whole stop k m is n
-              (subst (λ (q : ℕ). LineDiagnostic Six f declared whole stop q n) here diagnostic))
+          | inl here ↦ ⊎_elim (fit.1 n) (λ six. on.0 six.1)
+              (at_token Stuck f declared whole stop k m is n
+              (subst (λ (q : ℕ). LineDiagnostic Stuck f declared whole stop q n) here diagnostic))
           | inr (inl earlier) ↦ before p n earlier diagnostic
           | inr (inr later) ↦ absurd (omega arith)
         ])
-    told (Err why) tells rest = first_at _ Wanted _ (refusal line m.column m.length why) k before
-        (token_diagnoses judges f declared k r m why is reached tells)
+    told (Err why) fit rest = first_at _ Wanted _ (refusal line m.column m.length why) k before
+        (token_diagnoses judges f declared k r m why is reached fit)
         (Carries-map (λ w. w ≡ wanted_by (shape_of r)) (Wanted k)
-        (λ w same. subst (Wanted k) (sym same) (judges.wants k (shape_of r) reached)) why tells.3)
+        (λ w same. subst (Wanted k) (sym same) (judges.wants k (shape_of r) reached)) why fit.3)
         (sym (left.spans 0 k (omega arith)))
-        (λ n diagnostic. ⊎_elim (tells.1 n) (λ six. omega (arith, six.0, tells.2))
-        (at_token Six f declared whole stop k m is n diagnostic))
+        (λ n diagnostic. ⊎_elim (fit.1 n) (λ six. omega (arith, ap number_of six.0, fit.2))
+        (at_token Stuck f declared whole stop k m is n diagnostic))
 
 -- one token more
 runs_next : (ms : List Mark) (p : ℕ) (m : Mark) (s : Shape) → slice_get ms p ≡ Some m

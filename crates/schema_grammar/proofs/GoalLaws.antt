@@ -116,6 +116,37 @@ end_makes f declared line column (right s x y) d e = record {
 end_makes f declared line column (right_empty s x) d e = record { nothing = refl; states = cc }
 end_makes f declared line column r d e = cc
 
+-- an arrow after words of the left side, and what is left after it
+arrow_after_words : (f : Format) (declared : List (List ℕ)) (s : Sign) (x : Attributes) (m : Mark) (ms : List Mark)
+    (d : Dependency) → IsArrow s m.kind → AfterSignRest f declared s x ms d → LeftRest f declared x (m ∷ ms) d
+arrow_after_words f declared s x m ms d is more = record {
+  words = [];
+  arrow = m;
+  rhs = ms;
+  y = more.y;
+  sign = s;
+  whole = refl;
+  each = All-nil (IsAttribute f declared);
+  is_arrow = is;
+  right_side = more.right_side;
+  states = more.states
+      ∙ ap (λ z. dependency_of_sign s z more.y) (sym (union-none x (attributes_of_words declared []) refl));
+}
+
+-- and after a left `()`
+arrow_after_empty : (f : Format) (declared : List (List ℕ)) (s : Sign) (m : Mark) (ms : List Mark) (d : Dependency)
+    → IsArrow s m.kind → AfterSignRest f declared s none ms d → ArrowRest f declared (m ∷ ms) d
+arrow_after_empty f declared s m ms d is more = record {
+  arrow = m;
+  rhs = ms;
+  y = more.y;
+  sign = s;
+  whole = refl;
+  is_arrow = is;
+  right_side = more.right_side;
+  states = more.states;
+}
+
 -- what a word and the rest make, from what the rest makes
 word_makes : (f : Format) (declared : List (List ℕ)) (line from : ℕ) (r : Reached) (m : Mark) (ms : List Mark) (d : Dependency)
     → is_word_token m.kind ≡ true
@@ -213,39 +244,13 @@ token_makes f declared line from start token.Empty column size word ms d other r
       states = more.states;
     }
 token_makes f declared line from (left x) token.Arrow column size word ms d other rest e =
-    let more : AfterSignRest f declared sign.Functional x ms d = rest (after_sign sign.Functional x) e in
-    record {
-      words = [];
-      arrow = mark token.Arrow column size word;
-      rhs = ms;
-      y = more.y;
-      sign = sign.Functional;
-      whole = refl;
-      each = All-nil (IsAttribute f declared);
-      is_arrow = refl;
-      right_side = more.right_side;
-      states = more.states ∙ ap (λ z. dependency_of_sign sign.Functional z more.y) (sym (union-none x (attributes_of_words declared []) refl));
-    }
+    arrow_after_words f declared sign.Functional x (mark token.Arrow column size word) ms d refl (rest (after_sign sign.Functional x) e)
 token_makes f declared line from (left x) token.DoubleArrow column size word ms d other rest e =
-    let more : AfterSignRest f declared sign.Multivalued x ms d = rest (after_sign sign.Multivalued x) e in
-    record {
-      words = [];
-      arrow = mark token.DoubleArrow column size word;
-      rhs = ms;
-      y = more.y;
-      sign = sign.Multivalued;
-      whole = refl;
-      each = All-nil (IsAttribute f declared);
-      is_arrow = refl;
-      right_side = more.right_side;
-      states = more.states ∙ ap (λ z. dependency_of_sign sign.Multivalued z more.y) (sym (union-none x (attributes_of_words declared []) refl));
-    }
+    arrow_after_words f declared sign.Multivalued x (mark token.DoubleArrow column size word) ms d refl (rest (after_sign sign.Multivalued x) e)
 token_makes f declared line from left_empty token.Arrow column size word ms d other rest e =
-    let more : AfterSignRest f declared sign.Functional none ms d = rest (after_sign sign.Functional none) e in
-    record { arrow = mark token.Arrow column size word; rhs = ms; y = more.y; sign = sign.Functional; whole = refl; is_arrow = refl; right_side = more.right_side; states = more.states }
+    arrow_after_empty f declared sign.Functional (mark token.Arrow column size word) ms d refl (rest (after_sign sign.Functional none) e)
 token_makes f declared line from left_empty token.DoubleArrow column size word ms d other rest e =
-    let more : AfterSignRest f declared sign.Multivalued none ms d = rest (after_sign sign.Multivalued none) e in
-    record { arrow = mark token.DoubleArrow column size word; rhs = ms; y = more.y; sign = sign.Multivalued; whole = refl; is_arrow = refl; right_side = more.right_side; states = more.states }
+    arrow_after_empty f declared sign.Multivalued (mark token.DoubleArrow column size word) ms d refl (rest (after_sign sign.Multivalued none) e)
 token_makes f declared line from (after_sign s x) token.Empty column size word ms d other rest e =
     let more : EndRest s x ms d = rest (right_empty s x) e in
     record { y = none; right_side = inl (record { mark = mark token.Empty column size word; alone = ap (λ t. mark token.Empty column size word ∷ t) more.nothing; is_empty = refl; nothing = refl }); states = more.states }

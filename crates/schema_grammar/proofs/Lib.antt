@@ -1,4 +1,5 @@
 pub mod BlankLemmas
+pub mod KindLemmas
 pub mod DiagnosticLaws
 pub mod DeclaredNames
 pub mod DeclaringLaws

@@ -1,5 +1,5 @@
 -- A line of a schema text is read where nothing is wrong, or refused by its first diagnostic.
-use Rattle.std.proofs.Common.{◌≡◌, ◌<◌, ◌+◌, inl, inr, ℕ, suc, Bool, true, false, cond, List, [], ◌∷◌, length, Option, Some, None, Ok, Err, Result, refl, arith, ⊎_elim}
+use Rattle.std.proofs.Common.{◌≡◌, ◌<◌, ◌+◌, inl, inr, ℕ, suc, Bool, true, false, cond, List, [], ◌∷◌, length, Option, Some, None, Ok, Err, Result, refl, ap, arith, ⊎_elim}
 use Rattle.std.specs.Prelude.{nat_le}
 use Rattle.std.proofs.lemmas.Bool.{leb-true, leb-false}
 use Rattle.dep_model.specs.declared.column_type.ColumnType.{ColumnType}
@@ -11,19 +11,20 @@ use Rattle.schema_grammar.specs.declared.refusal.SchemaRefusal.{SchemaRefusal}
 use Rattle.schema_grammar.specs.declared.refusal.SchemaRefusalKind.{SchemaRefusalKind}
 use Rattle.schema_grammar.specs.declared.refusal.SchemaRefusalKind.TheVariants as kind
 use Rattle.schema_grammar.specs.declared.format.Format.{Format}
-use Rattle.schema_grammar.specs.Diagnostics.{IsStuck, HeadDiagnostic, TextLineDiagnostic, HeadWants, NamesWant, TextLineWants, FitsTextLine, FitsDependency, FitsNames, kinds, refusal_number, span_at, IsFirst}
+use Rattle.schema_grammar.specs.DiagnosticKinds.{DiagnosticKind, number_of, diagnostic_kind}
+use Rattle.schema_grammar.specs.Diagnostics.{IsStuck, HeadDiagnostic, TextLineDiagnostic, HeadWants, NamesWant, TextLineWants, FitsTextLine, FitsDependency, FitsNames, kinds, span_at, IsFirst}
 use Rattle.schema_grammar.specs.Declarations.{Declarations, add_dependency, begin, dependency_line, line_from, line_of_marks}
 use Rattle.schema_grammar.specs.Grammar.{Reached, start}
 use Rattle.schema_grammar.specs.Reading.{step, follow}
 use Rattle.schema_grammar.specs.Refusals.{at, refused_by, refusal}
 use Rattle.schema_grammar.specs.Rests.{◌>>=◌}
 use Rattle.schema_grammar.specs.Words.{column_type_of_token}
-use Rattle.schema_grammar.proofs.DiagnosticLaws.{flaw_numbered, flaw_carries, flaw_least, first_at, Carries-map, at_token, token_diagnoses, dependency_judges, line-law}
+use Rattle.schema_grammar.proofs.DiagnosticLaws.{flaw_kind, flaw_carries, flaw_least, first_at, Carries-map, at_token, token_diagnoses, dependency_judges, line-law}
 use Rattle.schema_grammar.proofs.NameLaws.{names-law}
-use Rattle.schema_grammar.proofs.ShapeLemmas.{at_start, shape_of, StepTells, step_tells}
+use Rattle.schema_grammar.proofs.ShapeLemmas.{at_start, shape_of, StepFits, step_fits}
 
 abbrev FitsHead : Format → Declarations → ℕ → Mark → List Mark → Option LexError → Option ColumnType → Result Declarations SchemaRefusal → Type 0
-FitsHead f d line m ms stop o (Ok whole) = (p n : ℕ) → HeadDiagnostic f d m ms stop o p n → ⊥
+FitsHead f d line m ms stop o (Ok whole) = (p : ℕ) (n : DiagnosticKind) → HeadDiagnostic f d m ms stop o p n → ⊥
 FitsHead f d line m ms stop o (Err e) = IsFirst (HeadDiagnostic f d m ms stop o) (HeadWants m ms o) (span_at line 1 (m ∷ ms) stop) e
 
 declaring_fits : (f : Format) (d : Declarations) (line : ℕ) (m : Mark) (ms : List Mark) (stop : Option LexError) (column : ColumnType) (res : Result Declarations SchemaRefusal)
@@ -53,14 +54,14 @@ with_room f d line m ms stop (Err e) room first = record {
 }
 
 begun_fits : (f : Format) (d : Declarations) (line : ℕ) (m : Mark) (ms : List Mark) (stop : Option LexError) (o : Result Reached SchemaRefusalKind) (b : Bool)
-    → nat_le MOST_DEPENDENCY_LINES (length d.deps) ≡ b → StepTells f d.names start m o
+    → nat_le MOST_DEPENDENCY_LINES (length d.deps) ≡ b → StepFits f d.names start m o
     → FitsDependency f d.names line (m ∷ ms) stop (at line m.column m.length o >>= (λ next. follow f d.names line next (m.column + m.length) ms stop))
     → FitsHead f d line m ms stop None
     (at line m.column m.length (o >>= (λ next. cond b (Err kind.TooManyDependencies) (Ok next)))
     >>= (λ next. follow f d.names line next (m.column + m.length) ms stop >>= (λ dep. Ok (add_dependency d dep line))))
-begun_fits f d line m ms stop (Err why) b full tells first =
-    let here = first.least 0 (refusal_number why)
-    (token_diagnoses (dependency_judges (m ∷ ms) stop) f d.names 0 start m why refl refl tells) in
+begun_fits f d line m ms stop (Err why) b full begins first =
+    let here = first.least 0 (diagnostic_kind why)
+    (token_diagnoses (dependency_judges (m ∷ ms) stop) f d.names 0 start m why refl refl begins) in
     record {
       position = first.position;
       stands = inl first.stands;
@@ -69,19 +70,19 @@ begun_fits f d line m ms stop (Err why) b full tells first =
       least = λ p n diagnostic. ⊎_elim (first.least p n)
           (λ eight. inr (
             ⊎_elim (λ less. absurd (omega (arith, less))) (λ same. omega (arith, same.0, eight.1)) here,
-            omega (arith, eight.0, tells.2),
+            omega (arith, ap number_of eight.0, begins.2),
           )) diagnostic;
     }
-begun_fits f d line m ms stop (Ok next) true full tells fits =
+begun_fits f d line m ms stop (Ok next) true full begins fits =
     first_at (HeadDiagnostic f d m ms stop None) (HeadWants m ms None) (span_at line 1 (m ∷ ms) stop)
     (refusal line m.column m.length kind.TooManyDependencies) 0
     (λ p n less. absurd (omega arith)) (inr (refl, refl, leb-true _ _ full)) tt refl
     (λ n diagnostic. ⊎_elim (λ other. absurd (
-    ⊎_elim (tells.1 n) (λ six.
-    ((dependency_judges (m ∷ ms) stop).goes_on 0 at_start (shape_of next) m refl refl tells.0).0 six.1)
+    ⊎_elim (begins.1 n) (λ six.
+    ((dependency_judges (m ∷ ms) stop).goes_on 0 at_start (shape_of next) m refl refl begins.0).0 six.1)
     (at_token (IsStuck (kinds (m ∷ ms)) stop) f d.names (m ∷ ms) stop 0 m refl n other)
-    )) (λ eight. omega (arith, eight.0)) diagnostic)
-begun_fits f d line m ms stop (Ok next) false full tells fits =
+    )) (λ eight. omega (arith, ap number_of eight.0)) diagnostic)
+begun_fits f d line m ms stop (Ok next) false full begins fits =
     with_room f d line m ms stop (follow f d.names line next (m.column + m.length) ms stop) (leb-false _ _ full) fits
 
 -- a line of a schema text is refused by its first diagnostic, and read where there is none
@@ -91,7 +92,7 @@ text-line-law f d line [] None = λ p n diagnostic. let wrong = diagnostic.1 in 
 text-line-law f d line [] (Some s) =
     first_at (TextLineDiagnostic f d [] (Some s)) (TextLineWants f []) (span_at line 1 [] (Some s))
     (refused_by line s) 0
-    (λ p n less. absurd (omega arith)) (s, refl, refl, flaw_numbered s.flaw)
+    (λ p n less. absurd (omega arith)) (s, refl, refl, flaw_kind s.flaw)
     (flaw_carries (TextLineWants f [] 0) s.flaw) refl
     (λ n diagnostic. flaw_least s diagnostic.0 n diagnostic.1 diagnostic.3)
 text-line-law f d line (m ∷ ms) stop =
@@ -103,7 +104,7 @@ text-line-law f d line (m ∷ ms) stop =
         (names-law f column d line (m.column + m.length) ms stop)
     head None =
         begun_fits f d line m ms stop (step f d.names start m.kind m.word)
-        (nat_le MOST_DEPENDENCY_LINES (length d.deps)) refl (step_tells f d.names start m)
+        (nat_le MOST_DEPENDENCY_LINES (length d.deps)) refl (step_fits f d.names start m)
         (line-law f d.names line (m ∷ ms) stop)
 
     fits : (res : Result Declarations SchemaRefusal)

@@ -7,6 +7,7 @@ use Rattle.lexer.specs.Tokens.{Mark, lex}
 use Rattle.schema_grammar.specs.declared.refusal.SchemaRefusal.{SchemaRefusal}
 use Rattle.schema_grammar.specs.declared.refusal.SchemaRefusalKind.TheVariants as kind
 use Rattle.schema_grammar.specs.declared.format.Format.{Format}
+use Rattle.schema_grammar.specs.DiagnosticKinds.{DiagnosticKind}
 use Rattle.schema_grammar.specs.Diagnostics.{TextLineDiagnostic, FitsTextLine, span_at}
 use Rattle.schema_grammar.specs.Declarations.{Declarations, read_line}
 use Rattle.schema_grammar.specs.Refusals.{refusal}
@@ -30,13 +31,13 @@ span-line line next_column (m ∷ ms) stop zero = refl
 span-line line next_column (m ∷ ms) stop (suc p) = span-line line (m.column + m.length) ms stop p
 
 -- a diagnostic of lines is one of the first line, or of the lines after it
-abbrev DiagnosticParts : Format → ℕ → Declarations → List ℕ → List (List ℕ) → ℕ → ℕ → ℕ → Type 0
+abbrev DiagnosticParts : Format → ℕ → Declarations → List ℕ → List (List ℕ) → ℕ → ℕ → DiagnosticKind → Type 0
 DiagnosticParts f first d line lines l p n =
     ((l ≡ first) × TextLineDiagnostic f d (lex mode.plain line).marks (lex mode.plain line).stop p n)
     ⊎ ((first < l) × ((next : Declarations) → read_line f first d line ≡ Ok next
     → LinesDiagnostic f (first + 1) next lines l p n))
 
-diagnostic_parts : (f : Format) (first : ℕ) (d : Declarations) (line : List ℕ) (lines : List (List ℕ)) (l p n : ℕ)
+diagnostic_parts : (f : Format) (first : ℕ) (d : Declarations) (line : List ℕ) (lines : List (List ℕ)) (l p : ℕ) (n : DiagnosticKind)
     → LinesDiagnostic f first d (line ∷ lines) l p n → DiagnosticParts f first d line lines l p n
 diagnostic_parts f first d line lines l p n diagnostic =
     told diagnostic.before diagnostic.cut diagnostic.means diagnostic.stands_on

@@ -18,62 +18,64 @@ use Rattle.schema_grammar.specs.declared.refusal.SchemaRefusalKind.{SchemaRefusa
 use Rattle.schema_grammar.specs.declared.refusal.SchemaRefusalKind.TheVariants as kind
 use Rattle.schema_grammar.specs.declared.refusal.What.TheVariants as what
 use Rattle.schema_grammar.specs.declared.format.Format.{Format}
-use Rattle.schema_grammar.specs.Diagnostics.{NameDiagnostic, NamesDiagnostic, NamesWant, Carries, refusal_number, flaw_number, span_at, FitsNames}
+use Rattle.schema_grammar.specs.DiagnosticKinds.{DiagnosticKind, reserved_name, double_name, expected, too_many_attributes, number_of, diagnostic_kind, diagnostic_of_flaw}
+use Rattle.schema_grammar.specs.Diagnostics.{NameDiagnostic, NamesDiagnostic, NamesWant, Carries, span_at, FitsNames}
 use Rattle.schema_grammar.specs.Declarations.{Declarations, add_name, declare, name_step, what_after_declaring, list_names}
 use Rattle.schema_grammar.specs.Refusals.{at, refused_by, refusal, kind_of_flaw}
 use Rattle.schema_grammar.specs.Words.{is_word_token, is_reserved_token}
 use Rattle.schema_grammar.proofs.WordLemmas.{name_step-word, name_step-other}
 use Rattle.schema_grammar.specs.Rests.{◌>>=◌}
-use Rattle.schema_grammar.proofs.DiagnosticLaws.{flaw_numbered, flaw_carries, flaw_least, Carries-map, first_at, IsLeft, left_whole, left_next, Judged}
+use Rattle.schema_grammar.proofs.DiagnosticLaws.{flaw_carries, flaw_least, Carries-map, first_at, IsLeft, left_whole, left_next, Judged, flaw_kind}
+use Rattle.schema_grammar.proofs.KindLemmas.{same_number}
 
 -- what is wrong with one word, after names and so many of them
-abbrev WordDiagnostic : Format → List (List ℕ) → ℕ → Mark → ℕ → Type 0
+abbrev WordDiagnostic : Format → List (List ℕ) → ℕ → Mark → DiagnosticKind → Type 0
 WordDiagnostic f names count m number =
     ((is_word_token m.kind ≡ true)
-    × ((((number ≡ 3) × (is_reserved_token f m.kind m.word ≡ true))
-    ⊎ ((number ≡ 4) × (is_some (attribute_named names m.word) ≡ true)))
-    ⊎ ((number ≡ 7) × (MOST_ATTRIBUTES ≤ count))))
-    ⊎ ((number ≡ 6) × (is_word_token m.kind ≡ false))
+    × ((((number ≡ reserved_name) × (is_reserved_token f m.kind m.word ≡ true))
+    ⊎ ((number ≡ double_name) × (is_some (attribute_named names m.word) ≡ true)))
+    ⊎ ((number ≡ too_many_attributes) × (MOST_ATTRIBUTES ≤ count))))
+    ⊎ ((number ≡ expected) × (is_word_token m.kind ≡ false))
 
--- what a token after a declaring word tells
-abbrev NameTells : Format → ColumnType → Declarations → List (List ℕ) → ℕ → Bool → Mark
+-- what a token after a declaring word gives
+abbrev NameFits : Format → ColumnType → Declarations → List (List ℕ) → ℕ → Bool → Mark
     → Result Declarations SchemaRefusalKind → Type 0
-NameTells f column d names count some m (Ok next) =
+NameFits f column d names count some m (Ok next) =
     (next ≡ add_name d m.word column) × (is_word_token m.kind ≡ true) ×
-    ((n : ℕ) → WordDiagnostic f names count m n → ⊥)
-NameTells f column d names count some m (Err why) =
-    WordDiagnostic f names count m (refusal_number why) ×
-    ((n : ℕ) → WordDiagnostic f names count m n → refusal_number why ≤ n)
+    ((n : DiagnosticKind) → WordDiagnostic f names count m n → ⊥)
+NameFits f column d names count some m (Err why) =
+    WordDiagnostic f names count m (diagnostic_kind why) ×
+    ((n : DiagnosticKind) → WordDiagnostic f names count m n → number_of (diagnostic_kind why) ≤ number_of n)
     × Carries (λ w. w ≡ what_after_declaring some) why
 
-name_tells : (f : Format) (column : ColumnType) (d : Declarations) (some : Bool) (m : Mark)
-    → NameTells f column d d.names (length d.names) some m (name_step f column d some m.kind m.word)
+name_fits : (f : Format) (column : ColumnType) (d : Declarations) (some : Bool) (m : Mark)
+    → NameFits f column d d.names (length d.names) some m (name_step f column d some m.kind m.word)
 unfolding declare
-name_tells f column d some m = told (is_word_token m.kind) refl
+name_fits f column d some m = told (is_word_token m.kind) refl
   where
     word : is_word_token m.kind ≡ true → (a b c : Bool) → is_reserved_token f m.kind m.word ≡ a
         → is_some (attribute_named d.names m.word) ≡ b → nat_le MOST_ATTRIBUTES (length d.names) ≡ c
-        → NameTells f column d d.names (length d.names) some m
+        → NameFits f column d d.names (length d.names) some m
         (cond a (Err kind.ReservedName)
         (cond b (Err kind.DoubleName) (cond c (Err kind.TooManyAttributes) (Ok (add_name d m.word column)))))
     word is true b c reserved double full =
-        (inl (is, inl (inl (refl, reserved))), (λ n diagnostic. omega arith), tt)
+        (inl (is, inl (inl (refl, reserved))), (λ n diagnostic. grind (arith, same_number)), tt)
     word is false true c free double full =
-        (inl (is, inl (inr (refl, double))), (λ n diagnostic. grind arith), tt)
+        (inl (is, inl (inr (refl, double))), (λ n diagnostic. grind (arith, same_number)), tt)
     word is false false true free new full =
-        (inl (is, inr (refl, leb-true _ _ full)), (λ n diagnostic. grind arith), tt)
+        (inl (is, inr (refl, leb-true _ _ full)), (λ n diagnostic. grind (arith, same_number)), tt)
     word is false false false free new full =
         (refl, is, λ n diagnostic. let room = leb-false _ _ full in grind arith)
 
     told : (b : Bool) → is_word_token m.kind ≡ b
-        → NameTells f column d d.names (length d.names) some m (name_step f column d some m.kind m.word)
+        → NameFits f column d d.names (length d.names) some m (name_step f column d some m.kind m.word)
     told true is =
         rw (name_step-word f column d some m.kind m.word is)
         (word is (is_reserved_token f m.kind m.word) (is_some (attribute_named d.names m.word))
         (nat_le MOST_ATTRIBUTES (length d.names)) refl refl refl)
     told false is =
         rw (name_step-other f column d some m.kind m.word is)
-        (inr (refl, is), (λ n diagnostic. grind arith), refl)
+        (inr (refl, is), (λ n diagnostic. grind (arith, same_number)), refl)
 
 abbrev words_in : List Mark → List (List ℕ)
 words_in ms = map (λ w. w.word) ms
@@ -84,7 +86,7 @@ judge_names : (f : Format) (column : ColumnType) (d : Declarations) (line first 
     (words : List Mark) (k from : ℕ) (some : Bool) (now : Declarations)
     → IsLeft line first whole stop k from words → now.names ≡ d.names ++ words_in (take k whole)
     → All (λ w. is_word_token w.kind ≡ true) (take k whole) → NamesWant k (what_after_declaring some)
-    → ((p n : ℕ) → p < k → NamesDiagnostic f d whole stop p n → ⊥)
+    → ((p : ℕ) (n : DiagnosticKind) → p < k → NamesDiagnostic f d whole stop p n → ⊥)
     → Judged (NamesDiagnostic f d whole stop) NamesWant (span_at line first whole stop)
     (list_names f column line now some from words stop)
 unfolding list_names
@@ -97,8 +99,8 @@ judge_names f column d line first whole stop [] k from some now left names each 
     there : span_at line first whole stop k ≡ span_at line from [] stop 0
     there = left.spans 0 k (omega arith)
 
-    ended : (p n : ℕ) → k ≤ p → NamesDiagnostic f d whole stop p n
-        → ((n ≡ 6) × (p ≡ 0)) ⊎ ((s : LexError) × (stop ≡ Some s) × (n ≡ flaw_number s.flaw))
+    ended : (p : ℕ) (n : DiagnosticKind) → k ≤ p → NamesDiagnostic f d whole stop p n
+        → ((n ≡ expected) × (p ≡ 0)) ⊎ ((s : LexError) × (stop ≡ Some s) × (n ≡ diagnostic_of_flaw s.flaw))
     ended p n on (inl (inl (m, is, each_word, diagnostic))) =
         absurd (omega (arith, all, slice_get_within whole p m is))
     ended p n on (inl (inr (six, position, nothing, none))) = inl (six, position)
@@ -117,22 +119,22 @@ judge_names f column d line first whole stop [] k from some now left names each 
         first_at _ NamesWant _ (refusal line from 0 (kind.Expected what.Name)) k before
         (inl (inr (refl, here, nil_from_length whole (sym all ∙ here), is))) want
         (sym (there ∙ ap (λ o. span_at line from [] o 0) is))
-        (λ n diagnostic. ⊎_elim (λ none. omega (arith, none.0)) (λ flaw. let wrong = flaw.1 in cc)
+        (λ n diagnostic. ⊎_elim (λ none. omega (arith, ap number_of none.0)) (λ flaw. let wrong = flaw.1 in cc)
         (ended k n (omega arith) diagnostic))
     told some (Some s) is want =
-        first_at _ NamesWant _ (refused_by line s) k before (inr (s, is, all, flaw_numbered s.flaw))
+        first_at _ NamesWant _ (refused_by line s) k before (inr (s, is, all, flaw_kind s.flaw))
         (flaw_carries (NamesWant k) s.flaw)
         (sym (there ∙ ap (λ o. span_at line from [] o 0) is)) least
       where
-        least : (n : ℕ) → NamesDiagnostic f d whole stop k n → refusal_number (kind_of_flaw s.flaw) ≤ n
+        least : (n : DiagnosticKind) → NamesDiagnostic f d whole stop k n → number_of (diagnostic_kind (kind_of_flaw s.flaw)) ≤ number_of n
         least n (inl (inl (m, here, each_word, diagnostic))) =
             absurd (omega (arith, all, slice_get_within whole k m here))
         least n (inl (inr (six, position, nothing, none))) = cc
         least n (inr (t, here, position, number)) = flaw_least s t n (sym is ∙ here) number
 judge_names f column d line first whole stop (w ∷ words) k from some now left names each want before =
     let read = name_step f column now some w.kind w.word in
-    let counted = subst (λ (c : ℕ). NameTells f column now now.names c some w read) count (name_tells f column now some w) in
-    told read (subst (λ (t : List (List ℕ)). NameTells f column now t (length d.names + k) some w read) names counted)
+    let counted = subst (λ (c : ℕ). NameFits f column now now.names c some w read) count (name_fits f column now some w) in
+    told read (subst (λ (t : List (List ℕ)). NameFits f column now t (length d.names + k) some w read) names counted)
     (λ next on each_word none. judge_names f column d line first whole stop words (suc k)
     (w.column + w.length) true next (left_next line first whole stop k from w words left) on each_word
     (inr (omega arith, refl)) none)
@@ -151,7 +153,7 @@ judge_names f column d line first whole stop (w ∷ words) k from some now left 
         ap length names ∙ length-append d.names (words_in (take k whole)) ∙ ap (λ n. length d.names + n)
         (length-map (take k whole) (λ (x : Mark). x.word) ∙ length-take-le k whole (omega (arith, less)))
 
-    at_word : (n : ℕ) → NamesDiagnostic f d whole stop k n → NameDiagnostic f d whole k w n
+    at_word : (n : DiagnosticKind) → NamesDiagnostic f d whole stop k n → NameDiagnostic f d whole k w n
     at_word n (inl (inl (m, here, all, diagnostic))) =
         subst (λ (x : Mark). NameDiagnostic f d whole k x n)
         (let same : m ≡ w = cc (here, is) in same) diagnostic
@@ -159,10 +161,10 @@ judge_names f column d line first whole stop (w ∷ words) k from some now left 
     at_word n (inr (s, here, position, number)) = absurd (omega (arith, less))
 
     told : (o : Result Declarations SchemaRefusalKind)
-        → NameTells f column now (d.names ++ words_in (take k whole)) (length d.names + k) some w o
+        → NameFits f column now (d.names ++ words_in (take k whole)) (length d.names + k) some w o
         → ((next : Declarations) → next.names ≡ d.names ++ words_in (take (suc k) whole)
         → All (λ x. is_word_token x.kind ≡ true) (take (suc k) whole)
-        → ((p n : ℕ) → p < suc k → NamesDiagnostic f d whole stop p n → ⊥)
+        → ((p : ℕ) (n : DiagnosticKind) → p < suc k → NamesDiagnostic f d whole stop p n → ⊥)
         → Judged (NamesDiagnostic f d whole stop) NamesWant (span_at line first whole stop)
         (list_names f column line next true (w.column + w.length) words stop))
         → Judged (NamesDiagnostic f d whole stop) NamesWant (span_at line first whole stop)

@@ -10,16 +10,18 @@ use Rattle.schema_grammar.specs.declared.refusal.SchemaRefusalKind.TheVariants a
 use Rattle.schema_grammar.specs.declared.refusal.Span.{Span}
 use Rattle.schema_grammar.specs.declared.refusal.What.{What}
 use Rattle.schema_grammar.specs.declared.refusal.What.TheVariants as what
-use Rattle.schema_grammar.specs.Diagnostics.{Wants, AtFirst, NamesWant, HeadWants, TextLineWants, Carries, IsFirst, kinds, refusal_number}
+use Rattle.schema_grammar.specs.DiagnosticKinds.{DiagnosticKind, number_of, IsNoLater, diagnostic_kind}
+use Rattle.schema_grammar.specs.Diagnostics.{Wants, AtFirst, NamesWant, HeadWants, TextLineWants, Carries, IsFirst, kinds}
 use Rattle.schema_grammar.specs.Words.{column_type_of_token}
+use Rattle.schema_grammar.proofs.KindLemmas.{kind_from_number}
 use Rattle.schema_grammar.proofs.ShapeLemmas.{Shape, at_start, in_left, past_empty, past_arrow, in_right, past_end, bind, runs, is_final, wanted_by, runs-append, begins_to, line_ends}
 
 -- one thing at most is wanted
 abbrev pub OneWant : (What → Type 0) → Type 0
 OneWant Wanted = (w v : What) → Wanted w → Wanted v → w ≡ v
 
--- a kind is its number, and what it carries
-same_kind : (Wanted : What → Type 0) (k l : SchemaRefusalKind) → OneWant Wanted → Carries Wanted k → Carries Wanted l → refusal_number k ≡ refusal_number l → k ≡ l
+-- a kind of refusal is the kind of its diagnostic, and what it carries
+same_kind : (Wanted : What → Type 0) (k l : SchemaRefusalKind) → OneWant Wanted → Carries Wanted k → Carries Wanted l → diagnostic_kind k ≡ diagnostic_kind l → k ≡ l
 same_kind Wanted (kind.Expected w) (kind.Expected v) one h g e = ap (λ x. kind.Expected x) (one w v h g)
 same_kind Wanted k kind.StrangeByte one h g e = cc
 same_kind Wanted k l one h g e = cc
@@ -30,29 +32,33 @@ same_refusal e f span why =
     let of : SchemaRefusalKind → SchemaRefusal = λ k. record { span = f.span; kind = k } in
     ap at span ∙ ap of why
 
--- two first diagnostics stand at one position, and have one number
-pub both_least : (p q n m : ℕ) → (p < q) ⊎ ((p ≡ q) × (n ≤ m)) → (q < p) ⊎ ((q ≡ p) × (m ≤ n)) → (p ≡ q) × (n ≡ m)
-both_least p q n m one other = omega arith
+-- two first diagnostics stand at one position, and are of one kind
+pub both_least : (p q : ℕ) (n m : DiagnosticKind) → IsNoLater p n q m → IsNoLater q m p n → (p ≡ q) × (n ≡ m)
+both_least p q n m one other =
+    let same = both p q (number_of n) (number_of m) one other in (same.0, kind_from_number n m same.1)
+  where
+    both : (p q n m : ℕ) → (p < q) ⊎ ((p ≡ q) × (n ≤ m)) → (q < p) ⊎ ((q ≡ p) × (m ≤ n)) → (p ≡ q) × (n ≡ m)
+    both p q n m one other = omega arith
 
-pub one_first : (Diagnostic : ℕ → ℕ → Type 0) (Wanted : ℕ → What → Type 0) (span : ℕ → Span) (e f : SchemaRefusal) → ((p : ℕ) → OneWant (Wanted p))
+pub one_first : (Diagnostic : ℕ → DiagnosticKind → Type 0) (Wanted : ℕ → What → Type 0) (span : ℕ → Span) (e f : SchemaRefusal) → ((p : ℕ) → OneWant (Wanted p))
     → IsFirst Diagnostic Wanted span e → IsFirst Diagnostic Wanted span f → e ≡ f
 one_first Diagnostic Wanted span e f one first second =
-    let same = both_least first.position second.position (refusal_number e.kind) (refusal_number f.kind) (first.least second.position (refusal_number f.kind) second.stands) (second.least first.position (refusal_number e.kind) first.stands) in
+    let same = both_least first.position second.position (diagnostic_kind e.kind) (diagnostic_kind f.kind) (first.least second.position (diagnostic_kind f.kind) second.stands) (second.least first.position (diagnostic_kind e.kind) first.stands) in
     let carries : Carries (Wanted first.position) f.kind = subst (λ (p : ℕ). Carries (Wanted p) f.kind) (sym same.0) second.carries in
     same_refusal e f (first.there ∙ ap span same.0 ∙ sym second.there) (same_kind (Wanted first.position) e.kind f.kind (one first.position) first.carries carries same.1)
 
-pub same_carried : (Wanted : What → Type 0) (e f : SchemaRefusal) → OneWant Wanted → Carries Wanted e.kind → Carries Wanted f.kind → refusal_number e.kind ≡ refusal_number f.kind → e.kind ≡ f.kind
+pub same_carried : (Wanted : What → Type 0) (e f : SchemaRefusal) → OneWant Wanted → Carries Wanted e.kind → Carries Wanted f.kind → diagnostic_kind e.kind ≡ diagnostic_kind f.kind → e.kind ≡ f.kind
 same_carried Wanted e f = same_kind Wanted e.kind f.kind
 
 -- what reads or refuses by the first diagnostic, refuses by no other
-pub one_refused : {X : Type 0} (Fits : Result X SchemaRefusal → Type 0) (Diagnostic : ℕ → ℕ → Type 0)
+pub one_refused : {X : Type 0} (Fits : Result X SchemaRefusal → Type 0) (Diagnostic : ℕ → DiagnosticKind → Type 0)
     (Wanted : ℕ → What → Type 0) (span : ℕ → Span)
-    → ((x : X) → Fits (Ok x) → (p n : ℕ) → Diagnostic p n → ⊥)
+    → ((x : X) → Fits (Ok x) → (p : ℕ) (n : DiagnosticKind) → Diagnostic p n → ⊥)
     → ((g : SchemaRefusal) → Fits (Err g) → IsFirst Diagnostic Wanted span g)
     → ((p : ℕ) → OneWant (Wanted p)) → (r : Result X SchemaRefusal) (e : SchemaRefusal) → Fits r
     → IsFirst Diagnostic Wanted span e → r ≡ Err e
 one_refused Fits Diagnostic Wanted span none other one (Ok x) e fits first =
-    absurd (none x fits first.position (refusal_number e.kind) first.stands)
+    absurd (none x fits first.position (diagnostic_kind e.kind) first.stands)
 one_refused Fits Diagnostic Wanted span none other one (Err g) e fits first =
     ap Err (one_first Diagnostic Wanted span g e one (other g fits) first)
 

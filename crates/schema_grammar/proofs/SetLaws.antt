@@ -15,7 +15,8 @@ use Rattle.schema_grammar.specs.declared.refusal.SchemaRefusal.{SchemaRefusal}
 use Rattle.schema_grammar.specs.declared.refusal.What.TheVariants as what
 use Rattle.schema_grammar.specs.declared.symbol.Sign.TheVariants as sign
 use Rattle.schema_grammar.specs.declared.format.Format.TheVariants as format
-use Rattle.schema_grammar.specs.Diagnostics.{refusal_number, span_at}
+use Rattle.schema_grammar.specs.DiagnosticKinds.{DiagnosticKind, diagnostic_kind}
+use Rattle.schema_grammar.specs.Diagnostics.{span_at}
 use Rattle.schema_grammar.specs.Grammar.{Reached, after_sign}
 use Rattle.schema_grammar.specs.Meanings.{IsSide}
 use Rattle.schema_grammar.specs.Reading.{follow_rest}
@@ -154,14 +155,14 @@ set-diagnostic-law declared text =
     stop : Option LexError
     stop = (lex mode.goal text).stop
 
-    to : (p n : ℕ) → LineDiagnostic (IsAmiss marks stop) format.Plain declared marks stop p n
+    to : (p : ℕ) (n : DiagnosticKind) → LineDiagnostic (IsAmiss marks stop) format.Plain declared marks stop p n
         → SetDiagnostic declared text p n
     to p n (inl (inl (m, is, word))) = inl (inl (m, is, inl word))
     to p n (inl (inr (six, inl (m, is, out)))) = inl (inl (m, is, inr (six, out)))
     to p n (inl (inr (six, inr none))) = inl (inr (six, none.0, none.1, none.2))
     to p n (inr flaw) = inr flaw
 
-    from : (p n : ℕ) → SetDiagnostic declared text p n
+    from : (p : ℕ) (n : DiagnosticKind) → SetDiagnostic declared text p n
         → LineDiagnostic (IsAmiss marks stop) format.Plain declared marks stop p n
     from p n (inl (inl (m, is, inl word))) = inl (inl (m, is, word))
     from p n (inl (inl (m, is, inr (six, out)))) = inl (inr (six, inl (m, is, out)))
@@ -175,7 +176,7 @@ set-diagnostic-law declared text =
     fits (Ok d) none = λ p n diagnostic. none p n (from p n diagnostic)
     fits (Err e) first = record {
       position = first.position;
-      stands = to first.position (refusal_number e.kind) first.stands;
+      stands = to first.position (diagnostic_kind e.kind) first.stands;
       carries = first.carries;
       there = first.there;
       least = λ p n diagnostic. first.least p n (from p n diagnostic);

@@ -14,13 +14,15 @@ use Rattle.schema_grammar.specs.declared.format.Format.TheVariants as format
 use Rattle.schema_grammar.specs.declared.refusal.What.{What}
 use Rattle.schema_grammar.specs.declared.refusal.What.TheVariants as what
 use Rattle.schema_grammar.specs.declared.symbol.Symbol.{Symbol}
-use Rattle.schema_grammar.specs.Diagnostics.{IsLine, BeginsLine, Wants, Carries, DiagnosesOfWord, kinds, refusal_number}
+use Rattle.schema_grammar.specs.DiagnosticKinds.{DiagnosticKind, expected, number_of, diagnostic_kind}
+use Rattle.schema_grammar.specs.Diagnostics.{IsLine, BeginsLine, Wants, Carries, DiagnosesOfWord, kinds}
 use Rattle.schema_grammar.specs.Grammar.{Reached, start, left, left_empty, after_sign, right, right_empty, advance, finish_dependency}
 use Rattle.schema_grammar.specs.Reading.{step, follow}
 use Rattle.schema_grammar.specs.Refusals.{at, expect}
 use Rattle.schema_grammar.specs.Words.{is_word_token, is_reserved, is_reserved_token, look_up, known_attribute}
 use Rattle.schema_grammar.specs.Rests.{◌>>=◌}
 use Rattle.schema_grammar.proofs.GoalLaws.{dependency-law}
+use Rattle.schema_grammar.proofs.KindLemmas.{same_number}
 
 -- how far a dependency is read, but for its sets
 pub data Shape : Type 0 where
@@ -87,7 +89,7 @@ symbol_at a token.DoubleArrow = symbol.Arrow sign.Multivalued
 symbol_at a token.Empty = symbol.Empty
 symbol_at a k = symbol.Other
 
--- a turn is one of the shapes, and what the grammar tells in its place is what is wanted
+-- a turn is one of the shapes, and what the grammar gives in its place is what is wanted
 abbrev Turns : Reached → TokenKind → Result Reached What → Type 0
 Turns r k (Ok next) = advance_shape (shape_of r) k ≡ Some (shape_of next)
 Turns r k (Err w) = (advance_shape (shape_of r) k ≡ None) × (w ≡ wanted_by (shape_of r))
@@ -121,59 +123,59 @@ stuck_later token.Identifier e = cc
 stuck_later token.Quoted e = cc
 stuck_later k e = refl
 
--- what a step tells: where it leads, or the diagnostic
-abbrev pub StepTells : Format → List (List ℕ) → Reached → Mark → Result Reached SchemaRefusalKind → Type 0
-StepTells f declared r m (Ok next) =
-    (advance_shape (shape_of r) m.kind ≡ Some (shape_of next)) × ((n : ℕ) → DiagnosesOfWord f declared m n → ⊥)
-StepTells f declared r m (Err why) =
-    (DiagnosesOfWord f declared m (refusal_number why) ⊎
-    ((refusal_number why ≡ 6) × (advance_shape (shape_of r) m.kind ≡ None)))
-    × ((n : ℕ) → DiagnosesOfWord f declared m n → refusal_number why ≤ n) × (refusal_number why ≤ 6)
+-- what a step gives: where it leads, or the diagnostic
+abbrev pub StepFits : Format → List (List ℕ) → Reached → Mark → Result Reached SchemaRefusalKind → Type 0
+StepFits f declared r m (Ok next) =
+    (advance_shape (shape_of r) m.kind ≡ Some (shape_of next)) × ((n : DiagnosticKind) → DiagnosesOfWord f declared m n → ⊥)
+StepFits f declared r m (Err why) =
+    (DiagnosesOfWord f declared m (diagnostic_kind why) ⊎
+    ((diagnostic_kind why ≡ expected) × (advance_shape (shape_of r) m.kind ≡ None)))
+    × ((n : DiagnosticKind) → DiagnosesOfWord f declared m n → number_of (diagnostic_kind why) ≤ number_of n) × (number_of (diagnostic_kind why) ≤ number_of expected)
     × Carries (λ w. w ≡ wanted_by (shape_of r)) why
 
-advance_tells : (f : Format) (declared : List (List ℕ)) (r : Reached) (m : Mark) (t : Result Reached What)
+advance_fits : (f : Format) (declared : List (List ℕ)) (r : Reached) (m : Mark) (t : Result Reached What)
     → Turns r m.kind t
-    → ((n : ℕ) → DiagnosesOfWord f declared m n → ⊥) → StepTells f declared r m (expect t)
-advance_tells f declared r m (Ok next) turned none = (turned, none)
-advance_tells f declared r m (Err w) turned none =
+    → ((n : DiagnosticKind) → DiagnosesOfWord f declared m n → ⊥) → StepFits f declared r m (expect t)
+advance_fits f declared r m (Ok next) turned none = (turned, none)
+advance_fits f declared r m (Err w) turned none =
     (inr (refl, turned.0), (λ n diagnostic. absurd (none n diagnostic)), omega arith, turned.1)
 
-pub step_tells : (f : Format) (declared : List (List ℕ)) (r : Reached) (m : Mark) → StepTells f declared r m (step f declared r m.kind m.word)
+pub step_fits : (f : Format) (declared : List (List ℕ)) (r : Reached) (m : Mark) → StepFits f declared r m (step f declared r m.kind m.word)
 unfolding step look_up
-step_tells f declared r m = told m.kind
+step_fits f declared r m = told m.kind
   where
     word : (k : TokenKind) → is_word_token k ≡ true → ((a : ℕ) → Turns r k (advance r (symbol.Attribute a)))
         → (b : Bool) (o : Option ℕ) → is_reserved_token f k m.word ≡ b → attribute_named declared m.word ≡ o
-        → StepTells f declared r (record m { kind = k })
+        → StepFits f declared r (record m { kind = k })
         (cond b (Err kind.ReservedName) (known_attribute o) >>= (λ a. Ok (symbol.Attribute a))
         >>= (λ s. expect (advance r s)))
     word k is turns true o reserved lookup =
-        (inl (is, inl (refl, reserved)), (λ n diagnostic. omega arith), omega arith, tt)
+        (inl (is, inl (refl, reserved)), (λ n diagnostic. grind (arith, same_number)), omega arith, tt)
     word k is turns false None free lookup =
-        (inl (is, inr (refl, lookup)), (λ n diagnostic. grind arith), omega arith, tt)
+        (inl (is, inr (refl, lookup)), (λ n diagnostic. grind (arith, same_number)), omega arith, tt)
     word k is turns false (Some a) free lookup =
-        advance_tells f declared r (record m { kind = k }) _ (turns a)
+        advance_fits f declared r (record m { kind = k }) _ (turns a)
         (λ n diagnostic. grind arith)
 
-    told : (k : TokenKind) → StepTells f declared r (record m { kind = k }) (step f declared r k m.word)
+    told : (k : TokenKind) → StepFits f declared r (record m { kind = k }) (step f declared r k m.word)
     told token.Identifier = word token.Identifier refl (advance-Turns r token.Identifier) (is_reserved_token f token.Identifier m.word)
         (attribute_named declared m.word) refl refl
     told token.Quoted = word token.Quoted refl (advance-Turns r token.Quoted) (is_reserved_token f token.Quoted m.word)
         (attribute_named declared m.word) refl refl
     told k =
-        advance_tells f declared r (record m { kind = k }) _ (advance-Turns r k 0)
+        advance_fits f declared r (record m { kind = k }) _ (advance-Turns r k 0)
         (λ n diagnostic. let is = diagnostic.0 in cc)
 
 -- whether the line may end
-abbrev pub EndTells : Reached → Result Dependency What → Type 0
-EndTells r (Ok d) = is_final (shape_of r) ≡ true
-EndTells r (Err w) = (is_final (shape_of r) ≡ false) × (w ≡ wanted_by (shape_of r))
+abbrev pub EndFits : Reached → Result Dependency What → Type 0
+EndFits r (Ok d) = is_final (shape_of r) ≡ true
+EndFits r (Err w) = (is_final (shape_of r) ≡ false) × (w ≡ wanted_by (shape_of r))
 
-pub end_tells : (r : Reached) → EndTells r (finish_dependency r)
+pub end_fits : (r : Reached) → EndFits r (finish_dependency r)
 unfolding finish_dependency
-end_tells (right s x y) = refl
-end_tells (right_empty s x) = refl
-end_tells r = (refl, refl)
+end_fits (right s x y) = refl
+end_fits (right_empty s x) = refl
+end_fits r = (refl, refl)
 
 -- tokens that lead to an end of the line
 pub record Ends (s : Shape) (ks : List TokenKind) : Type 0 where
@@ -184,18 +186,18 @@ pub record Ends (s : Shape) (ks : List TokenKind) : Type 0 where
 follow_runs : (f : Format) (declared : List (List ℕ)) (line : ℕ) (r : Reached) (from : ℕ) (ms : List Mark) (d : Dependency)
     → follow f declared line r from ms None ≡ Ok d → Ends (shape_of r) (kinds ms)
 unfolding follow
-follow_runs f declared line r from [] d e = told (finish_dependency r) (end_tells r) e
+follow_runs f declared line r from [] d e = told (finish_dependency r) (end_fits r) e
   where
-    told : (o : Result Dependency What) → EndTells r o → at line from 0 (expect o) ≡ Ok d → Ends (shape_of r) []
+    told : (o : Result Dependency What) → EndFits r o → at line from 0 (expect o) ≡ Ok d → Ends (shape_of r) []
     told (Ok dep) final e = record { last = shape_of r; leads = refl; final = final }
     told (Err what) final e = cc
 follow_runs f declared line r from (m ∷ ms) d e =
-    told (step f declared r m.kind m.word) (step_tells f declared r m) (λ next h. follow_runs f declared line next (m.column + m.length) ms d h) e
+    told (step f declared r m.kind m.word) (step_fits f declared r m) (λ next h. follow_runs f declared line next (m.column + m.length) ms d h) e
   where
-    told : (o : Result Reached SchemaRefusalKind) → StepTells f declared r m o → ((next : Reached) → follow f declared line next (m.column + m.length) ms None ≡ Ok d → Ends (shape_of next) (kinds ms))
+    told : (o : Result Reached SchemaRefusalKind) → StepFits f declared r m o → ((next : Reached) → follow f declared line next (m.column + m.length) ms None ≡ Ok d → Ends (shape_of next) (kinds ms))
         → (at line m.column m.length o >>= (λ next. follow f declared line next (m.column + m.length) ms None)) ≡ Ok d → Ends (shape_of r) (m.kind ∷ kinds ms)
-    told (Ok next) tells rest e = let more = rest next e in record { last = more.last; leads = rw tells.0 more.leads; final = more.final }
-    told (Err why) tells rest e = cc
+    told (Ok next) fit rest e = let more = rest next e in record { last = more.last; leads = rw fit.0 more.leads; final = more.final }
+    told (Err why) fit rest e = cc
 
 -- a token of each kind, over the one name `a`
 abbrev sample_mark : TokenKind → Mark
@@ -217,20 +219,20 @@ record Reads (r : Reached) (ks : List TokenKind) : Type 0 where
 
 runs_read : (r : Reached) (ks : List TokenKind) (s : Shape) → runs (shape_of r) ks ≡ Some s → is_final s ≡ true → Reads r ks
 unfolding follow is_reserved
-runs_read r [] s e final = told (finish_dependency r) refl (end_tells r)
+runs_read r [] s e final = told (finish_dependency r) refl (end_fits r)
   where
-    told : (o : Result Dependency What) → finish_dependency r ≡ o → EndTells r o → Reads r []
-    told (Ok dep) is tells =
+    told : (o : Result Dependency What) → finish_dependency r ≡ o → EndFits r o → Reads r []
+    told (Ok dep) is fit =
         record { marks = []; same = refl; dep = dep; read = ap (λ t. at 1 1 0 (expect t)) is }
-    told (Err what) is tells =
+    told (Err what) is fit =
         let last : shape_of r ≡ s = cc in
-        let wrong : false ≡ true = sym tells.0 ∙ ap is_final last ∙ final in cc
-runs_read r (k ∷ ks) s e final = told (step format.Plain one_name r k (97 ∷ [])) refl (step_tells format.Plain one_name r (sample_mark k)) (λ next h. runs_read next ks s h final)
+        let wrong : false ≡ true = sym fit.0 ∙ ap is_final last ∙ final in cc
+runs_read r (k ∷ ks) s e final = told (step format.Plain one_name r k (97 ∷ [])) refl (step_fits format.Plain one_name r (sample_mark k)) (λ next h. runs_read next ks s h final)
   where
-    told : (o : Result Reached SchemaRefusalKind) → step format.Plain one_name r k (97 ∷ []) ≡ o → StepTells format.Plain one_name r (sample_mark k) o
+    told : (o : Result Reached SchemaRefusalKind) → step format.Plain one_name r k (97 ∷ []) ≡ o → StepFits format.Plain one_name r (sample_mark k) o
         → ((next : Reached) → runs (shape_of next) ks ≡ Some s → Reads next ks) → Reads r (k ∷ ks)
-    told (Ok next) is tells rest =
-        let more = rest next (ap (λ o. bind o (λ t. runs t ks)) (sym tells.0) ∙ e) in
+    told (Ok next) is fit rest =
+        let more = rest next (ap (λ o. bind o (λ t. runs t ks)) (sym fit.0) ∙ e) in
         record {
           marks = sample_mark k ∷ more.marks;
           same = ap (λ t. k ∷ t) more.same;

@@ -15,7 +15,8 @@ use Rattle.schema_grammar.specs.Refusals.{refusal, refused_by}
 use Rattle.schema_grammar.specs.Rests.{◌>>=◌, take, number_in, refusal_at_end, refusal_at_end_from, unless}
 use Rattle.schema_grammar.specs.Schemas.{FitsLines, VersionDiagnostic, VersionWants, FitsVersion, HasVersionLine, FitsText, FitsSchema, RefusesSchema, IsVersionLine, has_version_line}
 use Rattle.schema_grammar.specs.Texts.{read_lines, read_version, read_opening, read_text, version_number}
-use Rattle.schema_grammar.proofs.DiagnosticLaws.{flaw_numbered, flaw_carries, flaw_least, first_at}
+use Rattle.schema_grammar.proofs.DiagnosticLaws.{flaw_carries, flaw_least, first_at, flaw_kind}
+use Rattle.schema_grammar.proofs.KindLemmas.{same_number}
 use Rattle.schema_grammar.proofs.LinesLaws.{lines-law}
 use Rattle.schema_grammar.proofs.SchemaLaws.{version_there, version_line_or_none, plain_opening, typed_opening}
 
@@ -26,11 +27,11 @@ unfolding read_version take refusal_at_end
 version-law line next_column [] None =
     first_at (VersionDiagnostic [] None) VersionWants (span_at line next_column [] None)
     (refusal line next_column 0 (kind.Expected what.Number)) 0 (λ p n less. absurd (omega arith))
-    (inl (inl (inr (refl, refl, refl, refl)))) (inl (refl, refl)) refl (λ n diagnostic. grind arith)
+    (inl (inl (inr (refl, refl, refl, refl)))) (inl (refl, refl)) refl (λ n diagnostic. grind (arith, same_number))
 version-law line next_column [] (Some s) =
     first_at (VersionDiagnostic [] (Some s)) VersionWants (span_at line next_column [] (Some s))
     (refused_by line s) 0
-    (λ p n less. absurd (omega arith)) (inr (s, refl, refl, flaw_numbered s.flaw))
+    (λ p n less. absurd (omega arith)) (inr (s, refl, refl, flaw_kind s.flaw))
     (flaw_carries (VersionWants 0) s.flaw) refl
     (λ n diagnostic. grind (arith, flaw_least s))
 version-law line next_column (m ∷ ms) stop = told (number_in m.kind) refl
@@ -42,14 +43,14 @@ version-law line next_column (m ∷ ms) stop = told (number_in m.kind) refl
     ends i some two [] (Some s) =
         first_at (VersionDiagnostic (m ∷ []) (Some s)) VersionWants
         (span_at line next_column (m ∷ []) (Some s)) (refused_by line s) 1
-        (λ p n less diagnostic. grind arith) (inr (s, refl, refl, flaw_numbered s.flaw))
+        (λ p n less diagnostic. grind arith) (inr (s, refl, refl, flaw_kind s.flaw))
         (flaw_carries (VersionWants 1) s.flaw) refl
         (λ n diagnostic. grind (arith, flaw_least s))
     ends i some two (k ∷ ks) o =
         first_at (VersionDiagnostic (m ∷ k ∷ ks) o) VersionWants (span_at line next_column (m ∷ k ∷ ks) o)
         (refusal line k.column k.length (kind.Expected what.LineEnd)) 1
         (λ p n less diagnostic. grind arith) (inl (inr (inr (k, refl, refl, refl))))
-        (inr (omega arith, refl)) refl (λ n diagnostic. grind arith)
+        (inr (omega arith, refl)) refl (λ n diagnostic. grind (arith, same_number))
 
     number : (i : ℕ) (b : Bool) → number_in m.kind ≡ Some i → (i == VERSION) ≡ b
         → FitsVersion line next_column (m ∷ ms) stop
@@ -58,14 +59,14 @@ version-law line next_column (m ∷ ms) stop = told (number_in m.kind) refl
     number i false some other =
         first_at (VersionDiagnostic (m ∷ ms) stop) VersionWants (span_at line next_column (m ∷ ms) stop)
         (refusal line m.column m.length kind.UnknownVersion) 0 (λ p n less. absurd (omega arith))
-        (inl (inr (inl (m, i, refl, some, other, refl, refl)))) tt refl (λ n diagnostic. grind arith)
+        (inl (inr (inl (m, i, refl, some, other, refl, refl)))) tt refl (λ n diagnostic. grind (arith, same_number))
 
     told : (o : Option ℕ) → number_in m.kind ≡ o → FitsVersion line next_column (m ∷ ms) stop (version_number m (record { line = line; next_column = m.column + m.length; marks = ms; stop = stop }) o)
     told None none =
         first_at (VersionDiagnostic (m ∷ ms) stop) VersionWants (span_at line next_column (m ∷ ms) stop)
         (refusal line m.column m.length (kind.Expected what.Number)) 0
         (λ p n less. absurd (omega arith))
-        (inl (inl (inl (m, refl, none, refl, refl)))) (inl (refl, refl)) refl (λ n diagnostic. grind arith)
+        (inl (inl (inl (m, refl, none, refl, refl)))) (inl (refl, refl)) refl (λ n diagnostic. grind (arith, same_number))
     told (Some i) some = number i (i == VERSION) some refl
 
 -- a schema text is refused by its first diagnostic, or as declaring nothing, and read where there is

@@ -1,3 +1,4 @@
+pub mod DiagnosticKinds
 pub mod Diagnostics
 pub mod Declarations
 pub mod Grammar

@@ -1,6 +1,6 @@
 -- What a schema text means, and which refusal is its first: for `read_schema` and all commands that
 -- read a schema (`desk_cli/Inputs`).
-use Rattle.std.specs.Prelude.{◌≡◌, ◌<◌, ◌≤◌, ◌⊎◌, ℕ, ◌+◌, ◌-◌, Result, Ok, Err, Bool, true, false, List, [], ◌∷◌, ◌++◌, length, Option, Some, None, All, slice_get, ◌==◌}
+use Rattle.std.specs.Prelude.{◌≡◌, ◌<◌, ◌⊎◌, ℕ, ◌+◌, ◌-◌, Result, Ok, Err, Bool, true, false, List, [], ◌∷◌, ◌++◌, length, Option, Some, None, All, slice_get, ◌==◌}
 use Rattle.attr_sets.specs.declared.set.TheConstants.{MOST_ATTRIBUTES}
 use Rattle.dep_model.specs.declared.column_type.ColumnType.{ColumnType}
 use Rattle.schema_grammar.specs.declared.format.TheConstants.{MOST_DEPENDENCY_LINES}
@@ -15,7 +15,8 @@ use Rattle.schema_grammar.specs.declared.refusal.SchemaRefusal.{SchemaRefusal}
 use Rattle.schema_grammar.specs.declared.refusal.SchemaRefusalKind.TheVariants as kind
 use Rattle.schema_grammar.specs.declared.refusal.What.{What}
 use Rattle.schema_grammar.specs.declared.refusal.What.TheVariants as what
-use Rattle.schema_grammar.specs.Diagnostics.{TextLineDiagnostic, TextLineWants, AtFirst, Carries, IsFirst, refusal_number, flaw_number, span_at}
+use Rattle.schema_grammar.specs.DiagnosticKinds.{DiagnosticKind, expected, unknown_version, diagnostic_kind, diagnostic_of_flaw, IsNoLater}
+use Rattle.schema_grammar.specs.Diagnostics.{TextLineDiagnostic, TextLineWants, AtFirst, Carries, IsFirst, span_at}
 use Rattle.schema_grammar.specs.Refusals.{refusal}
 use Rattle.schema_grammar.specs.declared.format.TheConstants.{VERSION}
 use Rattle.schema_grammar.specs.declared.format.Format.{Format}
@@ -120,7 +121,7 @@ pub record MeansSchema (text : List ℕ) (whole : Declarations) : Type 0 where
 -- what is wrong with lines, of which the first has this number: on one of them, after lines that have
 -- a meaning
 pub record LinesDiagnostic (f : Format) (first : ℕ) (d : Declarations) (lines : List (List ℕ))
-    (number position why : ℕ) : Type 0 where
+    (number position : ℕ) (why : DiagnosticKind) : Type 0 where
   pub before : List (List ℕ)
   pub line : List ℕ
   pub after : List (List ℕ)
@@ -132,16 +133,16 @@ pub record LinesDiagnostic (f : Format) (first : ℕ) (d : Declarations) (lines 
       (lex mode.plain line).stop position why
 
 -- a refusal is the diagnostic of the first line, there at the first position, and there of the least
--- number; a refusal 6 carries what is wanted there
+-- number; where it is of what is expected, it carries what is wanted there
 pub record IsFirstOfLines (f : Format) (first : ℕ) (d : Declarations) (lines : List (List ℕ))
     (e : SchemaRefusal) : Type 0 where
   pub position : ℕ
-  pub stands : LinesDiagnostic f first d lines e.span.line position (refusal_number e.kind)
+  pub stands : LinesDiagnostic f first d lines e.span.line position (diagnostic_kind e.kind)
   pub carries : Carries (TextLineWants f (lex mode.plain stands.line).marks position) e.kind
   pub there : e.span ≡ span_at e.span.line 1 (lex mode.plain stands.line).marks
       (lex mode.plain stands.line).stop position
-  pub least : (l p n : ℕ) → LinesDiagnostic f first d lines l p n
-      → (e.span.line < l) ⊎ ((e.span.line ≡ l) × ((position < p) ⊎ ((position ≡ p) × (refusal_number e.kind ≤ n))))
+  pub least : (l p : ℕ) (why : DiagnosticKind) → LinesDiagnostic f first d lines l p why
+      → (e.span.line < l) ⊎ ((e.span.line ≡ l) × IsNoLater position (diagnostic_kind e.kind) p why)
 
 -- nothing is wrong with the lines, but that they declare nothing; refused at the last of them
 pub record DeclaresNothing (f : Format) (first : ℕ) (d : Declarations) (lines : List (List ℕ))
@@ -157,19 +158,20 @@ RefusesLines f first d lines e = IsFirstOfLines f first d lines e ⊎ DeclaresNo
 
 -- lines are refused by the first diagnostic, or as declaring nothing, and read where there is neither
 abbrev pub FitsLines : Format → ℕ → Declarations → List (List ℕ) → Result Declarations SchemaRefusal → Type 0
-FitsLines f first d lines (Ok whole) = (l p n : ℕ) → LinesDiagnostic f first d lines l p n → ⊥
+FitsLines f first d lines (Ok whole) =
+    (l p : ℕ) (why : DiagnosticKind) → LinesDiagnostic f first d lines l p why → ⊥
 FitsLines f first d lines (Err e) = RefusesLines f first d lines e
 
 -- what is wrong with the tokens after the word `version`: no number, another number than 2, a token
 -- after the number, or bytes that are no token
-abbrev pub VersionDiagnostic : List Mark → Option LexError → ℕ → ℕ → Type 0
+abbrev pub VersionDiagnostic : List Mark → Option LexError → ℕ → DiagnosticKind → Type 0
 VersionDiagnostic ms stop position why =
-    ((((m : Mark) × (slice_get ms 0 ≡ Some m) × (number_in m.kind ≡ None) × (position ≡ 0) × (why ≡ 6))
-    ⊎ ((ms ≡ []) × (stop ≡ None) × (position ≡ 0) × (why ≡ 6)))
+    ((((m : Mark) × (slice_get ms 0 ≡ Some m) × (number_in m.kind ≡ None) × (position ≡ 0) × (why ≡ expected))
+    ⊎ ((ms ≡ []) × (stop ≡ None) × (position ≡ 0) × (why ≡ expected)))
     ⊎ (((m : Mark) × (n : ℕ) × (slice_get ms 0 ≡ Some m) × (number_in m.kind ≡ Some n)
-    × ((n == VERSION) ≡ false) × (position ≡ 0) × (why ≡ 13))
-    ⊎ ((m : Mark) × (slice_get ms 1 ≡ Some m) × (position ≡ 1) × (why ≡ 6))))
-    ⊎ ((s : LexError) × (stop ≡ Some s) × (position ≡ length ms) × (why ≡ flaw_number s.flaw))
+    × ((n == VERSION) ≡ false) × (position ≡ 0) × (why ≡ unknown_version))
+    ⊎ ((m : Mark) × (slice_get ms 1 ≡ Some m) × (position ≡ 1) × (why ≡ expected))))
+    ⊎ ((s : LexError) × (stop ≡ Some s) × (position ≡ length ms) × (why ≡ diagnostic_of_flaw s.flaw))
 
 -- after the word `version` a number is wanted first
 abbrev pub VersionWants : ℕ → What → Type 0
@@ -182,7 +184,8 @@ RefusesVersion line next_column ms stop e =
 
 -- a version line is refused by the first diagnostic, and read where there is none
 abbrev pub FitsVersion : ℕ → ℕ → List Mark → Option LexError → Result Declarations SchemaRefusal → Type 0
-FitsVersion line next_column ms stop (Ok d) = (position why : ℕ) → VersionDiagnostic ms stop position why → ⊥
+FitsVersion line next_column ms stop (Ok d) =
+    (position : ℕ) (why : DiagnosticKind) → VersionDiagnostic ms stop position why → ⊥
 FitsVersion line next_column ms stop (Err e) = RefusesVersion line next_column ms stop e
 
 -- a text whose first token is the word `version`

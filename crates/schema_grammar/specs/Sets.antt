@@ -13,7 +13,8 @@ use Rattle.schema_grammar.specs.declared.refusal.SchemaRefusal.{SchemaRefusal}
 use Rattle.schema_grammar.specs.declared.refusal.What.{What}
 use Rattle.schema_grammar.specs.declared.refusal.What.TheVariants as what
 use Rattle.schema_grammar.specs.declared.symbol.Sign.TheVariants as sign
-use Rattle.schema_grammar.specs.Diagnostics.{DiagnosesOfWord, IsFirst, AtFirst, flaw_number, span_at}
+use Rattle.schema_grammar.specs.DiagnosticKinds.{DiagnosticKind, expected, diagnostic_of_flaw}
+use Rattle.schema_grammar.specs.Diagnostics.{DiagnosesOfWord, IsFirst, AtFirst, span_at}
 use Rattle.schema_grammar.specs.Grammar.{after_sign}
 use Rattle.schema_grammar.specs.Meanings.{HasTokens, IsSide}
 use Rattle.schema_grammar.specs.Reading.{follow_rest}
@@ -40,15 +41,15 @@ IsOutOfPlace ms (suc position) k = (is_word_token k ≡ false) ⊎ BeginsEmpty m
 
 -- what is wrong with the tokens of a side at a position, before which so many tokens stand: a token, the
 -- line's end where no token stands, or bytes that are no token
-abbrev pub SideDiagnostic : List (List ℕ) → List Mark → Option LexError → ℕ → ℕ → Type 0
-SideDiagnostic declared ms stop position number =
+abbrev pub SideDiagnostic : List (List ℕ) → List Mark → Option LexError → ℕ → DiagnosticKind → Type 0
+SideDiagnostic declared ms stop position why =
     (((m : Mark) × (slice_get ms position ≡ Some m)
-    × (DiagnosesOfWord format.Plain declared m number ⊎ ((number ≡ 6) × IsOutOfPlace ms position m.kind)))
-    ⊎ ((number ≡ 6) × (position ≡ 0) × (ms ≡ []) × (stop ≡ None)))
-    ⊎ ((s : LexError) × (stop ≡ Some s) × (position ≡ length ms) × (number ≡ flaw_number s.flaw))
+    × (DiagnosesOfWord format.Plain declared m why ⊎ ((why ≡ expected) × IsOutOfPlace ms position m.kind)))
+    ⊎ ((why ≡ expected) × (position ≡ 0) × (ms ≡ []) × (stop ≡ None)))
+    ⊎ ((s : LexError) × (stop ≡ Some s) × (position ≡ length ms) × (why ≡ diagnostic_of_flaw s.flaw))
 
 -- what is wrong with a set over declared names
-abbrev pub SetDiagnostic : List (List ℕ) → List ℕ → ℕ → ℕ → Type 0
+abbrev pub SetDiagnostic : List (List ℕ) → List ℕ → ℕ → DiagnosticKind → Type 0
 SetDiagnostic declared text = SideDiagnostic declared (lex mode.goal text).marks (lex mode.goal text).stop
 
 -- a side is wanted first, and then the line's end
@@ -63,7 +64,8 @@ RefusesSet declared text e =
 
 -- a set is refused by the first diagnostic, and read where there is none
 abbrev pub FitsSet : List (List ℕ) → List ℕ → Result Attributes SchemaRefusal → Type 0
-FitsSet declared text (Ok x) = (position number : ℕ) → SetDiagnostic declared text position number → ⊥
+FitsSet declared text (Ok x) =
+    (position : ℕ) (why : DiagnosticKind) → SetDiagnostic declared text position why → ⊥
 FitsSet declared text (Err e) = RefusesSet declared text e
 
 -- the set that a text states over declared names, or its refusal: it is read as what follows `() ->`

@@ -1,5 +1,5 @@
 ghost use Rattle.std.specs.Prelude.{◌≡◌};
-ghost use Rattle.schema_grammar.specs.Diagnostics.{refusal_number};
+ghost use Rattle.schema_grammar.specs.DiagnosticKinds.{diagnostic_kind, number_of};
 ghost use Rattle.schema_grammar.specs.Refusals.{refusal, refused_by};
 
 use lexer::{Flaw, LexError};
@@ -63,7 +63,7 @@ pub struct SchemaRefusal {
 impl SchemaRefusalKind {
     /// The number by which the documents and the program name it.
     pub fn number(self) -> u32
-        ensures number { result ≡ refusal_number self }
+        ensures number { result ≡ number_of (diagnostic_kind self) }
     {
         match self {
             SchemaRefusalKind::StrangeByte => 1,

@@ -19,7 +19,7 @@ returns-in-Ok-read_plan-clause-ok g c = λ r same. record {
 }
 
 pub returns-in-Ok-read_plan-clause-within_limit : goal.returns-in-Ok-read_plan-clause-within_limit
-returns-in-Ok-read_plan-clause-within_limit g c = c.in-Ok-read_plan.ensures.ok.few
+returns-in-Ok-read_plan-clause-within_limit g c = c.in-Ok-read_plan.ensures.ok.schemes_fit
 
 pub returns-in-Ok-read_plan-clause-covers : goal.returns-in-Ok-read_plan-clause-covers
 returns-in-Ok-read_plan-clause-covers g c = c.in-Ok-read_plan.ensures.ok.covers

@@ -36,13 +36,13 @@ returns-in-None-clause-ok c =
     let names = names_of c.args.schema.now in
     let is = meant names c.args.text.now c.without_mark.result.now (schemes_of c.in-Ok.schemes.items) c.without_mark.ensures.text c.in-Ok.ensures.ok in
     subst (λ (xs : List AttrSet). MeansPlan names c.args.text.now (schemes_of xs)) (sym c.new.ensures.schemes)
-    (record { lines = is.0; few = is.1; covers = subst (λ (xs : List AttrSet). Covers (width_of c.args.schema.now) (schemes_of xs)) c.deref.ensures.value (c.in-None.ensures.covers refl) })
+    (record { lines = is.0; schemes_fit = is.1; covers = subst (λ (xs : List AttrSet). Covers (width_of c.args.schema.now) (schemes_of xs)) c.deref.ensures.value (c.in-None.ensures.covers refl) })
 
 pub returns-in-Some-clause-err : goal.returns-in-Some-clause-err
 returns-in-Some-clause-err c =
     let names = names_of c.args.schema.now in
     let is = meant names c.args.text.now c.without_mark.result.now (schemes_of c.in-Ok.schemes.items) c.without_mark.ensures.text c.in-Ok.ensures.ok in
-    inr (record { schemes = schemes_of c.in-Ok.schemes.items; means = is.0; few = is.1; attribute = c.in-Some.attribute; least = subst (λ (xs : List AttrSet). IsFirstFrom (uncovered_attributes (width_of c.args.schema.now) (schemes_of xs)) 0 c.in-Some.attribute) c.deref.ensures.value c.in-Some.ensures.least; told = refl })
+    inr (record { schemes = schemes_of c.in-Ok.schemes.items; means = is.0; schemes_fit = is.1; attribute = c.in-Some.attribute; least = subst (λ (xs : List AttrSet). IsFirstFrom (uncovered_attributes (width_of c.args.schema.now) (schemes_of xs)) 0 c.in-Some.attribute) c.deref.ensures.value c.in-Some.ensures.least; is = refl })
 
 pub returns-in-Err-clause-err : goal.returns-in-Err-clause-err
 returns-in-Err-clause-err c =

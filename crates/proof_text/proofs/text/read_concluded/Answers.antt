@@ -27,7 +27,7 @@ lines-init c = record {
       cond_both _ (drop 3 text) text (λ t. length t ≤ length text) (λ marked. omega (arith, length-drop 3 text))
       (λ bare. omega arith) in
       omega (arith, short, ap length c.without_mark-rest.ensures.text);
-  checker_state = subst (IsCheckerState c.args.schema.now) (sym c.new-book.ensures.empty) (record { stand = tt {0}; count = refl; few = omega arith });
+  checker_state = subst (IsCheckerState c.args.schema.now) (sym c.new-book.ensures.empty) (record { stand = tt {0}; count = refl; lines_fit = omega arith });
 }
 
 pub read_one-requires-clause-fits_u32 : goal.read_one-requires-clause-fits_u32
