@@ -254,6 +254,8 @@ token_makes f declared line from left_empty token.DoubleArrow column size word m
 token_makes f declared line from (after_sign s x) token.Empty column size word ms d other rest e =
     let more : EndRest s x ms d = rest (right_empty s x) e in
     record { y = none; right_side = inl (record { mark = mark token.Empty column size word; alone = ap (λ t. mark token.Empty column size word ∷ t) more.nothing; is_empty = refl; nothing = refl }); states = more.states }
+token_makes f declared line from (right s x y) token.Identifier column size word ms d other rest e = cc
+token_makes f declared line from (right_empty s x) token.Identifier column size word ms d other rest e = cc
 token_makes f declared line from r k column size word ms d other rest e = cc
 
 -- the tokens that are read make the dependency

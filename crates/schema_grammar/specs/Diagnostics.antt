@@ -58,7 +58,8 @@ Wants ks _ = ⊥
 abbrev pub DiagnosesOfWord : Format → List (List ℕ) → Mark → DiagnosticKind → Type 0
 DiagnosesOfWord f declared m why =
     (is_word_token m.kind ≡ true)
-    × (((why ≡ reserved_name) × (is_reserved_token f m.kind m.word ≡ true)) ⊎ ((why ≡ unknown_name) × (attribute_named declared m.word ≡ None)))
+    × (((why ≡ reserved_name) × (is_reserved_token f m.kind m.word ≡ true))
+    ⊎ ((why ≡ unknown_name) × (attribute_named declared m.word ≡ None)))
 
 -- what is wrong with the tokens of a dependency line at a position, before which so many tokens stand
 abbrev pub DependencyDiagnostic : Format → List (List ℕ) → List Mark → Option LexError → ℕ → DiagnosticKind
