@@ -12,10 +12,6 @@ use Rattle.plan_grammar.specs.declared.refusal.PlanRefusal.TheVariants as plan
 use Rattle.plan_grammar.specs.Reading.{attribute_of_token, read_words, read_words_rest, read_scheme, read_scheme_line, read_scheme_lines}
 
 -- ---- words
--- to read the words that are left is to read all of them
-pub record GoesOn (names : List (List ℕ)) (whole : Rest) (first : Bool) (x : Attributes) (rest : Rest) : Type 0 where
-  pub same : read_words_rest names true none whole ≡ read_words_rest names first x rest
-
 pub words_empty : (names : List (List ℕ)) (first : Bool) (x : Attributes) (r : Rest) → first ≡ true → HasEnded r → read_words_rest names first x r ≡ Err (plan.EmptyScheme r.line)
 unfolding read_words
 words_empty names first x r begun ended = rw (begun, ended.marks, ended.stop) refl
@@ -59,7 +55,7 @@ line_stopped names schemes r e stopped = rw (stopped.marks, stopped.stop, stoppe
 led_read : (names : List (List ℕ)) (schemes : List Attributes) (r : Rest) (m : Mark) (after : Rest) → IsLed r m after
     → read_rest names schemes r ≡ (read_scheme names (length schemes) m after >>= (λ x. Ok (schemes ++ x ∷ [])))
 unfolding read_scheme_line
-led_read names schemes r m after led = rw (led.marks, led.stop, ← led.line, ← led.column) refl
+led_read names schemes r m after led = rw (led.marks, led.stop, ← led.line) refl
 
 pub scheme_refused : (names : List (List ℕ)) (schemes : List Attributes) (r : Rest) (m : Mark) (after : Rest) (e : PlanRefusal) → IsLed r m after
     → read_scheme names (length schemes) m after ≡ Err e → read_rest names schemes r ≡ Err e

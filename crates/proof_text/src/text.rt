@@ -1,5 +1,5 @@
 ghost use Rattle.std.specs.Prelude.{◌≡◌, ◌+◌, ◌<◌, ◌≤◌, ◌^◌, length, IfOk, IfErr, Ok, Err};
-ghost use Rattle.lexer.specs.Tokens.{tokens_after};
+ghost use Rattle.tokens.specs.Views.{rest_of};
 ghost use Rattle.derivation.specs.Derivs.{tree_of};
 ghost use Rattle.dep_model.specs.Failures.{RefusesAs};
 ghost use Rattle.dep_model.specs.Schemas.{universe_of};
@@ -11,18 +11,17 @@ ghost use Rattle.proof_grammar.specs.Refusals.{RefusesProof};
 ghost use Rattle.proof_grammar.specs.Spelling.{SpellsWithin};
 ghost use Rattle.proof_grammar.specs.Checked.{IsChecked};
 ghost use Rattle.proof_grammar.specs.Diagnostics.{IsFound, IsRefusalWithin};
-ghost use Rattle.proof_grammar.specs.Texts.{is_yes, is_blank, read_one};
+ghost use Rattle.proof_grammar.specs.Texts.{is_yes, is_blank_from, read_one};
 
 use crate::checker_state::CheckerState;
 use crate::line::read_line;
 use crate::node::Concluded;
 use dep_model::{Failure, Schema};
 use derivation::Deriv;
-use lexer::{Mode, Next, TokenKind, cut_line, next_token, without_mark};
+use lexer::{Mode, TokenKind, cut_line, without_mark};
 use proof_grammar::{ProofRefusal, ProofRefusalKind};
-use schema_grammar::SchemaRefusal;
 use std::alloc::Global;
-use tokens::{Cursor, Guide, Names};
+use tokens::{Cursor, Guide, Names, NextToken};
 
 /// The most bytes of a certificate.
 pub const MOST_PROOF_BYTES: usize = 268_435_456;
@@ -116,23 +115,14 @@ fn read_one(
         (checker_state_of book.old) text.now))) }
     ensures within { IfErr result (RefusesAs (IsRefusalWithin (universe_of schema.now))) }
 {
-    match next_token(Mode::Numbered, 1, text) {
-        Next::End => Ok(fresh),
-        Next::Error(stop) => {
-            let refusal = SchemaRefusal::by(number, stop);
-            Err(Failure::Refused(ProofRefusalKind::BadLine(refusal)))
-        }
-        Next::Token(first, word, rest) => {
-            let column = first.column + first.length;
-            if fresh && is_yes(first.kind, word) && is_blank(column, rest) {
+    let start = Cursor::start(number, Mode::Numbered, text);
+    match start.next() {
+        NextToken::End => Ok(fresh),
+        NextToken::Refusal(refusal) => Err(Failure::Refused(ProofRefusalKind::BadLine(refusal))),
+        NextToken::Token(first, word, rest) => {
+            if fresh && is_yes(first.kind, word) && is_blank(rest) {
                 return Ok(false);
             }
-            let rest = Cursor {
-                line: number,
-                column,
-                text: rest,
-                mode: Mode::Numbered,
-            };
             match read_line(&Names::Guided(schema, guide), first, word, rest) {
                 Err(refusal) => Err(Failure::Refused(ProofRefusalKind::BadLine(refusal))),
                 Ok(line) => {
@@ -145,14 +135,13 @@ fn read_one(
 }
 
 /// Whether no token stands in the rest of a line.
-fn is_blank(column: u32, text: &[u8]) -> bool
-    requires { column + length text.now < 2 ^ 32 }
-    ensures exact { result ≡ is_blank (tokens_after Mode.Numbered 0 column text.now) }
+fn is_blank(rest: Cursor<'_>) -> bool
+    ensures exact { result ≡ is_blank_from (rest_of rest.entry).marks (rest_of rest.entry).stop }
 {
-    match next_token(Mode::Numbered, column, text) {
-        Next::End => true,
-        Next::Error(_) => false,
-        Next::Token(_, _, _) => false,
+    match rest.next() {
+        NextToken::End => true,
+        NextToken::Refusal(_) => false,
+        NextToken::Token(_, _, _) => false,
     }
 }
 

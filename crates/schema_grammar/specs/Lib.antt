@@ -11,5 +11,4 @@ pub mod Rests
 pub mod Schemas
 pub mod Sets
 pub mod Texts
-pub mod TokenLists
 pub mod Words

@@ -1,4 +1,3 @@
 pub mod FollowLemmas
 pub mod ListLemmas
 pub mod TextLemmas
-pub mod TokenLemmas

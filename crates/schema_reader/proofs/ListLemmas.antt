@@ -1,32 +1,70 @@
--- To read what is left of a declaring line is to read the whole.
-use Rattle.std.proofs.Common.{◌≡◌, ◌<◌, ◌+◌, ◌^◌, ℕ, Bool, true, false, List, [], ◌∷◌, length, Option, Some, Err, refl}
+-- A line is read by what comes next on it: the names after a declaring word, or a dependency.
+use Rattle.std.proofs.Common.{◌≡◌, ◌∙◌, ℕ, Bool, true, false, List, length, Some, None, Ok, Err, ap, refl, sym}
 use Rattle.dep_model.specs.declared.column_type.ColumnType.{ColumnType}
 use Rattle.lexer.specs.declared.token.Mode.TheVariants as mode
-use Rattle.lexer.specs.declared.token.LexError.{LexError}
-use Rattle.lexer.specs.Tokens.{Mark, tokens_after}
+use Rattle.lexer.specs.Tokens.{Mark, lex}
 use Rattle.schema_grammar.specs.declared.format.Format.{Format}
-use Rattle.schema_grammar.specs.Declarations.{Declarations, list_names, list_names_lexed, name_step}
-use Rattle.schema_grammar.specs.Refusals.{refused_by, at}
-use Rattle.schema_grammar.specs.Rests.{◌>>=◌}
+use Rattle.schema_grammar.specs.declared.refusal.SchemaRefusal.{SchemaRefusal}
+use Rattle.schema_grammar.specs.declared.refusal.SchemaRefusalKind.{SchemaRefusalKind}
+use Rattle.schema_grammar.specs.declared.refusal.SchemaRefusalKind.TheVariants as kind
+use Rattle.schema_grammar.specs.declared.refusal.What.TheVariants as what
+use Rattle.schema_grammar.specs.Declarations.{Declarations, list_names, list_names_rest, name_step, dependency_rest, line_of_marks, line_from, read_line}
+use Rattle.schema_grammar.specs.Refusals.{refusal}
+use Rattle.schema_grammar.specs.Rests.{Rest, rest_from}
+use Rattle.schema_grammar.specs.Words.{column_type_of_token}
+use Rattle.std.specs.Prelude.{Result}
+use Rattle.tokens.specs.Views.{HasEnded, IsStopped, IsLed}
 
--- to read what is left of a declaring line is to read the whole
-pub record Lists (f : Format) (column : ColumnType) (line : ℕ) (first : Declarations) (start : ℕ) (text : List ℕ) (d : Declarations) (some : Bool) (next_column : ℕ) (rest : List ℕ) : Type 0 where
-  pub same : list_names_lexed f column line first false start (tokens_after mode.Plain 0 start text) ≡ list_names_lexed f column line d some next_column (tokens_after mode.Plain 0 next_column rest)
-  pub room : next_column + length rest < 2 ^ 32
+-- ---- a line
+abbrev pub line_rest : Format → Declarations → Rest → Result Declarations SchemaRefusal
+line_rest f d r = line_of_marks f r.line d r.marks r.stop
 
--- what does not ask whether a name stood before
-pub names_stop : (f : Format) (column : ColumnType) (line : ℕ) (d : Declarations) (some : Bool) (next_column : ℕ)
-    (stop : LexError)
-    → list_names f column line d some next_column [] (Some stop) ≡ Err (refused_by line stop)
+pub line_whole : (f : Format) (line : ℕ) (d : Declarations) (text : List ℕ) (r : Rest) → r ≡ rest_from line 1 (lex mode.Plain text)
+    → read_line f line d text ≡ line_rest f d r
+unfolding read_line
+line_whole f line d text r whole = ap (line_rest f d) (sym whole)
+
+pub line_ended : (f : Format) (d : Declarations) (r : Rest) → HasEnded r → line_rest f d r ≡ Ok d
+line_ended f d r ended = rw (ended.marks, ended.stop) refl
+
+pub line_stopped : (f : Format) (d : Declarations) (r : Rest) (e : SchemaRefusal) → IsStopped r e → line_rest f d r ≡ Err e
+line_stopped f d r e stopped = rw (stopped.marks, stopped.stop, stopped.refusal) refl
+
+pub line_names : (f : Format) (d : Declarations) (r : Rest) (m : Mark) (after : Rest) (column : ColumnType) → IsLed r m after
+    → column_type_of_token f m.kind m.word ≡ Some column → line_rest f d r ≡ list_names_rest f column d false after
+line_names f d r m after column led declares = rw (led.marks, declares, led.stop, ← led.line, ← led.column) refl
+
+pub line_states : (f : Format) (d : Declarations) (r : Rest) (m : Mark) (after : Rest) → IsLed r m after
+    → column_type_of_token f m.kind m.word ≡ None → line_rest f d r ≡ dependency_rest f d m after
+line_states f d r m after led states = rw (led.marks, states, led.stop, ← led.line) refl
+
+-- ---- names
+pub names_ended : (f : Format) (column : ColumnType) (d : Declarations) (some : Bool) (r : Rest) → some ≡ true → HasEnded r
+    → list_names_rest f column d some r ≡ Ok d
 unfolding list_names
-names_stop f column line d true next_column stop = refl
-names_stop f column line d false next_column stop = refl
+names_ended f column d some r is ended = rw (is, ended.marks, ended.stop) refl
 
-pub names_next : (f : Format) (column : ColumnType) (line : ℕ) (d : Declarations) (some : Bool) (next_column : ℕ)
-    (m : Mark) (ms : List Mark) (stop : Option LexError)
-    → list_names f column line d some next_column (m ∷ ms) stop
-    ≡ (at line m.column (length m.word) (name_step f column d some m.kind m.word)
-    >>= (λ next. list_names f column line next true (m.column + length m.word) ms stop))
+pub names_wanted : (f : Format) (column : ColumnType) (d : Declarations) (some : Bool) (r : Rest) → some ≡ false → HasEnded r
+    → list_names_rest f column d some r ≡ Err (refusal r.line r.next_column 0 (kind.Expected what.Name))
 unfolding list_names
-names_next f column line d true next_column m ms stop = refl
-names_next f column line d false next_column m ms stop = refl
+names_wanted f column d some r is ended = rw (is, ended.marks, ended.stop) refl
+
+pub names_stopped : (f : Format) (column : ColumnType) (d : Declarations) (some : Bool) (r : Rest) (e : SchemaRefusal) → IsStopped r e
+    → list_names_rest f column d some r ≡ Err e
+unfolding list_names
+names_stopped f column d true r e stopped = rw (stopped.marks, stopped.stop, stopped.refusal) refl
+names_stopped f column d false r e stopped = rw (stopped.marks, stopped.stop, stopped.refusal) refl
+
+pub names_refused : (f : Format) (column : ColumnType) (d : Declarations) (some : Bool) (r : Rest) (m : Mark) (after : Rest) (why : SchemaRefusalKind)
+    → IsLed r m after → name_step f column d some m.kind m.word ≡ Err why
+    → list_names_rest f column d some r ≡ Err (refusal r.line m.column (length m.word) why)
+unfolding list_names
+names_refused f column d true r m after why led refused = rw (led.marks, refused) refl
+names_refused f column d false r m after why led refused = rw (led.marks, refused) refl
+
+pub names_more : (f : Format) (column : ColumnType) (d : Declarations) (some : Bool) (r : Rest) (m : Mark) (after : Rest) (next : Declarations)
+    → IsLed r m after → name_step f column d some m.kind m.word ≡ Ok next
+    → list_names_rest f column d some r ≡ list_names_rest f column next true after
+unfolding list_names
+names_more f column d true r m after next led taken = rw (led.marks, taken, led.stop, led.line, led.column) refl
+names_more f column d false r m after next led taken = rw (led.marks, taken, led.stop, led.line, led.column) refl

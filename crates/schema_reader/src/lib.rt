@@ -9,12 +9,9 @@ mod goal;
 mod set;
 mod stage;
 mod text;
-mod token_list;
 mod words;
 
 pub use goal::{MOST_GOAL_BYTES, read_goal};
-pub use lexer::{Token, TokenKind};
 pub use schema_grammar::{SchemaRefusal, SchemaRefusalKind, Span, What};
 pub use set::{MOST_SET_BYTES, read_set};
 pub use text::{MOST_TEXT_BYTES, read_schema};
-pub use token_list::tokens;

@@ -152,7 +152,7 @@ impl<'a> Cursor<'a> {
     {
         match self.next() {
             NextToken::End => Ok(()),
-            NextToken::Refusal(refusal) => Err(refusal),
+            NextToken::Refusal(stop) => Err(stop),
             NextToken::Token(token, _, _) => Err(self.refusal_of_token(token, What::LineEnd)),
         }
     }

@@ -13,3 +13,4 @@ mod tokens;
 pub use cursor::{Cursor, NextToken};
 pub use guide::Guide;
 pub use names::{Names, attribute_of_word, is_reserved, look_up, position_among};
+pub use tokens::number_in;

@@ -7,13 +7,13 @@ use Rattle.schema_reader.proofs.text.read_typed.Goals as goal
 pub returns-in-None-clause-ok : goal.returns-in-None-clause-ok
 unfolding read_lines
 returns-in-None-clause-ok c =
-    let back : c.args.number + 1 - 1 ≡ c.args.number = omega arith in
-    rw (c.in-None.is, c.in-Ok.ensures.ok, back)
-    (ok_whole declarations_of_draft _ _ _ (ap (finish c.args.number) (sym c.new.ensures.empty)) c.finish.ensures.ok)
+    let back : c.line-number.result + 1 - 1 ≡ c.line-number.result = omega arith in
+    rw (c.in-None.is, c.in-Ok.ensures.ok, ← c.line-number.ensures.line, back)
+    (ok_whole declarations_of_draft _ _ _ (ap (finish c.line-number.result) (sym c.new.ensures.empty)) c.finish.ensures.ok)
 
 pub returns-in-None-clause-err : goal.returns-in-None-clause-err
 unfolding read_lines
 returns-in-None-clause-err c =
-    let back : c.args.number + 1 - 1 ≡ c.args.number = omega arith in
-    rw (c.in-None.is, c.in-Ok.ensures.ok, back)
-    (refuses_whole _ _ _ (ap (finish c.args.number) (sym c.new.ensures.empty)) c.finish.ensures.err)
+    let back : c.line-number.result + 1 - 1 ≡ c.line-number.result = omega arith in
+    rw (c.in-None.is, c.in-Ok.ensures.ok, ← c.line-number.ensures.line, back)
+    (refuses_whole _ _ _ (ap (finish c.line-number.result) (sym c.new.ensures.empty)) c.finish.ensures.err)

@@ -1,10 +1,14 @@
-use Rattle.std.proofs.Common.{length}
+use Rattle.std.proofs.Common.{◌≡◌, false}
+use Rattle.schema_grammar.specs.Declarations.{list_names_rest}
 use Rattle.schema_reader.specs.Views.{declarations_of_draft}
-use Rattle.schema_reader.proofs.ListLemmas.{Lists}
+use Rattle.tokens.specs.Views.{rest_of, bytes_left}
 use Rattle.schema_reader.proofs.draft.Draft.list_names.Given as goal
 
+-- to read what is left of a declaring line is to read the whole
 abbrev pub invariant-names : goal.invariant-names
-invariant-names l = Lists l.format l.column l.line (declarations_of_draft l.fn.self) l.fn.next_column l.fn.text (declarations_of_draft l.self) l.some l.next_column l.rest
+invariant-names l =
+    list_names_rest l.format l.column (declarations_of_draft l.fn.self) false (rest_of l.fn.start)
+    ≡ list_names_rest l.format l.column (declarations_of_draft l.self) l.some (rest_of l.rest)
 
 abbrev pub decreases-names : goal.decreases-names
-decreases-names l = length l.rest
+decreases-names l = bytes_left l.rest

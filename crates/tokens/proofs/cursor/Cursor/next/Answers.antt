@@ -6,15 +6,19 @@ use Rattle.tokens.proofs.cursor.Cursor.next.Goals as goal
 pub returns-in-End : goal.returns-in-End
 unfolding rest_of
 returns-in-End c = record {
-  marks = ap (λ (l : Lexed). l.marks) c.in-End.ensures.exact;
-  stop = ap (λ (l : Lexed). l.stop) c.in-End.ensures.exact;
+  exact = record {
+    marks = ap (λ (l : Lexed). l.marks) c.in-End.ensures.exact;
+    stop = ap (λ (l : Lexed). l.stop) c.in-End.ensures.exact;
+  };
 }
 
 pub returns-in-Error : goal.returns-in-Error
 unfolding rest_of
 returns-in-Error c = record {
-  by = c.in-Error.stop;
-  marks = ap (λ (l : Lexed). l.marks) c.in-Error.ensures.exact;
-  stop = ap (λ (l : Lexed). l.stop) c.in-Error.ensures.exact;
-  refusal = c.by.ensures.refusal;
+  exact = record {
+    by = c.in-Error.stop;
+    marks = ap (λ (l : Lexed). l.marks) c.in-Error.ensures.exact;
+    stop = ap (λ (l : Lexed). l.stop) c.in-Error.ensures.exact;
+    refusal = c.by.ensures.refusal;
+  };
 }

@@ -5,10 +5,10 @@ use Rattle.tokens.proofs.cursor.Cursor.take.Goals as goal
 
 pub returns-in-End-clause-err : goal.returns-in-End-clause-err
 returns-in-End-clause-err c =
-    take_ended _ _ c.in-End.ensures ∙ ap (λ (e : SchemaRefusal). Err e) (sym c.refusal_of_end.ensures.refusal)
+    take_ended _ _ c.in-End.ensures.exact ∙ ap (λ (e : SchemaRefusal). Err e) (sym c.refusal_of_end.ensures.refusal)
 
 pub returns-in-Refusal-clause-err : goal.returns-in-Refusal-clause-err
-returns-in-Refusal-clause-err c = take_stopped _ _ _ c.in-Refusal.ensures
+returns-in-Refusal-clause-err c = take_stopped _ _ _ c.in-Refusal.ensures.exact
 
 pub returns-in-Token-clause-ok : goal.returns-in-Token-clause-ok
-returns-in-Token-clause-ok c = take_led _ _ _ _ c.in-Token.ensures.led
+returns-in-Token-clause-ok c = take_led _ _ _ _ c.in-Token.ensures.exact.led
