@@ -183,7 +183,7 @@ impl Draft {
     ) -> Result<(), Failure<SchemaRefusal>>
         requires within_limit { length (declarations_of_draft self.old).names ≤ MOST_ATTRIBUTES }
         requires word { token.length ≡ length word.now }
-        requires follows { (rest_of rest.entry).next_column ≡ token.column + token.length }
+        requires follows { (rest_of rest).next_column ≡ token.column + token.length }
         ensures ok { OnOk result
             (dependency_rest format (declarations_of_draft self.old) (mark_of token word.now)
             (rest_of rest.entry) ≡ Ok (declarations_of_draft self.new)) }

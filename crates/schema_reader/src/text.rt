@@ -80,7 +80,7 @@ fn read_typed(
     version: Cursor<'_>,
     after: Option<&[u8]>,
 ) -> Result<Draft, Failure<SchemaRefusal>>
-    requires lines { AreAtMostAll (rest_of version.entry).line after }
+    requires lines { AreAtMostAll (rest_of version).line after }
     ensures ok { IfOk result (λ draft. read_typed (lines_after after.entry) (rest_of version.entry)
         ≡ Ok (declarations_of_draft draft)) }
     ensures err { IfErr result (λ failure. Refuses failure

@@ -8,18 +8,19 @@ use Rattle.lexer.specs.Tokens.{lex}
 use Rattle.schema_grammar.specs.declared.format.Format.TheVariants as format
 use Rattle.schema_grammar.specs.declared.refusal.SchemaRefusal.{SchemaRefusal}
 use Rattle.schema_grammar.specs.Grammar.{Reached}
-use Rattle.schema_grammar.specs.Reading.{follow_lexed}
-use Rattle.schema_grammar.specs.Rests.{◌>>=◌}
+use Rattle.schema_grammar.specs.Reading.{follow_rest}
+use Rattle.schema_grammar.specs.Rests.{Rest, ◌>>=◌, rest_from}
 use Rattle.schema_grammar.specs.Sets.{MeansSet}
 use Rattle.schema_grammar.proofs.RefusalLemmas.{ok_at}
 use Rattle.schema_grammar.proofs.SetLaws.{set-law, set_refused}
 use Rattle.schema_grammar.proofs.WithinLemmas.{follow_within}
+use Rattle.tokens.specs.Views.{rest_of}
 use Rattle.schema_reader.specs.Views.{reached_of}
 use Rattle.schema_reader.proofs.set.read_set.Goals as goal
 
--- what is read of the text from where the reading begins, and the set of it
-abbrev reading : List (List ℕ) → List ℕ → Reached → Result Dependency SchemaRefusal
-reading names text r = follow_lexed format.Plain names 1 r 1 (lex mode.Goal text)
+-- what is read from where the reading begins, and the set of it
+abbrev reading : List (List ℕ) → Reached → Rest → Result Dependency SchemaRefusal
+reading names reached r = follow_rest format.Plain names reached r
 
 abbrev set_in : Result Dependency SchemaRefusal → Result Attributes SchemaRefusal
 set_in o = o >>= (λ d. Ok (right_of d))
@@ -29,10 +30,12 @@ returns-in-Ok c =
     let names = names_of c.args.schema.now in
     let text = c.args.text.now in
     let d = dependency_of c.in-Ok.dep in
-    let begun = ap (reading names text) (sym c.after_arrow.ensures.reached) in
-    let read = ap set_in (begun ∙ c.in-Ok.ensures.ok) in
+    let begun = ap (λ (r : Reached). reading names r (rest_from 1 1 (lex mode.Goal text))) (sym c.after_arrow.ensures.reached) in
+    let here = ap (λ (r : Rest). reading names (reached_of c.after_arrow.result) r) (sym c.start-start.ensures.whole) in
+    let read = ap set_in (begun ∙ here ∙ c.in-Ok.ensures.ok) in
     let inside : IsWithin (universe_of c.args.schema.now) d =
-    ok_at (IsWithin (universe_of c.args.schema.now)) (reading names text (reached_of c.after_arrow.result)) d c.in-Ok.ensures.ok (follow_within _ names _ _ _ _ _ (rw c.after_arrow.ensures.reached (λ k e. cc))) in
+    ok_at (IsWithin (universe_of c.args.schema.now)) (reading names (reached_of c.after_arrow.result) (rest_of c.start-start.result)) d c.in-Ok.ensures.ok
+    (follow_within _ names _ _ _ _ _ (rw c.after_arrow.ensures.reached (λ k e. cc))) in
     let same = sym c.sides.ensures.right in
     record {
       ok = subst (MeansSet names text) same ((set-law names text (right_of d)).0 read);
@@ -44,5 +47,6 @@ pub returns-in-Err : goal.returns-in-Err
 returns-in-Err c =
     let names = names_of c.args.schema.now in
     let text = c.args.text.now in
-    let begun = ap (reading names text) (sym c.after_arrow.ensures.reached) in
-    record { ok = tt; within = tt; err = set_refused names text c.in-Err.refusal (ap set_in (begun ∙ c.in-Err.ensures.err)) }
+    let begun = ap (λ (r : Reached). reading names r (rest_from 1 1 (lex mode.Goal text))) (sym c.after_arrow.ensures.reached) in
+    let here = ap (λ (r : Rest). reading names (reached_of c.after_arrow.result) r) (sym c.start-start.ensures.whole) in
+    record { ok = tt; within = tt; err = set_refused names text c.in-Err.refusal (ap set_in (begun ∙ here ∙ c.in-Err.ensures.err)) }
