@@ -1,20 +1,22 @@
 -- One token at a time leads through the tokens of a line.
-use Rattle.std.proofs.Common.{◌≡◌, ◌<◌, ◌≤◌, ◌+◌, ◌-◌, ℕ, zero, suc, Bool, true, false, cond, None, Some, List, [], ◌∷◌, length, take, drop, nat_eq, arith, add-zero, sym, ◌∙◌, ap, subst, refl, length-append, lit<, ◌==◌, ◌&&◌}
+use Rattle.std.proofs.Common.{◌≡◌, ◌<◌, ◌≤◌, ◌+◌, ◌-◌, ℕ, zero, suc, Bool, true, false, cond, Option, None, Some, List, [], ◌∷◌, length, take, drop, nat_eq, arith, add-zero, sym, ◌∙◌, ap, subst, refl, length-append, length-drop, lit<, ◌==◌, ◌&&◌}
+use Rattle.std.proofs.lemmas.Bool.{and_parts}
 use Rattle.std.proofs.lemmas.Bool.Decides.{Decides-eqb, nat_tests}
 use Rattle.std.proofs.lemmas.List.Folds.{length-prefix_len}
 use Rattle.std.proofs.lemmas.List.Sums.{prefix_len-le-length}
-use Rattle.std.proofs.lemmas.List.{length-take-le}
 use Rattle.std.proofs.lemmas.Slice.Eq.{starts_is}
 use Rattle.std.specs.List.{starts_with}
 use Rattle.lexer.specs.declared.piece.Piece.{Piece}
 use Rattle.lexer.specs.declared.piece.Piece.TheVariants as piece
 use Rattle.lexer.specs.declared.token.Flaw.{Flaw}
-use Rattle.lexer.specs.declared.token.Mode.{Mode}
+use Rattle.lexer.specs.declared.mode.Mode.{Mode}
 use Rattle.lexer.specs.declared.token.TokenKind.{TokenKind}
 use Rattle.lexer.specs.declared.token.TokenKind.TheVariants as token
 use Rattle.dep_model.specs.Names.{is_bare_name, is_name_byte}
 use Rattle.lexer.specs.Bytes.{is_gap, is_number, number_of, run_length}
-use Rattle.lexer.specs.Pieces.{front_piece, run_piece, takes_numbers, takes_comments}
+use Rattle.lexer.specs.Pieces.{front_piece, run_piece, closed_piece, quoted_piece}
+use Rattle.lexer.specs.Quotes.{is_name, closing_quote, undoubled}
+use Rattle.lexer.proofs.Quoting.{closing_below}
 use Rattle.lexer.specs.Tokens.{tokens_after, led_by_mark, Leads, StandsAfter}
 
 -- only gaps stand before what is left of the text
@@ -28,16 +30,28 @@ pub record LiesIn (text : List ℕ) (n : ℕ) : Type 0 where
   pub some : 0 < n
   pub within : n ≤ length text
 
--- the piece lies at the front of the text, and the bytes of a word form one
-abbrev pub FitsPiece : List ℕ → Piece → Type 0
-FitsPiece text piece.Gap = Unit {0}
-FitsPiece text piece.Comment = Unit {0}
-FitsPiece text (piece.Token k n) = LiesIn text n × (k ≡ token.Identifier → is_bare_name (take n text) ≡ true)
-FitsPiece text (piece.Flaw why n) = LiesIn text n
+-- a token lies at the front of the text; the bytes of a word form one
+pub record FitsToken (text : List ℕ) (k : TokenKind) (n : ℕ) : Type 0 where
+  pub lies : LiesIn text n
+  pub a_word : k ≡ token.Identifier → is_bare_name (take n text) ≡ true
+  pub unquoted : k ≡ token.Quoted → ⊥
 
-FitsPiece-cond : (text : List ℕ) (b : Bool) (x y : Piece) → (b ≡ true → FitsPiece text x) → (b ≡ false → FitsPiece text y) → FitsPiece text (cond b x y)
-FitsPiece-cond text true x y here there = here refl
-FitsPiece-cond text false x y here there = there refl
+-- so does a quoted name, where such are taken
+pub record FitsQuoted (m : Mode) (text name : List ℕ) (n : ℕ) : Type 0 where
+  pub lies : LiesIn text n
+  pub a_name : is_name name ≡ true
+  pub taken : m.quotes ≡ true
+
+abbrev pub FitsPiece : Mode → List ℕ → Piece → Type 0
+FitsPiece m text piece.Gap = Unit {0}
+FitsPiece m text piece.Comment = Unit {0}
+FitsPiece m text (piece.Token k n) = FitsToken text k n
+FitsPiece m text (piece.Quoted name n) = FitsQuoted m text name n
+FitsPiece m text (piece.Flaw why n) = LiesIn text n
+
+FitsPiece-cond : (m : Mode) (text : List ℕ) (b : Bool) (x y : Piece) → (b ≡ true → FitsPiece m text x) → (b ≡ false → FitsPiece m text y) → FitsPiece m text (cond b x y)
+FitsPiece-cond m text true x y here there = here refl
+FitsPiece-cond m text false x y here there = there refl
 
 run_lies : (text : List ℕ) → 0 < run_length text → LiesIn text (length (take (run_length text) text))
 run_lies text h =
@@ -47,44 +61,57 @@ run_lies text h =
 abbrev number_piece : List ℕ → Piece
 number_piece text = piece.Token (token.Number (number_of (take (run_length text) text))) (length (take (run_length text) text))
 
-number_fits : (text : List ℕ) → LiesIn text (length (take (run_length text) text)) → FitsPiece text (number_piece text)
-number_fits text lies = (lies, λ wrong. cc)
+number_fits : (text : List ℕ) → LiesIn text (length (take (run_length text) text)) → FitsToken text (token.Number (number_of (take (run_length text) text))) (length (take (run_length text) text))
+number_fits text lies = record { lies = lies; a_word = λ wrong. cc; unquoted = λ wrong. cc }
 
-run_fits : (m : Mode) (text : List ℕ) → 0 < run_length text → FitsPiece text (run_piece m (take (run_length text) text))
+run_fits : (m : Mode) (text : List ℕ) → 0 < run_length text → FitsPiece m text (run_piece m (take (run_length text) text))
 unfolding run_piece
 run_fits m text h =
     let lies = run_lies text h in
     let same : length (take (run_length text) text) ≡ run_length text = length-prefix_len is_name_byte text in
-    FitsPiece-cond text (is_bare_name (take (run_length text) text)) _ _
-    (λ word. (lies, λ _. rw same word))
-    (λ _. FitsPiece-cond text (takes_numbers m && is_number (take (run_length text) text)) (number_piece text) _ (λ _. number_fits text lies) (λ _. lies))
+    FitsPiece-cond m text (is_bare_name (take (run_length text) text)) _ _
+    (λ word. record { lies = lies; a_word = λ _. rw same word; unquoted = λ wrong. cc })
+    (λ _. FitsPiece-cond m text (m.numbers && is_number (take (run_length text) text)) (number_piece text) _ (λ _. number_fits text lies) (λ _. lies))
 
 starts_lies : (text needle : List ℕ) → starts_with nat_eq text needle ≡ true → 0 < length needle → LiesIn text (length needle)
 starts_lies text needle e some =
     let whole : text ≡ _ = (starts_is Decides-eqb text needle _ refl).0 e in record { some = some; within = omega (arith, simp length-append at (ap length whole)) }
 
-mark_fits : (text : List ℕ) (k : TokenKind) (n : ℕ) → LiesIn text n → (k ≡ token.Identifier → ⊥) → FitsPiece text (piece.Token k n)
-mark_fits text k n lies other = (lies, λ word. absurd (other word))
+mark_fits : (text : List ℕ) (k : TokenKind) (n : ℕ) → LiesIn text n → (k ≡ token.Identifier → ⊥) → (k ≡ token.Quoted → ⊥) → FitsToken text k n
+mark_fits text k n lies other unquoted = record { lies = lies; a_word = λ word. absurd (other word); unquoted = unquoted }
 
-arrow_fits : (text needle : List ℕ) (k : TokenKind) → starts_with nat_eq text needle ≡ true → 0 < length needle → (k ≡ token.Identifier → ⊥)
-    → FitsPiece text (piece.Token k (length needle))
-arrow_fits text needle k starts some other = mark_fits text k (length needle) (starts_lies text needle starts some) other
+arrow_fits : (text needle : List ℕ) (k : TokenKind) → starts_with nat_eq text needle ≡ true → 0 < length needle → (k ≡ token.Identifier → ⊥) → (k ≡ token.Quoted → ⊥)
+    → FitsToken text k (length needle)
+arrow_fits text needle k starts some other unquoted = mark_fits text k (length needle) (starts_lies text needle starts some) other unquoted
 
 byte_lies : (b : ℕ) (bs : List ℕ) → LiesIn (b ∷ bs) 1
 byte_lies b bs = record { some = lit< tt; within = omega arith }
 
-pub front_fits : (m : Mode) (text : List ℕ) → 0 < length text → FitsPiece text (front_piece m text)
+-- what begins with a quote
+closed_fits : (m : Mode) → m.quotes ≡ true → (text : List ℕ) (o : Option ℕ) → 0 < length text → closing_quote (drop 1 text) ≡ o → FitsPiece m text (closed_piece text o)
+closed_fits m taken text None h e = record { some = h; within = omega arith }
+closed_fits m taken text (Some n) h e =
+    let below = closing_below (drop 1 text) n e in
+    let lies : LiesIn text (n + 2) = record { some = omega arith; within = omega (arith, below, length-drop 1 text) } in
+    FitsPiece-cond m text (is_name (undoubled (take n (drop 1 text)))) _ _ (λ name. record { lies = lies; a_name = name; taken = taken }) (λ _. lies)
+
+quoted_fits : (m : Mode) → m.quotes ≡ true → (text : List ℕ) → 0 < length text → FitsPiece m text (quoted_piece text)
+unfolding quoted_piece
+quoted_fits m taken text h = closed_fits m taken text (closing_quote (drop 1 text)) h refl
+
+pub front_fits : (m : Mode) (text : List ℕ) → 0 < length text → FitsPiece m text (front_piece m text)
 unfolding front_piece
 front_fits m [] h = absurd (omega arith)
 front_fits m (b ∷ bs) h =
-    FitsPiece-cond (b ∷ bs) (is_gap b) _ _ (λ _. tt)
-    (λ _. FitsPiece-cond (b ∷ bs) (b == 35 && takes_comments m) _ _ (λ _. tt)
-    (λ _. FitsPiece-cond (b ∷ bs) (is_name_byte b) _ _ (λ run. run_fits m (b ∷ bs) (rw run (omega arith)))
-    (λ _. FitsPiece-cond (b ∷ bs) (starts_with nat_eq (b ∷ bs) (45 ∷ 62 ∷ 62 ∷ [])) _ _ (λ starts. arrow_fits (b ∷ bs) (45 ∷ 62 ∷ 62 ∷ []) token.DoubleArrow starts (lit< tt) (λ word. cc))
-    (λ _. FitsPiece-cond (b ∷ bs) (starts_with nat_eq (b ∷ bs) (45 ∷ 62 ∷ [])) _ _ (λ starts. arrow_fits (b ∷ bs) (45 ∷ 62 ∷ []) token.Arrow starts (lit< tt) (λ word. cc))
-    (λ _. FitsPiece-cond (b ∷ bs) (starts_with nat_eq (b ∷ bs) (40 ∷ 41 ∷ [])) _ _ (λ starts. arrow_fits (b ∷ bs) (40 ∷ 41 ∷ []) token.Empty starts (lit< tt) (λ word. cc))
-    (λ _. FitsPiece-cond (b ∷ bs) (b == 58 && takes_numbers m) _ _ (λ _. mark_fits (b ∷ bs) token.Colon 1 (byte_lies b bs) (λ word. cc))
-    (λ _. byte_lies b bs)))))))
+    FitsPiece-cond m (b ∷ bs) (is_gap b) _ _ (λ _. tt)
+    (λ _. FitsPiece-cond m (b ∷ bs) (b == 35 && m.comments) _ _ (λ _. tt)
+    (λ _. FitsPiece-cond m (b ∷ bs) (is_name_byte b) _ _ (λ run. run_fits m (b ∷ bs) (rw run (omega arith)))
+    (λ _. FitsPiece-cond m (b ∷ bs) (starts_with nat_eq (b ∷ bs) (45 ∷ 62 ∷ 62 ∷ [])) _ _ (λ starts. arrow_fits (b ∷ bs) (45 ∷ 62 ∷ 62 ∷ []) token.DoubleArrow starts (lit< tt) (λ word. cc) (λ quoted. cc))
+    (λ _. FitsPiece-cond m (b ∷ bs) (starts_with nat_eq (b ∷ bs) (45 ∷ 62 ∷ [])) _ _ (λ starts. arrow_fits (b ∷ bs) (45 ∷ 62 ∷ []) token.Arrow starts (lit< tt) (λ word. cc) (λ quoted. cc))
+    (λ _. FitsPiece-cond m (b ∷ bs) (starts_with nat_eq (b ∷ bs) (40 ∷ 41 ∷ [])) _ _ (λ starts. arrow_fits (b ∷ bs) (40 ∷ 41 ∷ []) token.Empty starts (lit< tt) (λ word. cc) (λ quoted. cc))
+    (λ _. FitsPiece-cond m (b ∷ bs) (b == 34 && m.quotes) _ _ (λ both. quoted_fits m (and_parts (b == 34) m.quotes both).1 (b ∷ bs) (byte_lies b bs).within)
+    (λ _. FitsPiece-cond m (b ∷ bs) (b == 58 && m.colon) _ _ (λ _. mark_fits (b ∷ bs) token.Colon 1 (byte_lies b bs) (λ word. cc) (λ quoted. cc))
+    (λ _. byte_lies b bs))))))))
 
 -- after so many bytes of a piece, the tokens are those of what is left
 pub lexed_after : (m : Mode) (skip column : ℕ) (text : List ℕ) → tokens_after m skip column text ≡ tokens_after m 0 (column + skip) (drop skip text)
@@ -113,13 +140,25 @@ at_flaw m column [] why n h e = absurd (omega arith)
 at_flaw m column (b ∷ bs) why n h e = rw (← e) refl
 
 pub at_token : (m : Mode) (column : ℕ) (text : List ℕ) (k : TokenKind) (n : ℕ) → 0 < length text → piece.Token k n ≡ front_piece m text
-    → tokens_after m 0 column text ≡ led_by_mark (record { kind = k; column = column; word = take n text }) (tokens_after m 0 (column + n) (drop n text))
+    → tokens_after m 0 column text ≡ led_by_mark (record { kind = k; column = column; length = n; word = take n text }) (tokens_after m 0 (column + n) (drop n text))
 unfolding tokens_after
 at_token m column [] k n h e = absurd (omega arith)
 at_token m column (b ∷ bs) k zero h e =
-    let lies : FitsPiece (b ∷ bs) (piece.Token k zero) = subst (FitsPiece (b ∷ bs)) (sym e) (front_fits m (b ∷ bs) h) in
-    let some : 0 < 0 = lies.0.some in absurd (omega arith)
+    let lies : FitsPiece m (b ∷ bs) (piece.Token k zero) = subst (FitsPiece m (b ∷ bs)) (sym e) (front_fits m (b ∷ bs) h) in
+    let some : 0 < 0 = lies.lies.some in absurd (omega arith)
 at_token m column (b ∷ bs) k (suc n) h e =
+    let one : suc n - 1 ≡ n = omega arith in
+    let after : tokens_after m n (column + 1) bs ≡ tokens_after m 0 (column + suc n) (drop n bs) = lexed_after m (suc n) column (b ∷ bs) in
+    rw (← e) (rw one (ap (led_by_mark _) after))
+
+pub at_quoted : (m : Mode) (column : ℕ) (text name : List ℕ) (n : ℕ) → 0 < length text → piece.Quoted name n ≡ front_piece m text
+    → tokens_after m 0 column text ≡ led_by_mark (record { kind = token.Quoted; column = column; length = n; word = name }) (tokens_after m 0 (column + n) (drop n text))
+unfolding tokens_after
+at_quoted m column [] name n h e = absurd (omega arith)
+at_quoted m column (b ∷ bs) name zero h e =
+    let fits : FitsPiece m (b ∷ bs) (piece.Quoted name zero) = subst (FitsPiece m (b ∷ bs)) (sym e) (front_fits m (b ∷ bs) h) in
+    let some : 0 < 0 = fits.lies.some in absurd (omega arith)
+at_quoted m column (b ∷ bs) name (suc n) h e =
     let one : suc n - 1 ≡ n = omega arith in
     let after : tokens_after m n (column + 1) bs ≡ tokens_after m 0 (column + suc n) (drop n bs) = lexed_after m (suc n) column (b ∷ bs) in
     rw (← e) (rw one (ap (led_by_mark _) after))
@@ -137,14 +176,21 @@ at_end m column (b ∷ bs) e = absurd (omega arith)
 
 pub lies_in : (m : Mode) (text : List ℕ) (k : TokenKind) (n : ℕ) → 0 < length text → piece.Token k n ≡ front_piece m text → LiesIn text n
 lies_in m text k n h e =
-    let fits : FitsPiece text (piece.Token k n) = subst (FitsPiece text) (sym e) (front_fits m text h) in fits.0
+    let fits : FitsPiece m text (piece.Token k n) = subst (FitsPiece m text) (sym e) (front_fits m text h) in fits.lies
 
 pub is_a_word : (m : Mode) (text : List ℕ) (k : TokenKind) (n : ℕ) → 0 < length text → piece.Token k n ≡ front_piece m text → k ≡ token.Identifier → is_bare_name (take n text) ≡ true
 is_a_word m text k n h e =
-    let fits : FitsPiece text (piece.Token k n) = subst (FitsPiece text) (sym e) (front_fits m text h) in fits.1
+    let fits : FitsPiece m text (piece.Token k n) = subst (FitsPiece m text) (sym e) (front_fits m text h) in fits.a_word
+
+pub not_quoted : (m : Mode) (text : List ℕ) (k : TokenKind) (n : ℕ) → 0 < length text → piece.Token k n ≡ front_piece m text → k ≡ token.Quoted → ⊥
+not_quoted m text k n h e =
+    let fits : FitsPiece m text (piece.Token k n) = subst (FitsPiece m text) (sym e) (front_fits m text h) in fits.unquoted
+
+pub quoted_at : (m : Mode) (text name : List ℕ) (n : ℕ) → 0 < length text → piece.Quoted name n ≡ front_piece m text → FitsQuoted m text name n
+quoted_at m text name n h e = subst (FitsPiece m text) (sym e) (front_fits m text h)
 
 pub flaw_lies_in : (m : Mode) (text : List ℕ) (why : Flaw) (n : ℕ) → 0 < length text → piece.Flaw why n ≡ front_piece m text → LiesIn text n
-flaw_lies_in m text why n h e = subst (FitsPiece text) (sym e) (front_fits m text h)
+flaw_lies_in m text why n h e = subst (FitsPiece m text) (sym e) (front_fits m text h)
 
 pub token_leads : (m : Mode) (start : ℕ) (text : List ℕ) (column : ℕ) (rest : List ℕ) (k : TokenKind) (n : ℕ) (word after : List ℕ)
     → IsReached m start text column rest → 0 < length rest → piece.Token k n ≡ front_piece m rest → word ≡ take n rest → after ≡ drop n rest
@@ -153,9 +199,18 @@ token_leads m start text column rest k n word after reached some e is_word_here 
     let lies = lies_in m rest k n some e in
     record {
       all_tokens = rw (is_word_here, is_after_it) (reached.same ∙ at_token m column rest k n some e);
-      same_length = rw is_word_here (sym (length-take-le n rest lies.within));
       is_a_word = λ word. rw is_word_here (is_a_word m rest k n some e word);
+      is_a_name = λ quoted. absurd (not_quoted m rest k n some e quoted);
     }
+
+pub quoted_leads : (m : Mode) (start : ℕ) (text : List ℕ) (column : ℕ) (rest name : List ℕ) (n : ℕ) (after : List ℕ)
+    → IsReached m start text column rest → 0 < length rest → piece.Quoted name n ≡ front_piece m rest → after ≡ drop n rest
+    → Leads m (record { kind = token.Quoted; column = column; length = n }) name after (tokens_after m 0 start text)
+quoted_leads m start text column rest name n after reached some e is_after_it = record {
+  all_tokens = rw is_after_it (reached.same ∙ at_quoted m column rest name n some e);
+  is_a_word = λ word. cc;
+  is_a_name = λ _. (quoted_at m rest name n some e).a_name;
+}
 
 pub token_after : (m : Mode) (start : ℕ) (text : List ℕ) (column : ℕ) (rest : List ℕ) (k : TokenKind) (n : ℕ) (after : List ℕ)
     → IsReached m start text column rest → LiesIn rest n → length after + n ≡ length rest

@@ -1,5 +1,8 @@
 -- The definitions of lexer, in reading order: bytes, lines, runs of bytes, and tokens.
 pub mod Bytes
+pub mod Laws
 pub mod Lines
+pub mod Modes
 pub mod Pieces
+pub mod Quotes
 pub mod Tokens

@@ -2,20 +2,24 @@
 use Rattle.std.specs.Prelude.{◌≡◌, ℕ, ◌+◌, ◌-◌, ◌<◌, ◌≤◌, zero, suc, true, Option, None, Some, List, [], ◌∷◌, length, take}
 use Rattle.lexer.specs.declared.piece.Piece.{Piece}
 use Rattle.lexer.specs.declared.piece.Piece.TheVariants as piece
-use Rattle.lexer.specs.declared.token.Mode.{Mode}
+use Rattle.lexer.specs.declared.mode.Mode.{Mode}
 use Rattle.lexer.specs.declared.token.Next.{Next}
 use Rattle.lexer.specs.declared.token.Next.TheVariants as next
 use Rattle.lexer.specs.declared.token.LexError.{LexError}
 use Rattle.lexer.specs.declared.token.Token.{Token}
 use Rattle.lexer.specs.declared.token.TokenKind.{TokenKind}
+use Rattle.lexer.specs.declared.word.Word.{Word}
+use Rattle.lexer.specs.declared.word.Word.TheVariants as word
 use Rattle.lexer.specs.declared.token.TokenKind.TheVariants as token
 use Rattle.dep_model.specs.Names.{is_bare_name}
 use Rattle.lexer.specs.Pieces.{front_piece}
+use Rattle.lexer.specs.Quotes.{is_name}
 
--- a token with its bytes
+-- a token with the bytes that it stands for: those of its text, or the name between its quotes
 pub record Mark : Type 0 where
   pub kind : TokenKind
   pub column : ℕ
+  pub length : ℕ
   pub word : List ℕ
 
 -- the tokens of a line up to the first bytes that are none, and these bytes if there are any
@@ -32,7 +36,9 @@ abbrev pub led_by : Piece → ℕ → List ℕ → (ℕ → Lexed) → Lexed
 led_by piece.Gap column text after = after 0
 led_by piece.Comment column text after = record { marks = []; stop = None }
 led_by (piece.Token kind n) column text after =
-    led_by_mark (record { kind = kind; column = column; word = take n text }) (after (n - 1))
+    led_by_mark (record { kind = kind; column = column; length = n; word = take n text }) (after (n - 1))
+led_by (piece.Quoted name n) column text after =
+    led_by_mark (record { kind = token.Quoted; column = column; length = n; word = name }) (after (n - 1))
 led_by (piece.Flaw why n) column text after =
     record { marks = []; stop = Some (record { flaw = why; column = column; length = n }) }
 
@@ -49,19 +55,25 @@ lex m line = tokens_after m 0 1 line
 
 -- a token, as code has it
 abbrev pub token_of : Mark → Token
-token_of m = record { kind = m.kind; column = m.column; length = length m.word }
+token_of m = record { kind = m.kind; column = m.column; length = m.length }
 
--- the token stands in front of the others; where it is a word, its bytes form one
+-- the bytes that a token stands for
+abbrev pub bytes_of : Word → List ℕ
+bytes_of (word.Bare bytes) = bytes.now
+bytes_of (word.Quoted name) = name
+
+-- the token stands in front of the others; the bytes of a word form one, and those of a quoted name
 pub record Leads (m : Mode) (t : Token) (word rest : List ℕ) (all : Lexed) : Type 0 where
-  pub all_tokens : all ≡ led_by_mark (record { kind = t.kind; column = t.column; word = word })
+  pub all_tokens : all ≡ led_by_mark
+      (record { kind = t.kind; column = t.column; length = t.length; word = word })
       (tokens_after m 0 (t.column + t.length) rest)
-  pub same_length : t.length ≡ length word
   pub is_a_word : t.kind ≡ token.Identifier → is_bare_name word ≡ true
+  pub is_a_name : t.kind ≡ token.Quoted → is_name word ≡ true
 
 -- what comes next is the first of these tokens, or why there is none
 abbrev pub GoesOn : Mode → Next → Lexed → Type 0
 GoesOn m next.End all = all ≡ record { marks = []; stop = None }
-GoesOn m (next.Token t word rest) all = Leads m t word.now rest.now all
+GoesOn m (next.Token t word rest) all = Leads m t (bytes_of word) rest.now all
 GoesOn m (next.Error s) all = all ≡ record { marks = []; stop = Some s }
 
 -- a token stands after the column, and takes at least one byte of the text

@@ -6,9 +6,16 @@
 #![tactic(auto)]
 
 mod bytes;
+mod laws;
 mod line;
+mod mode;
 mod piece;
+mod quotes;
 mod token;
+mod word;
 
+pub use laws::{modes_are_named, quoted_names};
 pub use line::{cut_line, without_mark};
-pub use token::{Flaw, LexError, Mode, Next, Token, TokenKind, next_token};
+pub use mode::Mode;
+pub use token::{Flaw, LexError, Next, Token, TokenKind, next_token};
+pub use word::Word;

@@ -3,8 +3,11 @@ ghost use Rattle.std.specs.List.{list_all};
 ghost use Rattle.dep_model.specs.Names.{is_name_byte};
 ghost use Rattle.lexer.specs.Pieces.{front_piece, run_piece};
 
-use crate::bytes::{is_gap, is_bare_name, is_number, is_run, number_of, run_length};
-use crate::token::{Flaw, Mode, TokenKind};
+use crate::bytes::{is_bare_name, is_gap, is_number, is_run, number_of, run_length};
+use crate::mode::Mode;
+use crate::quotes::quoted_piece;
+use crate::token::{Flaw, TokenKind};
+use dep_model::Name;
 
 /// What stands at the front of a text.
 #[derive(Clone, Copy)]
@@ -15,6 +18,8 @@ pub enum Piece {
     Comment,
     /// A token of this many bytes.
     Token(TokenKind, usize),
+    /// A name between quotes, and how many bytes these have with it.
+    Quoted(Name, usize),
     /// Bytes, this many, that are no token.
     Flaw(Flaw, usize),
 }
@@ -28,7 +33,7 @@ pub fn front_piece(mode: Mode, text: &[u8]) -> Piece
     let first = text[0];
     if is_gap(first) {
         Piece::Gap
-    } else if first == b'#' && mode.takes_comments() {
+    } else if first == b'#' && mode.comments {
         Piece::Comment
     } else if is_run(first) {
         run_piece(mode, text.split_at(run_length(text)).0)
@@ -38,7 +43,9 @@ pub fn front_piece(mode: Mode, text: &[u8]) -> Piece
         Piece::Token(TokenKind::Arrow, 2)
     } else if text.starts_with(b"()") {
         Piece::Token(TokenKind::Empty, 2)
-    } else if first == b':' && mode.takes_numbers() {
+    } else if first == b'"' && mode.quotes {
+        quoted_piece(text)
+    } else if first == b':' && mode.colon {
         Piece::Token(TokenKind::Colon, 1)
     } else {
         Piece::Flaw(Flaw::StrangeByte, 1)
@@ -53,7 +60,7 @@ fn run_piece(mode: Mode, run: &[u8]) -> Piece
 {
     if is_bare_name(run) {
         Piece::Token(TokenKind::Identifier, run.len())
-    } else if mode.takes_numbers() && is_number(run) {
+    } else if mode.numbers && is_number(run) {
         Piece::Token(TokenKind::Number(number_of(run)), run.len())
     } else {
         Piece::Flaw(Flaw::BadName, run.len())

@@ -1,45 +1,17 @@
 ghost use Rattle.std.specs.Prelude.{◌≡◌, ◌+◌, ◌^◌, ◌<◌, length};
-ghost use Rattle.lexer.specs.Pieces.{takes_numbers, takes_comments};
 ghost use Rattle.lexer.specs.Tokens.{tokens_after, GoesOn, Advances};
 
+use crate::mode::Mode;
 use crate::piece::{Piece, front_piece};
-
-/// Which tokens a line may have.
-#[derive(Clone, Copy, Debug, PartialEq, Eq)]
-pub enum Mode {
-    /// Words, arrows and `()`, and comments: lines of schemas and plans.
-    Plain,
-    /// The same without comments: goals.
-    Goal,
-    /// Numbers and `:` too, and comments: certificates and version lines.
-    Numbered,
-}
-
-impl Mode {
-    pub(crate) fn takes_numbers(self) -> bool
-        ensures numbers { result ≡ takes_numbers self }
-    {
-        match self {
-            Mode::Plain | Mode::Goal => false,
-            Mode::Numbered => true,
-        }
-    }
-
-    pub(crate) fn takes_comments(self) -> bool
-        ensures comments { result ≡ takes_comments self }
-    {
-        match self {
-            Mode::Plain | Mode::Numbered => true,
-            Mode::Goal => false,
-        }
-    }
-}
+use crate::word::Word;
 
 /// What a token is.
 #[derive(Clone, Copy, Debug, PartialEq, Eq)]
 pub enum TokenKind {
     /// A letter, then letters, digits and `_`; 1 to 31 bytes.
     Identifier,
+    /// A name between double quotes, each double quote in it doubled.
+    Quoted,
     /// 1 to 9 digits, and their value.
     Number(u32),
     /// `->`
@@ -65,7 +37,8 @@ pub struct Token {
 pub enum Flaw {
     /// A byte that begins no token.
     StrangeByte,
-    /// A run of letters, digits and `_` that is no word, nor a number where numbers are taken.
+    /// A run of letters, digits and `_` that is no word, nor a number where numbers are taken; a quoted
+    /// text that is no name, or a quote that none closes.
     BadName,
 }
 
@@ -82,8 +55,8 @@ pub struct LexError {
 pub enum Next<'a> {
     /// No token: the line ends, but for blanks and a comment.
     End,
-    /// A token, its bytes, and what stands after it.
-    Token(Token, &'a [u8], &'a [u8]),
+    /// A token, the bytes that it stands for, and what stands after it.
+    Token(Token, Word<'a>, &'a [u8]),
     /// Bytes that are no token.
     Error(LexError),
 }
@@ -105,15 +78,20 @@ pub fn next_token(mode: Mode, column: u32, text: &[u8]) -> Next<'_>
             Piece::Comment => return Next::End,
             Piece::Token(kind, length) => {
                 let (word, after) = rest.split_at(length);
-                return Next::Token(
-                    Token {
-                        kind,
-                        column,
-                        length: length as u32,
-                    },
-                    word,
-                    after,
-                );
+                let token = Token {
+                    kind,
+                    column,
+                    length: length as u32,
+                };
+                return Next::Token(token, Word::Bare(word), after);
+            }
+            Piece::Quoted(name, length) => {
+                let token = Token {
+                    kind: TokenKind::Quoted,
+                    column,
+                    length: length as u32,
+                };
+                return Next::Token(token, Word::Quoted(name), rest.split_at(length).1);
             }
             Piece::Flaw(flaw, length) => {
                 return Next::Error(LexError {

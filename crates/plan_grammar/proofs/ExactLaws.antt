@@ -7,8 +7,8 @@ use Rattle.std.proofs.lemmas.List.Elements.{All-head, All-tail}
 use Rattle.std.proofs.lemmas.List.Folds.{list_any-from_Any}
 use Rattle.attr_sets.specs.Attributes.{Attributes, below, IsFirstFrom}
 use Rattle.dep_model.specs.Projections.{Covers}
-use Rattle.lexer.specs.declared.token.Mode.TheVariants as mode
-use Rattle.lexer.specs.declared.token.TokenKind.TheVariants as token
+use Rattle.lexer.specs.Modes as mode
+use Rattle.schema_grammar.specs.Words.{is_word_token}
 use Rattle.lexer.specs.Lines.{line_texts, without_mark}
 use Rattle.lexer.specs.Tokens.{Mark, Lexed, lex}
 use Rattle.schema_grammar.specs.declared.format.Format.TheVariants as format
@@ -70,24 +70,24 @@ one_first Diagnostic line span want e f first second =
 pub one_refusal : (names : List (List ℕ)) (number earlier : ℕ) (lines : List (List ℕ)) (e f : PlanRefusal) → RefusesSchemeLines names number earlier lines e → RefusesSchemeLines names number earlier lines f → e ≡ f
 one_refusal names number earlier [] e f first second = absurd first
 one_refusal names number earlier (line ∷ lines) e f (inl first) (inl second) =
-    one_first (SchemeLineDiagnostic names earlier (lex mode.Plain line).marks (lex mode.Plain line).stop) number (span_at number 1 (lex mode.Plain line).marks (lex mode.Plain line).stop) scheme_wanted e f first second
+    one_first (SchemeLineDiagnostic names earlier (lex mode.plain line).marks (lex mode.plain line).stop) number (span_at number 1 (lex mode.plain line).marks (lex mode.plain line).stop) scheme_wanted e f first second
 one_refusal names number earlier (line ∷ lines) e f (inl first) (inr second) = absurd (second.0 first.position (plan_diagnostic_kind e) first.diagnostic)
 one_refusal names number earlier (line ∷ lines) e f (inr first) (inl second) = absurd (first.0 second.position (plan_diagnostic_kind f) second.diagnostic)
 one_refusal names number earlier (line ∷ lines) e f (inr first) (inr second) =
-    one_refusal names (number + 1) (earlier + scheme_count (lex mode.Plain line).marks) lines e f first.1 second.1
+    one_refusal names (number + 1) (earlier + scheme_count (lex mode.plain line).marks) lines e f first.1 second.1
 
 -- ---- one meaning
 marks_of : (l : Lexed) (ms ns : List Mark) → HasTokens l ms → HasTokens l ns → ms ≡ ns
 marks_of l ms ns first second = ap (λ (x : Lexed). x.marks) (sym first ∙ second)
 
-blank_scheme : (names : List (List ℕ)) (line : List ℕ) (x : Attributes) → HasTokens (lex mode.Plain line) [] → MeansScheme names line x → ⊥
+blank_scheme : (names : List (List ℕ)) (line : List ℕ) (x : Attributes) → HasTokens (lex mode.plain line) [] → MeansScheme names line x → ⊥
 blank_scheme names line x blank is =
-    let same : [] ≡ is.scheme.head ∷ is.scheme.words = marks_of (lex mode.Plain line) [] is.marks blank is.tokens ∙ is.scheme.whole in
+    let same : [] ≡ is.scheme.head ∷ is.scheme.words = marks_of (lex mode.plain line) [] is.marks blank is.tokens ∙ is.scheme.whole in
     absurd (omega (arith, ap (λ (ms : List Mark). length ms) same))
 
 one_scheme : (names : List (List ℕ)) (line : List ℕ) (x y : Attributes) → MeansScheme names line x → MeansScheme names line y → x ≡ y
 one_scheme names line x y first second =
-    let same : first.scheme.head ∷ first.scheme.words ≡ second.scheme.head ∷ second.scheme.words = sym first.scheme.whole ∙ marks_of (lex mode.Plain line) first.marks second.marks first.tokens second.tokens ∙ second.scheme.whole in
+    let same : first.scheme.head ∷ first.scheme.words ≡ second.scheme.head ∷ second.scheme.words = sym first.scheme.whole ∙ marks_of (lex mode.plain line) first.marks second.marks first.tokens second.tokens ∙ second.scheme.whole in
     let words : first.scheme.words ≡ second.scheme.words = cc in
     first.scheme.members ∙ ap (λ (ws : List Mark). attributes_of_words names ws) words ∙ sym second.scheme.members
 
@@ -105,14 +105,11 @@ attribute_fine : (names : List (List ℕ)) (first : Bool) (m : Mark) (n : Diagno
 attribute_fine names first m n is h =
     ⊎_elim
     (λ word. ⊎_elim (λ three. true≢false (sym three.1 ∙ is.free)) (λ five. unknown (sym five.1 ∙ is.known)) word.1)
-    (λ rest. ⊎_elim (λ ten. apart (sym is.word ∙ ten.1)) (λ six. six.0 is.word) rest)
+    (λ rest. ⊎_elim (λ ten. true≢false (sym is.word ∙ ap is_word_token ten.1)) (λ six. true≢false (sym is.word ∙ six.0)) rest)
     h
   where
     unknown : None ≡ Some is.index → ⊥
     unknown e = cc
-
-    apart : token.Identifier ≡ token.Empty → ⊥
-    apart e = cc
 
 words_fine : (names : List (List ℕ)) (first : Bool) (ms : List Mark) → All (IsAttribute format.Plain names) ms → (first ≡ true → 0 < length ms) → (p : ℕ) (n : DiagnosticKind) → WordsDiagnostic names first ms None p n → ⊥
 words_fine names first [] each some p n h = ⊎_elim (λ ended. omega (arith, some ended.1)) (λ flaw. no_flaw n flaw) h.1
@@ -133,7 +130,7 @@ never_both names number earlier [] xs e means few refused = refused
 never_both names number earlier (line ∷ lines) xs e (inl blank) few (inl first) =
     no_flaw (plan_diagnostic_kind e) (subst (λ (l : Lexed). SchemeLineDiagnostic names earlier l.marks l.stop first.position (plan_diagnostic_kind e)) blank.0 first.diagnostic).1
 never_both names number earlier (line ∷ lines) xs e (inl blank) few (inr later) =
-    let same : earlier + scheme_count (lex mode.Plain line).marks ≡ earlier = ap (λ (l : Lexed). earlier + scheme_count l.marks) blank.0 ∙ zero_more earlier in
+    let same : earlier + scheme_count (lex mode.plain line).marks ≡ earlier = ap (λ (l : Lexed). earlier + scheme_count l.marks) blank.0 ∙ zero_more earlier in
     never_both names (number + 1) earlier lines xs e blank.1 few (subst (λ (n : ℕ). RefusesSchemeLines names (number + 1) n lines e) same later.1)
   where
     zero_more : (n : ℕ) → n + 0 ≡ n
@@ -144,8 +141,8 @@ never_both names number earlier (line ∷ lines) xs e (inr adds) few (inl first)
     (subst (λ (l : Lexed). SchemeLineDiagnostic names earlier l.marks l.stop first.position (plan_diagnostic_kind e)) adds.2.tokens first.diagnostic)
 never_both names number earlier (line ∷ lines) xs e (inr adds) few (inr later) =
     let count : length xs ≡ suc (length adds.1) = ap (λ (zs : List Attributes). length zs) adds.4 in
-    let one : scheme_count (lex mode.Plain line).marks ≡ 1 = ap (λ (l : Lexed). scheme_count l.marks) adds.2.tokens ∙ ap (λ (ms : List Mark). scheme_count ms) adds.2.scheme.whole in
-    never_both names (number + 1) (earlier + scheme_count (lex mode.Plain line).marks) lines adds.1 e adds.3 (omega (arith, few, count, one)) later.1
+    let one : scheme_count (lex mode.plain line).marks ≡ 1 = ap (λ (l : Lexed). scheme_count l.marks) adds.2.tokens ∙ ap (λ (ms : List Mark). scheme_count ms) adds.2.scheme.whole in
+    never_both names (number + 1) (earlier + scheme_count (lex mode.plain line).marks) lines adds.1 e adds.3 (omega (arith, few, count, one)) later.1
 
 -- ---- plans
 Covers-none_left_out : (n : ℕ) (schemes : List Attributes) (a : ℕ) → Covers n schemes → IsFirstFrom (uncovered_attributes n schemes) 0 a → ⊥

@@ -4,10 +4,8 @@ use Rattle.std.specs.Prelude.{nat_le}
 use Rattle.std.proofs.lemmas.Bool.{true≢false, leb-true, leb-false}
 use Rattle.std.proofs.lemmas.List.{append-nil, length_push}
 use Rattle.attr_sets.specs.Attributes.{Attributes, none}
-use Rattle.lexer.specs.declared.token.Mode.TheVariants as mode
+use Rattle.lexer.specs.Modes as mode
 use Rattle.lexer.specs.declared.token.LexError.{LexError}
-use Rattle.lexer.specs.declared.token.TokenKind.{TokenKind}
-use Rattle.lexer.specs.declared.token.TokenKind.TheVariants as token
 use Rattle.lexer.specs.Tokens.{Mark, lex}
 use Rattle.schema_grammar.specs.declared.format.Format.TheVariants as format
 use Rattle.schema_grammar.specs.declared.refusal.SchemaRefusalKind.{SchemaRefusalKind}
@@ -15,10 +13,10 @@ use Rattle.schema_grammar.specs.declared.refusal.SchemaRefusalKind.TheVariants a
 use Rattle.schema_grammar.specs.declared.refusal.What.TheVariants as what
 use Rattle.schema_grammar.specs.Diagnostics.{Carries, span_at}
 use Rattle.schema_grammar.specs.Refusals.{refusal, refused_by}
+use Rattle.schema_grammar.specs.Words.{is_reserved_token}
 use Rattle.schema_grammar.specs.Rests.{◌>>=◌}
+use Rattle.schema_grammar.proofs.DiagnosticLaws.{flaw_carries, flaw_kind, flaw_least}
 use Rattle.schema_grammar.specs.DiagnosticKinds.{DiagnosticKind, reserved_name, expected, too_many_schemes, number_of, diagnostic_kind}
-use Rattle.schema_grammar.specs.Words.{is_reserved}
-use Rattle.schema_grammar.proofs.DiagnosticLaws.{flaw_kind, flaw_carries, flaw_least}
 use Rattle.schema_grammar.proofs.DeclaringLaws.{has_tokens}
 use Rattle.plan_grammar.specs.declared.refusal.PlanRefusal.{PlanRefusal}
 use Rattle.plan_grammar.specs.declared.refusal.PlanRefusal.TheVariants as plan
@@ -55,37 +53,29 @@ record IsOther (earlier : ℕ) (m : Mark) (why : SchemaRefusalKind) : Type 0 whe
 
 head_least : (earlier : ℕ) (m : Mark) (low n : DiagnosticKind) → is_scheme m.kind m.word ≡ false
     → number_of low ≤ number_of expected
-    → ((m.kind ≡ token.Identifier) → is_reserved format.Plain m.word ≡ true → number_of low ≤ number_of reserved_name)
+    → (is_reserved_token format.Plain m.kind m.word ≡ true → number_of low ≤ number_of reserved_name)
     → FirstTokenDiagnostic earlier m n → number_of low ≤ number_of n
 head_least earlier m low n other most reserved h =
     ⊎_elim
-    (λ not_scheme. ⊎_elim (λ three. omega (arith, reserved three.1 three.2, ap number_of three.0)) (λ six. omega (arith, most, ap number_of six)) not_scheme.1)
+    (λ not_scheme. ⊎_elim (λ three. omega (arith, reserved three.1, ap number_of three.0)) (λ six. omega (arith, most, ap number_of six)) not_scheme.1)
     (λ many. absurd (true≢false (sym many.0 ∙ other)))
     h
 
-other_six : (earlier : ℕ) (m : Mark) → is_scheme m.kind m.word ≡ false → ((m.kind ≡ token.Identifier) → is_reserved format.Plain m.word ≡ true → ⊥) → IsOther earlier m (kind.Expected what.Scheme)
+other_six : (earlier : ℕ) (m : Mark) → is_scheme m.kind m.word ≡ false → (is_reserved_token format.Plain m.kind m.word ≡ true → ⊥) → IsOther earlier m (kind.Expected what.Scheme)
 other_six earlier m other free = record {
   diagnostic = inl (other, inr refl);
   carries = refl;
-  least = λ n h. head_least earlier m expected n other (omega arith) (λ word reserved. absurd (free word reserved)) h;
+  least = λ n h. head_least earlier m expected n other (omega arith) (λ reserved. absurd (free reserved)) h;
 }
 
-other_word : (earlier : ℕ) (m : Mark) (b : Bool) → is_reserved format.Plain m.word ≡ b → is_scheme m.kind m.word ≡ false → m.kind ≡ token.Identifier
+other_word : (earlier : ℕ) (m : Mark) (b : Bool) → is_reserved_token format.Plain m.kind m.word ≡ b → is_scheme m.kind m.word ≡ false
     → IsOther earlier m (cond b kind.ReservedName (kind.Expected what.Scheme))
-other_word earlier m true reserved other word = record {
-  diagnostic = inl (other, inl (refl, word, reserved));
+other_word earlier m true reserved other = record {
+  diagnostic = inl (other, inl (refl, reserved));
   carries = tt;
-  least = λ n h. head_least earlier m reserved_name n other (omega arith) (λ _ _. omega arith) h;
+  least = λ n h. head_least earlier m reserved_name n other (omega arith) (λ _. omega arith) h;
 }
-other_word earlier m false free other word = other_six earlier m other (λ _ reserved. true≢false (sym reserved ∙ free))
-
-other_kind : (earlier : ℕ) (m : Mark) (k : TokenKind) → m.kind ≡ k → is_scheme m.kind m.word ≡ false → IsOther earlier m (no_scheme k m.word)
-other_kind earlier m token.Identifier is other = other_word earlier m (is_reserved format.Plain m.word) refl other is
-other_kind earlier m token.Empty is other = other_six earlier m other (λ word _. (let wrong : token.Empty ≡ token.Identifier = sym is ∙ word in cc))
-other_kind earlier m token.Arrow is other = other_six earlier m other (λ word _. (let wrong : token.Arrow ≡ token.Identifier = sym is ∙ word in cc))
-other_kind earlier m token.DoubleArrow is other = other_six earlier m other (λ word _. (let wrong : token.DoubleArrow ≡ token.Identifier = sym is ∙ word in cc))
-other_kind earlier m token.Colon is other = other_six earlier m other (λ word _. (let wrong : token.Colon ≡ token.Identifier = sym is ∙ word in cc))
-other_kind earlier m (token.Number n) is other = other_six earlier m other (λ word _. (let wrong : token.Number n ≡ token.Identifier = sym is ∙ word in cc))
+other_word earlier m false free other = other_six earlier m other (λ reserved. true≢false (sym reserved ∙ free))
 
 -- the first token of a scheme line for which there is room
 head_fine : (earlier : ℕ) (m : Mark) (n : DiagnosticKind) → is_scheme m.kind m.word ≡ true → earlier < MOST_SCHEMES → FirstTokenDiagnostic earlier m n → ⊥
@@ -95,7 +85,7 @@ head_many : (earlier : ℕ) (m : Mark) (n : DiagnosticKind) → is_scheme m.kind
 head_many earlier m n is h = ⊎_elim (λ other. absurd (true≢false (sym is ∙ other.0))) (λ many. omega (arith, ap number_of many.2)) h
 
 scheme_read : (names : List (List ℕ)) (line : ℕ) (schemes : List Attributes) (m : Mark) (ms : List Mark) (stop : Option LexError) (r : Result Attributes PlanRefusal)
-    → is_scheme m.kind m.word ≡ true → length schemes < MOST_SCHEMES → WordsFit names line true none (m.column + length m.word) ms stop r
+    → is_scheme m.kind m.word ≡ true → length schemes < MOST_SCHEMES → WordsFit names line true none (m.column + m.length) ms stop r
     → LineFits names line schemes (m ∷ ms) stop (r >>= (λ x. Ok (schemes ++ x ∷ [])))
 scheme_read names line schemes m ms stop (Ok x) is room fit = record {
   ended = fit.ended;
@@ -114,18 +104,18 @@ scheme_read names line schemes m ms stop (Err e) is room fit =
 
 head_fit : (names : List (List ℕ)) (line : ℕ) (schemes : List Attributes) (m : Mark) (ms : List Mark) (stop : Option LexError) (b l : Bool)
     → is_scheme m.kind m.word ≡ b → nat_le MOST_SCHEMES (length schemes) ≡ l
-    → LineFits names line schemes (m ∷ ms) stop (cond b (cond l (Err (plan.TooManySchemes line)) (read_words names line true none ms stop)) (Err (plan.Text (refusal line m.column (length m.word) (no_scheme m.kind m.word))))
+    → LineFits names line schemes (m ∷ ms) stop (cond b (cond l (Err (plan.TooManySchemes line)) (read_words names line true none ms stop)) (Err (plan.Text (refusal line m.column m.length (no_scheme m.kind m.word))))
     >>= (λ x. Ok (schemes ++ x ∷ [])))
 head_fit names line schemes m ms stop true true is many =
     first_here (SchemeLineDiagnostic names (length schemes) (m ∷ ms) stop) (SpansPosition line (span_at line 1 (m ∷ ms) stop) scheme_wanted) (plan.TooManySchemes line)
     (inr (is, leb-true MOST_SCHEMES (length schemes) many, refl)) refl (λ n h. head_many (length schemes) m n is h)
 head_fit names line schemes m ms stop true false is few =
     scheme_read names line schemes m ms stop (read_words names line true none ms stop) is (leb-false MOST_SCHEMES (length schemes) few)
-    (words_fit names line true none (m.column + length m.word) ms stop)
+    (words_fit names line true none (m.column + m.length) ms stop)
 head_fit names line schemes m ms stop false l other few =
-    let told = other_kind (length schemes) m m.kind refl other in
+    let told = other_word (length schemes) m (is_reserved_token format.Plain m.kind m.word) refl other in
     first_here (SchemeLineDiagnostic names (length schemes) (m ∷ ms) stop) (SpansPosition line (span_at line 1 (m ∷ ms) stop) scheme_wanted)
-    (plan.Text (refusal line m.column (length m.word) (no_scheme m.kind m.word))) told.diagnostic (refl, told.carries) told.least
+    (plan.Text (refusal line m.column m.length (no_scheme m.kind m.word))) told.diagnostic (refl, told.carries) told.least
 
 pub line_fits : (names : List (List ℕ)) (line : ℕ) (schemes : List Attributes) (ms : List Mark) (stop : Option LexError)
     → LineFits names line schemes ms stop (read_scheme_line names line schemes ms stop)
@@ -150,18 +140,18 @@ LinesFit names number schemes lines (Ok whole) = AreRead names schemes lines who
 LinesFit names number schemes lines (Err e) = RefusesSchemeLines names number (length schemes) lines e
 
 lines_after : (names : List (List ℕ)) (number : ℕ) (schemes : List Attributes) (line : List ℕ) (lines : List (List ℕ)) (more : List Attributes) (r : Result (List Attributes) PlanRefusal)
-    → IsRead names schemes (lex mode.Plain line).marks (lex mode.Plain line).stop more → LinesFit names (number + 1) more lines r → LinesFit names number schemes (line ∷ lines) r
+    → IsRead names schemes (lex mode.plain line).marks (lex mode.plain line).stop more → LinesFit names (number + 1) more lines r → LinesFit names number schemes (line ∷ lines) r
 lines_after names number schemes line lines more (Ok whole) read fit =
     ⊎_elim
     (λ blank. record {
       others = fit.others;
-      means = inl (has_tokens (lex mode.Plain line) [] blank.0 read.ended, fit.means);
+      means = inl (has_tokens (lex mode.plain line) [] blank.0 read.ended, fit.means);
       added = fit.added ∙ ap (λ (xs : List Attributes). xs ++ fit.others) blank.1;
       few = λ few. fit.few (subst (λ (xs : List Attributes). length xs ≤ MOST_SCHEMES) (sym blank.1) few);
     })
     (λ adds. record {
       others = adds.x ∷ fit.others;
-      means = inr (adds.x, fit.others, record { marks = (lex mode.Plain line).marks; tokens = has_tokens (lex mode.Plain line) (lex mode.Plain line).marks refl read.ended; scheme = adds.scheme }, fit.means, refl);
+      means = inr (adds.x, fit.others, record { marks = (lex mode.plain line).marks; tokens = has_tokens (lex mode.plain line) (lex mode.plain line).marks refl read.ended; scheme = adds.scheme }, fit.means, refl);
       added = fit.added ∙ ap (λ (xs : List Attributes). xs ++ fit.others) adds.added ∙ append_assoc schemes (adds.x ∷ []) fit.others;
       few = λ few. fit.few (subst (λ (xs : List Attributes). length xs ≤ MOST_SCHEMES) (sym adds.added) (omega (arith, length_push schemes adds.x, adds.room)));
     })
@@ -169,7 +159,7 @@ lines_after names number schemes line lines more (Ok whole) read fit =
 lines_after names number schemes line lines more (Err e) read fit =
     inr (read.fine, subst (λ (n : ℕ). RefusesSchemeLines names (number + 1) n lines e) count fit)
   where
-    count : length more ≡ length schemes + scheme_count (lex mode.Plain line).marks
+    count : length more ≡ length schemes + scheme_count (lex mode.plain line).marks
     count = ⊎_elim
         (λ blank. ap (λ (xs : List Attributes). length xs) blank.1 ∙ sym (ap (λ (ms : List Mark). length schemes + scheme_count ms) blank.0 ∙ zero_more (length schemes)))
         (λ adds. ap (λ (xs : List Attributes). length xs) adds.added ∙ length_push schemes adds.x ∙ ap (λ (n : ℕ). length schemes + n) (sym adds.one))
@@ -180,7 +170,7 @@ lines_after names number schemes line lines more (Err e) read fit =
 
 lines_join : (names : List (List ℕ)) (number : ℕ) (schemes : List Attributes) (line : List ℕ) (lines : List (List ℕ)) (r : Result (List Attributes) PlanRefusal)
     → ((more : List Attributes) → LinesFit names (number + 1) more lines (read_scheme_lines names (number + 1) more lines))
-    → LineFits names number schemes (lex mode.Plain line).marks (lex mode.Plain line).stop r
+    → LineFits names number schemes (lex mode.plain line).marks (lex mode.plain line).stop r
     → LinesFit names number schemes (line ∷ lines) (r >>= (λ more. read_scheme_lines names (number + 1) more lines))
 lines_join names number schemes line lines (Ok more) later fit = lines_after names number schemes line lines more (read_scheme_lines names (number + 1) more lines) fit (later more)
 lines_join names number schemes line lines (Err e) later fit = inl fit
@@ -189,8 +179,8 @@ pub lines_fit : (names : List (List ℕ)) (number : ℕ) (schemes : List Attribu
 unfolding read_scheme_lines
 lines_fit names number schemes [] = record { others = []; means = refl; added = sym (append-nil schemes); few = λ few. few }
 lines_fit names number schemes (line ∷ lines) =
-    lines_join names number schemes line lines (read_scheme_line names number schemes (lex mode.Plain line).marks (lex mode.Plain line).stop)
-    (λ more. lines_fit names (number + 1) more lines) (line_fits names number schemes (lex mode.Plain line).marks (lex mode.Plain line).stop)
+    lines_join names number schemes line lines (read_scheme_line names number schemes (lex mode.plain line).marks (lex mode.plain line).stop)
+    (λ more. lines_fit names (number + 1) more lines) (line_fits names number schemes (lex mode.plain line).marks (lex mode.plain line).stop)
 
 -- so what is read of a text is what its lines mean
 pub read_means : (names : List (List ℕ)) (lines : List (List ℕ)) (whole : List Attributes) → read_scheme_lines names 1 [] lines ≡ Ok whole → MeansSchemeLines names lines whole × (length whole ≤ MOST_SCHEMES)

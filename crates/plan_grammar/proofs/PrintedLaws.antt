@@ -1,10 +1,10 @@
 -- A printed plan means its schemes.
-use Rattle.std.proofs.Common.{◌≡◌, ◌≤◌, ◌+◌, ℕ, List, [], ◌∷◌, ◌++◌, map, length, refl, sym, ap, subst, ◌∙◌, ⊎_elim, inl, inr}
+use Rattle.std.proofs.Common.{◌≡◌, ◌≤◌, ◌+◌, ℕ, true, false, List, [], ◌∷◌, ◌++◌, map, length, refl, sym, ap, subst, ◌∙◌, ⊎_elim, inl, inr}
 use Rattle.std.specs.Prelude.{All, codes}
 use Rattle.std.proofs.lemmas.List.Elements.{All-head, All-tail}
 use Rattle.attr_sets.specs.Attributes.{Attributes, below, IsSubset, IsEmpty}
 use Rattle.dep_model.specs.Plans.{IsPlan}
-use Rattle.lexer.specs.declared.token.Mode.TheVariants as mode
+use Rattle.lexer.specs.Modes as mode
 use Rattle.lexer.specs.declared.token.TokenKind.TheVariants as token
 use Rattle.lexer.specs.Lines.{line_texts, without_mark}
 use Rattle.lexer.specs.Tokens.{Mark}
@@ -26,23 +26,22 @@ side_named : (names words : List (List ℕ)) (x : Attributes) → (IsEmpty x →
 side_named names [] x some side =
     ⊎_elim
     (λ empty. absurd (some (λ k. ap (λ (y : Attributes). y k) empty.nothing)))
-    (λ named. absurd (no_word (All-head (IsAttribute format.Plain names) (record { kind = token.Empty; column = 8; word = 40 ∷ 41 ∷ [] }) [] named.each)))
+    (λ named. absurd (no_word (All-head (IsAttribute format.Plain names) (record { kind = token.Empty; column = 8; length = 2; word = 40 ∷ 41 ∷ [] }) [] named.each)))
     side
   where
-    no_word : IsAttribute format.Plain names (record { kind = token.Empty; column = 8; word = 40 ∷ 41 ∷ [] }) → ⊥
-    no_word is = let wrong : token.Empty ≡ token.Identifier = is.word in cc
+    no_word : IsAttribute format.Plain names (record { kind = token.Empty; column = 8; length = 2; word = 40 ∷ 41 ∷ [] }) → ⊥
+    no_word is = let wrong : false ≡ true = is.word in cc
 side_named names (word ∷ words) x some side =
     ⊎_elim
-    (λ empty. absurd (no_empty empty.column empty.bytes empty.alone))
+    (λ empty. absurd (no_empty empty.mark empty.alone empty.is_empty))
     (λ named. named)
     side
   where
-    no_empty : (column : ℕ) (bytes : List ℕ) → side_marks 8 (word ∷ words) ≡ record { kind = token.Empty; column = column; word = bytes } ∷ [] → ⊥
-    no_empty column bytes same =
-        let first : Mark = record { kind = token.Identifier; column = 8; word = word } in
-        let other : Mark = record { kind = token.Empty; column = column; word = bytes } in
-        let heads : first ≡ other = cc in
-        let kinds : token.Identifier ≡ token.Empty = ap (λ (m : Mark). m.kind) heads in cc
+    no_empty : (mark : Mark) → side_marks 8 (word ∷ words) ≡ mark ∷ [] → mark.kind ≡ token.Empty → ⊥
+    no_empty mark same is =
+        let first : Mark = record { kind = token.Identifier; column = 8; length = length word; word = word } in
+        let heads : first ≡ mark = cc in
+        let kinds : token.Identifier ≡ token.Empty = ap (λ (m : Mark). m.kind) heads ∙ is in cc
 
 scheme_means : (names : List (List ℕ)) (x : Attributes) → AreNames format.Plain names → IsSubset x (below (length names)) → (IsEmpty x → ⊥) → MeansScheme names (scheme_text names x) x
 unfolding is_scheme
@@ -50,10 +49,10 @@ scheme_means names x are within some =
     let words = members_from x 0 names in
     let side = side_named names words x some (printed_side format.Plain names x 8 are within) in
     record {
-      marks = record { kind = token.Identifier; column = 1; word = codes "scheme" } ∷ word_marks 7 words;
+      marks = record { kind = token.Identifier; column = 1; length = length (codes "scheme"); word = codes "scheme" } ∷ word_marks 7 words;
       tokens = word_line (codes "scheme") words refl (printed_names format.Plain names x are);
       scheme = record {
-        head = record { kind = token.Identifier; column = 1; word = codes "scheme" };
+        head = record { kind = token.Identifier; column = 1; length = length (codes "scheme"); word = codes "scheme" };
         words = word_marks 7 words;
         whole = refl;
         scheme = refl;
@@ -65,7 +64,7 @@ scheme_means names x are within some =
 
 lines_mean : (names : List (List ℕ)) (schemes : List Attributes) → AreNames format.Plain names → All (λ x. IsSubset x (below (length names))) schemes → All (λ x. IsEmpty x → ⊥) schemes
     → MeansSchemeLines names (map (scheme_text names) schemes ++ [] ∷ []) schemes
-lines_mean names [] are within some = inl (nothing_left mode.Plain 1, refl)
+lines_mean names [] are within some = inl (nothing_left mode.plain 1, refl)
 lines_mean names (x ∷ schemes) are within some =
     inr (
       x,

@@ -15,9 +15,9 @@ use Rattle.schema_grammar.specs.DiagnosticKinds.{DiagnosticKind, reserved_name, 
 use Rattle.schema_grammar.specs.Diagnostics.{span_at}
 use Rattle.schema_grammar.specs.Meanings.{IsAttribute, attributes_of_words}
 use Rattle.schema_grammar.specs.Refusals.{refused_by, at}
+use Rattle.schema_grammar.specs.Words.{is_word_token, is_reserved_token, known_attribute, look_up}
 use Rattle.schema_grammar.specs.Rests.{◌>>=◌}
-use Rattle.schema_grammar.specs.Words.{is_reserved, known_attribute, look_up}
-use Rattle.schema_grammar.proofs.DiagnosticLaws.{flaw_kind, flaw_carries, flaw_least}
+use Rattle.schema_grammar.proofs.DiagnosticLaws.{flaw_carries, flaw_kind, flaw_least}
 use Rattle.schema_grammar.proofs.SideLemmas.{union-only, union-none, attributes_of_words-cons}
 use Rattle.plan_grammar.specs.declared.refusal.PlanRefusal.{PlanRefusal}
 use Rattle.plan_grammar.specs.declared.refusal.PlanRefusal.TheVariants as plan
@@ -27,25 +27,14 @@ use Rattle.plan_grammar.specs.Reading.{of_text, other_token, attribute_of_token,
 use Rattle.plan_grammar.proofs.FirstLemmas.{first_here, first_later, later_fine, no_flaw}
 
 -- ---- kinds of tokens
-is_word : TokenKind → Bool
-is_word token.Identifier = true
-is_word token.Empty = false
-is_word token.Arrow = false
-is_word token.DoubleArrow = false
-is_word token.Colon = false
-is_word (token.Number n) = false
-
 is_empty : TokenKind → Bool
 is_empty token.Empty = true
 is_empty token.Identifier = false
+is_empty token.Quoted = false
 is_empty token.Arrow = false
 is_empty token.DoubleArrow = false
 is_empty token.Colon = false
 is_empty (token.Number n) = false
-
-no_word : (k : TokenKind) → is_word k ≡ false → k ≡ token.Identifier → ⊥
-unfolding is_word
-no_word k other same = true≢false (sym (ap is_word same) ∙ other)
 
 no_empty : (k : TokenKind) → is_empty k ≡ false → k ≡ token.Empty → ⊥
 unfolding is_empty
@@ -55,8 +44,8 @@ no_empty k other same = true≢false (sym (ap is_empty same) ∙ other)
 -- what a token after the word `scheme` stands for, or what is wrong with it
 module _ (names : List (List ℕ)) (line after : ℕ) (m : Mark) (ms : List Mark) (stop : Option LexError) where
   pub record IsNamed (a : ℕ) : Type 0 where
-    pub word : m.kind ≡ token.Identifier
-    pub free : is_reserved format.Plain m.word ≡ false
+    pub word : is_word_token m.kind ≡ true
+    pub free : is_reserved_token format.Plain m.kind m.word ≡ false
     pub lookup : attribute_named names m.word ≡ Some a
 
   abbrev pub TokenFits : Bool → Result ℕ PlanRefusal → Type 0
@@ -64,12 +53,12 @@ module _ (names : List (List ℕ)) (line after : ℕ) (m : Mark) (ms : List Mark
   TokenFits first (Err e) = WordDiagnostic names first m (plan_diagnostic_kind e) × SpansPosition line (span_at line after (m ∷ ms) stop) (wanted_after first) 0 e
       × ((n : DiagnosticKind) → WordDiagnostic names first m n → number_of (plan_diagnostic_kind e) ≤ number_of n)
 
-  word_fits : (first : Bool) → m.kind ≡ token.Identifier → TokenFits first (of_text (at line m.column (length m.word) (look_up format.Plain names m.word)))
+  word_fits : (first : Bool) → is_word_token m.kind ≡ true → TokenFits first (of_text (at line m.column m.length (look_up format.Plain names m.kind m.word)))
   unfolding look_up
-  word_fits first is = told (is_reserved format.Plain m.word) (attribute_named names m.word) refl refl
+  word_fits first is = told (is_reserved_token format.Plain m.kind m.word) (attribute_named names m.word) refl refl
     where
       small : (first : Bool) (low n : DiagnosticKind) → number_of low ≤ number_of unknown_name
-          → (n ≡ reserved_name → number_of low ≤ number_of reserved_name ⊎ (is_reserved format.Plain m.word ≡ false))
+          → (n ≡ reserved_name → number_of low ≤ number_of reserved_name ⊎ (is_reserved_token format.Plain m.kind m.word ≡ false))
           → WordDiagnostic names first m n → number_of low ≤ number_of n
       small first low n most other h =
           ⊎_elim
@@ -80,8 +69,8 @@ module _ (names : List (List ℕ)) (line after : ℕ) (m : Mark) (ms : List Mark
           (λ rest. ⊎_elim (λ ten. omega (arith, most, ap number_of ten.2)) (λ six. omega (arith, most, ap number_of six.2)) rest)
           h
 
-      told : (b : Bool) (o : Option ℕ) → is_reserved format.Plain m.word ≡ b → attribute_named names m.word ≡ o
-          → TokenFits first (of_text (at line m.column (length m.word) (cond b (Err kind.ReservedName) (known_attribute o))))
+      told : (b : Bool) (o : Option ℕ) → is_reserved_token format.Plain m.kind m.word ≡ b → attribute_named names m.word ≡ o
+          → TokenFits first (of_text (at line m.column m.length (cond b (Err kind.ReservedName) (known_attribute o))))
       told true o reserved lookup = (inl (is, inl (refl, reserved)), (refl, tt), λ n h. small first reserved_name n (omega arith) (λ three. inl (omega arith)) h)
       told false None free lookup = (inl (is, inr (refl, lookup)), (refl, tt), λ n h. small first unknown_name n (omega arith) (λ three. inr free) h)
       told false (Some a) free lookup = record { word = is; free = free; lookup = lookup }
@@ -96,28 +85,29 @@ module _ (names : List (List ℕ)) (line after : ℕ) (m : Mark) (ms : List Mark
         h,
   )
     where
-      apart : m.kind ≡ token.Empty → m.kind ≡ token.Identifier → ⊥
-      apart e w = let wrong : token.Empty ≡ token.Identifier = sym e ∙ w in cc
+      apart : m.kind ≡ token.Empty → is_word_token m.kind ≡ true → ⊥
+      apart e w = true≢false (sym w ∙ ap is_word_token e)
 
-  other_fits : (first : Bool) → (m.kind ≡ token.Identifier → ⊥) → (first ≡ true → m.kind ≡ token.Empty → ⊥) → TokenFits first (Err (other_token line first m))
+  other_fits : (first : Bool) → is_word_token m.kind ≡ false → (first ≡ true → m.kind ≡ token.Empty → ⊥) → TokenFits first (Err (other_token line first m))
   other_fits first word empty = (
     inr (inr (word, empty, refl)),
     (refl, refl),
     λ n h. ⊎_elim
-        (λ is. absurd (word is.0))
+        (λ is. absurd (true≢false (sym is.0 ∙ word)))
         (λ rest. ⊎_elim (λ ten. absurd (empty ten.0 ten.1)) (λ six. omega (arith, ap number_of six.2)) rest)
         h,
   )
 
   pub token_fits : (first : Bool) (k : TokenKind) → m.kind ≡ k → TokenFits first (attribute_of_token names line first m k)
-  unfolding is_word is_empty
-  token_fits first token.Identifier is = word_fits first is
+  unfolding is_empty
+  token_fits first token.Identifier is = word_fits first (ap is_word_token is)
+  token_fits first token.Quoted is = word_fits first (ap is_word_token is)
   token_fits true token.Empty is = empty_fits is
-  token_fits false token.Empty is = other_fits false (no_word m.kind (ap is_word is)) (λ t _. absurd (false≢true t))
-  token_fits first token.Arrow is = other_fits first (no_word m.kind (ap is_word is)) (λ _. no_empty m.kind (ap is_empty is))
-  token_fits first token.DoubleArrow is = other_fits first (no_word m.kind (ap is_word is)) (λ _. no_empty m.kind (ap is_empty is))
-  token_fits first token.Colon is = other_fits first (no_word m.kind (ap is_word is)) (λ _. no_empty m.kind (ap is_empty is))
-  token_fits first (token.Number n) is = other_fits first (no_word m.kind (ap is_word is)) (λ _. no_empty m.kind (ap is_empty is))
+  token_fits false token.Empty is = other_fits false (ap is_word_token is) (λ t _. absurd (false≢true t))
+  token_fits first token.Arrow is = other_fits first (ap is_word_token is) (λ _. no_empty m.kind (ap is_empty is))
+  token_fits first token.DoubleArrow is = other_fits first (ap is_word_token is) (λ _. no_empty m.kind (ap is_empty is))
+  token_fits first token.Colon is = other_fits first (ap is_word_token is) (λ _. no_empty m.kind (ap is_empty is))
+  token_fits first (token.Number n) is = other_fits first (ap is_word_token is) (λ _. no_empty m.kind (ap is_empty is))
 
 -- ---- all tokens
 -- the tokens are words that name attributes
@@ -139,18 +129,15 @@ named_fine names line after first m ms stop a n is h =
     (λ three. true≢false (sym three.1 ∙ is.free))
     (λ five. unknown (sym five.1 ∙ is.lookup))
     word.1)
-    (λ rest. ⊎_elim (λ ten. apart (sym is.word ∙ ten.1)) (λ six. six.0 is.word) rest)
+    (λ rest. ⊎_elim (λ ten. true≢false (sym is.word ∙ ap is_word_token ten.1)) (λ six. true≢false (sym is.word ∙ six.0)) rest)
     h
   where
     unknown : None ≡ Some a → ⊥
     unknown e = cc
 
-    apart : token.Identifier ≡ token.Empty → ⊥
-    apart e = cc
-
 -- a word, and then what follows it
 words_after : (names : List (List ℕ)) (line after : ℕ) (first : Bool) (x : Attributes) (m : Mark) (ms : List Mark) (stop : Option LexError) (a : ℕ) (r : Result Attributes PlanRefusal)
-    → IsNamed names line after m ms stop a → WordsFit names line false (union x (only a)) (m.column + length m.word) ms stop r → WordsFit names line first x after (m ∷ ms) stop r
+    → IsNamed names line after m ms stop a → WordsFit names line false (union x (only a)) (m.column + m.length) ms stop r → WordsFit names line first x after (m ∷ ms) stop r
 words_after names line after first x m ms stop a (Ok y) is fit = record {
   each = All-cons (IsAttribute format.Plain names) m ms (record { word = is.word; free = is.free; index = a; known = is.lookup }) fit.each;
   ended = fit.ended;
@@ -163,7 +150,7 @@ words_after names line after first x m ms stop a (Err e) is fit =
     (λ n h. named_fine names line after first m ms stop a n is h) fit
 
 words_join : (names : List (List ℕ)) (line after : ℕ) (first : Bool) (x : Attributes) (m : Mark) (ms : List Mark) (stop : Option LexError) (r : Result ℕ PlanRefusal)
-    → ((a : ℕ) → WordsFit names line false (union x (only a)) (m.column + length m.word) ms stop (read_words names line false (union x (only a)) ms stop))
+    → ((a : ℕ) → WordsFit names line false (union x (only a)) (m.column + m.length) ms stop (read_words names line false (union x (only a)) ms stop))
     → TokenFits names line after m ms stop first r
     → WordsFit names line first x after (m ∷ ms) stop (r >>= (λ a. read_words names line false (union x (only a)) ms stop))
 words_join names line after first x m ms stop (Ok a) later fit =
@@ -199,7 +186,7 @@ words_fit names line true x after [] (Some s) = stopped_fit names line true afte
 words_fit names line false x after [] (Some s) = stopped_fit names line false after s
 words_fit names line true x after (m ∷ ms) stop =
     words_join names line after true x m ms stop (attribute_of_token names line true m m.kind)
-    (λ a. words_fit names line false (union x (only a)) (m.column + length m.word) ms stop) (token_fits names line after m ms stop true m.kind refl)
+    (λ a. words_fit names line false (union x (only a)) (m.column + m.length) ms stop) (token_fits names line after m ms stop true m.kind refl)
 words_fit names line false x after (m ∷ ms) stop =
     words_join names line after false x m ms stop (attribute_of_token names line false m m.kind)
-    (λ a. words_fit names line false (union x (only a)) (m.column + length m.word) ms stop) (token_fits names line after m ms stop false m.kind refl)
+    (λ a. words_fit names line false (union x (only a)) (m.column + m.length) ms stop) (token_fits names line after m ms stop false m.kind refl)

@@ -3,7 +3,7 @@
 use Rattle.std.specs.Prelude.{◌≡◌, ◌≤◌, ◌⊎◌, ℕ, ◌+◌, zero, suc, Bool, true, false, not, ◌&&◌, if◌then◌else◌, List, [], ◌∷◌, length, Option, Some, None}
 use Rattle.std.specs.List.{list_any}
 use Rattle.attr_sets.specs.Attributes.{Attributes, below, IsFirstFrom}
-use Rattle.lexer.specs.declared.token.Mode.TheVariants as mode
+use Rattle.lexer.specs.Modes as mode
 use Rattle.lexer.specs.declared.token.LexError.{LexError}
 use Rattle.lexer.specs.declared.token.TokenKind.TheVariants as token
 use Rattle.lexer.specs.Lines.{line_texts, without_mark}
@@ -12,9 +12,9 @@ use Rattle.schema_grammar.specs.declared.format.Format.TheVariants as format
 use Rattle.schema_grammar.specs.declared.refusal.Span.{Span}
 use Rattle.schema_grammar.specs.declared.refusal.What.{What}
 use Rattle.schema_grammar.specs.declared.refusal.What.TheVariants as what
-use Rattle.schema_grammar.specs.DiagnosticKinds.{DiagnosticKind, reserved_name, expected, empty_scheme, too_many_schemes, IsNoLater, diagnostic_of_flaw}
 use Rattle.schema_grammar.specs.Diagnostics.{DiagnosesOfWord, Carries, span_at}
-use Rattle.schema_grammar.specs.Words.{is_reserved}
+use Rattle.schema_grammar.specs.Words.{is_word_token, is_reserved_token}
+use Rattle.schema_grammar.specs.DiagnosticKinds.{DiagnosticKind, reserved_name, expected, empty_scheme, too_many_schemes, IsNoLater, diagnostic_of_flaw}
 use Rattle.plan_grammar.specs.declared.refusal.PlanRefusal.{PlanRefusal}
 use Rattle.plan_grammar.specs.declared.refusal.PlanRefusal.TheVariants as plan
 use Rattle.plan_grammar.specs.declared.refusal.TheConstants.{MOST_SCHEMES}
@@ -30,7 +30,7 @@ FlawDiagnostic stop why = (s : LexError) × (stop ≡ Some s) × (why ≡ diagno
 abbrev pub FirstTokenDiagnostic : ℕ → Mark → DiagnosticKind → Type 0
 FirstTokenDiagnostic earlier m why =
     ((is_scheme m.kind m.word ≡ false)
-    × (((why ≡ reserved_name) × (m.kind ≡ token.Identifier) × (is_reserved format.Plain m.word ≡ true))
+    × (((why ≡ reserved_name) × (is_reserved_token format.Plain m.kind m.word ≡ true))
     ⊎ (why ≡ expected)))
     ⊎ ((is_scheme m.kind m.word ≡ true) × (MOST_SCHEMES ≤ earlier) × (why ≡ too_many_schemes))
 
@@ -39,7 +39,7 @@ abbrev pub WordDiagnostic : List (List ℕ) → Bool → Mark → DiagnosticKind
 WordDiagnostic names first m why =
     DiagnosesOfWord format.Plain names m why
     ⊎ (((first ≡ true) × (m.kind ≡ token.Empty) × (why ≡ empty_scheme))
-    ⊎ ((m.kind ≡ token.Identifier → ⊥) × (first ≡ true → m.kind ≡ token.Empty → ⊥) × (why ≡ expected)))
+    ⊎ ((is_word_token m.kind ≡ false) × (first ≡ true → m.kind ≡ token.Empty → ⊥) × (why ≡ expected)))
 
 -- what is wrong after the word `scheme` at a position, before which so many tokens stand there
 abbrev pub WordsDiagnostic : List (List ℕ) → Bool → List Mark → Option LexError → ℕ → DiagnosticKind → Type 0
@@ -100,9 +100,9 @@ scheme_count (m ∷ ms) = 1
 abbrev pub RefusesSchemeLines : List (List ℕ) → ℕ → ℕ → List (List ℕ) → PlanRefusal → Type 0
 RefusesSchemeLines names number earlier [] e = ⊥
 RefusesSchemeLines names number earlier (line ∷ lines) e =
-    RefusesLine names number earlier (lex mode.Plain line).marks (lex mode.Plain line).stop e
-    ⊎ (IsFine names earlier (lex mode.Plain line).marks (lex mode.Plain line).stop
-    × RefusesSchemeLines names (number + 1) (earlier + scheme_count (lex mode.Plain line).marks) lines e)
+    RefusesLine names number earlier (lex mode.plain line).marks (lex mode.plain line).stop e
+    ⊎ (IsFine names earlier (lex mode.plain line).marks (lex mode.plain line).stop
+    × RefusesSchemeLines names (number + 1) (earlier + scheme_count (lex mode.plain line).marks) lines e)
 
 -- the attributes that are in no scheme
 abbrev pub uncovered_attributes : ℕ → List Attributes → Attributes

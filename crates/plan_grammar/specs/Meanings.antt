@@ -4,7 +4,7 @@ use Rattle.std.specs.Prelude.{◌≡◌, ◌<◌, ◌≤◌, ◌⊎◌, ℕ, Boo
 use Rattle.std.specs.Str.{bytes_eq}
 use Rattle.attr_sets.specs.Attributes.{Attributes}
 use Rattle.dep_model.specs.Projections.{Covers}
-use Rattle.lexer.specs.declared.token.Mode.TheVariants as mode
+use Rattle.lexer.specs.Modes as mode
 use Rattle.lexer.specs.declared.token.TokenKind.{TokenKind}
 use Rattle.lexer.specs.declared.token.TokenKind.TheVariants as token
 use Rattle.lexer.specs.Lines.{line_texts, without_mark}
@@ -16,14 +16,15 @@ use Rattle.plan_grammar.specs.declared.refusal.TheConstants.{MOST_SCHEMES}
 -- whether a token is the word `scheme`, in lower case
 unfoldable pub is_scheme : TokenKind → List ℕ → Bool
 is_scheme token.Identifier word = bytes_eq word (codes "scheme")
+is_scheme token.Quoted word = false
 is_scheme (token.Number n) word = false
 is_scheme token.Arrow word = false
 is_scheme token.DoubleArrow word = false
 is_scheme token.Empty word = false
 is_scheme token.Colon word = false
 
--- a scheme line over declared names: the word `scheme`, and one or more words, for the attributes that
--- they name
+-- a scheme line over declared names: the word `scheme`, and one or more words or quoted names, for the
+-- attributes that they name
 pub record IsSchemeLine (names : List (List ℕ)) (ms : List Mark) (x : Attributes) : Type 0 where
   pub head : Mark
   pub words : List Mark
@@ -36,14 +37,14 @@ pub record IsSchemeLine (names : List (List ℕ)) (ms : List Mark) (x : Attribut
 -- a line has the tokens of a scheme line
 pub record MeansScheme (names : List (List ℕ)) (line : List ℕ) (x : Attributes) : Type 0 where
   pub marks : List Mark
-  pub tokens : HasTokens (lex mode.Plain line) marks
+  pub tokens : HasTokens (lex mode.plain line) marks
   pub scheme : IsSchemeLine names marks x
 
 -- lines mean the schemes of their scheme lines, in order; the others have no tokens
 abbrev pub MeansSchemeLines : List (List ℕ) → List (List ℕ) → List Attributes → Type 0
 MeansSchemeLines names [] schemes = schemes ≡ []
 MeansSchemeLines names (line ∷ lines) schemes =
-    (HasTokens (lex mode.Plain line) [] × MeansSchemeLines names lines schemes)
+    (HasTokens (lex mode.plain line) [] × MeansSchemeLines names lines schemes)
     ⊎ ((x : Attributes) × (others : List Attributes) × MeansScheme names line x × MeansSchemeLines names lines others
     × (schemes ≡ x ∷ others))
 

@@ -2,7 +2,7 @@
 -- meaning, and `Desk` does not cite it.
 use Rattle.std.specs.Prelude.{ℕ, ◌+◌, Bool, true, false, nat_le, if◌then◌else◌, List, [], ◌∷◌, ◌++◌, length, Option, Some, None, Result, Ok, Err}
 use Rattle.attr_sets.specs.Attributes.{Attributes, none, only, union}
-use Rattle.lexer.specs.declared.token.Mode.TheVariants as mode
+use Rattle.lexer.specs.Modes as mode
 use Rattle.lexer.specs.declared.token.LexError.{LexError}
 use Rattle.lexer.specs.declared.token.TokenKind.{TokenKind}
 use Rattle.lexer.specs.declared.token.TokenKind.TheVariants as token
@@ -13,8 +13,8 @@ use Rattle.schema_grammar.specs.declared.refusal.SchemaRefusalKind.{SchemaRefusa
 use Rattle.schema_grammar.specs.declared.refusal.SchemaRefusalKind.TheVariants as kind
 use Rattle.schema_grammar.specs.declared.refusal.What.TheVariants as what
 use Rattle.schema_grammar.specs.Refusals.{refusal, refused_by}
-use Rattle.schema_grammar.specs.Rests.{Rest, ◌>>=◌, attribute_of_word}
-use Rattle.schema_grammar.specs.Words.{is_reserved}
+use Rattle.schema_grammar.specs.Rests.{attribute_of_word, Rest, ◌>>=◌}
+use Rattle.schema_grammar.specs.Words.{is_reserved_token}
 use Rattle.plan_grammar.specs.declared.refusal.PlanRefusal.{PlanRefusal}
 use Rattle.plan_grammar.specs.declared.refusal.PlanRefusal.TheVariants as plan
 use Rattle.plan_grammar.specs.declared.refusal.TheConstants.{MOST_SCHEMES}
@@ -29,11 +29,12 @@ of_text (Err e) = Err (plan.Text e)
 -- the refusal of a token that no scheme line has there
 abbrev pub other_token : ℕ → Bool → Mark → PlanRefusal
 other_token line first m =
-    plan.Text (refusal line m.column (length m.word) (kind.Expected (wanted_after first 0)))
+    plan.Text (refusal line m.column m.length (kind.Expected (wanted_after first 0)))
 
 -- what a token after the word `scheme` stands for
 abbrev pub attribute_of_token : List (List ℕ) → ℕ → Bool → Mark → TokenKind → Result ℕ PlanRefusal
 attribute_of_token names line first m token.Identifier = of_text (attribute_of_word names line m)
+attribute_of_token names line first m token.Quoted = of_text (attribute_of_word names line m)
 attribute_of_token names line first m token.Empty = if first then Err (plan.EmptyScheme line)
     else Err (other_token line first m)
 attribute_of_token names line first m token.Arrow = Err (other_token line first m)
@@ -56,9 +57,8 @@ read_words_rest names first x r = read_words names r.line first x r.marks r.stop
 
 -- why a line can't begin with a token
 abbrev pub no_scheme : TokenKind → List ℕ → SchemaRefusalKind
-no_scheme token.Identifier word = if is_reserved format.Plain word then kind.ReservedName
+no_scheme k word = if is_reserved_token format.Plain k word then kind.ReservedName
     else kind.Expected what.Scheme
-no_scheme _ word = kind.Expected what.Scheme
 
 -- the scheme of a line that this token begins, where so many scheme lines stand before it
 abbrev pub read_scheme : List (List ℕ) → ℕ → Mark → Rest → Result Attributes PlanRefusal
@@ -66,7 +66,7 @@ read_scheme names earlier m r =
     if is_scheme m.kind m.word
     then (if nat_le MOST_SCHEMES earlier then Err (plan.TooManySchemes r.line)
     else read_words_rest names true none r)
-    else Err (plan.Text (refusal r.line m.column (length m.word) (no_scheme m.kind m.word)))
+    else Err (plan.Text (refusal r.line m.column m.length (no_scheme m.kind m.word)))
 
 -- the schemes with that of one line more
 unfoldable pub read_scheme_line : List (List ℕ) → ℕ → List Attributes → List Mark → Option LexError
@@ -75,7 +75,7 @@ read_scheme_line names line schemes [] None = Ok schemes
 read_scheme_line names line schemes [] (Some stop) = Err (plan.Text (refused_by line stop))
 read_scheme_line names line schemes (m ∷ ms) stop =
     read_scheme names (length schemes) m
-    (record { line = line; next_column = m.column + length m.word; marks = ms; stop = stop })
+    (record { line = line; next_column = m.column + m.length; marks = ms; stop = stop })
     >>= (λ x. Ok (schemes ++ x ∷ []))
 
 -- the schemes of lines, of which the first has this number, after other schemes
@@ -83,5 +83,5 @@ unfoldable pub read_scheme_lines : List (List ℕ) → ℕ → List Attributes �
     → Result (List Attributes) PlanRefusal
 read_scheme_lines names number schemes [] = Ok schemes
 read_scheme_lines names number schemes (line ∷ lines) =
-    read_scheme_line names number schemes (lex mode.Plain line).marks (lex mode.Plain line).stop
+    read_scheme_line names number schemes (lex mode.plain line).marks (lex mode.plain line).stop
     >>= (λ more. read_scheme_lines names (number + 1) more lines)

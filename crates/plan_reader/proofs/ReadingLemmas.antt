@@ -1,7 +1,7 @@
 -- Reading a plan text line by line, and a line word by word.
 use Rattle.std.proofs.Common.{◌≡◌, ◌<◌, ◌+◌, ◌^◌, ℕ, Bool, true, false, List, [], ◌∷◌, ◌++◌, length, Result, Ok, Err, refl, ◌∙◌, arith}
 use Rattle.attr_sets.specs.Attributes.{Attributes, only, union}
-use Rattle.lexer.specs.declared.token.Mode.TheVariants as mode
+use Rattle.lexer.specs.Modes as mode
 use Rattle.lexer.specs.Lines.{line_texts, CutsAt}
 use Rattle.lexer.specs.Tokens.{Mark, lex}
 use Rattle.schema_grammar.specs.declared.refusal.SchemaRefusal.{SchemaRefusal}
@@ -72,7 +72,7 @@ pub record Reads (names : List (List ℕ)) (text : List ℕ) (schemes : List Att
   pub room : number + length rest < 2 ^ 31
 
 abbrev pub line_read : List (List ℕ) → ℕ → List Attributes → List ℕ → Result (List Attributes) PlanRefusal
-line_read names number schemes line = read_scheme_line names number schemes (lex mode.Plain line).marks (lex mode.Plain line).stop
+line_read names number schemes line = read_scheme_line names number schemes (lex mode.plain line).marks (lex mode.plain line).stop
 
 pub line_refused : (names : List (List ℕ)) (number : ℕ) (schemes : List Attributes) (line : List ℕ) (lines ls : List (List ℕ)) (e : PlanRefusal)
     → ls ≡ line ∷ lines → line_read names number schemes line ≡ Err e → read_scheme_lines names number schemes ls ≡ Err e

@@ -5,7 +5,8 @@ ghost use Rattle.dep_model.specs.Failures.{RefusesAs};
 ghost use Rattle.dep_model.specs.Plans.{schemes_of};
 ghost use Rattle.dep_model.specs.Schemas.{names_of};
 ghost use Rattle.lexer.specs.Lines.{line_texts};
-ghost use Rattle.lexer.specs.Tokens.{lex};
+ghost use Rattle.lexer.specs.Modes.{plain};
+ghost use Rattle.lexer.specs.Tokens.{lex, bytes_of};
 ghost use Rattle.tokens.specs.Views.{names_in, rest_of};
 ghost use Rattle.schema_grammar.specs.Declarations.{mark_of};
 ghost use Rattle.schema_grammar.specs.Refusals.{Refuses, refusal};
@@ -17,12 +18,12 @@ ghost use Rattle.plans.specs.Plans.{plan_of, IsPlanOver};
 use crate::covering::first_uncovered;
 use attr_sets::{AttrSet, MOST_ATTRIBUTES};
 use dep_model::{Failure, Schema};
-use lexer::{Mode, Token, TokenKind, cut_line, without_mark};
+use lexer::{Mode, Token, TokenKind, Word, cut_line, without_mark};
 use plan_grammar::{MOST_SCHEMES, PlanRefusal};
 use plans::Plan;
 use schema_grammar::{Format, SchemaRefusal, SchemaRefusalKind, What};
 use std::alloc::Global;
-use tokens::{Cursor, Guide, Names, NextToken, is_reserved, look_up};
+use tokens::{Cursor, Guide, Names, NextToken, is_reserved_token, look_up};
 
 /// The most bytes of a plan text.
 pub const MOST_PLAN_BYTES: usize = 1_048_576;
@@ -87,16 +88,16 @@ fn read_line(
     requires within_limit { length (names_in names.now) ≤ MOST_ATTRIBUTES }
     requires fits_u32 { 1 + length line.now < 2 ^ 32 }
     ensures ok { OnOk result (read_scheme_line (names_in names.now) number (schemes_of schemes.old.items)
-        (lex Mode.Plain line.now).marks (lex Mode.Plain line.now).stop ≡ Ok (schemes_of schemes.new.items)) }
+        (lex plain line.now).marks (lex plain line.now).stop ≡ Ok (schemes_of schemes.new.items)) }
     ensures err { IfErr result (λ failure. Refuses failure (read_scheme_line (names_in names.now) number
-        (schemes_of schemes.old.items) (lex Mode.Plain line.now).marks (lex Mode.Plain line.now).stop)) }
+        (schemes_of schemes.old.items) (lex plain line.now).marks (lex plain line.now).stop)) }
 {
-    let start = Cursor::start(number, Mode::Plain, line);
+    let start = Cursor::start(number, Mode::PLAIN, line);
     match start.next() {
         NextToken::End => Ok(()),
         NextToken::Refusal(refusal) => Err(Failure::Refused(PlanRefusal::Text(refusal))),
         NextToken::Token(token, word, rest) => {
-            match read_scheme(names, schemes.len(), token, word, rest) {
+            match read_scheme(names, schemes.len(), token, &word, rest) {
                 Err(refusal) => Err(Failure::Refused(refusal)),
                 Ok(scheme) => Ok(schemes.push(scheme)?),
             }
@@ -109,15 +110,14 @@ fn read_scheme(
     names: &Names<'_>,
     earlier: usize,
     token: Token,
-    word: &[u8],
+    word: &Word<'_>,
     rest: Cursor<'_>,
 ) -> Result<AttrSet, PlanRefusal>
     requires within_limit { length (names_in names.now) ≤ MOST_ATTRIBUTES }
-    requires word { token.length ≡ length word.now }
-    ensures ok { IfOk result (λ scheme. read_scheme (names_in names.now) earlier (mark_of token word.now)
+    ensures ok { IfOk result (λ scheme. read_scheme (names_in names.now) earlier (mark_of token (bytes_of word.now))
         (rest_of rest.entry) ≡ Ok (attributes scheme)) }
     ensures err { IfErr result (λ refusal. read_scheme (names_in names.now) earlier
-        (mark_of token word.now) (rest_of rest.entry) ≡ Err refusal) }
+        (mark_of token (bytes_of word.now)) (rest_of rest.entry) ≡ Err refusal) }
 {
     if !is_scheme(token.kind, word) {
         return Err(refusal_of_token(rest.line(), token, no_scheme(token.kind, word)));
@@ -130,28 +130,23 @@ fn read_scheme(
 
 // Whether a token is the word `scheme`, in lower case.
 #[tactic(auto, unfolding(plan_grammar::specs::Meanings::is_scheme))]
-fn is_scheme(kind: TokenKind, word: &[u8]) -> bool
-    ensures exact { result ≡ is_scheme kind word.now }
+fn is_scheme(kind: TokenKind, word: &Word<'_>) -> bool
+    ensures exact { result ≡ is_scheme kind (bytes_of word.now) }
 {
     match kind {
-        TokenKind::Identifier => word == b"scheme".as_slice(),
+        TokenKind::Identifier => word.bytes() == b"scheme".as_slice(),
         _ => false,
     }
 }
 
 // Why a line can't begin with a token.
-fn no_scheme(kind: TokenKind, word: &[u8]) -> SchemaRefusalKind
-    ensures exact { result ≡ no_scheme kind word.now }
+fn no_scheme(kind: TokenKind, word: &Word<'_>) -> SchemaRefusalKind
+    ensures exact { result ≡ no_scheme kind (bytes_of word.now) }
 {
-    match kind {
-        TokenKind::Identifier => {
-            if is_reserved(Format::Plain, word) {
-                SchemaRefusalKind::ReservedName
-            } else {
-                SchemaRefusalKind::Expected(What::Scheme)
-            }
-        }
-        _ => SchemaRefusalKind::Expected(What::Scheme),
+    if is_reserved_token(Format::Plain, kind, word.bytes()) {
+        SchemaRefusalKind::ReservedName
+    } else {
+        SchemaRefusalKind::Expected(What::Scheme)
     }
 }
 
@@ -177,7 +172,7 @@ fn read_words(names: &Names<'_>, start: Cursor<'_>) -> Result<AttrSet, PlanRefus
             }
             NextToken::Refusal(refusal) => return Err(PlanRefusal::Text(refusal)),
             NextToken::Token(token, word, after) => {
-                match attribute_of_token(names, rest.line(), first, token, word) {
+                match attribute_of_token(names, rest.line(), first, token, &word) {
                     Err(refusal) => return Err(refusal),
                     Ok(attribute) => {
                         set = set.with(attribute);
@@ -197,18 +192,22 @@ fn attribute_of_token(
     line: u32,
     first: bool,
     token: Token,
-    word: &[u8],
+    word: &Word<'_>,
 ) -> Result<u8, PlanRefusal>
     requires within_limit { length (names_in names.now) ≤ MOST_ATTRIBUTES }
-    requires word { token.length ≡ length word.now }
     ensures ok { IfOk result (λ attribute.
-        attribute_of_token (names_in names.now) line first (mark_of token word.now) token.kind ≡ Ok attribute) }
+        attribute_of_token (names_in names.now) line first (mark_of token (bytes_of word.now)) token.kind ≡ Ok attribute) }
     ensures inside { IfOk result (λ attribute. attribute < length (names_in names.now)) }
     ensures err { IfErr result (λ refusal.
-        attribute_of_token (names_in names.now) line first (mark_of token word.now) token.kind ≡ Err refusal) }
+        attribute_of_token (names_in names.now) line first (mark_of token (bytes_of word.now)) token.kind ≡ Err refusal) }
 {
     match token.kind {
-        TokenKind::Identifier => match look_up(names, Format::Plain, word) {
+        TokenKind::Identifier | TokenKind::Quoted => match look_up(
+            names,
+            Format::Plain,
+            token.kind,
+            word,
+        ) {
             Ok(attribute) => Ok(attribute),
             Err(kind) => Err(refusal_of_token(line, token, kind)),
         },

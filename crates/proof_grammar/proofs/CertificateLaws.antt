@@ -6,7 +6,7 @@ use Rattle.std.proofs.lemmas.Option.{slice_get-get_or}
 use Rattle.dep_model.specs.declared.schema.Schema.{Schema}
 use Rattle.dep_model.specs.Schemas.{names_of}
 use Rattle.derivation.specs.Trees.{Tree}
-use Rattle.lexer.specs.declared.token.Mode.TheVariants as mode
+use Rattle.lexer.specs.Modes as mode
 use Rattle.lexer.specs.Lines.{line_texts, without_mark}
 use Rattle.lexer.specs.Tokens.{lex}
 use Rattle.schema_grammar.specs.declared.refusal.SchemaRefusal.{SchemaRefusal}
@@ -128,7 +128,7 @@ line_fits Opening s text number here texts before fresh lines trees book cut cou
     (omega (arith, count, length-append before (here ∷ [])))
     (line_passed_over s text before fresh false lines trees book here afterwards counts) is
 line_fits Certificate s text number here texts before fresh lines trees book cut count afterwards counts on is =
-    told (certificate_line (names_of s) (rest_from number 1 (lex mode.Numbered here))) refl is
+    told (certificate_line (names_of s) (rest_from number 1 (lex mode.numbered here))) refl is
   where
     stands : StandsAt text before here number
     stands = record {
@@ -139,7 +139,7 @@ line_fits Certificate s text number here texts before fresh lines trees book cut
     }
 
     told : (r : Result Line SchemaRefusal)
-        → certificate_line (names_of s) (rest_from number 1 (lex mode.Numbered here)) ≡ r
+        → certificate_line (names_of s) (rest_from number 1 (lex mode.numbered here)) ≡ r
         → read_proof s text ≡ read_from s number texts (in_line r >>= λ l. without_more_yes (enter_line s number book l))
         → TextFits s text (read_from s number texts (in_line r >>= λ l. without_more_yes (enter_line s number book l)))
     told (Err refusal) grammar is = inl (record {
@@ -191,7 +191,7 @@ all_lines_fit s text number [] before fresh lines trees book cut count afterward
     (finishes s (λ n. uses n lines) trees book.unused (number - 1) book.lines afterwards.follows.slots
     afterwards.follows.fresh) is
 all_lines_fit s text number (here ∷ texts) before fresh lines trees book cut count afterwards is =
-    line_fits (line_kind fresh (lex mode.Numbered here)) s text number here texts before fresh lines trees book cut
+    line_fits (line_kind fresh (lex mode.numbered here)) s text number here texts before fresh lines trees book cut
     count afterwards (kind_counts fresh here _ refl) (all_lines_fit s text (number + 1) texts) is
 
 pub text_fits : (s : Schema) (text : List ℕ) → TextFits s text (read_proof s text)

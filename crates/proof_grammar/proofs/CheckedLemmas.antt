@@ -24,7 +24,7 @@ use Rattle.proof_grammar.specs.Nodes.{with_tree, same_dependency}
 use Rattle.proof_grammar.specs.CheckerStates.{Opened, CheckerStateValue, Prepared, option_flatten, is_earlier, open_at, close_line, step_node, pair_node, prepare_line, concluded_as, within_limits, add_line, enter_line, first_unused, root, concluded_by, root_conclusion, finished_at, finished_certificate}
 use Rattle.proof_grammar.specs.declared.line_kind.LineKind.{LineKind}
 use Rattle.proof_grammar.specs.declared.line_kind.LineKind.TheVariants.{Blank, Opening, Certificate}
-use Rattle.lexer.specs.declared.token.Mode.TheVariants as mode
+use Rattle.lexer.specs.Modes as mode
 use Rattle.lexer.specs.Lines.{line_texts, without_mark}
 use Rattle.lexer.specs.Tokens.{lex}
 use Rattle.dep_model.specs.Schemas.{names_of}
@@ -229,7 +229,7 @@ read_as_keeps Blank s fresh number book text is = is
 read_as_keeps Opening s fresh number book text is = is
 read_as_keeps Certificate s fresh number book text is =
     bind_each (λ next. IsCheckerState s next.1)
-    (in_line (certificate_line (names_of s) (rest_from number 1 (lex mode.Numbered text)))) _
+    (in_line (certificate_line (names_of s) (rest_from number 1 (lex mode.numbered text)))) _
     (λ l read. bind_each (λ next. IsCheckerState s next.1) (enter_line s number book l) _
     (λ next enter. ok_at (IsCheckerState s) _ next enter (entered_keeps s number book l is)))
 
@@ -237,7 +237,7 @@ pub read_one_keeps : (s : Schema) (fresh : Bool) (number : ℕ) (book : CheckerS
 unfolding read_one
 read_one_keeps s fresh number book text next is h =
     ok_at (λ (x : Bool × CheckerStateValue). IsCheckerState s x.1) _ next h
-    (read_as_keeps (line_kind fresh (lex mode.Numbered text)) s fresh number book text is)
+    (read_as_keeps (line_kind fresh (lex mode.numbered text)) s fresh number book text is)
 
 finished_checked : (s : Schema) (last : ℕ) (book : CheckerStateValue) (i : Option ℕ) (o : Option Opened)
     → IsCheckerState s book → root book.unused ≡ o → IfOk (finished_at last book.lines i o) (IsChecked s)

@@ -9,7 +9,7 @@ use Rattle.dep_model.specs.Dependencies.{left_of, right_of}
 use Rattle.dep_model.specs.Schemas.{names_of}
 use Rattle.derivation.specs.Trees.{augmentation, complementation, maugmentation, replication}
 use Rattle.derivation.proofs.WithinLemmas.{OfAttributes}
-use Rattle.lexer.specs.declared.token.Mode.TheVariants as mode
+use Rattle.lexer.specs.Modes as mode
 use Rattle.lexer.specs.declared.token.LexError.{LexError}
 use Rattle.lexer.specs.Tokens.{Mark, lex}
 use Rattle.schema_grammar.specs.declared.symbol.Sign.TheVariants as sign
@@ -26,7 +26,7 @@ use Rattle.proof_grammar.proofs.PreparedLaws.{BodyOfAttributes, IsLineOfAttribut
 
 -- ---- the lines that count from a line on; `fresh` is whether a `yes` may still come
 abbrev pub lines_that_count : List (List ℕ) → List (List ℕ)
-lines_that_count texts = filter (λ line. not (is_blank (lex mode.Numbered line))) texts
+lines_that_count texts = filter (λ line. not (is_blank (lex mode.numbered line))) texts
 
 abbrev pub lines_to_read : Bool → List (List ℕ) → List (List ℕ)
 lines_to_read true texts = certificate_lines_of texts
@@ -38,14 +38,14 @@ Counts Blank fresh text = (texts : List (List ℕ)) → lines_to_read fresh (tex
 Counts Opening fresh text = (texts : List (List ℕ)) → lines_to_read fresh (text ∷ texts) ≡ lines_to_read false texts
 Counts Certificate fresh text = (texts : List (List ℕ)) → lines_to_read fresh (text ∷ texts) ≡ text ∷ lines_to_read false texts
 
-pub kind_counts : (fresh : Bool) (text : List ℕ) (k : LineKind) → line_kind fresh (lex mode.Numbered text) ≡ k → Counts k fresh text
+pub kind_counts : (fresh : Bool) (text : List ℕ) (k : LineKind) → line_kind fresh (lex mode.numbered text) ≡ k → Counts k fresh text
 unfolding line_kind
 kind_counts fresh text k e =
     subst (λ (j : LineKind). Counts j fresh text) e
-    (told fresh (lex mode.Numbered text).marks (lex mode.Numbered text).stop refl refl)
+    (told fresh (lex mode.numbered text).marks (lex mode.numbered text).stop refl refl)
   where
-    told : (a : Bool) (ms : List Mark) (stop : Option LexError) → (lex mode.Numbered text).marks ≡ ms
-        → (lex mode.Numbered text).stop ≡ stop → Counts (kind_from a ms stop) a text
+    told : (a : Bool) (ms : List Mark) (stop : Option LexError) → (lex mode.numbered text).marks ≡ ms
+        → (lex mode.numbered text).stop ≡ stop → Counts (kind_from a ms stop) a text
     told true [] None marks ends = λ texts. rw (marks, ends) refl
     told false [] None marks ends = λ texts. rw (marks, ends) refl
     told true [] (Some stop) marks ends = λ texts. rw (marks, ends, marks) refl

@@ -1,5 +1,5 @@
 -- The forms that begin a line are those by which its reading goes on.
-use Rattle.std.proofs.Common.{◌≡◌, inl, inr, ⊎_elim, ℕ, zero, suc, true, false, List, [], ◌∷◌, ◌++◌, take, slice_get, Option, Some, None, Ok, Err, Result, refl, sym, ◌∙◌, ap, subst}
+use Rattle.std.proofs.Common.{◌≡◌, inl, inr, ⊎_elim, ℕ, zero, suc, true, false, List, [], ◌∷◌, ◌++◌, length, take, slice_get, Option, Some, None, Ok, Err, Result, refl, sym, ◌∙◌, ap, subst}
 use Rattle.std.proofs.lemmas.Bool.{true≢false, false≢true}
 use Rattle.std.proofs.lemmas.Option.{none-some, same_Some}
 use Rattle.std.specs.Prelude.{◌↔◌, codes, map}
@@ -23,7 +23,7 @@ use Rattle.schema_grammar.specs.DiagnosticKinds.{DiagnosticKind}
 
 -- ---- a token of each form, over names that are all words of the grammar, and one more
 abbrev sample_of : TokenKind → List ℕ → Mark
-sample_of k word = record { kind = k; column = 0; word = word }
+sample_of k word = record { kind = k; column = 0; length = length word; word = word }
 
 abbrev sample_mark : TokenForm → Mark
 sample_mark a_number = sample_of (token.Number 0) (codes "a")

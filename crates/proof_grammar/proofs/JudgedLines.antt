@@ -67,7 +67,7 @@ wrong_later s t names m ms stop goes right p n (inr flaw) =
 -- a token by which the reading goes on
 pub goes_on : (s t : Shape) (names : List (List ℕ)) (line next_column : ℕ) (m : Mark) (ms : List Mark)
     (stop : Option LexError) (r : Result Line SchemaRefusal) → shape_after s (form m) ≡ Some t → IsRight s names m
-    → Judged t names line (m.column + length m.word) ms stop r → Judged s names line next_column (m ∷ ms) stop r
+    → Judged t names line (m.column + m.length) ms stop r → Judged s names line next_column (m ∷ ms) stop r
 goes_on s t names line next_column m ms stop (Ok l) goes right rest = (
   (rest.0.0, ap (λ o. runs o (token_forms ms)) goes ∙ rest.0.1, rest.0.2),
   rest.1,
@@ -113,9 +113,9 @@ first_here s names line next_column ms stop e stands carries there small = recor
 -- a token at which the grammar can't go on
 pub stuck_here : (s : Shape) (names : List (List ℕ)) (line next_column : ℕ) (m : Mark) (ms : List Mark)
     (stop : Option LexError) (w : What) → shape_after s (form m) ≡ None → IsRight s names m → w ≡ wanted_by s
-    → Judged s names line next_column (m ∷ ms) stop (Err (refusal line m.column (length m.word) (kind.Expected w)))
+    → Judged s names line next_column (m ∷ ms) stop (Err (refusal line m.column m.length (kind.Expected w)))
 stuck_here s names line next_column m ms stop w cannot right wants =
-    first_here s names line next_column (m ∷ ms) stop (refusal line m.column (length m.word) (kind.Expected w))
+    first_here s names line next_column (m ∷ ms) stop (refusal line m.column m.length (kind.Expected w))
     (inl (omega arith, inr (refl, cannot))) (s, refl, wants) refl
     (λ n wrong. ⊎_elim (λ here. ⊎_elim (λ word. absurd (right n word.0 word.1)) (λ six. omega (arith, ap number_of six.0)) here.1)
     (λ flaw. absurd (omega (arith, flaw.2))) wrong)

@@ -1,5 +1,5 @@
 -- A side of a certificate line is read, or the line is refused there by its first diagnostic.
-use Rattle.std.proofs.Common.{◌≡◌, ◌+◌, inl, inr, ⊎_elim, ℕ, Bool, true, false, cond, List, [], ◌∷◌, length, Option, Some, None, Ok, Err, Result, refl, sym, ◌∙◌, ap, arith}
+use Rattle.std.proofs.Common.{◌≡◌, ◌+◌, inl, inr, ⊎_elim, ℕ, Bool, true, false, cond, List, [], ◌∷◌, Option, Some, None, Ok, Err, Result, refl, sym, ◌∙◌, ap, arith}
 use Rattle.std.proofs.lemmas.Bool.{true≢false, false≢true}
 use Rattle.std.proofs.lemmas.Option.{none-some}
 use Rattle.attr_sets.specs.Attributes.{Attributes, only, none, union}
@@ -13,44 +13,50 @@ use Rattle.schema_grammar.specs.declared.refusal.SchemaRefusal.{SchemaRefusal}
 use Rattle.schema_grammar.specs.declared.refusal.SchemaRefusalKind.TheVariants as kind
 use Rattle.schema_grammar.specs.declared.refusal.What.TheVariants as what
 use Rattle.schema_grammar.specs.Refusals.{at, refusal}
-use Rattle.schema_grammar.specs.Rests.{Rest, ◌>>=◌, attribute_of_word, take, words_from, side, side_from, is_word_token}
-use Rattle.schema_grammar.specs.Words.{is_reserved, look_up, known_attribute}
+use Rattle.schema_grammar.specs.Rests.{Rest, ◌>>=◌, attribute_of_word, take, words, words_from, side, side_from}
+use Rattle.schema_grammar.specs.Words.{is_word_token, is_reserved_token, look_up, known_attribute}
 use Rattle.proof_grammar.specs.declared.rule_name.RuleName.{RuleName}
 use Rattle.proof_grammar.specs.Lines.{Line}
 use Rattle.proof_grammar.specs.LineDiagnostics.{token_form, word_form}
 use Rattle.proof_grammar.proofs.FormShapes.{Part, Shape, at_side, past, shape_after, takes_words}
 use Rattle.proof_grammar.proofs.JudgedLines.{Judged, first_here, goes_on, stuck_here, end_here, flaw_here}
 use Rattle.proof_grammar.proofs.JudgedTokens.{left_at, in_row, word_forms, NoWord, not_word}
-use Rattle.proof_grammar.proofs.SideLaws.{word_is}
 use Rattle.schema_grammar.specs.DiagnosticKinds.{number_of}
 
+-- where each word leads, a quoted name leads
+word_leads : (s t : Shape) → ((o : Option RuleName) (b : Bool) → shape_after s (word_form o b) ≡ Some t)
+    → (kd : TokenKind) (word : List ℕ) → is_word_token kd ≡ true → shape_after s (token_form kd word) ≡ Some t
+word_leads s t stays token.Identifier word is = stays _ _
+word_leads s t stays token.Quoted word is = stays None false
+word_leads s t stays kd word is = cc
+
 word_judged : (s : Shape) (k : Part) (names : List (List ℕ)) (line next_column : ℕ) (m : Mark) (ms : List Mark)
-    (stop : Option LexError) (g : ℕ → Result Line SchemaRefusal) → m.kind ≡ token.Identifier → takes_words s ≡ true
+    (stop : Option LexError) (g : ℕ → Result Line SchemaRefusal) → is_word_token m.kind ≡ true → takes_words s ≡ true
     → ((o : Option RuleName) (b : Bool) → shape_after s (word_form o b) ≡ Some (past true k))
-    → ((a : ℕ) → Judged (past true k) names line (m.column + length m.word) ms stop (g a))
+    → ((a : ℕ) → Judged (past true k) names line (m.column + m.length) ms stop (g a))
     → Judged s names line next_column (m ∷ ms) stop (attribute_of_word names line m >>= g)
 unfolding look_up
 word_judged s k names line next_column m ms stop g word takes stays rest =
-    told (is_reserved format.Plain m.word) (attribute_named names m.word) refl refl
+    told (is_reserved_token format.Plain m.kind m.word) (attribute_named names m.word) refl refl
   where
-    told : (b : Bool) (o : Option ℕ) → is_reserved format.Plain m.word ≡ b → attribute_named names m.word ≡ o
+    told : (b : Bool) (o : Option ℕ) → is_reserved_token format.Plain m.kind m.word ≡ b → attribute_named names m.word ≡ o
         → Judged s names line next_column (m ∷ ms) stop
-        (at line m.column (length m.word) (cond b (Err kind.ReservedName) (known_attribute o)) >>= g)
+        (at line m.column m.length (cond b (Err kind.ReservedName) (known_attribute o)) >>= g)
     told true o reserved named =
-        first_here s names line next_column (m ∷ ms) stop (refusal line m.column (length m.word) kind.ReservedName)
+        first_here s names line next_column (m ∷ ms) stop (refusal line m.column m.length kind.ReservedName)
         (inl (omega arith, inl (takes, (word, inl (refl, reserved))))) tt refl
         (λ n wrong. ⊎_elim (λ here. ⊎_elim (λ c. ⊎_elim (λ three. omega (arith, ap number_of three.0))
         (λ five. omega (arith, ap number_of five.0))
         c.1.1) (λ six. omega (arith, ap number_of six.0)) here.1) (λ flaw. absurd (omega (arith, flaw.2))) wrong)
     told false None free named =
-        first_here s names line next_column (m ∷ ms) stop (refusal line m.column (length m.word) kind.UnknownName)
+        first_here s names line next_column (m ∷ ms) stop (refusal line m.column m.length kind.UnknownName)
         (inl (omega arith, inl (takes, (word, inr (refl, named))))) tt refl
         (λ n wrong. ⊎_elim (λ here. ⊎_elim (λ c. ⊎_elim (λ three. absurd (true≢false (sym three.1 ∙ free)))
         (λ five. omega (arith, ap number_of five.0)) c.1.1) (λ six. omega (arith, ap number_of six.0)) here.1)
         (λ flaw. absurd (omega (arith, flaw.2))) wrong)
     told false (Some a) free named =
         goes_on s (past true k) names line next_column m ms stop (g a)
-        (ap (λ (kd : TokenKind). shape_after s (token_form kd m.word)) word ∙ stays _ _)
+        (word_leads s (past true k) stays m.kind m.word word)
         (λ n on diagnoses. ⊎_elim (λ three. true≢false (sym three.1 ∙ free))
         (λ five. none-some a (sym five.1 ∙ named)) diagnoses.1) (rest a)
 
@@ -68,22 +74,22 @@ unfolding words_from
 words_judged k names line x next_column [] stop f follows = follows x true next_column [] (λ e. tt)
 words_judged k names line x next_column (m ∷ ms) stop f follows =
     told (is_word_token m.kind) refl (λ a. words_judged k names line (union x (only a))
-    (m.column + length m.word) ms stop f follows)
+    (m.column + m.length) ms stop f follows)
   where
     told : (b : Bool) → is_word_token m.kind ≡ b
-        → ((a : ℕ) → Judged (past true k) names line (m.column + length m.word) ms stop
-        (words_from names line (union x (only a)) (m.column + length m.word) ms stop >>= f))
+        → ((a : ℕ) → Judged (past true k) names line (m.column + m.length) ms stop
+        (words_from names line (union x (only a)) (m.column + m.length) ms stop >>= f))
         → Judged (past true k) names line next_column (m ∷ ms) stop
         (cond b (attribute_of_word names line m >>= λ a. words_from names line (union x (only a))
-        (m.column + length m.word) ms stop) (Ok (x, left_at line next_column (m ∷ ms) stop)) >>= f)
+        (m.column + m.length) ms stop) (Ok (x, left_at line next_column (m ∷ ms) stop)) >>= f)
     told true is rest =
         in_row (past true k) names line next_column (m ∷ ms) stop (attribute_of_word names line m) _ f
-        (word_judged (past true k) k names line next_column m ms stop _ (word_is m.kind is) refl
+        (word_judged (past true k) k names line next_column m ms stop _ is refl
         (word_forms (λ t. shape_after (past true k) t ≡ Some (past true k)) (λ r. refl) refl refl) rest)
     told false is rest = follows x true next_column (m ∷ ms) (λ e. is)
 
 abbrev of_kind : Mark → TokenKind → Mark
-of_kind m kd = record { kind = kd; column = m.column; word = m.word }
+of_kind m kd = record m { kind = kd }
 
 pub side_judged : (k : Part) (names : List (List ℕ)) (line next_column : ℕ) (ms : List Mark) (stop : Option LexError)
     (f : Attributes × Rest → Result Line SchemaRefusal) → FollowsSide k names line stop f
@@ -93,17 +99,21 @@ side_judged k names line next_column [] None f follows = end_here (at_side k) na
 side_judged k names line next_column [] (Some stop) f follows = flaw_here (at_side k) names line next_column stop
 side_judged k names line next_column (m ∷ ms) stop f follows = told m.kind
   where
-    told : (kd : TokenKind) → Judged (at_side k) names line next_column (of_kind m kd ∷ ms) stop
-        (side_from names (of_kind m kd) (left_at line (m.column + length m.word) ms stop) kd >>= f)
-    told token.Identifier =
-        in_row (at_side k) names line next_column (of_kind m token.Identifier ∷ ms) stop
-        (attribute_of_word names line (of_kind m token.Identifier)) _ f
-        (word_judged (at_side k) k names line next_column (of_kind m token.Identifier) ms stop _ refl refl
+    word : (kd : TokenKind) → is_word_token kd ≡ true → Judged (at_side k) names line next_column (of_kind m kd ∷ ms) stop
+        ((attribute_of_word names line (of_kind m kd) >>= λ a. words names (only a) (left_at line (m.column + m.length) ms stop)) >>= f)
+    word kd is =
+        in_row (at_side k) names line next_column (of_kind m kd ∷ ms) stop (attribute_of_word names line (of_kind m kd)) _ f
+        (word_judged (at_side k) k names line next_column (of_kind m kd) ms stop _ is refl
         (word_forms (λ t. shape_after (at_side k) t ≡ Some (past true k)) (λ r. refl) refl refl)
-        (λ a. words_judged k names line (only a) (m.column + length m.word) ms stop f follows))
+        (λ a. words_judged k names line (only a) (m.column + m.length) ms stop f follows))
+
+    told : (kd : TokenKind) → Judged (at_side k) names line next_column (of_kind m kd ∷ ms) stop
+        (side_from names (of_kind m kd) (left_at line (m.column + m.length) ms stop) kd >>= f)
+    told token.Identifier = word token.Identifier refl
+    told token.Quoted = word token.Quoted refl
     told token.Empty =
         goes_on (at_side k) (past false k) names line next_column (of_kind m token.Empty) ms stop _ refl
         (not_word (at_side k) names (of_kind m token.Empty) (λ e. refl))
-        (follows none false (m.column + length m.word) ms (λ e. absurd (false≢true e)))
+        (follows none false (m.column + m.length) ms (λ e. absurd (false≢true e)))
     told kd = stuck_here (at_side k) names line next_column (of_kind m kd) ms stop what.Side refl
         (not_word (at_side k) names (of_kind m kd) (λ e. refl)) refl

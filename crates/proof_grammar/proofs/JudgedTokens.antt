@@ -1,5 +1,5 @@
 -- Each token of a certificate line is read, or the line is refused there by its first diagnostic.
-use Rattle.std.proofs.Common.{◌≡◌, ◌+◌, inl, inr, ℕ, zero, suc, Bool, true, false, cond, List, [], ◌∷◌, length, Option, Some, None, Ok, Err, Result, refl, sym, ◌∙◌, ap, subst, arith}
+use Rattle.std.proofs.Common.{◌≡◌, ◌+◌, inl, inr, ℕ, zero, suc, Bool, true, false, cond, List, [], ◌∷◌, Option, Some, None, Ok, Err, Result, refl, sym, ◌∙◌, ap, subst, arith}
 use Rattle.std.proofs.lemmas.Bool.{true≢false, false≢true, cond_both}
 use Rattle.std.proofs.lemmas.Option.{none-some}
 use Rattle.std.specs.Prelude.{codes, ok_or, option_map}
@@ -12,7 +12,8 @@ use Rattle.schema_grammar.specs.declared.refusal.SchemaRefusal.{SchemaRefusal}
 use Rattle.schema_grammar.specs.declared.refusal.What.{What}
 use Rattle.schema_grammar.specs.declared.refusal.What.TheVariants as what
 use Rattle.schema_grammar.specs.declared.symbol.Sign.{Sign}
-use Rattle.schema_grammar.specs.Rests.{number_in, Rest, ◌>>=◌, take, take_from, refusal_of_token, number, arrow, arrow_in, refusal_at_end, is_word_token, unless}
+use Rattle.schema_grammar.specs.Rests.{Rest, ◌>>=◌, take, take_from, refusal_of_token, number, arrow, arrow_in, refusal_at_end, number_in, unless}
+use Rattle.schema_grammar.specs.Words.{is_word_token}
 use Rattle.proof_grammar.specs.declared.rule_name.RuleName.{RuleName}
 use Rattle.proof_grammar.specs.Lines.{Line}
 use Rattle.proof_grammar.specs.LineDiagnostics.{TokenForm, token_form, word_form, a_with, a_rule, a_word}
@@ -49,15 +50,15 @@ NoWord (m ∷ ms) = is_word_token m.kind ≡ false
 
 pub not_word : (s : Shape) (names : List (List ℕ)) (m : Mark) → (takes_words s ≡ true → is_word_token m.kind ≡ false)
     → IsRight s names m
-not_word s names m other n takes diagnoses = true≢false (sym (ap is_word_token diagnoses.0) ∙ other takes)
+not_word s names m other n takes diagnoses = true≢false (sym diagnoses.0 ∙ other takes)
 
 -- ---- readers of one token
 -- a token that leads nowhere is refused, and after one that leads on the reading is judged from there
 abbrev pub Reads : List (List ℕ) → ℕ → Option LexError → What → Option Shape → Mark → List Mark
     → Result Line SchemaRefusal → Type 0
 Reads names line stop want None m ms r =
-    r ≡ Err (refusal_of_token want m (left_at line (m.column + length m.word) ms stop))
-Reads names line stop want (Some t) m ms r = Judged t names line (m.column + length m.word) ms stop r
+    r ≡ Err (refusal_of_token want m (left_at line (m.column + m.length) ms stop))
+Reads names line stop want (Some t) m ms r = Judged t names line (m.column + m.length) ms stop r
 
 -- where a token leads is told by what is found in it
 token_judged : {D : Type 0} (s : Shape) (names : List (List ℕ)) (line next_column : ℕ) (ms : List Mark)
@@ -66,7 +67,7 @@ token_judged : {D : Type 0} (s : Shape) (names : List (List ℕ)) (line next_col
     → (takes_words s ≡ true → NoWord ms)
     → ((m : Mark) → (takes_words s ≡ true → is_word_token m.kind ≡ false) → shape_after s (form m) ≡ t (found m))
     → ((d : D) (m : Mark) (more : List Mark) → Reads names line stop want (t d) m more
-    (read d (m, left_at line (m.column + length m.word) more stop)))
+    (read d (m, left_at line (m.column + m.length) more stop)))
     → Judged s names line next_column ms stop (take_from want line next_column ms stop >>= λ u. read (found u.0) u)
 token_judged {D} s names line next_column [] None want found t read wants open_end other goes reads =
     end_here s names line next_column want open_end wants
@@ -103,7 +104,7 @@ value_judged {X} s names line next_column ms stop want found t f wants open_end 
     in_row s names line next_column ms stop (take_from want line next_column ms stop) _ f
     (token_judged s names line next_column ms stop want found (option_map t)
     (λ o u. (ok_or o (refusal_of_token want u.0 u.1) >>= λ x. Ok (x, u.1)) >>= f) wants open_end other goes
-    (elim [ None ↦ λ m more. refl | Some x ↦ λ m more. follows x (m.column + length m.word) more ]))
+    (elim [ None ↦ λ m more. refl | Some x ↦ λ m more. follows x (m.column + m.length) more ]))
 
 -- a reader that tests
 test_judged : (s : Shape) (names : List (List ℕ)) (line next_column : ℕ) (ms : List Mark) (stop : Option LexError)
@@ -117,7 +118,7 @@ test_judged s names line next_column ms stop want test t f wants open_end other 
     in_row s names line next_column ms stop (take_from want line next_column ms stop) _ f
     (token_judged s names line next_column ms stop want test (λ b. cond b (Some t) None)
     (λ b u. cond b (Ok u.1) (Err (refusal_of_token want u.0 u.1)) >>= f) wants open_end other goes
-    (elim [ true ↦ λ m more. follows (m.column + length m.word) more | false ↦ λ m more. refl ]))
+    (elim [ true ↦ λ m more. follows (m.column + m.length) more | false ↦ λ m more. refl ]))
 
 -- ---- numbers, the words of the grammar, and what closes a part
 number_goes : (a : After) (kd : TokenKind) (word : List ℕ)
@@ -135,7 +136,7 @@ first_judged names line next_column ms stop g follows =
     token_judged (at_number first) names line next_column ms stop what.Number (λ m. number_in m.kind)
     (option_map (λ n. past_number first)) (λ o u. ok_or o (refusal_of_token what.Number u.0 u.1) >>= λ n. g n u.1) refl refl
     (λ e. absurd (false≢true e)) (λ m other. number_goes first m.kind m.word)
-    (elim [ None ↦ λ m more. refl | Some n ↦ λ m more. follows n (m.column + length m.word) more ])
+    (elim [ None ↦ λ m more. refl | Some n ↦ λ m more. follows n (m.column + m.length) more ])
 
 pub premise_judged : (a : After) (names : List (List ℕ)) (line next_column : ℕ) (ms : List Mark) (stop : Option LexError)
     (f : ℕ × Rest → Result Line SchemaRefusal) → Follows names line stop (λ n. past_number a) f
@@ -189,6 +190,8 @@ rule_judged names line next_column ms stop f follows =
 arrow_goes : (words : Bool) (kd : TokenKind) (word : List ℕ) → (words ≡ true → is_word_token kd ≡ false)
     → shape_after (past words lhs) (token_form kd word) ≡ option_map (λ a. at_side rhs) (arrow_in kd)
 arrow_goes true token.Identifier word other = absurd (true≢false (other refl))
+arrow_goes true token.Quoted word other = absurd (true≢false (other refl))
+arrow_goes false token.Quoted word other = refl
 arrow_goes false token.Identifier word other =
     word_forms (λ f. shape_after (past false lhs) f ≡ None) (λ r. refl) refl refl _ _
 arrow_goes words _ word other = refl
@@ -210,6 +213,8 @@ closing_goes words k o token.Colon word on none other = on
 closing_goes words k o token.Arrow word on none other = none
 closing_goes words k o token.DoubleArrow word on none other = none
 closing_goes true k o token.Identifier word on none other = absurd (true≢false (other refl))
+closing_goes true k o token.Quoted word on none other = absurd (true≢false (other refl))
+closing_goes false k o token.Quoted word on none other = refl
 closing_goes false k o token.Identifier word on none other =
     word_forms (λ f. shape_after (past false k) f ≡ None) (λ r. refl) refl refl _ _
 closing_goes words k o _ word on none other = refl

@@ -3,7 +3,7 @@ use Rattle.std.specs.Prelude.{◌↔◌, ok_or}
 use Rattle.std.proofs.Common.{◌≡◌, ℕ, false, List, [], ◌∷◌, ◌++◌, Option, Some, None, Ok, refl, sym, ◌∙◌, ap, subst, append_assoc}
 use Rattle.dep_model.specs.Dependencies.{Dependency}
 use Rattle.derivation.proofs.RuleTableLemmas.{the_ok}
-use Rattle.lexer.specs.declared.token.Mode.TheVariants as mode
+use Rattle.lexer.specs.Modes as mode
 use Rattle.lexer.specs.declared.token.LexError.{LexError}
 use Rattle.lexer.specs.declared.token.TokenKind.{TokenKind}
 use Rattle.lexer.specs.declared.token.TokenKind.TheVariants as token
@@ -15,7 +15,8 @@ use Rattle.schema_grammar.specs.declared.format.Format.TheVariants as format
 use Rattle.schema_grammar.specs.Meanings.{IsArrow, IsDependency}
 use Rattle.proof_grammar.specs.Lines.{Line, body, stated_dependency, certificate_line, certificate_line_from}
 use Rattle.proof_grammar.specs.Meanings.{IsCertificateLine, MeansLine}
-use Rattle.schema_grammar.specs.Rests.{number_in, Rest, rest_from, take, refusal_of_token, number, arrow, refusal_at_end, side, arrow_in, is_word_token, unless}
+use Rattle.schema_grammar.specs.Rests.{Rest, rest_from, take, refusal_of_token, number, arrow, refusal_at_end, side, arrow_in, number_in, unless}
+use Rattle.schema_grammar.specs.Words.{is_word_token}
 use Rattle.proof_grammar.specs.Readers.{colon, rule_name}
 use Rattle.proof_grammar.proofs.CheckedLemmas.{bind_ok}
 use Rattle.proof_grammar.proofs.SideLaws.{side_there, side_back}
@@ -131,10 +132,10 @@ line_reads names start l e =
           ∙ end.1.stop;
     })
 
-pub line_there : (names : List (List ℕ)) (number : ℕ) (text : List ℕ) (l : Line) → certificate_line names (rest_from number 1 (lex mode.Numbered text)) ≡ Ok l → MeansLine names text l
+pub line_there : (names : List (List ℕ)) (number : ℕ) (text : List ℕ) (l : Line) → certificate_line names (rest_from number 1 (lex mode.numbered text)) ≡ Ok l → MeansLine names text l
 line_there names number text l e =
-    let reads = line_reads names (rest_from number 1 (lex mode.Numbered text)) l e in
-    record { marks = (lex mode.Numbered text).marks; tokens = λ i. record { marks = (lex mode.Numbered text).marks; stop = reads.stop i }; is_line = reads.is_line }
+    let reads = line_reads names (rest_from number 1 (lex mode.numbered text)) l e in
+    record { marks = (lex mode.numbered text).marks; tokens = λ i. record { marks = (lex mode.numbered text).marks; stop = reads.stop i }; is_line = reads.is_line }
 
 -- tokens that are a line are read as it, from any column
 pub marks_read : (names : List (List ℕ)) (at from : ℕ) (ms : List Mark) (l : Line) → IsCertificateLine names ms l → certificate_line names (rest_at at from ms) ≡ Ok l
@@ -163,5 +164,5 @@ marks_read names at from ms l is =
     )
     (ap (λ z. Ok (record { number = l.number; stated = z; body = l.body })) (sym d.states))
 
-pub line_back : (names : List (List ℕ)) (number : ℕ) (text : List ℕ) (l : Line) → MeansLine names text l → certificate_line names (rest_from number 1 (lex mode.Numbered text)) ≡ Ok l
+pub line_back : (names : List (List ℕ)) (number : ℕ) (text : List ℕ) (l : Line) → MeansLine names text l → certificate_line names (rest_from number 1 (lex mode.numbered text)) ≡ Ok l
 line_back names at text l means = ap (λ t. certificate_line names (rest_from at 1 t)) means.tokens ∙ marks_read names at 1 means.marks l means.is_line

@@ -4,7 +4,7 @@ use Rattle.std.proofs.Common.{◌≡◌, ◌<◌, ◌⊎◌, inl, inr, ⊎_elim,
 use Rattle.std.proofs.lemmas.Bool.{true≢false, false_from_ne_true}
 use Rattle.std.proofs.lemmas.List.{length-map, take_all}
 use Rattle.std.proofs.lemmas.Option.{none-some, same_Some, slice_get_within, slice_get_cases}
-use Rattle.lexer.specs.declared.token.Mode.TheVariants as mode
+use Rattle.lexer.specs.Modes as mode
 use Rattle.lexer.specs.declared.token.LexError.{LexError}
 use Rattle.lexer.specs.Tokens.{Mark, lex}
 use Rattle.schema_grammar.specs.declared.refusal.SchemaRefusal.{SchemaRefusal}
@@ -189,8 +189,8 @@ judged_refuses names at ms stop (Err f) e first =
     )
 
 pub refusal_law : (names : List (List ℕ)) (number : ℕ) (text : List ℕ) (e : SchemaRefusal)
-    → (certificate_line names (rest_from number 1 (lex mode.Numbered text)) ≡ Err e)
+    → (certificate_line names (rest_from number 1 (lex mode.numbered text)) ≡ Err e)
     ↔ RefusesCertificateLine names number text e
 refusal_law names number text e =
-    let l = lex mode.Numbered text in
+    let l = lex mode.numbered text in
     judged_refuses names number l.marks l.stop _ e (line_judged names number 1 l.marks l.stop)

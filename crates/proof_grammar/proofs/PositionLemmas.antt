@@ -3,7 +3,7 @@ use Rattle.std.proofs.Common.{◌≡◌, ◌<◌, ◌≤◌, ⊎_elim, ℕ, true
 use Rattle.std.specs.Prelude.{filter}
 use Rattle.std.proofs.lemmas.Bool.{cases_order}
 use Rattle.std.proofs.lemmas.List.Elements.{filter-append}
-use Rattle.lexer.specs.declared.token.Mode.TheVariants as mode
+use Rattle.lexer.specs.Modes as mode
 use Rattle.lexer.specs.Tokens.{lex}
 use Rattle.proof_grammar.specs.Meanings.{certificate_lines_of, is_yes_alone, without_yes}
 use Rattle.proof_grammar.specs.Texts.{is_blank}
@@ -12,7 +12,7 @@ use Rattle.proof_grammar.specs.Refusals.{StandsAt}
 -- ---- more lines have no fewer certificate lines
 without_yes_grows : (xs ys : List (List ℕ)) → length (without_yes xs) ≤ length (without_yes (xs ++ ys))
 without_yes_grows [] ys = omega arith
-without_yes_grows (x ∷ xs) ys = elim (is_yes_alone (lex mode.Numbered x))
+without_yes_grows (x ∷ xs) ys = elim (is_yes_alone (lex mode.numbered x))
     as (λ b. length (cond b xs (x ∷ xs)) ≤ length (cond b (xs ++ ys) (x ∷ xs ++ ys))) [
       | true ↦ omega (arith, length-append xs ys)
       | false ↦ omega (arith, length-append xs ys)
@@ -43,7 +43,7 @@ not_beyond text before other here there at by stands stands_there same less =
     let first = before ++ here ∷ [] in
     let longer : other ≡ first ++ beyond.between =
     beyond.whole ∙ sym (append_assoc before (here ∷ []) beyond.between) in
-    let spoken = λ (line : List ℕ). not (is_blank (lex mode.Numbered line)) in
+    let spoken = λ (line : List ℕ). not (is_blank (lex mode.numbered line)) in
     let grows : length (certificate_lines_of first) ≤ length (certificate_lines_of (first ++ beyond.between)) =
     rw (filter-append spoken first beyond.between)
     (without_yes_grows (filter spoken first) (filter spoken beyond.between)) in

@@ -5,7 +5,7 @@ use Rattle.std.specs.List.{list_all}
 use Rattle.std.specs.Char.{is_ascii_digit}
 use Rattle.std.proofs.lemmas.Bool.{and_parts}
 use Rattle.std.proofs.lemmas.Bool.Decides.{nat_tests}
-use Rattle.lexer.specs.declared.token.Mode.TheVariants as mode
+use Rattle.lexer.specs.Modes as mode
 use Rattle.lexer.specs.Lines.{without_mark, line_texts}
 use Rattle.lexer.specs.Tokens.{lex}
 use Rattle.schema_grammar.specs.declared.format.Format.TheVariants as format
@@ -52,8 +52,8 @@ each_means names [] are all = tt
 each_means names (l ∷ ls) are (here, rest) = (printed_means names l are here, each_means names ls are rest)
 
 none_blank : (names : List (List ℕ)) (ts : List (List ℕ)) (ls : List Line) → MeanLines names ts ls
-    → filter (λ line. not (is_blank (lex mode.Numbered line))) (ts ++ [] ∷ []) ≡ ts
-none_blank names [] [] mean = rw (nothing_left mode.Numbered 1) refl
+    → filter (λ line. not (is_blank (lex mode.numbered line))) (ts ++ [] ∷ []) ≡ ts
+none_blank names [] [] mean = rw (nothing_left mode.numbered 1) refl
 none_blank names [] (l ∷ ls) mean = absurd mean
 none_blank names (t ∷ ts) [] mean = absurd mean
 none_blank names (t ∷ ts) (l ∷ ls) (here, rest) =

@@ -222,10 +222,10 @@ printed_means names l are is =
       marks = marks_of 1 (number l.number) (line_parts names l);
       tokens = parts_lexed 1 (number l.number) (line_parts names l) is.number (line_proper names l are is);
       is_line = record {
-        number = record { kind = token.Number l.number; column = 1; word = decimal l.number };
-        first = record { kind = token.Colon; column = 1 + length (decimal l.number); word = codes ":" };
+        number = record { kind = token.Number l.number; column = 1; length = length (decimal l.number); word = decimal l.number };
+        first = record { kind = token.Colon; column = 1 + length (decimal l.number); length = length (codes ":"); word = codes ":" };
         stated = stated_marks names l.stated at;
-        second = record { kind = token.Colon; column = end + 1; word = codes ":" };
+        second = record { kind = token.Colon; column = end + 1; length = length (codes ":"); word = codes ":" };
         rule = rule;
         whole = simp append_assoc;
         is_number = refl;

@@ -13,7 +13,7 @@ use Rattle.std.proofs.lemmas.Str.Parse.{IsNumeralModel, numerals_by_fold}
 use Rattle.dep_model.proofs.NumeralLemmas.{digits_value-model}
 use Rattle.dep_model.specs.Names.{is_bare_name, is_name_byte}
 use Rattle.lexer.specs.declared.piece.Piece.TheVariants as piece
-use Rattle.lexer.specs.declared.token.Mode.TheVariants as mode
+use Rattle.lexer.specs.Modes as mode
 use Rattle.lexer.specs.declared.token.TokenKind.TheVariants as token
 use Rattle.lexer.specs.Bytes.{is_gap, run_length, is_number, number_of}
 use Rattle.lexer.specs.Pieces.{front_piece, run_piece}
@@ -54,7 +54,7 @@ run_is (b ∷ bs) rest e apart =
     rw (byte, more) (omega arith)
 
 front_number : (word rest : List ℕ) → list_all is_ascii_digit word ≡ true → 0 < length word → length word ≤ 9 → Apart rest
-    → front_piece mode.Numbered (word ++ rest) ≡ piece.Token (token.Number (number_of word)) (length word)
+    → front_piece mode.numbered (word ++ rest) ≡ piece.Token (token.Number (number_of word)) (length word)
 unfolding front_piece run_piece is_number
 front_number [] rest e some few apart = absurd (omega arith)
 front_number (first ∷ others) rest e some few apart =
@@ -96,8 +96,8 @@ part_text (number n) = decimal n
 part_text (side words) = side_text words
 
 abbrev part_marks : ℕ → Part → List Mark
-part_marks column (keyword word) = record { kind = token.Identifier; column = column; word = word } ∷ []
-part_marks column (number n) = record { kind = token.Number n; column = column; word = decimal n } ∷ []
+part_marks column (keyword word) = record { kind = token.Identifier; column = column; length = length word; word = word } ∷ []
+part_marks column (number n) = record { kind = token.Number n; column = column; length = length (decimal n); word = decimal n } ∷ []
 part_marks column (side words) = side_marks column words
 
 abbrev part_end : ℕ → Part → ℕ
@@ -114,11 +114,11 @@ gap_text double_arrow = codes " ->> "
 
 abbrev pub gap_marks : ℕ → Gap → List Mark
 gap_marks column blank = []
-gap_marks column first_colon = record { kind = token.Colon; column = column; word = codes ":" } ∷ []
-gap_marks column colon = record { kind = token.Colon; column = column + 1; word = codes ":" } ∷ []
-gap_marks column arrow = record { kind = token.Arrow; column = column + 1; word = codes "->" } ∷ []
+gap_marks column first_colon = record { kind = token.Colon; column = column; length = length (codes ":"); word = codes ":" } ∷ []
+gap_marks column colon = record { kind = token.Colon; column = column + 1; length = length (codes ":"); word = codes ":" } ∷ []
+gap_marks column arrow = record { kind = token.Arrow; column = column + 1; length = length (codes "->"); word = codes "->" } ∷ []
 gap_marks column double_arrow =
-    record { kind = token.DoubleArrow; column = column + 1; word = codes "->>" } ∷ []
+    record { kind = token.DoubleArrow; column = column + 1; length = length (codes "->>"); word = codes "->>" } ∷ []
 
 abbrev pub gap_end : ℕ → Gap → ℕ
 gap_end column blank = column + 1
@@ -147,38 +147,38 @@ abbrev led_by_all : List Mark → Lexed → Lexed
 led_by_all ms l = record { marks = ms ++ l.marks; stop = l.stop }
 
 part_lexed : (column : ℕ) (p : Part) (rest : List ℕ) → IsProper p → Apart rest
-    → tokens_after mode.Numbered 0 column (part_text p ++ rest)
-    ≡ led_by_all (part_marks column p) (tokens_after mode.Numbered 0 (part_end column p) rest)
-part_lexed column (keyword word) rest proper apart = name_lexed mode.Numbered column word rest proper apart
+    → tokens_after mode.numbered 0 column (part_text p ++ rest)
+    ≡ led_by_all (part_marks column p) (tokens_after mode.numbered 0 (part_end column p) rest)
+part_lexed column (keyword word) rest proper apart = name_lexed mode.numbered column word rest proper apart
 part_lexed column (number n) rest small apart =
     let is = decimal_is n small in
     let some : 0 < length (decimal n ++ rest) = omega (arith, length-append (decimal n) rest, is.some) in
-    at_token mode.Numbered column (decimal n ++ rest) (token.Number (number_of (decimal n)))
+    at_token mode.numbered column (decimal n ++ rest) (token.Number (number_of (decimal n)))
     (length (decimal n)) some (sym (front_number (decimal n) rest is.digits is.some is.few apart))
     ∙ (rw (take-append_seam (decimal n) rest, drop-append_seam (decimal n) rest, is.value) refl)
 part_lexed column (side words) rest proper apart =
-    side_lexed mode.Numbered column words rest proper apart ∙ led_marks (side_marks column words) _
+    side_lexed mode.numbered column words rest proper apart ∙ led_marks (side_marks column words) _
 
 gap_lexed : (column : ℕ) (g : Gap) (rest : List ℕ)
-    → tokens_after mode.Numbered 0 column (gap_text g ++ rest)
-    ≡ led_by_all (gap_marks column g) (tokens_after mode.Numbered 0 (gap_end column g) rest)
+    → tokens_after mode.numbered 0 column (gap_text g ++ rest)
+    ≡ led_by_all (gap_marks column g) (tokens_after mode.numbered 0 (gap_end column g) rest)
 unfolding front_piece
-gap_lexed column blank rest = blank_lexed mode.Numbered column rest
+gap_lexed column blank rest = blank_lexed mode.numbered column rest
 gap_lexed column first_colon rest =
-    at_token mode.Numbered column (58 ∷ 32 ∷ rest) token.Colon 1 (omega arith) refl
-    ∙ ap (led_by_mark _) (blank_lexed mode.Numbered (column + 1) rest)
+    at_token mode.numbered column (58 ∷ 32 ∷ rest) token.Colon 1 (omega arith) refl
+    ∙ ap (led_by_mark _) (blank_lexed mode.numbered (column + 1) rest)
 gap_lexed column colon rest =
-    blank_lexed mode.Numbered column (58 ∷ 32 ∷ rest)
-    ∙ at_token mode.Numbered (column + 1) (58 ∷ 32 ∷ rest) token.Colon 1 (omega arith) refl
-    ∙ ap (led_by_mark _) (blank_lexed mode.Numbered (column + 1 + 1) rest)
-gap_lexed column arrow rest = arrow_lexed mode.Numbered column rest
-gap_lexed column double_arrow rest = double_arrow_lexed mode.Numbered column rest
+    blank_lexed mode.numbered column (58 ∷ 32 ∷ rest)
+    ∙ at_token mode.numbered (column + 1) (58 ∷ 32 ∷ rest) token.Colon 1 (omega arith) refl
+    ∙ ap (led_by_mark _) (blank_lexed mode.numbered (column + 1 + 1) rest)
+gap_lexed column arrow rest = arrow_lexed mode.numbered column rest
+gap_lexed column double_arrow rest = double_arrow_lexed mode.numbered column rest
 
 pub parts_lexed : (column : ℕ) (p : Part) (others : List (Gap × Part)) → IsProper p → AreProper others
-    → tokens_after mode.Numbered 0 column (text_of p others) ≡ record { marks = marks_of column p others; stop = None }
+    → tokens_after mode.numbered 0 column (text_of p others) ≡ record { marks = marks_of column p others; stop = None }
 parts_lexed column p [] here rest =
-    ap (tokens_after mode.Numbered 0 column) (sym (append-nil (part_text p))) ∙ part_lexed column p [] here tt
-    ∙ ap (led_by_all (part_marks column p)) (nothing_left mode.Numbered (part_end column p))
+    ap (tokens_after mode.numbered 0 column) (sym (append-nil (part_text p))) ∙ part_lexed column p [] here tt
+    ∙ ap (led_by_all (part_marks column p)) (nothing_left mode.numbered (part_end column p))
     ∙ ap (λ ms. record { marks = ms; stop = None }) (append-nil (part_marks column p))
 parts_lexed column p (next ∷ others) here rest =
     let end = part_end column p in

@@ -10,8 +10,9 @@ use Rattle.schema_grammar.specs.declared.refusal.What.TheVariants as what
 use Rattle.proof_grammar.specs.declared.rule_name.RuleName.{RuleName}
 use Rattle.proof_grammar.specs.declared.rule_name.RuleName.TheVariants as rule
 use Rattle.proof_grammar.specs.Lines.{Body, by_given, by_reflexivity, by_mreflexivity, by_step, by_pair, one_premise, two_premises, augmentation_body, maugmentation_body, body}
-use Rattle.proof_grammar.specs.Meanings.{IsNumber, IsKeyword, step_name, pair_name, HasSets, IsRule}
-use Rattle.schema_grammar.specs.Rests.{Rest, ◌>>=◌, take, number, side, is_word_token}
+use Rattle.proof_grammar.specs.Meanings.{IsNumber, IsKeyword, pair_name, IsRule, step_name, HasSets}
+use Rattle.schema_grammar.specs.Rests.{Rest, ◌>>=◌, take, number, side}
+use Rattle.schema_grammar.specs.Words.{is_word_token}
 use Rattle.proof_grammar.specs.Readers.{colon, with_word, rule_name}
 use Rattle.proof_grammar.specs.Tokens.{is_with, rule_named, rule_word}
 use Rattle.proof_grammar.proofs.CheckedLemmas.{bind_ok}

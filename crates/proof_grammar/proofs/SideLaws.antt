@@ -1,5 +1,5 @@
 -- A side of a line is read exactly where the grammar has one.
-use Rattle.std.proofs.Common.{◌≡◌, ◌<◌, ◌+◌, ⊎_elim, inl, inr, ℕ, Bool, true, false, cond, List, [], ◌∷◌, ◌++◌, length, Option, Some, None, Ok, Err, Result, refl, sym, ◌∙◌, ap, subst, arith}
+use Rattle.std.proofs.Common.{◌≡◌, ◌<◌, ◌+◌, ⊎_elim, inl, inr, ℕ, Bool, true, false, cond, List, [], ◌∷◌, ◌++◌, Option, Some, None, Ok, Err, Result, refl, sym, ◌∙◌, ap, subst, arith}
 use Rattle.std.specs.List.{All}
 use Rattle.std.proofs.lemmas.Bool.{cases_Bool}
 use Rattle.std.proofs.lemmas.List.Elements.{All-cons, All-nil, All-head, All-tail}
@@ -17,9 +17,9 @@ use Rattle.schema_grammar.specs.declared.refusal.What.TheVariants as what
 use Rattle.schema_grammar.specs.declared.format.Format.TheVariants as format
 use Rattle.schema_grammar.specs.Meanings.{attributes_of_words, IsAttribute, IsSide}
 use Rattle.schema_grammar.specs.Refusals.{at}
-use Rattle.schema_grammar.specs.Words.{is_reserved, look_up, known_attribute}
+use Rattle.schema_grammar.specs.Words.{is_word_token, is_reserved_token, look_up, known_attribute}
 use Rattle.schema_grammar.proofs.SideLemmas.{union-only, union-none, attributes_of_words-cons, Names}
-use Rattle.schema_grammar.specs.Rests.{attribute_of_word, Rest, take, take_from, words_from, side, side_from, is_word_token}
+use Rattle.schema_grammar.specs.Rests.{◌>>=◌, attribute_of_word, Rest, take, take_from, words, words_from, side, side_from}
 use Rattle.proof_grammar.proofs.CheckedLemmas.{bind_ok}
 
 -- ---- one token
@@ -46,12 +46,12 @@ take_there want r t e = told r.marks r.stop e
         (record { marks = refl; stop = refl })
 
 -- ---- words
-attribute_there : (names : List (List ℕ)) (line : ℕ) (m : Mark) (a : ℕ) → attribute_of_word names line m ≡ Ok a → Names format.Plain names m.word a
+attribute_there : (names : List (List ℕ)) (line : ℕ) (m : Mark) (a : ℕ) → attribute_of_word names line m ≡ Ok a → Names format.Plain names m.kind m.word a
 unfolding look_up
-attribute_there names line m a e = told (is_reserved format.Plain m.word) (attribute_named names m.word) refl refl e
+attribute_there names line m a e = told (is_reserved_token format.Plain m.kind m.word) (attribute_named names m.word) refl refl e
   where
-    told : (b : Bool) (o : Option ℕ) → is_reserved format.Plain m.word ≡ b → attribute_named names m.word ≡ o
-        → at line m.column (length m.word) (cond b (Err kind.ReservedName) (known_attribute o)) ≡ Ok a → Names format.Plain names m.word a
+    told : (b : Bool) (o : Option ℕ) → is_reserved_token format.Plain m.kind m.word ≡ b → attribute_named names m.word ≡ o
+        → at line m.column m.length (cond b (Err kind.ReservedName) (known_attribute o)) ≡ Ok a → Names format.Plain names m.kind m.word a
     told true o free lookup e = cc
     told false None free lookup e = cc
     told false (Some c) free lookup e = record { free = free; lookup = let same : c ≡ a = cc in lookup ∙ ap Some same }
@@ -59,10 +59,6 @@ attribute_there names line m a e = told (is_reserved format.Plain m.word) (attri
 attribute_back : (names : List (List ℕ)) (line : ℕ) (m : Mark) (attribute : IsAttribute format.Plain names m) → attribute_of_word names line m ≡ Ok attribute.index
 unfolding look_up
 attribute_back names line m attribute = rw (attribute.free, attribute.known) refl
-
-pub word_is : (k : TokenKind) → is_word_token k ≡ true → k ≡ token.Identifier
-word_is token.Identifier e = refl
-word_is _ e = cc
 
 -- words that are read, and what they add to a set
 record ReadsWords (names : List (List ℕ)) (acc : Attributes) (marks : List Mark) (stop : Option LexError) (x : Attributes) (next : Rest) : Type 0 where
@@ -93,13 +89,13 @@ words_there names line acc next_column (m ∷ ms) stop x next e =
     let here = bind_ok (attribute_of_word names line m) _ (x, next) (rw is at e) in
     let names_it = attribute_there names line m here.0 here.1 in
     let rest = words_there names line (union acc (only here.0))
-    (m.column + length m.word) ms stop x next here.2 in
+    (m.column + m.length) ms stop x next here.2 in
     record {
       words = m ∷ rest.words;
       whole = ap (λ t. m ∷ t) rest.whole;
       each = All-cons (IsAttribute format.Plain names) m rest.words
           (record {
-            word = word_is m.kind is;
+            word = is;
             free = names_it.free;
             index = here.0;
             known = names_it.lookup;
@@ -124,8 +120,9 @@ side_there names r s e =
     let first = bind_ok (take what.Side r) _ s e in
     told first.0.0 first.0.1 (take_there what.Side r first.0 first.1) first.0.0.kind refl first.2
   where
-    told : (m : Mark) (next_column : Rest) → Takes r m next_column → (k : TokenKind) → m.kind ≡ k → side_from names m next_column k ≡ Ok s → ReadsSide names r s.0 s.1
-    told m next_column takes token.Identifier is e =
+    word : (m : Mark) (next_column : Rest) → Takes r m next_column → is_word_token m.kind ≡ true
+        → (attribute_of_word names next_column.line m >>= λ a. words names (only a) next_column) ≡ Ok s → ReadsSide names r s.0 s.1
+    word m next_column takes is e =
         let here = bind_ok (attribute_of_word names next_column.line m) _ s e in
         let names_it = attribute_there names next_column.line m here.0 here.1 in
         let rest = words_there names next_column.line
@@ -141,13 +138,16 @@ side_there names r s e =
           });
           stop = rest.same_stop ∙ takes.stop;
         }
+
+    told : (m : Mark) (next_column : Rest) → Takes r m next_column → (k : TokenKind) → m.kind ≡ k → side_from names m next_column k ≡ Ok s → ReadsSide names r s.0 s.1
+    told m next_column takes token.Identifier is e = word m next_column takes (ap is_word_token is) e
+    told m next_column takes token.Quoted is e = word m next_column takes (ap is_word_token is) e
     told m next_column takes token.Empty is e =
-        let alone = ap (λ (k : TokenKind). record { kind = k; column = m.column; word = m.word } ∷ []) is in
         subst (λ (u : Attributes × Rest). ReadsSide names r u.0 u.1) (the_ok _ s e)
         (record {
           marks = m ∷ [];
           whole = takes.marks;
-          is_side = inl (record { column = m.column; bytes = m.word; alone = alone; nothing = refl });
+          is_side = inl (record { mark = m; alone = refl; is_empty = is; nothing = refl });
           stop = takes.stop;
         })
     told m next_column takes _ is e = cc
@@ -181,7 +181,7 @@ words_back names line acc from [] (m ∷ ms) stop each other = record {
 words_back names line acc from (m ∷ words) tail stop each other =
     let here : IsAttribute format.Plain names m = All-head (IsAttribute format.Plain names) m words each in
     let there : All (IsAttribute format.Plain names) words = All-tail (IsAttribute format.Plain names) m words each in
-    let rest = words_back names line (union acc (only here.index)) (m.column + length m.word) words tail stop there other in
+    let rest = words_back names line (union acc (only here.index)) (m.column + m.length) words tail stop there other in
     let members = union-only acc (attributes_of_words names words) here.index ∙ ap (union acc) (sym (attributes_of_words-cons names m words here.index here.known)) in
     record {
       next_column = rest.next_column;
@@ -194,18 +194,26 @@ pub record SideRead (names : List (List ℕ)) (line from : ℕ) (marks tail : Li
   pub next_column : ℕ
   pub read : side names (left_at line from (marks ++ tail) stop) ≡ Ok (x, left_at line next_column tail stop)
 
+-- a word or a quoted name begins a side
+side_from-word : (names : List (List ℕ)) (m : Mark) (r : Rest) (k : TokenKind) → is_word_token k ≡ true
+    → side_from names m r k ≡ (attribute_of_word names r.line m >>= λ a. words names (only a) r)
+side_from-word names m r token.Identifier is = refl
+side_from-word names m r token.Quoted is = refl
+side_from-word names m r k is = cc
+
 pub side_back : (names : List (List ℕ)) (line from : ℕ) (marks tail : List Mark) (stop : Option LexError) (x : Attributes) → IsSide format.Plain names marks x → NoWord tail
     → SideRead names line from marks tail stop x
 unfolding side take
-side_back names line from marks tail stop x (inl empty) other = record { next_column = empty.column + length empty.bytes; read = rw (empty.alone, empty.nothing) refl }
+side_back names line from marks tail stop x (inl empty) other = record { next_column = empty.mark.column + empty.mark.length; read = rw (empty.alone, empty.is_empty, empty.nothing) refl }
 side_back names line from [] tail stop x (inr words) other = let some : 0 < 0 = words.some in absurd (omega arith)
 side_back names line from (m ∷ marks) tail stop x (inr words) other =
     let here : IsAttribute format.Plain names m = All-head (IsAttribute format.Plain names) m marks words.each in
     let there : All (IsAttribute format.Plain names) marks = All-tail (IsAttribute format.Plain names) m marks words.each in
-    let rest = words_back names line (only here.index) (m.column + length m.word) marks tail stop there other in
+    let rest = words_back names line (only here.index) (m.column + m.length) marks tail stop there other in
     let members = sym (attributes_of_words-cons names m marks here.index here.known) ∙ sym words.members in
     record {
       next_column = rest.next_column;
-      read = simp (here.word, attribute_back names line m here)
+      read = side_from-word names m (left_at line (m.column + m.length) (marks ++ tail) stop) m.kind here.word
+          ∙ rw (attribute_back names line m here)
           (rest.read ∙ ap (λ (z : Attributes). Ok (z, left_at line rest.next_column tail stop)) members);
     }

@@ -5,7 +5,7 @@ use Rattle.std.proofs.lemmas.List.{nil_from_length}
 use Rattle.dep_model.specs.declared.schema.Schema.{Schema}
 use Rattle.dep_model.specs.Schemas.{names_of}
 use Rattle.derivation.specs.Trees.{Tree}
-use Rattle.lexer.specs.declared.token.Mode.TheVariants as mode
+use Rattle.lexer.specs.Modes as mode
 use Rattle.lexer.specs.Lines.{line_texts, without_mark}
 use Rattle.lexer.specs.Tokens.{lex}
 use Rattle.proof_grammar.specs.declared.line_kind.LineKind.{LineKind}
@@ -78,7 +78,7 @@ refused_back s text e (inl refused) =
     ap (read_certificate_lines s true 1 (record { lines = []; unused = [] })) stands.cut
     ∙ walk.same
     ∙ ap (λ n. read_certificate_lines s walk.fresh n walk.book after_it) (sym stands.number)
-    ∙ line_refuses (line_kind walk.fresh (lex mode.Numbered here)) s text e refused.before stands.after here walk.fresh
+    ∙ line_refuses (line_kind walk.fresh (lex mode.numbered here)) s text e refused.before stands.after here walk.fresh
     refused.lines refused.trees walk.book walk.afterwards stands (kind_counts walk.fresh here _ refl) refused.why
 refused_back s text e (inr refused) =
     let size = nodes_size s [] refused.lines refused.trees refused.read.nodes in

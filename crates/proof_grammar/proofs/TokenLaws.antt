@@ -1,5 +1,5 @@
 -- A token of a line is read exactly where the grammar has it.
-use Rattle.std.proofs.Common.{◌≡◌, ◌+◌, ⊎_elim, ℕ, Bool, true, false, cond, List, length, Option, Some, None, Ok, Err, refl, ◌∙◌, ap, subst}
+use Rattle.std.proofs.Common.{◌≡◌, ◌+◌, ⊎_elim, ℕ, Bool, true, false, cond, List, Option, Some, None, Ok, Err, refl, ◌∙◌, ap, subst}
 use Rattle.std.specs.Prelude.{codes, ok_or}
 use Rattle.std.specs.Str.{bytes_eq}
 use Rattle.std.proofs.lemmas.Bool.{cases_Bool}
@@ -124,7 +124,7 @@ abbrev pub rest_at : ℕ → ℕ → List Mark → Rest
 rest_at line next_column marks = record { line = line; next_column = next_column; marks = marks; stop = None }
 
 abbrev pub after_of : Mark → ℕ
-after_of m = m.column + length m.word
+after_of m = m.column + m.length
 
 pub named_back : (r : RuleName) → rule_word (rule_spelling r) ≡ Some r
 unfolding rule_word

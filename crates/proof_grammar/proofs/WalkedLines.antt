@@ -6,7 +6,7 @@ use Rattle.dep_model.specs.declared.schema.Schema.{Schema}
 use Rattle.dep_model.specs.Schemas.{names_of}
 use Rattle.derivation.specs.declared.measures.TheConstants.{MOST_NODES, MOST_LEVELS}
 use Rattle.derivation.specs.Trees.{Tree, depth}
-use Rattle.lexer.specs.declared.token.Mode.TheVariants as mode
+use Rattle.lexer.specs.Modes as mode
 use Rattle.lexer.specs.Lines.{line_texts, without_mark}
 use Rattle.lexer.specs.Tokens.{lex}
 use Rattle.proof_grammar.specs.declared.line_kind.LineKind.{LineKind}
@@ -159,7 +159,7 @@ walk s text after whole all grown number [] read [] (u ∷ us) w = absurd w.node
 walk s text after whole all grown number [] read (l ∷ more) us w =
     absurd (subst (λ (ls : List (List ℕ)). MeanLines (names_of s) ls (l ∷ more)) (nothing_counts w.fresh) w.mean)
 walk s text after whole all grown number (here ∷ texts) read more us w =
-    walk_more (line_kind w.fresh (lex mode.Numbered here)) s text after whole all grown number here texts more us w read
+    walk_more (line_kind w.fresh (lex mode.numbered here)) s text after whole all grown number here texts more us w read
     (kind_counts w.fresh here _ refl) (walk s text after whole all grown (number + 1) texts read)
 
 -- the reader after lines of a text that are read

@@ -9,7 +9,7 @@ use Rattle.derivation.specs.declared.measures.TheConstants.{MOST_NODES, MOST_LEV
 use Rattle.derivation.specs.Conclusions.{Proves}
 use Rattle.derivation.specs.Derivs.{tree_of}
 use Rattle.derivation.specs.Trees.{Tree, nodes, depth}
-use Rattle.lexer.specs.declared.token.Mode.TheVariants as mode
+use Rattle.lexer.specs.Modes as mode
 use Rattle.lexer.specs.Tokens.{lex}
 use Rattle.schema_grammar.specs.declared.format.Format.TheVariants as format
 use Rattle.schema_grammar.specs.declared.refusal.SchemaRefusal.{SchemaRefusal}
@@ -29,12 +29,12 @@ use Rattle.proof_grammar.specs.Texts.{read_proof}
 abbrev pub LineMeaning : Type 0
 LineMeaning =
     (names : List (List ℕ)) (number : ℕ) (text : List ℕ) (l : Line)
-    → (certificate_line names (rest_from number 1 (lex mode.Numbered text)) ≡ Ok l) ↔ MeansLine names text l
+    → (certificate_line names (rest_from number 1 (lex mode.numbered text)) ≡ Ok l) ↔ MeansLine names text l
 
 abbrev pub LineRefusal : Type 0
 LineRefusal =
     (names : List (List ℕ)) (number : ℕ) (text : List ℕ) (e : SchemaRefusal)
-    → (certificate_line names (rest_from number 1 (lex mode.Numbered text)) ≡ Err e)
+    → (certificate_line names (rest_from number 1 (lex mode.numbered text)) ≡ Err e)
     ↔ RefusesCertificateLine names number text e
 
 abbrev pub SpelledIsRead : Type 0

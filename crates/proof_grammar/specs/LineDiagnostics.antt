@@ -1,7 +1,7 @@
 -- What is wrong with a line of a certificate by its grammar, and how the grammar refuses the line:
 -- for `Refusals`.
 use Rattle.std.specs.Prelude.{◌≡◌, ◌<◌, ◌⊎◌, ℕ, suc, Bool, true, false, List, [], ◌∷◌, ◌++◌, length, take, map, Option, Some, None, slice_get}
-use Rattle.lexer.specs.declared.token.Mode.TheVariants as mode
+use Rattle.lexer.specs.Modes as mode
 use Rattle.lexer.specs.declared.token.LexError.{LexError}
 use Rattle.lexer.specs.declared.token.TokenKind.{TokenKind}
 use Rattle.lexer.specs.declared.token.TokenKind.TheVariants as token
@@ -19,7 +19,8 @@ use Rattle.proof_grammar.specs.Meanings.{IsCertificateLine}
 use Rattle.proof_grammar.specs.Tokens.{is_with, rule_word}
 
 -- ---- the forms of tokens
--- a token but for the value of a number, the arrow, and the letters of a word that the grammar does not have
+-- a token but for the value of a number, the arrow, and the letters of a quoted name or a word that the
+-- grammar does not have
 pub data TokenForm : Type 0 where
   a_number : TokenForm
   a_colon : TokenForm
@@ -37,6 +38,7 @@ word_form None false = a_word
 
 abbrev pub token_form : TokenKind → List ℕ → TokenForm
 token_form token.Identifier word = word_form (rule_word word) (is_with token.Identifier word)
+token_form token.Quoted word = a_word
 token_form (token.Number n) word = a_number
 token_form token.Colon word = a_colon
 token_form token.Arrow word = an_arrow
@@ -107,4 +109,4 @@ RefusesTokens names line ms stop e =
 -- the line of this number of a certificate's text is refused so
 abbrev pub RefusesCertificateLine : List (List ℕ) → ℕ → List ℕ → SchemaRefusal → Type 0
 RefusesCertificateLine names line text e =
-    RefusesTokens names line (lex mode.Numbered text).marks (lex mode.Numbered text).stop e
+    RefusesTokens names line (lex mode.numbered text).marks (lex mode.numbered text).stop e

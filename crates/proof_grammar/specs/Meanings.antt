@@ -3,7 +3,7 @@
 use Rattle.std.specs.Prelude.{◌≡◌, ℕ, Bool, false, ◌&&◌, not, if◌then◌else◌, List, [], ◌∷◌, ◌++◌, filter, Option, codes}
 use Rattle.attr_sets.specs.Attributes.{Attributes}
 use Rattle.derivation.specs.Trees.{Step, augmentation, complementation, maugmentation, replication, Pair, transitivity, mtransitivity, coalescence}
-use Rattle.lexer.specs.declared.token.Mode.TheVariants as mode
+use Rattle.lexer.specs.Modes as mode
 use Rattle.lexer.specs.declared.token.LexError.{LexError}
 use Rattle.lexer.specs.declared.token.TokenKind.TheVariants as token
 use Rattle.lexer.specs.Lines.{line_texts, without_mark}
@@ -24,11 +24,11 @@ is_yes_alone l = is_yes_from l.marks l.stop
 
 abbrev pub without_yes : List (List ℕ) → List (List ℕ)
 without_yes [] = []
-without_yes (line ∷ lines) = if is_yes_alone (lex mode.Numbered line) then lines else line ∷ lines
+without_yes (line ∷ lines) = if is_yes_alone (lex mode.numbered line) then lines else line ∷ lines
 
 -- the lines that are not blank, but for a first `yes`
 abbrev pub certificate_lines_of : List (List ℕ) → List (List ℕ)
-certificate_lines_of lines = without_yes (filter (λ line. not (is_blank (lex mode.Numbered line))) lines)
+certificate_lines_of lines = without_yes (filter (λ line. not (is_blank (lex mode.numbered line))) lines)
 
 -- those of a text
 abbrev pub certificate_lines : List ℕ → List (List ℕ)
@@ -142,7 +142,7 @@ pub record IsCertificateLine (names : List (List ℕ)) (ms : List Mark) (l : Lin
 -- a text has the tokens of a line
 pub record MeansLine (names : List (List ℕ)) (text : List ℕ) (l : Line) : Type 0 where
   pub marks : List Mark
-  pub tokens : HasTokens (lex mode.Numbered text) marks
+  pub tokens : HasTokens (lex mode.numbered text) marks
   pub is_line : IsCertificateLine names marks l
 
 -- each text means its line

@@ -5,7 +5,7 @@ use Rattle.std.specs.Str.{bytes_eq}
 use Rattle.dep_model.specs.declared.schema.Schema.{Schema}
 use Rattle.dep_model.specs.Schemas.{names_of}
 use Rattle.derivation.specs.Trees.{Tree}
-use Rattle.lexer.specs.declared.token.Mode.TheVariants as mode
+use Rattle.lexer.specs.Modes as mode
 use Rattle.lexer.specs.declared.token.LexError.{LexError}
 use Rattle.lexer.specs.declared.token.TokenKind.{TokenKind}
 use Rattle.lexer.specs.declared.token.TokenKind.TheVariants as token
@@ -53,14 +53,14 @@ abbrev pub read_as : LineKind → Schema → Bool → ℕ → CheckerStateValue 
 read_as Blank s fresh number book text = Ok (fresh, book)
 read_as Opening s fresh number book text = Ok (false, book)
 read_as Certificate s fresh number book text =
-    in_line (certificate_line (names_of s) (rest_from number 1 (lex mode.Numbered text)))
+    in_line (certificate_line (names_of s) (rest_from number 1 (lex mode.numbered text)))
     >>= λ l. enter_line s number book l
     >>= λ next. Ok (false, next)
 
 -- the checker state after one line of the text more, and whether a `yes` may still come
 unfoldable pub read_one : Schema → Bool → ℕ → CheckerStateValue → List ℕ → Result (Bool × CheckerStateValue) Diagnostic
 read_one s fresh number book text =
-    read_as (line_kind fresh (lex mode.Numbered text)) s fresh number book text
+    read_as (line_kind fresh (lex mode.numbered text)) s fresh number book text
 
 -- a diagnostic gets its line
 abbrev pub at_line : {A : Type 0} → ℕ → Result A Diagnostic → Result A LineDiagnostic

@@ -3,6 +3,7 @@ ghost use Rattle.attr_sets.specs.Attributes.{below};
 ghost use Rattle.dep_model.specs.Deps.{dependency_of, IsDepWithin};
 ghost use Rattle.derivation.specs.Derivs.{step_of, pair_of};
 ghost use Rattle.tokens.specs.Views.{names_in, rest_of};
+ghost use Rattle.lexer.specs.Tokens.{bytes_of};
 ghost use Rattle.schema_grammar.specs.Declarations.{mark_of};
 ghost use Rattle.proof_grammar.specs.Lines.{body, certificate_line_from, stated_dependency, one_premise, two_premises, augmentation_body, maugmentation_body};
 ghost use Rattle.proof_text.specs.Views.{body_of, line_of};
@@ -11,7 +12,7 @@ use crate::words::{colon, rule_name, with_word};
 use attr_sets::MOST_ATTRIBUTES;
 use dep_model::Dep;
 use derivation::{PairRule, StepRule};
-use lexer::{Token, TokenKind};
+use lexer::{Token, TokenKind, Word};
 use proof_grammar::RuleName;
 use schema_grammar::{SchemaRefusal, Sign, What};
 use tokens::{Cursor, Names};
@@ -40,17 +41,16 @@ pub struct Line {
 pub fn read_line(
     names: &Names<'_>,
     first: Token,
-    word: &[u8],
+    word: &Word<'_>,
     rest: Cursor<'_>,
 ) -> Result<Line, SchemaRefusal>
     requires within_limit { length (names_in names.now) ≤ MOST_ATTRIBUTES }
-    requires length { first.length ≡ length word.now }
     ensures ok { IfOk result
-        (λ x. certificate_line_from (names_in names.now) (mark_of first word.now) (rest_of rest.entry)
+        (λ x. certificate_line_from (names_in names.now) (mark_of first (bytes_of word.now)) (rest_of rest.entry)
         ≡ Ok (line_of x)) }
     ensures within { IfOk result (λ x. IsDepWithin (below (length (names_in names.now))) x.stated) }
     ensures err { IfErr result
-        (λ e. certificate_line_from (names_in names.now) (mark_of first word.now) (rest_of rest.entry)
+        (λ e. certificate_line_from (names_in names.now) (mark_of first (bytes_of word.now)) (rest_of rest.entry)
         ≡ Err e) }
 {
     let TokenKind::Number(number) = first.kind else {

@@ -1,3 +1,4 @@
+ghost use Rattle.lexer.specs.Tokens.{bytes_of};
 ghost use Rattle.std.specs.Prelude.{◌≡◌, ◌+◌, ◌<◌, ◌≤◌, ◌^◌, length, IfOk, IfErr, Ok, Err};
 ghost use Rattle.tokens.specs.Views.{rest_of};
 ghost use Rattle.derivation.specs.Derivs.{tree_of};
@@ -18,7 +19,7 @@ use crate::line::read_line;
 use crate::node::Concluded;
 use dep_model::{Failure, Schema};
 use derivation::Deriv;
-use lexer::{Mode, TokenKind, cut_line, without_mark};
+use lexer::{Mode, TokenKind, Word, cut_line, without_mark};
 use proof_grammar::{ProofRefusal, ProofRefusalKind};
 use std::alloc::Global;
 use tokens::{Cursor, Guide, Names, NextToken};
@@ -115,15 +116,15 @@ fn read_one(
         (checker_state_of book.old) text.now))) }
     ensures within { IfErr result (RefusesAs (IsRefusalWithin (universe_of schema.now))) }
 {
-    let start = Cursor::start(number, Mode::Numbered, text);
+    let start = Cursor::start(number, Mode::NUMBERED, text);
     match start.next() {
         NextToken::End => Ok(fresh),
         NextToken::Refusal(refusal) => Err(Failure::Refused(ProofRefusalKind::BadLine(refusal))),
         NextToken::Token(first, word, rest) => {
-            if fresh && is_yes(first.kind, word) && is_blank(rest) {
+            if fresh && is_yes(first.kind, &word) && is_blank(rest) {
                 return Ok(false);
             }
-            match read_line(&Names::Guided(schema, guide), first, word, rest) {
+            match read_line(&Names::Guided(schema, guide), first, &word, rest) {
                 Err(refusal) => Err(Failure::Refused(ProofRefusalKind::BadLine(refusal))),
                 Ok(line) => {
                     book.enter(alloc, schema, number, &line)?;
@@ -147,11 +148,11 @@ fn is_blank(rest: Cursor<'_>) -> bool
 
 /// Whether a token is the word `yes`, in lower case.
 #[tactic(auto, unfolding(proof_grammar::specs::Texts::is_yes))]
-fn is_yes(kind: TokenKind, word: &[u8]) -> bool
-    ensures exact { result ≡ is_yes kind word.now }
+fn is_yes(kind: TokenKind, word: &Word<'_>) -> bool
+    ensures exact { result ≡ is_yes kind (bytes_of word.now) }
 {
     match kind {
-        TokenKind::Identifier => word == b"yes".as_slice(),
+        TokenKind::Identifier => word.bytes() == b"yes".as_slice(),
         _ => false,
     }
 }

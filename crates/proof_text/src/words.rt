@@ -1,9 +1,10 @@
+ghost use Rattle.lexer.specs.Tokens.{bytes_of};
 ghost use Rattle.std.specs.Prelude.{◌≡◌, IfOk, IfErr, Ok, Err};
 ghost use Rattle.tokens.specs.Views.{rest_of};
 ghost use Rattle.proof_grammar.specs.Readers.{colon, with_word, rule_name};
 ghost use Rattle.proof_grammar.specs.Tokens.{is_colon, is_with, rule_named, rule_word};
 
-use lexer::TokenKind;
+use lexer::{TokenKind, Word};
 use proof_grammar::RuleName;
 use schema_grammar::{SchemaRefusal, What};
 use tokens::Cursor;
@@ -14,11 +15,15 @@ pub fn colon(start: Cursor<'_>) -> Result<Cursor<'_>, SchemaRefusal>
     ensures ok { IfOk result (λ x. colon (rest_of start.entry) ≡ Ok (rest_of x)) }
     ensures err { IfErr result (λ e. colon (rest_of start.entry) ≡ Err e) }
 {
-    let (token, _, rest) = start.take(What::Colon)?;
-    if is_colon(token.kind) {
-        Ok(rest)
-    } else {
-        Err(rest.refusal_of_token(token, What::Colon))
+    match start.take(What::Colon) {
+        Err(refusal) => Err(refusal),
+        Ok((token, _, rest)) => {
+            if is_colon(token.kind) {
+                Ok(rest)
+            } else {
+                Err(rest.refusal_of_token(token, What::Colon))
+            }
+        }
     }
 }
 
@@ -28,11 +33,15 @@ pub fn with_word(start: Cursor<'_>) -> Result<Cursor<'_>, SchemaRefusal>
     ensures ok { IfOk result (λ x. with_word (rest_of start.entry) ≡ Ok (rest_of x)) }
     ensures err { IfErr result (λ e. with_word (rest_of start.entry) ≡ Err e) }
 {
-    let (token, word, rest) = start.take(What::With)?;
-    if is_with(token.kind, word) {
-        Ok(rest)
-    } else {
-        Err(rest.refusal_of_token(token, What::With))
+    match start.take(What::With) {
+        Err(refusal) => Err(refusal),
+        Ok((token, word, rest)) => {
+            if is_with(token.kind, &word) {
+                Ok(rest)
+            } else {
+                Err(rest.refusal_of_token(token, What::With))
+            }
+        }
     }
 }
 
@@ -42,10 +51,12 @@ pub fn rule_name(start: Cursor<'_>) -> Result<(RuleName, Cursor<'_>), SchemaRefu
     ensures ok { IfOk result (λ x. rule_name (rest_of start.entry) ≡ Ok (x.0, rest_of x.1)) }
     ensures err { IfErr result (λ e. rule_name (rest_of start.entry) ≡ Err e) }
 {
-    let (token, word, rest) = start.take(What::Rule)?;
-    match rule_named(token.kind, word) {
-        Some(name) => Ok((name, rest)),
-        None => Err(rest.refusal_of_token(token, What::Rule)),
+    match start.take(What::Rule) {
+        Err(refusal) => Err(refusal),
+        Ok((token, word, rest)) => match rule_named(token.kind, &word) {
+            Some(name) => Ok((name, rest)),
+            None => Err(rest.refusal_of_token(token, What::Rule)),
+        },
     }
 }
 
@@ -58,22 +69,22 @@ fn is_colon(kind: TokenKind) -> bool
 
 /// Whether a token is the word `with`, in lower case.
 #[tactic(auto, unfolding(proof_grammar::specs::Tokens::is_with))]
-fn is_with(kind: TokenKind, word: &[u8]) -> bool
-    ensures exact { result ≡ is_with kind word.now }
+fn is_with(kind: TokenKind, word: &Word<'_>) -> bool
+    ensures exact { result ≡ is_with kind (bytes_of word.now) }
 {
     match kind {
-        TokenKind::Identifier => word == b"with".as_slice(),
+        TokenKind::Identifier => word.bytes() == b"with".as_slice(),
         _ => false,
     }
 }
 
 /// The rule whose name a token is, in lower case.
 #[tactic(auto, unfolding(proof_grammar::specs::Tokens::rule_named))]
-fn rule_named(kind: TokenKind, word: &[u8]) -> Option<RuleName>
-    ensures exact { result ≡ rule_named kind word.now }
+fn rule_named(kind: TokenKind, word: &Word<'_>) -> Option<RuleName>
+    ensures exact { result ≡ rule_named kind (bytes_of word.now) }
 {
     match kind {
-        TokenKind::Identifier => rule_word(word),
+        TokenKind::Identifier => rule_word(word.bytes()),
         _ => None,
     }
 }

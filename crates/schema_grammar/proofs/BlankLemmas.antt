@@ -1,13 +1,14 @@
 -- Which lines have no token.
-use Rattle.std.proofs.Common.{◌≡◌, ℕ, ◌+◌, zero, suc, Bool, true, false, cond, ◌==◌, ◌&&◌, List, [], ◌∷◌, take, nat_eq, refl, sym, ◌∙◌, ap, arith}
+use Rattle.std.proofs.Common.{◌≡◌, ℕ, ◌+◌, zero, suc, Bool, true, false, cond, ◌==◌, ◌&&◌, List, [], ◌∷◌, take, drop, Option, Some, None, nat_eq, refl, sym, ◌∙◌, ap, arith}
 use Rattle.std.specs.List.{starts_with}
 use Rattle.dep_model.specs.Names.{is_bare_name, is_name_byte}
 use Rattle.lexer.specs.declared.piece.Piece.{Piece}
 use Rattle.lexer.specs.declared.piece.Piece.TheVariants as piece
-use Rattle.lexer.specs.declared.token.Mode.{Mode}
-use Rattle.lexer.specs.declared.token.Mode.TheVariants as mode
+use Rattle.lexer.specs.declared.mode.Mode.{Mode}
+use Rattle.lexer.specs.Modes as mode
 use Rattle.lexer.specs.Bytes.{is_gap, is_number, run_length}
-use Rattle.lexer.specs.Pieces.{front_piece, run_piece, takes_numbers, takes_comments}
+use Rattle.lexer.specs.Pieces.{front_piece, run_piece, closed_piece, quoted_piece}
+use Rattle.lexer.specs.Quotes.{is_name, closing_quote, undoubled}
 use Rattle.lexer.specs.Tokens.{Lexed, tokens_after, led_by}
 use Rattle.schema_grammar.specs.Meanings.{HasTokens}
 
@@ -16,6 +17,7 @@ abbrev piece_class : Piece → ℕ
 piece_class piece.Gap = 0
 piece_class piece.Comment = 1
 piece_class (piece.Token k n) = 2
+piece_class (piece.Quoted name n) = 2
 piece_class (piece.Flaw why n) = 2
 
 piece_class-cond_two : (b : Bool) (x y : Piece) → piece_class x ≡ 2 → piece_class y ≡ 2 → piece_class (cond b x y) ≡ 2
@@ -26,34 +28,44 @@ piece_class-cond : (b : Bool) (x y : Piece) → piece_class (cond b x y) ≡ con
 piece_class-cond true x y = refl
 piece_class-cond false x y = refl
 
+closed_class : (text : List ℕ) (o : Option ℕ) → piece_class (closed_piece text o) ≡ 2
+closed_class text None = refl
+closed_class text (Some n) = piece_class-cond_two (is_name (undoubled (take n (drop 1 text)))) _ _ refl refl
+
+quoted_class : (text : List ℕ) → piece_class (quoted_piece text) ≡ 2
+unfolding quoted_piece
+quoted_class text = closed_class text (closing_quote (drop 1 text))
+
 -- whether a line has a token does not depend on numbers
-front_class : (m : Mode) (b : ℕ) (bs : List ℕ) → piece_class (front_piece m (b ∷ bs)) ≡ cond (is_gap b) 0 (cond (b == 35 && takes_comments m) 1 2)
+front_class : (m : Mode) (b : ℕ) (bs : List ℕ) → piece_class (front_piece m (b ∷ bs)) ≡ cond (is_gap b) 0 (cond (b == 35 && m.comments) 1 2)
 unfolding front_piece run_piece
 front_class m b bs =
     let run = take (run_length (b ∷ bs)) (b ∷ bs) in
     piece_class-cond (is_gap b) _ _ ∙ ap (cond (is_gap b) 0)
-    (piece_class-cond (b == 35 && takes_comments m) _ _ ∙ ap (cond (b == 35 && takes_comments m) 1)
+    (piece_class-cond (b == 35 && m.comments) _ _ ∙ ap (cond (b == 35 && m.comments) 1)
     (piece_class-cond_two (is_name_byte b) _ _
-    (piece_class-cond_two (is_bare_name run) _ _ refl (piece_class-cond_two (takes_numbers m && is_number run) _ _ refl refl))
+    (piece_class-cond_two (is_bare_name run) _ _ refl (piece_class-cond_two (m.numbers && is_number run) _ _ refl refl))
     (piece_class-cond_two (starts_with nat_eq (b ∷ bs) (45 ∷ 62 ∷ 62 ∷ [])) _ _ refl
     (piece_class-cond_two (starts_with nat_eq (b ∷ bs) (45 ∷ 62 ∷ [])) _ _ refl
     (piece_class-cond_two (starts_with nat_eq (b ∷ bs) (40 ∷ 41 ∷ [])) _ _ refl
-    (piece_class-cond_two (b == 58 && takes_numbers m) _ _ refl refl))))))
+    (piece_class-cond_two (b == 34 && m.quotes) _ _ (quoted_class (b ∷ bs))
+    (piece_class-cond_two (b == 58 && m.colon) _ _ refl refl)))))))
 
 piece_plain : (p q : Piece) (column : ℕ) (text : List ℕ) (numbered plain : ℕ → Lexed) → piece_class p ≡ piece_class q
     → (HasTokens (numbered 0) [] → HasTokens (plain 0) []) → HasTokens (led_by p column text numbered) [] → HasTokens (led_by q column text plain) []
 piece_plain piece.Gap piece.Gap column text numbered plain same rest h = rest h
 piece_plain piece.Comment piece.Comment column text numbered plain same rest h = refl
 piece_plain (piece.Token k n) q column text numbered plain same rest h = let wrong = ap (λ l. l.marks) h in cc
+piece_plain (piece.Quoted name n) q column text numbered plain same rest h = let wrong = ap (λ l. l.marks) h in cc
 piece_plain (piece.Flaw why n) q column text numbered plain same rest h = let wrong = ap (λ l. l.stop) h in cc
 piece_plain p q column text numbered plain same rest h = absurd (omega arith)
 
 -- a line without tokens, numbers counted, has none
-pub lexed_plain : (skip column : ℕ) (text : List ℕ) → HasTokens (tokens_after mode.Numbered skip column text) []
-    → HasTokens (tokens_after mode.Plain skip column text) []
+pub lexed_plain : (skip column : ℕ) (text : List ℕ) → HasTokens (tokens_after mode.numbered skip column text) []
+    → HasTokens (tokens_after mode.plain skip column text) []
 unfolding tokens_after
 lexed_plain skip column [] h = refl
 lexed_plain zero column (b ∷ bs) h =
-    piece_plain (front_piece mode.Numbered (b ∷ bs)) (front_piece mode.Plain (b ∷ bs)) column (b ∷ bs) (λ skip. tokens_after mode.Numbered skip (column + 1) bs) (λ skip. tokens_after mode.Plain skip (column + 1) bs)
-    (front_class mode.Numbered b bs ∙ sym (front_class mode.Plain b bs)) (lexed_plain zero (column + 1) bs) h
+    piece_plain (front_piece mode.numbered (b ∷ bs)) (front_piece mode.plain (b ∷ bs)) column (b ∷ bs) (λ skip. tokens_after mode.numbered skip (column + 1) bs) (λ skip. tokens_after mode.plain skip (column + 1) bs)
+    (front_class mode.numbered b bs ∙ sym (front_class mode.plain b bs)) (lexed_plain zero (column + 1) bs) h
 lexed_plain (suc n) column (b ∷ bs) h = lexed_plain n (column + 1) bs h

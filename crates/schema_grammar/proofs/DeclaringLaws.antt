@@ -10,10 +10,8 @@ use Rattle.dep_model.specs.declared.column_type.ColumnType.{ColumnType}
 use Rattle.schema_grammar.specs.declared.format.TheConstants.{MOST_DEPENDENCY_LINES}
 use Rattle.dep_model.specs.Dependencies.{Dependency}
 use Rattle.dep_model.specs.Schemas.{attribute_named}
-use Rattle.lexer.specs.declared.token.Mode.TheVariants as mode
+use Rattle.lexer.specs.Modes as mode
 use Rattle.lexer.specs.declared.token.LexError.{LexError}
-use Rattle.lexer.specs.declared.token.TokenKind.{TokenKind}
-use Rattle.lexer.specs.declared.token.TokenKind.TheVariants as token
 use Rattle.lexer.specs.Tokens.{Mark, Lexed, lex}
 use Rattle.schema_grammar.specs.declared.refusal.SchemaRefusalKind.{SchemaRefusalKind}
 use Rattle.schema_grammar.specs.declared.refusal.SchemaRefusalKind.TheVariants as kind
@@ -26,9 +24,10 @@ use Rattle.schema_grammar.specs.Refusals.{at}
 use Rattle.schema_grammar.specs.Rests.{◌>>=◌}
 use Rattle.schema_grammar.specs.Schemas.{IsNewName, DeclareNames, IsDeclaring, IsStating, MeansTextLine, MeansLines}
 use Rattle.schema_grammar.specs.Texts.{finish, read_lines}
-use Rattle.schema_grammar.specs.Words.{is_reserved, column_type_of_token}
+use Rattle.schema_grammar.specs.Words.{is_word_token, is_reserved_token, column_type_of_token}
 use Rattle.schema_grammar.proofs.GoalLaws.{dependency-law, follow_has_no_stop}
 use Rattle.schema_grammar.proofs.RefusalLemmas.{and_then-ok}
+use Rattle.schema_grammar.proofs.WordLemmas.{name_step-word, name_step-other}
 
 at-ok : {X : Type 0} (line column size : ℕ) (r : Result X SchemaRefusalKind) (x : X) → at line column size r ≡ Ok x → r ≡ Ok x
 at-ok line column size (Ok y) x e = let same : y ≡ x = cc in ap Ok same
@@ -41,28 +40,27 @@ unless_ok false why r x e = (refl, e)
 declares_name : (f : Format) (column : ColumnType) (d whole : Declarations) (some : Bool) (m : Mark) → name_step f column d some m.kind m.word ≡ Ok whole
     → IsNewName f d m × (whole ≡ add_name d m.word column)
 unfolding declare
-declares_name f column d whole some m e = told m.kind refl (attribute_named d.names m.word) refl e
+declares_name f column d whole some m e = told (is_word_token m.kind) refl
   where
-    told : (k : TokenKind) → m.kind ≡ k → (o : Option ℕ) → attribute_named d.names m.word ≡ o
-        → name_step f column d some k m.word ≡ Ok whole
-        → IsNewName f d m × (whole ≡ add_name d m.word column)
-    told token.Identifier is o lookup e =
-        let free = unless_ok (is_reserved f m.word) kind.ReservedName _ whole e in
+    told : (b : Bool) → is_word_token m.kind ≡ b → IsNewName f d m × (whole ≡ add_name d m.word column)
+    told true is =
+        let declares : declare f column d m.kind m.word ≡ Ok whole = sym (name_step-word f column d some m.kind m.word is) ∙ e in
+        let free = unless_ok (is_reserved_token f m.kind m.word) kind.ReservedName _ whole declares in
         let new = unless_ok (is_some (attribute_named d.names m.word)) kind.DoubleName _ whole free.1 in
         let room = unless_ok (nat_le MOST_ATTRIBUTES (length d.names)) kind.TooManyAttributes (Ok (add_name d m.word column)) whole new.1 in
-        let unknown = lookup ∙ none o (ap is_some (sym lookup) ∙ new.0) in
+        let unknown = none (attribute_named d.names m.word) new.0 in
         let same : Ok whole ≡ Ok (add_name d m.word column) = sym room.1 in
         (record { word = is; free = free.0; new = unknown; room = leb-false _ _ room.0 }, cc)
       where
         none : (o : Option ℕ) → is_some o ≡ false → o ≡ None
         none None e = refl
         none (Some a) e = cc
-    told k is o lookup e = cc
+    told false is = let wrong = sym (name_step-other f column d some m.kind m.word is) ∙ e in cc
 
 name_declared : (f : Format) (column : ColumnType) (d : Declarations) (some : Bool) (m : Mark) → IsNewName f d m → name_step f column d some m.kind m.word ≡ Ok (add_name d m.word column)
 unfolding declare
 name_declared f column d some m new =
-    let room = lt-leb MOST_ATTRIBUTES (length d.names) new.room in rw (new.word, new.free, new.new, room) refl
+    let room = lt-leb MOST_ATTRIBUTES (length d.names) new.room in rw (name_step-word f column d some m.kind m.word new.word) (rw (new.free, new.new, room) refl)
 
 -- names after a declaring word are read exactly where each is a new one
 names_there : (f : Format) (column : ColumnType) (line : ℕ) (d whole : Declarations) (some : Bool)
@@ -73,12 +71,12 @@ unfolding list_names
 names_there f column line d whole true next_column [] e = ((λ none. cc), cc)
 names_there f column line d whole false next_column [] e = cc
 names_there f column line d whole some next_column (m ∷ ms) e =
-    let two = and_then-ok (at line m.column (length m.word) (name_step f column d some m.kind m.word)) _ whole e in
-    let named = at-ok line m.column (length m.word) _ two.x two.first in
+    let two = and_then-ok (at line m.column m.length (name_step f column d some m.kind m.word)) _ whole e in
+    let named = at-ok line m.column m.length _ two.x two.first in
     let first = declares_name f column d two.x some m named in
-    let rest : list_names f column line (add_name d m.word column) true (m.column + length m.word) ms None ≡ Ok whole =
-    ap (λ n. list_names f column line n true (m.column + length m.word) ms None) (sym first.1) ∙ two.second in
-    let more = names_there f column line (add_name d m.word column) whole true (m.column + length m.word) ms rest in
+    let rest : list_names f column line (add_name d m.word column) true (m.column + m.length) ms None ≡ Ok whole =
+    ap (λ n. list_names f column line n true (m.column + m.length) ms None) (sym first.1) ∙ two.second in
+    let more = names_there f column line (add_name d m.word column) whole true (m.column + m.length) ms rest in
     ((λ none. omega arith), (first.0, more.1))
 
 names_back : (f : Format) (column : ColumnType) (line : ℕ) (d whole : Declarations) (some : Bool)
@@ -90,7 +88,7 @@ names_back f column line d whole true next_column [] has e = cc
 names_back f column line d whole false next_column [] has e = absurd (omega (arith, has refl))
 names_back f column line d whole some next_column (m ∷ ms) has (new, rest) =
     rw (name_declared f column d some m new)
-    (names_back f column line (add_name d m.word column) whole true (m.column + length m.word) ms
+    (names_back f column line (add_name d m.word column) whole true (m.column + m.length) ms
     (λ none. cc) rest)
 
 names_stopped : (f : Format) (column : ColumnType) (line : ℕ) (d whole : Declarations) (some : Bool)
@@ -99,8 +97,8 @@ names_stopped : (f : Format) (column : ColumnType) (line : ℕ) (d whole : Decla
 unfolding list_names
 names_stopped f column line d whole some next_column [] stop e = cc
 names_stopped f column line d whole some next_column (m ∷ ms) stop e =
-    let two = and_then-ok (at line m.column (length m.word) (name_step f column d some m.kind m.word)) _ whole e in
-    names_stopped f column line two.x whole true (m.column + length m.word) ms stop two.second
+    let two = and_then-ok (at line m.column m.length (name_step f column d some m.kind m.word)) _ whole e in
+    names_stopped f column line two.x whole true (m.column + m.length) ms stop two.second
 
 -- the first token of a dependency line, with room for the line
 record Begun (f : Format) (line : ℕ) (d : Declarations) (m : Mark) (ms : List Mark) (stop : Option LexError) (whole : Declarations) : Type 0 where
@@ -113,15 +111,15 @@ dependency_there : (f : Format) (line : ℕ) (d whole : Declarations) (m : Mark)
     → dependency_line f line d m ms stop ≡ Ok whole → Begun f line d m ms stop whole
 unfolding dependency_line begin follow
 dependency_there f line d whole m ms stop e =
-    let two = and_then-ok (at line m.column (length m.word) (begin f d m.kind m.word)) _ whole e in
-    let begun = at-ok line m.column (length m.word) (begin f d m.kind m.word) two.x two.first in
+    let two = and_then-ok (at line m.column m.length (begin f d m.kind m.word)) _ whole e in
+    let begun = at-ok line m.column m.length (begin f d m.kind m.word) two.x two.first in
     let inner = and_then-ok (step f d.names start m.kind m.word) _ two.x begun in
     let room = unless_ok (nat_le MOST_DEPENDENCY_LINES (length d.deps)) kind.TooManyDependencies (Ok inner.x) two.x inner.second in
     let same : inner.x ≡ two.x = (let eq : Ok inner.x ≡ Ok two.x = room.1 in cc) in
-    let three = and_then-ok (follow f d.names line two.x (m.column + length m.word) ms stop) _ whole two.second in
+    let three = and_then-ok (follow f d.names line two.x (m.column + m.length) ms stop) _ whole two.second in
     record {
       dep = three.x;
-      read = ap (λ s. at line m.column (length m.word) s >>= (λ next. follow f d.names line next (m.column + length m.word) ms stop)) (inner.first ∙ ap Ok same) ∙ three.first;
+      read = ap (λ s. at line m.column m.length s >>= (λ next. follow f d.names line next (m.column + m.length) ms stop)) (inner.first ∙ ap Ok same) ∙ three.first;
       room = leb-false _ _ room.0;
       adds = let eq : Ok (add_dependency d three.x line) ≡ Ok whole = three.second in cc;
     }
@@ -130,8 +128,8 @@ dependency_back : (f : Format) (line : ℕ) (d : Declarations) (m : Mark) (ms : 
     → follow f d.names line start 1 (m ∷ ms) None ≡ Ok dep → length d.deps < MOST_DEPENDENCY_LINES → dependency_line f line d m ms None ≡ Ok (add_dependency d dep line)
 unfolding dependency_line begin follow
 dependency_back f line d m ms dep e h =
-    let two = and_then-ok (at line m.column (length m.word) (step f d.names start m.kind m.word)) _ dep e in
-    let first = at-ok line m.column (length m.word) (step f d.names start m.kind m.word) two.x two.first in
+    let two = and_then-ok (at line m.column m.length (step f d.names start m.kind m.word)) _ dep e in
+    let first = at-ok line m.column m.length (step f d.names start m.kind m.word) two.x two.first in
     let room = lt-leb MOST_DEPENDENCY_LINES (length d.deps) h in
     let read = two.second in
     rw first (rw room (rw read refl))
@@ -142,15 +140,15 @@ has_tokens l ms marks stop i = record { marks = marks i; stop = stop i }
 -- a line is read exactly where it means what is declared after it
 pub line_there : (f : Format) (number : ℕ) (d : Declarations) (line : List ℕ) (whole : Declarations) → read_line f number d line ≡ Ok whole → MeansTextLine f number d line whole
 unfolding read_line
-line_there f number d line whole e = told (lex mode.Plain line).marks (lex mode.Plain line).stop refl refl e
+line_there f number d line whole e = told (lex mode.plain line).marks (lex mode.plain line).stop refl refl e
   where
     l : Lexed
-    l = lex mode.Plain line
+    l = lex mode.plain line
 
     declaring : (m : Mark) (ms : List Mark) (column : ColumnType) (stop : Option LexError) → l.marks ≡ m ∷ ms → l.stop ≡ stop → column_type_of_token f m.kind m.word ≡ Some column
-        → list_names f column number d false (m.column + length m.word) ms stop ≡ Ok whole → IsDeclaring f d line whole
+        → list_names f column number d false (m.column + m.length) ms stop ≡ Ok whole → IsDeclaring f d line whole
     declaring m ms column None marks stop is e =
-        let both = names_there f column number d whole false (m.column + length m.word) ms e in
+        let both = names_there f column number d whole false (m.column + m.length) ms e in
         record {
           head = m;
           words = ms;
@@ -162,7 +160,7 @@ line_there f number d line whole e = told (lex mode.Plain line).marks (lex mode.
           names = both.1;
         }
     declaring m ms column (Some s) marks stop is e =
-        absurd (names_stopped f column number d whole false (m.column + length m.word) ms s e)
+        absurd (names_stopped f column number d whole false (m.column + m.length) ms s e)
 
     stating : (m : Mark) (ms : List Mark) (stop : Option LexError) → l.marks ≡ m ∷ ms → l.stop ≡ stop → column_type_of_token f m.kind m.word ≡ None
         → Begun f number d m ms stop whole → IsStating f number d line whole
@@ -194,7 +192,7 @@ unfolding read_line
 line_back f number d line whole (inl (inl blank)) = rw (blank.tokens, blank.same) refl
 line_back f number d line whole (inl (inr is)) =
     rw (is.tokens, is.declaring)
-    (names_back f is.column number d whole false (is.head.column + length is.head.word) is.words
+    (names_back f is.column number d whole false (is.head.column + is.head.length) is.words
     (λ none. is.some) is.names)
 line_back f number d line whole (inr is) =
     rw (is.tokens, is.stating, is.adds)

@@ -8,7 +8,7 @@ use Rattle.std.proofs.lemmas.Option.{slice_get-map, slice_get_within, get_or_fro
 use Rattle.dep_model.specs.Dependencies.{Dependency}
 use Rattle.lexer.specs.declared.token.Flaw.{Flaw}
 use Rattle.lexer.specs.declared.token.Flaw.TheVariants as flaw
-use Rattle.lexer.specs.declared.token.Mode.TheVariants as mode
+use Rattle.lexer.specs.Modes as mode
 use Rattle.lexer.specs.declared.token.LexError.{LexError}
 use Rattle.lexer.specs.Tokens.{Mark, lex}
 use Rattle.schema_grammar.specs.declared.refusal.SchemaRefusal.{SchemaRefusal}
@@ -88,7 +88,7 @@ left_whole line first whole stop = record {
 pub left_next : (line first : ℕ) (whole : List Mark) (stop : Option LexError) (k from : ℕ) (m : Mark)
     (ms : List Mark)
     → IsLeft line first whole stop k from (m ∷ ms)
-    → IsLeft line first whole stop (suc k) (m.column + length m.word) ms
+    → IsLeft line first whole stop (suc k) (m.column + m.length) ms
 left_next line first whole stop k from m ms rest = record {
   size = let size = rest.size in omega arith;
   marks = λ p q is. rest.marks (suc p) q (omega arith);
@@ -203,7 +203,7 @@ judge {whole} {stop} {At} {Stuck} {Wanted} judges f declared line first [] k fro
         (λ flaw. flaw_least s flaw.0 n (sym is ∙ flaw.1) flaw.2) (ended n diagnostic))
 judge {whole} {stop} {At} {Stuck} {Wanted} judges f declared line first (m ∷ ms) k from r left reached before =
     told (step f declared r m.kind m.word) (step_fits f declared r m)
-    (λ next there none. judge judges f declared line first ms (suc k) (m.column + length m.word) next
+    (λ next there none. judge judges f declared line first ms (suc k) (m.column + m.length) next
     (left_next line first whole stop k from m ms left) there none)
   where
     is : slice_get whole k ≡ Some m
@@ -213,10 +213,10 @@ judge {whole} {stop} {At} {Stuck} {Wanted} judges f declared line first (m ∷ m
         → ((next : Reached) → At (suc k) (shape_of next)
         → ((p : ℕ) (n : DiagnosticKind) → p < suc k → LineDiagnostic Stuck f declared whole stop p n → ⊥)
         → Judged (LineDiagnostic Stuck f declared whole stop) Wanted (span_at line first whole stop)
-        (follow f declared line next (m.column + length m.word) ms stop))
+        (follow f declared line next (m.column + m.length) ms stop))
         → Judged (LineDiagnostic Stuck f declared whole stop) Wanted (span_at line first whole stop)
-        (at line m.column (length m.word) o
-        >>= (λ next. follow f declared line next (m.column + length m.word) ms stop))
+        (at line m.column m.length o
+        >>= (λ next. follow f declared line next (m.column + m.length) ms stop))
     told (Ok next) fit rest =
         let on = judges.goes_on k (shape_of r) (shape_of next) m is reached fit.0 in
         rest next on.1 (λ p n less diagnostic. elim (cases_order p k) [
@@ -226,7 +226,7 @@ judge {whole} {stop} {At} {Stuck} {Wanted} judges f declared line first (m ∷ m
           | inr (inl earlier) ↦ before p n earlier diagnostic
           | inr (inr later) ↦ absurd (omega arith)
         ])
-    told (Err why) fit rest = first_at _ Wanted _ (refusal line m.column (length m.word) why) k before
+    told (Err why) fit rest = first_at _ Wanted _ (refusal line m.column m.length why) k before
         (token_diagnoses judges f declared k r m why is reached fit)
         (Carries-map (λ w. w ≡ wanted_by (shape_of r)) (Wanted k)
         (λ w same. subst (Wanted k) (sym same) (judges.wants k (shape_of r) reached)) why fit.3)
@@ -309,7 +309,7 @@ line-law f declared line ms stop =
     fits (Err e) first = first
 
 pub goal-diagnostic-law : (declared : List (List ℕ)) (text : List ℕ) → FitsGoal declared text (read_goal declared text)
-goal-diagnostic-law declared text = line-law format.Plain declared 1 (lex mode.Goal text).marks (lex mode.Goal text).stop
+goal-diagnostic-law declared text = line-law format.Plain declared 1 (lex mode.goal text).marks (lex mode.goal text).stop
 
 pub goal_refused : (declared : List (List ℕ)) (text : List ℕ) (e : SchemaRefusal) → read_goal declared text ≡ Err e → RefusesGoal declared text e
 goal_refused declared text e h = subst (FitsGoal declared text) h (goal-diagnostic-law declared text)

@@ -23,3 +23,4 @@ pub mod SideLemmas
 pub mod SoundLemmas
 pub mod TextLaws
 pub mod WithinLemmas
+pub mod WordLemmas

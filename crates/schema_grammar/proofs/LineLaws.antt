@@ -28,7 +28,7 @@ FitsHead f d line m ms stop o (Ok whole) = (p : ℕ) (n : DiagnosticKind) → He
 FitsHead f d line m ms stop o (Err e) = IsFirst (HeadDiagnostic f d m ms stop o) (HeadWants m ms o) (span_at line 1 (m ∷ ms) stop) e
 
 declaring_fits : (f : Format) (d : Declarations) (line : ℕ) (m : Mark) (ms : List Mark) (stop : Option LexError) (column : ColumnType) (res : Result Declarations SchemaRefusal)
-    → FitsNames f d line (m.column + length m.word) ms stop res → FitsHead f d line m ms stop (Some column) res
+    → FitsNames f d line (m.column + m.length) ms stop res → FitsHead f d line m ms stop (Some column) res
 declaring_fits f d line m ms stop column (Ok whole) none = λ p n (later, is, diagnostic). none later n diagnostic
 declaring_fits f d line m ms stop column (Err e) first = record {
   position = suc first.position;
@@ -55,10 +55,10 @@ with_room f d line m ms stop (Err e) room first = record {
 
 begun_fits : (f : Format) (d : Declarations) (line : ℕ) (m : Mark) (ms : List Mark) (stop : Option LexError) (o : Result Reached SchemaRefusalKind) (b : Bool)
     → nat_le MOST_DEPENDENCY_LINES (length d.deps) ≡ b → StepFits f d.names start m o
-    → FitsDependency f d.names line (m ∷ ms) stop (at line m.column (length m.word) o >>= (λ next. follow f d.names line next (m.column + length m.word) ms stop))
+    → FitsDependency f d.names line (m ∷ ms) stop (at line m.column m.length o >>= (λ next. follow f d.names line next (m.column + m.length) ms stop))
     → FitsHead f d line m ms stop None
-    (at line m.column (length m.word) (o >>= (λ next. cond b (Err kind.TooManyDependencies) (Ok next)))
-    >>= (λ next. follow f d.names line next (m.column + length m.word) ms stop >>= (λ dep. Ok (add_dependency d dep line))))
+    (at line m.column m.length (o >>= (λ next. cond b (Err kind.TooManyDependencies) (Ok next)))
+    >>= (λ next. follow f d.names line next (m.column + m.length) ms stop >>= (λ dep. Ok (add_dependency d dep line))))
 begun_fits f d line m ms stop (Err why) b full begins first =
     let here = first.least 0 (diagnostic_kind why)
     (token_diagnoses (dependency_judges (m ∷ ms) stop) f d.names 0 start m why refl refl begins) in
@@ -75,7 +75,7 @@ begun_fits f d line m ms stop (Err why) b full begins first =
     }
 begun_fits f d line m ms stop (Ok next) true full begins fits =
     first_at (HeadDiagnostic f d m ms stop None) (HeadWants m ms None) (span_at line 1 (m ∷ ms) stop)
-    (refusal line m.column (length m.word) kind.TooManyDependencies) 0
+    (refusal line m.column m.length kind.TooManyDependencies) 0
     (λ p n less. absurd (omega arith)) (inr (refl, refl, leb-true _ _ full)) tt refl
     (λ n diagnostic. ⊎_elim (λ other. absurd (
     ⊎_elim (begins.1 n) (λ six.
@@ -83,7 +83,7 @@ begun_fits f d line m ms stop (Ok next) true full begins fits =
     (at_token (IsStuck (kinds (m ∷ ms)) stop) f d.names (m ∷ ms) stop 0 m refl n other)
     )) (λ eight. omega (arith, ap number_of eight.0)) diagnostic)
 begun_fits f d line m ms stop (Ok next) false full begins fits =
-    with_room f d line m ms stop (follow f d.names line next (m.column + length m.word) ms stop) (leb-false _ _ full) fits
+    with_room f d line m ms stop (follow f d.names line next (m.column + m.length) ms stop) (leb-false _ _ full) fits
 
 -- a line of a schema text is refused by its first diagnostic, and read where there is none
 pub text-line-law : (f : Format) (d : Declarations) (line : ℕ) (ms : List Mark) (stop : Option LexError) → FitsTextLine f d line ms stop (line_of_marks f line d ms stop)
@@ -101,7 +101,7 @@ text-line-law f d line (m ∷ ms) stop =
     head : (o : Option ColumnType) → FitsHead f d line m ms stop o (line_from f line d m ms stop o)
     head (Some column) =
         declaring_fits f d line m ms stop column _
-        (names-law f column d line (m.column + length m.word) ms stop)
+        (names-law f column d line (m.column + m.length) ms stop)
     head None =
         begun_fits f d line m ms stop (step f d.names start m.kind m.word)
         (nat_le MOST_DEPENDENCY_LINES (length d.deps)) refl (step_fits f d.names start m)

@@ -12,8 +12,6 @@ use Rattle.attr_sets.specs.declared.set.TheConstants.{MOST_ATTRIBUTES}
 use Rattle.dep_model.specs.declared.column_type.ColumnType.{ColumnType}
 use Rattle.dep_model.specs.Schemas.{attribute_named}
 use Rattle.lexer.specs.declared.token.LexError.{LexError}
-use Rattle.lexer.specs.declared.token.TokenKind.{TokenKind}
-use Rattle.lexer.specs.declared.token.TokenKind.TheVariants as token
 use Rattle.lexer.specs.Tokens.{Mark}
 use Rattle.schema_grammar.specs.declared.refusal.SchemaRefusal.{SchemaRefusal}
 use Rattle.schema_grammar.specs.declared.refusal.SchemaRefusalKind.{SchemaRefusalKind}
@@ -24,25 +22,26 @@ use Rattle.schema_grammar.specs.DiagnosticKinds.{DiagnosticKind, reserved_name, 
 use Rattle.schema_grammar.specs.Diagnostics.{NameDiagnostic, NamesDiagnostic, NamesWant, Carries, span_at, FitsNames}
 use Rattle.schema_grammar.specs.Declarations.{Declarations, add_name, declare, name_step, what_after_declaring, list_names}
 use Rattle.schema_grammar.specs.Refusals.{at, refused_by, refusal, kind_of_flaw}
+use Rattle.schema_grammar.specs.Words.{is_word_token, is_reserved_token}
+use Rattle.schema_grammar.proofs.WordLemmas.{name_step-word, name_step-other}
 use Rattle.schema_grammar.specs.Rests.{◌>>=◌}
-use Rattle.schema_grammar.specs.Words.{is_reserved}
+use Rattle.schema_grammar.proofs.DiagnosticLaws.{flaw_carries, flaw_least, Carries-map, first_at, IsLeft, left_whole, left_next, Judged, flaw_kind}
 use Rattle.schema_grammar.proofs.KindLemmas.{same_number}
-use Rattle.schema_grammar.proofs.DiagnosticLaws.{flaw_kind, flaw_carries, flaw_least, Carries-map, first_at, IsLeft, left_whole, left_next, Judged}
 
 -- what is wrong with one word, after names and so many of them
 abbrev WordDiagnostic : Format → List (List ℕ) → ℕ → Mark → DiagnosticKind → Type 0
 WordDiagnostic f names count m number =
-    ((m.kind ≡ token.Identifier)
-    × ((((number ≡ reserved_name) × (is_reserved f m.word ≡ true))
+    ((is_word_token m.kind ≡ true)
+    × ((((number ≡ reserved_name) × (is_reserved_token f m.kind m.word ≡ true))
     ⊎ ((number ≡ double_name) × (is_some (attribute_named names m.word) ≡ true)))
     ⊎ ((number ≡ too_many_attributes) × (MOST_ATTRIBUTES ≤ count))))
-    ⊎ ((number ≡ expected) × (m.kind ≡ token.Identifier → ⊥))
+    ⊎ ((number ≡ expected) × (is_word_token m.kind ≡ false))
 
 -- what a token after a declaring word gives
 abbrev NameFits : Format → ColumnType → Declarations → List (List ℕ) → ℕ → Bool → Mark
     → Result Declarations SchemaRefusalKind → Type 0
 NameFits f column d names count some m (Ok next) =
-    (next ≡ add_name d m.word column) × (m.kind ≡ token.Identifier) ×
+    (next ≡ add_name d m.word column) × (is_word_token m.kind ≡ true) ×
     ((n : DiagnosticKind) → WordDiagnostic f names count m n → ⊥)
 NameFits f column d names count some m (Err why) =
     WordDiagnostic f names count m (diagnostic_kind why) ×
@@ -52,9 +51,9 @@ NameFits f column d names count some m (Err why) =
 name_fits : (f : Format) (column : ColumnType) (d : Declarations) (some : Bool) (m : Mark)
     → NameFits f column d d.names (length d.names) some m (name_step f column d some m.kind m.word)
 unfolding declare
-name_fits f column d some m = told m.kind refl
+name_fits f column d some m = told (is_word_token m.kind) refl
   where
-    word : m.kind ≡ token.Identifier → (a b c : Bool) → is_reserved f m.word ≡ a
+    word : is_word_token m.kind ≡ true → (a b c : Bool) → is_reserved_token f m.kind m.word ≡ a
         → is_some (attribute_named d.names m.word) ≡ b → nat_le MOST_ATTRIBUTES (length d.names) ≡ c
         → NameFits f column d d.names (length d.names) some m
         (cond a (Err kind.ReservedName)
@@ -68,12 +67,15 @@ name_fits f column d some m = told m.kind refl
     word is false false false free new full =
         (refl, is, λ n diagnostic. let room = leb-false _ _ full in grind arith)
 
-    told : (k : TokenKind) → m.kind ≡ k
-        → NameFits f column d d.names (length d.names) some m (name_step f column d some k m.word)
-    told token.Identifier is =
-        word is (is_reserved f m.word) (is_some (attribute_named d.names m.word))
-        (nat_le MOST_ATTRIBUTES (length d.names)) refl refl refl
-    told k is = (inr (refl, λ other. cc), (λ n diagnostic. grind (arith, same_number)), refl)
+    told : (b : Bool) → is_word_token m.kind ≡ b
+        → NameFits f column d d.names (length d.names) some m (name_step f column d some m.kind m.word)
+    told true is =
+        rw (name_step-word f column d some m.kind m.word is)
+        (word is (is_reserved_token f m.kind m.word) (is_some (attribute_named d.names m.word))
+        (nat_le MOST_ATTRIBUTES (length d.names)) refl refl refl)
+    told false is =
+        rw (name_step-other f column d some m.kind m.word is)
+        (inr (refl, is), (λ n diagnostic. grind (arith, same_number)), refl)
 
 abbrev words_in : List Mark → List (List ℕ)
 words_in ms = map (λ w. w.word) ms
@@ -83,7 +85,7 @@ judge_names : (f : Format) (column : ColumnType) (d : Declarations) (line first 
     (stop : Option LexError)
     (words : List Mark) (k from : ℕ) (some : Bool) (now : Declarations)
     → IsLeft line first whole stop k from words → now.names ≡ d.names ++ words_in (take k whole)
-    → All (λ w. w.kind ≡ token.Identifier) (take k whole) → NamesWant k (what_after_declaring some)
+    → All (λ w. is_word_token w.kind ≡ true) (take k whole) → NamesWant k (what_after_declaring some)
     → ((p : ℕ) (n : DiagnosticKind) → p < k → NamesDiagnostic f d whole stop p n → ⊥)
     → Judged (NamesDiagnostic f d whole stop) NamesWant (span_at line first whole stop)
     (list_names f column line now some from words stop)
@@ -134,7 +136,7 @@ judge_names f column d line first whole stop (w ∷ words) k from some now left 
     let counted = subst (λ (c : ℕ). NameFits f column now now.names c some w read) count (name_fits f column now some w) in
     told read (subst (λ (t : List (List ℕ)). NameFits f column now t (length d.names + k) some w read) names counted)
     (λ next on each_word none. judge_names f column d line first whole stop words (suc k)
-    (w.column + length w.word) true next (left_next line first whole stop k from w words left) on each_word
+    (w.column + w.length) true next (left_next line first whole stop k from w words left) on each_word
     (inr (omega arith, refl)) none)
   where
     is : slice_get whole k ≡ Some w
@@ -161,19 +163,19 @@ judge_names f column d line first whole stop (w ∷ words) k from some now left 
     told : (o : Result Declarations SchemaRefusalKind)
         → NameFits f column now (d.names ++ words_in (take k whole)) (length d.names + k) some w o
         → ((next : Declarations) → next.names ≡ d.names ++ words_in (take (suc k) whole)
-        → All (λ x. x.kind ≡ token.Identifier) (take (suc k) whole)
+        → All (λ x. is_word_token x.kind ≡ true) (take (suc k) whole)
         → ((p : ℕ) (n : DiagnosticKind) → p < suc k → NamesDiagnostic f d whole stop p n → ⊥)
         → Judged (NamesDiagnostic f d whole stop) NamesWant (span_at line first whole stop)
-        (list_names f column line next true (w.column + length w.word) words stop))
+        (list_names f column line next true (w.column + w.length) words stop))
         → Judged (NamesDiagnostic f d whole stop) NamesWant (span_at line first whole stop)
-        (at line w.column (length w.word) o
-        >>= (λ next. list_names f column line next true (w.column + length w.word) words stop))
+        (at line w.column w.length o
+        >>= (λ next. list_names f column line next true (w.column + w.length) words stop))
     told (Ok next) (same, word, none) rest = rest next
         (ap (λ x. x.names) same ∙ ap (λ t. t ++ w.word ∷ []) names ∙ append_assoc d.names
         (words_in (take k whole)) (w.word ∷ [])
         ∙ ap (λ t. d.names ++ t)
         (sym (map-append (λ x. x.word) (take k whole) (w ∷ [])) ∙ ap words_in (sym taken)))
-        (rw taken (All-push (λ x. x.kind ≡ token.Identifier) (take k whole) w each word))
+        (rw taken (All-push (λ x. is_word_token x.kind ≡ true) (take k whole) w each word))
         (λ p n small diagnostic. elim (cases_order p k) [
           | inl here ↦ none n (at_word n
               (subst (λ (q : ℕ). NamesDiagnostic f d whole stop q n) here diagnostic))
@@ -181,7 +183,7 @@ judge_names f column d line first whole stop (w ∷ words) k from some now left 
           | inr (inr later) ↦ absurd (omega arith)
         ])
     told (Err why) (stands, least, carries) rest =
-        first_at _ NamesWant _ (refusal line w.column (length w.word) why) k before
+        first_at _ NamesWant _ (refusal line w.column w.length why) k before
         (inl (inl (w, is, each, stands)))
         (Carries-map (λ x. x ≡ what_after_declaring some) (NamesWant k)
         (λ x same. subst (NamesWant k) (sym same) want) why carries)
@@ -193,7 +195,7 @@ pub names-law : (f : Format) (column : ColumnType) (d : Declarations) (line next
 names-law f column d line next_column words stop =
     fits (list_names f column line d false next_column words stop)
     (judge_names f column d line next_column words stop words 0 next_column false d
-    (left_whole line next_column words stop) (sym (append-nil d.names)) (All-nil (λ w. w.kind ≡ token.Identifier))
+    (left_whole line next_column words stop) (sym (append-nil d.names)) (All-nil (λ w. is_word_token w.kind ≡ true))
     (inl (refl, refl)) (λ p n less. absurd (omega arith)))
   where
     fits : (res : Result Declarations SchemaRefusal)

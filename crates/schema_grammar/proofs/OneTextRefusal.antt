@@ -2,7 +2,7 @@
 use Rattle.std.specs.Prelude.{◌↔◌}
 use Rattle.std.proofs.Common.{◌≡◌, ◌+◌, inl, inr, ℕ, List, [], ◌∷◌, length, Err, refl, sym, ◌∙◌, ap, arith, ⊎_elim}
 use Rattle.std.proofs.lemmas.List.{append-nil}
-use Rattle.lexer.specs.declared.token.Mode.TheVariants as mode
+use Rattle.lexer.specs.Modes as mode
 use Rattle.lexer.specs.Lines.{line_texts, without_mark}
 use Rattle.lexer.specs.Tokens.{lex}
 use Rattle.schema_grammar.specs.declared.format.Format.{Format}
@@ -29,8 +29,8 @@ lines_refused : (f : Format) (first : ℕ) (d : Declarations) (lines : List (Lis
 unfolding read_lines finish
 lines_refused f first d lines e (inl found) =
     let stands = found.stands in
-    let marks = (lex mode.Plain stands.line).marks in
-    let stop = (lex mode.Plain stands.line).stop in
+    let marks = (lex mode.plain stands.line).marks in
+    let stop = (lex mode.plain stands.line).stop in
     let number = first + length stands.before in
     let on_line : IsFirst (TextLineDiagnostic f stands.declared marks stop) (TextLineWants f marks)
     (span_at number 1 marks stop) e = record {
@@ -73,8 +73,8 @@ schema-refusal-law text e = (schema_refused text e, back)
         plain_opening 1 lines none ∙ lines_refused format.Plain 1 no_declaration lines e refuses
     back (inr (has, inl first)) =
         let refused = one_refused
-        (FitsVersion (length has.before + 1) (has.head.column + length has.head.word) has.others
-        (lex mode.Numbered has.version).stop) _ _ _
+        (FitsVersion (length has.before + 1) (has.head.column + has.head.length) has.others
+        (lex mode.numbered has.version).stop) _ _ _
         (λ x none. none) (λ g first. first) (one_at_first what.Number) _ e (version-law _ _ _ _) first in
         typed_opening 1 lines has
         ∙ ap (λ r. r >>= (λ d. read_lines format.Typed (length has.before + 1 + 1) d has.later)) refused

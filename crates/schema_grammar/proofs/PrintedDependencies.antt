@@ -7,8 +7,8 @@ use Rattle.std.proofs.lemmas.List.{append-nil}
 use Rattle.std.proofs.lemmas.Slice.Eq.{bytes_eq-Decides}
 use Rattle.attr_sets.specs.Attributes.{Attributes, IsSubset, below}
 use Rattle.dep_model.specs.Dependencies.{Dependency, fd, mvd, IsWithin}
-use Rattle.lexer.specs.declared.token.Mode.{Mode}
-use Rattle.lexer.specs.declared.token.Mode.TheVariants as mode
+use Rattle.lexer.specs.declared.mode.Mode.{Mode}
+use Rattle.lexer.specs.Modes as mode
 use Rattle.lexer.specs.declared.token.TokenKind.TheVariants as token
 use Rattle.lexer.specs.Tokens.{Mark, Lexed, tokens_after, lex, led_by_mark}
 use Rattle.lexer.proofs.Steps.{at_end}
@@ -44,9 +44,9 @@ sign_text sign.Functional = codes " -> "
 sign_text sign.Multivalued = codes " ->> "
 
 abbrev sign_mark : Sign → ℕ → Mark
-sign_mark sign.Functional column = record { kind = token.Arrow; column = column; word = 45 ∷ 62 ∷ [] }
+sign_mark sign.Functional column = record { kind = token.Arrow; column = column; length = 2; word = 45 ∷ 62 ∷ [] }
 sign_mark sign.Multivalued column =
-    record { kind = token.DoubleArrow; column = column; word = 45 ∷ 62 ∷ 62 ∷ [] }
+    record { kind = token.DoubleArrow; column = column; length = 3; word = 45 ∷ 62 ∷ 62 ∷ [] }
 
 abbrev right_column : Sign → List (List ℕ) → ℕ
 right_column sign.Functional left = side_end 1 left + 1 + 2 + 1
@@ -57,22 +57,22 @@ sides_marks s left right =
     side_marks 1 left ++ sign_mark s (side_end 1 left + 1) ∷ side_marks (right_column s left) right
 
 sides_lexed : (s : Sign) (left right : List (List ℕ)) → AllNames left → AllNames right
-    → HasTokens (lex mode.Plain ((side_text left ++ sign_text s) ++ side_text right))
+    → HasTokens (lex mode.plain ((side_text left ++ sign_text s) ++ side_text right))
     (sides_marks s left right)
 sides_lexed s left right left_names right_names =
-    ap (tokens_after mode.Plain 0 1) (append_assoc (side_text left) (sign_text s) (side_text right))
-    ∙ side_lexed mode.Plain 1 left (sign_text s ++ side_text right) left_names
+    ap (tokens_after mode.plain 0 1) (append_assoc (side_text left) (sign_text s) (side_text right))
+    ∙ side_lexed mode.plain 1 left (sign_text s ++ side_text right) left_names
     (elim s as (λ s. Apart (sign_text s ++ side_text right)) [ sign.Functional ↦ refl | _ ↦ refl ])
     ∙ ap (led_by_marks (side_marks 1 left))
     (sign_lexed s ∙ ap (led_by_mark (sign_mark s (side_end 1 left + 1)))
-    (last_side mode.Plain (right_column s left) right right_names))
+    (last_side mode.plain (right_column s left) right right_names))
     ∙ led_marks (side_marks 1 left) _
   where
-    sign_lexed : (s : Sign) → tokens_after mode.Plain 0 (side_end 1 left) (sign_text s ++ side_text right)
+    sign_lexed : (s : Sign) → tokens_after mode.plain 0 (side_end 1 left) (sign_text s ++ side_text right)
         ≡ led_by_mark (sign_mark s (side_end 1 left + 1))
-        (tokens_after mode.Plain 0 (right_column s left) (side_text right))
-    sign_lexed sign.Functional = arrow_lexed mode.Plain (side_end 1 left) (side_text right)
-    sign_lexed sign.Multivalued = double_arrow_lexed mode.Plain (side_end 1 left) (side_text right)
+        (tokens_after mode.plain 0 (right_column s left) (side_text right))
+    sign_lexed sign.Functional = arrow_lexed mode.plain (side_end 1 left) (side_text right)
+    sign_lexed sign.Multivalued = double_arrow_lexed mode.plain (side_end 1 left) (side_text right)
 
 reserved_word : (f : Format) (word key : List ℕ) → bytes_eq word key ≡ true → is_reserved f key ≡ true → is_reserved f word ≡ false → ⊥
 reserved_word f word key same reserved free =
@@ -101,7 +101,7 @@ free_declares format.Typed word e = elim (cases_Bool (bytes_eq word (codes "attr
 pub record PrintsLine (f : Format) (names : List (List ℕ)) (line : List ℕ) (d : Dependency) : Type 0 where
   pub head : Mark
   pub others : List Mark
-  pub tokens : HasTokens (lex mode.Plain line) (head ∷ others)
+  pub tokens : HasTokens (lex mode.plain line) (head ∷ others)
   pub stating : column_type_of_token f head.kind head.word ≡ None
   pub dependency : IsDependency f names (head ∷ others) d
 

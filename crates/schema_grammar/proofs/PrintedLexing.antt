@@ -8,7 +8,7 @@ use Rattle.std.proofs.lemmas.Bool.Decides.{nat_tests}
 use Rattle.std.proofs.lemmas.Bool.{and_parts}
 use Rattle.dep_model.specs.Names.{is_bare_name, is_name_byte, is_word}
 use Rattle.lexer.specs.declared.piece.Piece.TheVariants as piece
-use Rattle.lexer.specs.declared.token.Mode.{Mode}
+use Rattle.lexer.specs.declared.mode.Mode.{Mode}
 use Rattle.lexer.specs.declared.token.TokenKind.TheVariants as token
 use Rattle.lexer.specs.Bytes.{is_gap, run_length}
 use Rattle.lexer.specs.Pieces.{front_piece, run_piece}
@@ -58,7 +58,7 @@ front_name m (first ∷ others) rest e apart =
 
 -- a name is a token
 pub name_lexed : (m : Mode) (column : ℕ) (word rest : List ℕ) → is_bare_name word ≡ true → Apart rest
-    → tokens_after m 0 column (word ++ rest) ≡ led_by_mark (record { kind = token.Identifier; column = column; word = word }) (tokens_after m 0 (column + length word) rest)
+    → tokens_after m 0 column (word ++ rest) ≡ led_by_mark (record { kind = token.Identifier; column = column; length = length word; word = word }) (tokens_after m 0 (column + length word) rest)
 name_lexed m column [] rest e apart = cc
 name_lexed m column (first ∷ others) rest e apart =
     let whole = at_token m column ((first ∷ others) ++ rest) token.Identifier (length (first ∷ others)) (omega arith) (sym (front_name m (first ∷ others) rest e apart)) in
@@ -67,7 +67,7 @@ name_lexed m column (first ∷ others) rest e apart =
 -- the tokens of words, each after a blank
 abbrev pub word_marks : ℕ → List (List ℕ) → List Mark
 word_marks column [] = []
-word_marks column (word ∷ words) = record { kind = token.Identifier; column = column + 1; word = word } ∷ word_marks (column + 1 + length word) words
+word_marks column (word ∷ words) = record { kind = token.Identifier; column = column + 1; length = length word; word = word } ∷ word_marks (column + 1 + length word) words
 
 -- where they end
 abbrev pub words_end : ℕ → List (List ℕ) → ℕ
@@ -97,12 +97,12 @@ words_lexed m column (word ∷ words) rest names apart =
     let cut : words_text (word ∷ words) ++ rest ≡ 32 ∷ (word ++ (words_text words ++ rest)) = ap (λ t. 32 ∷ t) (append_assoc word (words_text words) rest) in
     ap (tokens_after m 0 column) cut ∙ blank_lexed m column (word ++ (words_text words ++ rest))
     ∙ name_lexed m (column + 1) word (words_text words ++ rest) names.0 (apart_words words rest apart)
-    ∙ ap (led_by_mark (record { kind = token.Identifier; column = column + 1; word = word })) (words_lexed m (column + 1 + length word) words rest names.1 apart)
+    ∙ ap (led_by_mark (record { kind = token.Identifier; column = column + 1; length = length word; word = word })) (words_lexed m (column + 1 + length word) words rest names.1 apart)
 
 -- a side
 abbrev pub side_marks : ℕ → List (List ℕ) → List Mark
-side_marks column [] = record { kind = token.Empty; column = column; word = 40 ∷ 41 ∷ [] } ∷ []
-side_marks column (word ∷ words) = record { kind = token.Identifier; column = column; word = word } ∷ word_marks (column + length word) words
+side_marks column [] = record { kind = token.Empty; column = column; length = 2; word = 40 ∷ 41 ∷ [] } ∷ []
+side_marks column (word ∷ words) = record { kind = token.Identifier; column = column; length = length word; word = word } ∷ word_marks (column + length word) words
 
 abbrev pub side_end : ℕ → List (List ℕ) → ℕ
 side_end column [] = column + 2
@@ -115,18 +115,18 @@ side_lexed m column [] rest names apart = at_token m column (40 ∷ 41 ∷ rest)
 side_lexed m column (word ∷ words) rest names apart =
     ap (tokens_after m 0 column) (append_assoc word (words_text words) rest)
     ∙ name_lexed m column word (words_text words ++ rest) names.0 (apart_words words rest apart)
-    ∙ ap (led_by_mark (record { kind = token.Identifier; column = column; word = word })) (words_lexed m (column + length word) words rest names.1 apart)
+    ∙ ap (led_by_mark (record { kind = token.Identifier; column = column; length = length word; word = word })) (words_lexed m (column + length word) words rest names.1 apart)
 
 pub arrow_lexed : (m : Mode) (column : ℕ) (rest : List ℕ) → tokens_after m 0 column (32 ∷ 45 ∷ 62 ∷ 32 ∷ rest)
-    ≡ led_by_mark (record { kind = token.Arrow; column = column + 1; word = 45 ∷ 62 ∷ [] }) (tokens_after m 0 (column + 1 + 2 + 1) rest)
+    ≡ led_by_mark (record { kind = token.Arrow; column = column + 1; length = 2; word = 45 ∷ 62 ∷ [] }) (tokens_after m 0 (column + 1 + 2 + 1) rest)
 unfolding front_piece
 arrow_lexed m column rest =
     blank_lexed m column (45 ∷ 62 ∷ 32 ∷ rest) ∙ at_token m (column + 1) (45 ∷ 62 ∷ 32 ∷ rest) token.Arrow 2 (omega arith) refl
-    ∙ ap (led_by_mark (record { kind = token.Arrow; column = column + 1; word = 45 ∷ 62 ∷ [] })) (blank_lexed m (column + 1 + 2) rest)
+    ∙ ap (led_by_mark (record { kind = token.Arrow; column = column + 1; length = 2; word = 45 ∷ 62 ∷ [] })) (blank_lexed m (column + 1 + 2) rest)
 
 pub double_arrow_lexed : (m : Mode) (column : ℕ) (rest : List ℕ) → tokens_after m 0 column (32 ∷ 45 ∷ 62 ∷ 62 ∷ 32 ∷ rest)
-    ≡ led_by_mark (record { kind = token.DoubleArrow; column = column + 1; word = 45 ∷ 62 ∷ 62 ∷ [] }) (tokens_after m 0 (column + 1 + 3 + 1) rest)
+    ≡ led_by_mark (record { kind = token.DoubleArrow; column = column + 1; length = 3; word = 45 ∷ 62 ∷ 62 ∷ [] }) (tokens_after m 0 (column + 1 + 3 + 1) rest)
 unfolding front_piece
 double_arrow_lexed m column rest =
     blank_lexed m column (45 ∷ 62 ∷ 62 ∷ 32 ∷ rest) ∙ at_token m (column + 1) (45 ∷ 62 ∷ 62 ∷ 32 ∷ rest) token.DoubleArrow 3 (omega arith) refl
-    ∙ ap (led_by_mark (record { kind = token.DoubleArrow; column = column + 1; word = 45 ∷ 62 ∷ 62 ∷ [] })) (blank_lexed m (column + 1 + 3) rest)
+    ∙ ap (led_by_mark (record { kind = token.DoubleArrow; column = column + 1; length = 3; word = 45 ∷ 62 ∷ 62 ∷ [] })) (blank_lexed m (column + 1 + 3) rest)

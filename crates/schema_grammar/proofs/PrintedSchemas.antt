@@ -15,7 +15,7 @@ use Rattle.dep_model.specs.Deps.{dependency_of}
 use Rattle.dep_model.specs.Schemas.{names_of, types_of, deps_of, theory_of, universe_of}
 use Rattle.dep_model.proofs.DepLemmas.{dependencies_all-from}
 use Rattle.dep_model.specs.Names.{is_bare_name}
-use Rattle.lexer.specs.declared.token.Mode.TheVariants as mode
+use Rattle.lexer.specs.Modes as mode
 use Rattle.lexer.specs.declared.token.TokenKind.TheVariants as token
 use Rattle.lexer.specs.Bytes.{is_number}
 use Rattle.lexer.specs.Lines.{line_texts, without_mark}
@@ -38,8 +38,8 @@ use Rattle.schema_grammar.proofs.PrintedTexts.{Bytes, bytes_both, words_bytes, E
 
 -- a word, and words each after a blank
 pub word_line : (word : List ℕ) (words : List (List ℕ)) → is_bare_name word ≡ true → AllNames words
-    → HasTokens (lex mode.Plain (word ++ words_text words)) (record { kind = token.Identifier; column = 1; word = word } ∷ word_marks (1 + length word) words)
-word_line word words proper names = last_side mode.Plain 1 (word ∷ words) (proper, names)
+    → HasTokens (lex mode.plain (word ++ words_text words)) (record { kind = token.Identifier; column = 1; length = length word; word = word } ∷ word_marks (1 + length word) words)
+word_line word words proper names = last_side mode.plain 1 (word ∷ words) (proper, names)
 
 front_proper : (f : Format) (names before words rest : List (List ℕ)) (position : ℕ) → AreNames f names
     → IsCutAt names before (words ++ rest) position → AllNames words
@@ -82,7 +82,7 @@ declaring_mean : (f : Format) (column : ColumnType) (number : ℕ) (d : Declarat
     → MeansTextLine f number d (key ++ words_text words) (with_names d words column)
 declaring_mean f column number d key names words rest position are cut few some proper is =
     inl (inr (record {
-      head = record { kind = token.Identifier; column = 1; word = key };
+      head = record { kind = token.Identifier; column = 1; length = length key; word = key };
       words = word_marks (1 + length key) words;
       column = column;
       tokens = word_line key words proper (front_proper f names d.names words rest position are cut);
@@ -220,15 +220,15 @@ typed_names columns names deps is some = record {
 version_line : IsVersionLine (codes "version 2")
 unfolding front_piece run_piece is_number is_version
 version_line = record {
-  head = record { kind = token.Identifier; column = 1; word = codes "version" };
-  number = record { kind = token.Number 2; column = 9; word = 50 ∷ [] };
+  head = record { kind = token.Identifier; column = 1; length = length (codes "version"); word = codes "version" };
+  number = record { kind = token.Number 2; column = 9; length = 1; word = 50 ∷ [] };
   tokens =
-      name_lexed mode.Numbered 1 (codes "version") (32 ∷ 50 ∷ []) refl refl
-      ∙ ap (led_by_mark (record { kind = token.Identifier; column = 1; word = codes "version" }))
-      (blank_lexed mode.Numbered 8 (50 ∷ []) ∙ at_token mode.Numbered 9 (50 ∷ []) (token.Number 2) 1
+      name_lexed mode.numbered 1 (codes "version") (32 ∷ 50 ∷ []) refl refl
+      ∙ ap (led_by_mark (record { kind = token.Identifier; column = 1; length = length (codes "version"); word = codes "version" }))
+      (blank_lexed mode.numbered 8 (50 ∷ []) ∙ at_token mode.numbered 9 (50 ∷ []) (token.Number 2) 1
       (omega arith) refl
-      ∙ ap (led_by_mark (record { kind = token.Number 2; column = 9; word = 50 ∷ [] }))
-      (nothing_left mode.Numbered 10));
+      ∙ ap (led_by_mark (record { kind = token.Number 2; column = 9; length = 1; word = 50 ∷ [] }))
+      (nothing_left mode.numbered 10));
   is_word = refl;
   is_number = refl;
 }
@@ -280,7 +280,7 @@ plain_means columns names deps is none =
     ap line_texts unmarked ∙ text_cut columns names deps each is.are_names ∙ ap (λ ls. ls ++ rest) first in
     let apart = elim names as (λ ws. Apart (words_text ws)) [ [] ↦ tt | w ∷ ws ↦ refl ] in
     let no_version : has_version_line (line ∷ rest) ≡ false =
-    rw (name_lexed mode.Numbered 1 (codes "attributes") (words_text names) refl apart) refl in
+    rw (name_lexed mode.numbered 1 (codes "attributes") (words_text names) refl apart) refl in
     let after_names = with_names no_declaration names Text in
     let here = declaring_mean format.Plain Text 1 no_declaration
     (codes "attributes") names names [] 0 is.are_names
@@ -330,7 +330,7 @@ typed_means columns names deps is some =
           version = codes "version 2";
           later = map run_line runs ++ rest;
           cut = refl;
-          blank = All-nil (λ line. HasTokens (lex mode.Numbered line) []);
+          blank = All-nil (λ line. HasTokens (lex mode.numbered line) []);
           versioned = version_line;
           declared = lines_mean;
         }));

@@ -144,7 +144,7 @@ known_names f names [] known = tt
 known_names f names (word ∷ words) (here, rest) = (here.1.proper, known_names f names words rest)
 
 side_is : (f : Format) (names : List (List ℕ)) (x : Attributes) (column : ℕ) (words : List (List ℕ)) → EachKnown f names words → x ≡ words_set names words → IsSide f names (side_marks column words) x
-side_is f names x column [] known e = inl (record { column = column; bytes = 40 ∷ 41 ∷ []; alone = refl; nothing = e })
+side_is f names x column [] known e = inl (record { mark = _; alone = refl; is_empty = refl; nothing = e })
 side_is f names x column (word ∷ words) (here, rest) e = inr (record {
   some = omega arith;
   each = All-cons (IsAttribute f names) _ _ (record { word = refl; free = here.1.free; index = here.0; known = here.1.found }) (marks_known f names (column + length word) words rest);

@@ -15,7 +15,7 @@ use Rattle.schema_grammar.specs.declared.format.TheConstants.{MOST_DEPENDENCY_LI
 use Rattle.dep_model.specs.Dependencies.{Dependency, fd, mvd, IsWithin}
 use Rattle.dep_model.specs.Names.{is_bare_name, is_name_byte, same_name}
 use Rattle.dep_model.specs.Schemas.{attribute_named}
-use Rattle.lexer.specs.declared.token.Mode.TheVariants as mode
+use Rattle.lexer.specs.Modes as mode
 use Rattle.lexer.specs.Lines.{is_line_feed, line_texts, without_return, without_returns}
 use Rattle.schema_grammar.specs.declared.format.Format.{Format}
 use Rattle.schema_grammar.specs.Declarations.{Declarations, add_dependency}
@@ -112,7 +112,7 @@ pub dependencies_mean : (f : Format) (number : ℕ) (d : Declarations) (deps : L
     → MeansLines f number d (map (dependency_text d.names) deps ++ [] ∷ []) (with_dependencies d deps (line_numbers number deps))
 dependencies_mean f number d [] are within room = (
   d,
-  inl (inl (record { tokens = nothing_left mode.Plain 1; same = refl })),
+  inl (inl (record { tokens = nothing_left mode.plain 1; same = refl })),
   λ i. record { names = d.names; columns = d.columns; deps = append-nil d.deps i; lines = append-nil d.lines i },
 )
 dependencies_mean f number d (dep ∷ deps) are within room =

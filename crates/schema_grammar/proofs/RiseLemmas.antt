@@ -1,10 +1,9 @@
 -- The tokens of a line stand at columns that rise.
-use Rattle.std.proofs.Common.{◌≡◌, ◌<◌, ◌≤◌, ◌+◌, ◌-◌, ℕ, zero, suc, List, [], ◌∷◌, length, take, Option, Some, None, refl, subst, arith}
-use Rattle.std.proofs.lemmas.List.{length-take-le}
-use Rattle.lexer.proofs.Steps.{LiesIn, lies_in}
+use Rattle.std.proofs.Common.{◌≡◌, ◌<◌, ◌≤◌, ◌+◌, ◌-◌, ℕ, zero, suc, List, [], ◌∷◌, length, Option, Some, None, refl, subst, arith}
+use Rattle.lexer.proofs.Steps.{LiesIn, lies_in, quoted_at}
 use Rattle.lexer.specs.declared.piece.Piece.{Piece}
 use Rattle.lexer.specs.declared.piece.Piece.TheVariants as piece
-use Rattle.lexer.specs.declared.token.Mode.{Mode}
+use Rattle.lexer.specs.declared.mode.Mode.{Mode}
 use Rattle.lexer.specs.declared.token.LexError.{LexError}
 use Rattle.lexer.specs.Pieces.{front_piece}
 use Rattle.lexer.specs.Tokens.{Mark, Lexed, tokens_after, led_by, lex}
@@ -14,12 +13,21 @@ use Rattle.schema_grammar.specs.Diagnostics.{span_at}
 abbrev IsRising : ℕ → List Mark → Option LexError → Type 0
 IsRising from [] None = Unit {0}
 IsRising from [] (Some s) = from ≤ s.column
-IsRising from (m ∷ ms) stop = (from ≤ m.column) × (0 < length m.word) × IsRising (m.column + length m.word) ms stop
+IsRising from (m ∷ ms) stop = (from ≤ m.column) × (0 < m.length) × IsRising (m.column + m.length) ms stop
 
 rising_earlier : (from to : ℕ) (ms : List Mark) (stop : Option LexError) → from ≤ to → IsRising to ms stop → IsRising from ms stop
 rising_earlier from to [] None h r = tt
 rising_earlier from to [] (Some s) h r = omega arith
 rising_earlier from to (m ∷ ms) stop h (first, some, rest) = ((omega arith), some, rest)
+
+token_rises : (column n : ℕ) (afterwards : ℕ → Lexed) {text : List ℕ} → LiesIn text n
+    → ((skip : ℕ) → IsRising (column + 1 + skip) (afterwards skip).marks (afterwards skip).stop)
+    → (column + 0 ≤ column) × (0 < n) × IsRising (column + n) (afterwards (n - 1)).marks (afterwards (n - 1)).stop
+token_rises column n afterwards lies rest =
+    let has_some : 0 < n = lies.some in
+    let same : column + 1 + (n - 1) ≡ column + n = omega arith in
+    let of : ℕ → Type 0 = λ c. IsRising c (afterwards (n - 1)).marks (afterwards (n - 1)).stop in
+    ((omega arith), has_some, subst of same (rest (n - 1)))
 
 -- the tokens at whose front this piece stands
 piece_rises : (m : Mode) (p : Piece) (column : ℕ) (text : List ℕ) (afterwards : ℕ → Lexed) → 0 < length text → p ≡ front_piece m text
@@ -27,12 +35,9 @@ piece_rises : (m : Mode) (p : Piece) (column : ℕ) (text : List ℕ) (afterward
 piece_rises m piece.Gap column text afterwards some is rest = rising_earlier (column + 0) (column + 1 + 0) (afterwards 0).marks (afterwards 0).stop (omega arith) (rest 0)
 piece_rises m piece.Comment column text afterwards some is rest = tt
 piece_rises m (piece.Token k n) column text afterwards some is rest =
-    let lies : LiesIn text n = lies_in m text k n some is in
-    let has_some : 0 < n = lies.some in
-    let size : length (take n text) ≡ n = length-take-le n text lies.within in
-    let same : column + 1 + (n - 1) ≡ column + length (take n text) = omega arith in
-    let of : ℕ → Type 0 = λ c. IsRising c (afterwards (n - 1)).marks (afterwards (n - 1)).stop in
-    ((omega arith), (omega arith), subst of same (rest (n - 1)))
+    token_rises column n afterwards (lies_in m text k n some is) rest
+piece_rises m (piece.Quoted name n) column text afterwards some is rest =
+    token_rises column n afterwards (quoted_at m text name n some is).lies rest
 piece_rises m (piece.Flaw why n) column text afterwards some is rest = omega arith
 
 lexed_rises : (m : Mode) (skip column : ℕ) (text : List ℕ) → IsRising (column + skip) (tokens_after m skip column text).marks (tokens_after m skip column text).stop
@@ -51,15 +56,15 @@ from_on line afterwards [] None q rising h = omega arith
 from_on line afterwards [] (Some s) q rising h = rising
 from_on line afterwards (m ∷ ms) stop zero rising h = rising.0
 from_on line afterwards (m ∷ ms) stop (suc q) rising h =
-    let next = from_on line (m.column + length m.word) ms stop q rising.2 (omega arith) in let first = rising.0 in omega arith
+    let next = from_on line (m.column + m.length) ms stop q rising.2 (omega arith) in let first = rising.0 in omega arith
 
 spans_rise : (line afterwards : ℕ) (ms : List Mark) (stop : Option LexError) (p q : ℕ) → IsRising afterwards ms stop → p < q → q ≤ length ms
     → (span_at line afterwards ms stop p).column < (span_at line afterwards ms stop q).column
 spans_rise line afterwards [] stop p q rising h g = absurd (omega arith)
 spans_rise line afterwards (m ∷ ms) stop p zero rising h g = absurd (omega arith)
 spans_rise line afterwards (m ∷ ms) stop zero (suc q) rising h g =
-    let next = from_on line (m.column + length m.word) ms stop q rising.2 (omega arith) in let some = rising.1 in omega arith
-spans_rise line afterwards (m ∷ ms) stop (suc p) (suc q) rising h g = spans_rise line (m.column + length m.word) ms stop p q rising.2 (omega arith) (omega arith)
+    let next = from_on line (m.column + m.length) ms stop q rising.2 (omega arith) in let some = rising.1 in omega arith
+spans_rise line afterwards (m ∷ ms) stop (suc p) (suc q) rising h g = spans_rise line (m.column + m.length) ms stop p q rising.2 (omega arith) (omega arith)
 
 -- a later position of a line stands in a greater column
 pub positions-law : (m : Mode) (line : ℕ) (text : List ℕ) (p q : ℕ) → p < q → q ≤ length (lex m text).marks

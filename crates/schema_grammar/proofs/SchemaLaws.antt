@@ -4,7 +4,7 @@ use Rattle.std.specs.List.{All}
 use Rattle.std.specs.Prelude.{◌↔◌}
 use Rattle.std.proofs.lemmas.Bool.{cases_Bool, eqb-true}
 use Rattle.std.proofs.lemmas.List.Elements.{All-cons, All-nil, All-head, All-tail}
-use Rattle.lexer.specs.declared.token.Mode.TheVariants as mode
+use Rattle.lexer.specs.Modes as mode
 use Rattle.lexer.specs.declared.token.LexError.{LexError}
 use Rattle.lexer.specs.declared.token.TokenKind.{TokenKind}
 use Rattle.lexer.specs.declared.token.TokenKind.TheVariants as token
@@ -22,24 +22,24 @@ use Rattle.schema_grammar.proofs.DeclaringLaws.{has_tokens, line_back, lines_the
 use Rattle.schema_grammar.proofs.RefusalLemmas.{and_then-ok}
 
 abbrev pub IsBlankLine : List ℕ → Type 0
-IsBlankLine line = HasTokens (lex mode.Numbered line) []
+IsBlankLine line = HasTokens (lex mode.numbered line) []
 
 -- a version line is read where it is the word `version` and the number 2
 pub version_there : (lines : List (List ℕ)) (text : HasVersionLine lines) (line : ℕ) (d : Declarations)
-    → read_version (record { line = line; next_column = text.head.column + length text.head.word; marks = text.others; stop = (lex mode.Numbered text.version).stop }) ≡ Ok d
+    → read_version (record { line = line; next_column = text.head.column + text.head.length; marks = text.others; stop = (lex mode.numbered text.version).stop }) ≡ Ok d
     → IsVersionLine text.version × (d ≡ no_declaration)
 unfolding read_version take refusal_at_end
-version_there lines text line d e = told text.others (lex mode.Numbered text.version).stop refl refl e
+version_there lines text line d e = told text.others (lex mode.numbered text.version).stop refl refl e
   where
     ends : (m : Mark) (ms : List Mark) (stop : Option LexError) → text.others ≡ m ∷ ms
-        → (lex mode.Numbered text.version).stop ≡ stop
+        → (lex mode.numbered text.version).stop ≡ stop
         → m.kind ≡ token.Number VERSION → unless (refusal_at_end_from line ms stop) no_declaration ≡ Ok d
         → IsVersionLine text.version × (d ≡ no_declaration)
     ends m [] None others stop is e = (
       record {
         head = text.head;
         number = m;
-        tokens = has_tokens (lex mode.Numbered text.version) _ (text.starts ∙ ap (λ t. text.head ∷ t) others) stop;
+        tokens = has_tokens (lex mode.numbered text.version) _ (text.starts ∙ ap (λ t. text.head ∷ t) others) stop;
         is_word = text.is_word;
         is_number = is;
       },
@@ -49,8 +49,8 @@ version_there lines text line d e = told text.others (lex mode.Numbered text.ver
     ends m (k ∷ ks) stop others same is e = cc
 
     numbered : (k : TokenKind) (m : Mark) (ms : List Mark) (stop : Option LexError) → m.kind ≡ k
-        → text.others ≡ m ∷ ms → (lex mode.Numbered text.version).stop ≡ stop
-        → version_number m (record { line = line; next_column = m.column + length m.word; marks = ms; stop = stop }) (number_in k) ≡ Ok d
+        → text.others ≡ m ∷ ms → (lex mode.numbered text.version).stop ≡ stop
+        → version_number m (record { line = line; next_column = m.column + m.length; marks = ms; stop = stop }) (number_in k) ≡ Ok d
         → IsVersionLine text.version × (d ≡ no_declaration)
     numbered (token.Number n) m ms stop is others same e = elim (cases_Bool (n == VERSION)) [
       | inl two ↦ ends m ms stop others same (is ∙ ap token.Number (eqb-true n VERSION two)) (rw two at e)
@@ -59,8 +59,8 @@ version_there lines text line d e = told text.others (lex mode.Numbered text.ver
     numbered k m ms stop is others same e = cc
 
     told : (ms : List Mark) (stop : Option LexError) → text.others ≡ ms
-        → (lex mode.Numbered text.version).stop ≡ stop
-        → read_version (record { line = line; next_column = text.head.column + length text.head.word; marks = ms; stop = stop }) ≡ Ok d
+        → (lex mode.numbered text.version).stop ≡ stop
+        → read_version (record { line = line; next_column = text.head.column + text.head.length; marks = ms; stop = stop }) ≡ Ok d
         → IsVersionLine text.version × (d ≡ no_declaration)
     told [] None others stop e = cc
     told [] (Some s) others stop e = cc
@@ -71,10 +71,10 @@ pub version_line_or_none : (lines : List (List ℕ)) → (has_version_line lines
 unfolding has_version_line
 version_line_or_none [] = inl refl
 version_line_or_none (line ∷ lines) =
-    told (lex mode.Numbered line).marks (lex mode.Numbered line).stop refl refl (version_line_or_none lines)
+    told (lex mode.numbered line).marks (lex mode.numbered line).stop refl refl (version_line_or_none lines)
   where
-    told : (ms : List Mark) (stop : Option LexError) → (lex mode.Numbered line).marks ≡ ms
-        → (lex mode.Numbered line).stop ≡ stop
+    told : (ms : List Mark) (stop : Option LexError) → (lex mode.numbered line).marks ≡ ms
+        → (lex mode.numbered line).stop ≡ stop
         → (has_version_line lines ≡ false) ⊎ HasVersionLine lines
         → (begins_version ms stop (has_version_line lines) ≡ false) ⊎ HasVersionLine (line ∷ lines)
     told [] None marks stop (inl none) = inl none
@@ -84,7 +84,7 @@ version_line_or_none (line ∷ lines) =
       later = text.later;
       cut = ap (λ t. line ∷ t) text.cut;
       blank = All-cons IsBlankLine line text.before
-          (has_tokens (lex mode.Numbered line) [] marks stop) text.blank;
+          (has_tokens (lex mode.numbered line) [] marks stop) text.blank;
       head = text.head;
       others = text.others;
       starts = text.starts;
@@ -112,18 +112,18 @@ pub plain_opening : (number : ℕ) (lines : List (List ℕ)) → has_version_lin
 unfolding read_opening has_version_line read_lines
 plain_opening number [] none = refl
 plain_opening number (line ∷ lines) none =
-    told (lex mode.Numbered line).marks (lex mode.Numbered line).stop refl refl none
+    told (lex mode.numbered line).marks (lex mode.numbered line).stop refl refl none
     (plain_opening (number + 1) lines)
   where
-    told : (ms : List Mark) (stop : Option LexError) → (lex mode.Numbered line).marks ≡ ms
-        → (lex mode.Numbered line).stop ≡ stop
+    told : (ms : List Mark) (stop : Option LexError) → (lex mode.numbered line).marks ≡ ms
+        → (lex mode.numbered line).stop ≡ stop
         → begins_version ms stop (has_version_line lines) ≡ false
         → (has_version_line lines ≡ false
         → read_opening (number + 1) lines ≡ read_lines format.Plain (number + 1) no_declaration lines)
         → opening_from number line lines (read_opening (number + 1) lines) ms stop
         ≡ read_lines format.Plain number no_declaration (line ∷ lines)
     told [] None marks stop none later =
-        let blank = lexed_plain 0 1 line (has_tokens (lex mode.Numbered line) [] marks stop) in
+        let blank = lexed_plain 0 1 line (has_tokens (lex mode.numbered line) [] marks stop) in
         rw (line_back format.Plain number no_declaration line no_declaration
         (inl (inl (record { tokens = blank; same = refl })))) (later none)
     told [] (Some s) marks stop none later = refl
@@ -145,7 +145,7 @@ blank_skipped number (line ∷ before) rest blank =
 pub typed_opening : (number : ℕ) (lines : List (List ℕ)) (text : HasVersionLine lines)
     → read_opening number lines
     ≡ read_typed text.later
-    (record { line = length text.before + number; next_column = text.head.column + length text.head.word; marks = text.others; stop = (lex mode.Numbered text.version).stop })
+    (record { line = length text.before + number; next_column = text.head.column + text.head.length; marks = text.others; stop = (lex mode.numbered text.version).stop })
 unfolding read_opening
 typed_opening number lines text =
     ap (read_opening number) text.cut ∙ blank_skipped number text.before

@@ -6,7 +6,7 @@ use Rattle.std.proofs.lemmas.List.{nil_from_length}
 use Rattle.std.proofs.lemmas.Option.{slice_get_within}
 use Rattle.attr_sets.specs.Attributes.{Attributes, none}
 use Rattle.dep_model.specs.Dependencies.{Dependency, right_of}
-use Rattle.lexer.specs.declared.token.Mode.TheVariants as mode
+use Rattle.lexer.specs.Modes as mode
 use Rattle.lexer.specs.declared.token.LexError.{LexError}
 use Rattle.lexer.specs.declared.token.TokenKind.{TokenKind}
 use Rattle.lexer.specs.declared.token.TokenKind.TheVariants as token
@@ -21,12 +21,13 @@ use Rattle.schema_grammar.specs.Grammar.{Reached, after_sign}
 use Rattle.schema_grammar.specs.Meanings.{IsSide}
 use Rattle.schema_grammar.specs.Reading.{follow_rest}
 use Rattle.schema_grammar.specs.Rests.{◌>>=◌, rest_from}
+use Rattle.schema_grammar.specs.Words.{is_word_token}
 use Rattle.schema_grammar.specs.Sets.{MeansSet, BeginsEmpty, IsOutOfPlace, SetDiagnostic, SetWants, FitsSet, RefusesSet, read_set}
 use Rattle.schema_grammar.proofs.DiagnosticLaws.{Judges, LineDiagnostic, Judged, judge, left_whole}
 use Rattle.schema_grammar.proofs.GoalLaws.{AfterSignRest, marks_make, side_read, no_stop}
 use Rattle.schema_grammar.proofs.OneRefusal.{one_refused, one_at_first}
 use Rattle.schema_grammar.proofs.RefusalLemmas.{and_then-ok}
-use Rattle.schema_grammar.proofs.ShapeLemmas.{Shape, past_arrow, in_right, past_end, advance_shape, is_final, wanted_by}
+use Rattle.schema_grammar.proofs.ShapeLemmas.{Shape, past_arrow, in_right, past_end, advance_shape, is_final, wanted_by, stuck_first, stuck_later}
 
 -- ---- what a set means
 abbrev from_arrow : Reached
@@ -40,17 +41,17 @@ set-law declared text x = (there, back)
   where
     there : read_set declared text ≡ Ok x → MeansSet declared text x
     there e =
-        let two = and_then-ok (follow_rest format.Plain declared from_arrow (rest_from 1 1 (lex mode.Goal text)))
+        let two = and_then-ok (follow_rest format.Plain declared from_arrow (rest_from 1 1 (lex mode.goal text)))
         (λ d. Ok (right_of d)) x e in
-        let whole = no_stop format.Plain declared 1 from_arrow 1 (lex mode.Goal text) two.x two.first in
+        let whole = no_stop format.Plain declared 1 from_arrow 1 (lex mode.goal text) two.x two.first in
         let here : follow_rest format.Plain declared from_arrow
-        (rest_from 1 1 (record { marks = (lex mode.Goal text).marks; stop = None })) ≡ Ok two.x =
+        (rest_from 1 1 (record { marks = (lex mode.goal text).marks; stop = None })) ≡ Ok two.x =
         ap (λ l. follow_rest format.Plain declared from_arrow (rest_from 1 1 l)) (sym whole) ∙ two.first in
-        let more : AfterSignRest format.Plain declared sign.Functional none (lex mode.Goal text).marks two.x =
+        let more : AfterSignRest format.Plain declared sign.Functional none (lex mode.goal text).marks two.x =
         marks_make format.Plain declared 1 1 from_arrow _ two.x here in
         let is : right_of two.x ≡ x = (let second = two.second in cc) in
         let same : more.y ≡ x = sym (ap right_of more.states) ∙ is in
-        record { marks = (lex mode.Goal text).marks; tokens = whole; side = subst (IsSide format.Plain declared (lex mode.Goal text).marks) same more.right_side }
+        record { marks = (lex mode.goal text).marks; tokens = whole; side = subst (IsSide format.Plain declared (lex mode.goal text).marks) same more.right_side }
 
     back : MeansSet declared text x → read_set declared text ≡ Ok x
     back means =
@@ -58,6 +59,13 @@ set-law declared text x = (there, back)
         ∙ ap set_of (side_read format.Plain declared 1 sign.Functional none x 1 means.marks means.side)
 
 -- ---- how it is refused
+-- one token is not both a word and another one
+word_there : (ms : List Mark) (p : ℕ) (m n : Mark) → slice_get ms p ≡ Some m → slice_get ms p ≡ Some n
+    → is_word_token m.kind ≡ true → is_word_token n.kind ≡ false → ⊥
+word_there ms p m n is there word other =
+    let same : m ≡ n = let e = sym is ∙ there in cc in
+    let wrong = sym word ∙ ap (λ (x : Mark). is_word_token x.kind) same ∙ other in cc
+
 -- a token is out of place, or there is none
 abbrev IsAmiss : List Mark → Option LexError → ℕ → Type 0
 IsAmiss ms stop position =
@@ -87,29 +95,40 @@ side_judges ms stop = record {
     wants (suc p) s (inl read) = inr (omega arith, ap wanted_by read.0)
     wants (suc p) s (inr read) = inr (omega arith, ap wanted_by read.0)
 
+    first_word : (m : Mark) → slice_get ms 0 ≡ Some m → is_word_token m.kind ≡ true → (t : Shape) → t ≡ in_right
+        → (IsAmiss ms stop 0 → ⊥) × IsRead ms 1 t
+    first_word m is word t turned = (
+      ⊎_elim (λ out. word_there ms 0 m out.0 is out.1 word out.2.0)
+          (λ none. omega (arith, slice_get_within ms 0 m is, ap length none.1)),
+      inl (turned, λ begins. word_there ms 0 m begins.first is begins.there word (ap is_word_token begins.is_empty)),
+    )
+
+    later_word : (p : ℕ) (m : Mark) → slice_get ms (suc p) ≡ Some m → is_word_token m.kind ≡ true → (BeginsEmpty ms → ⊥)
+        → (t : Shape) → t ≡ in_right → (IsAmiss ms stop (suc p) → ⊥) × IsRead ms (suc (suc p)) t
+    later_word p m is word named t turned = (
+      ⊎_elim (λ out. ⊎_elim (λ other. word_there ms (suc p) m out.0 is out.1 word other) named out.2)
+          (λ none. omega (arith, none.0)),
+      inl (turned, named),
+    )
+
     goes_on : (p : ℕ) (s t : Shape) (m : Mark) (k : TokenKind) → slice_get ms p ≡ Some m → m.kind ≡ k
         → IsRead ms p s → advance_shape s k ≡ Some t
         → (IsAmiss ms stop p → ⊥) × IsRead ms (suc p) t
-    goes_on zero s t m token.Identifier is kind read turned = (
-      ⊎_elim (λ out. out.2.0 cc) (λ none. omega (arith, slice_get_within ms 0 m is, ap length none.1)),
-      inl (cc, λ begins. cc),
-    )
+    goes_on zero s t m token.Identifier is kind read turned = first_word m is (ap is_word_token kind) t cc
+    goes_on zero s t m token.Quoted is kind read turned = first_word m is (ap is_word_token kind) t cc
     goes_on zero s t m token.Empty is kind read turned = (
       ⊎_elim (λ out. out.2.1 cc) (λ none. omega (arith, slice_get_within ms 0 m is, ap length none.1)),
       inr (cc, record { first = m; there = is; is_empty = kind }),
     )
     goes_on zero s t m k is kind read turned = cc
-    goes_on (suc p) s t m token.Identifier is kind (inl read) turned = (
-      ⊎_elim (λ out. ⊎_elim (λ other. other cc) read.1 out.2) (λ none. omega (arith, none.0)),
-      inl (cc, read.1),
-    )
+    goes_on (suc p) s t m token.Identifier is kind (inl read) turned = later_word p m is (ap is_word_token kind) read.1 t cc
+    goes_on (suc p) s t m token.Quoted is kind (inl read) turned = later_word p m is (ap is_word_token kind) read.1 t cc
     goes_on (suc p) s t m k is kind (inl read) turned = cc
-    goes_on (suc p) s t m token.Identifier is kind (inr read) turned = cc
     goes_on (suc p) s t m k is kind (inr read) turned = cc
 
     out : (p : ℕ) (s : Shape) (k : TokenKind) → IsRead ms p s → advance_shape s k ≡ None → IsOutOfPlace ms p k
-    out zero s k read none = ((λ word. cc), (λ empty. cc))
-    out (suc p) s k (inl read) none = inl (λ word. cc)
+    out zero s k read none = (stuck_first k (ap (λ (x : Shape). advance_shape x k) (sym read) ∙ none), (λ empty. cc))
+    out (suc p) s k (inl read) none = inl (stuck_later k (ap (λ (x : Shape). advance_shape x k) (sym read.0) ∙ none))
     out (suc p) s k (inr read) none = inr read.1
 
     ends : (p : ℕ) (s : Shape) → p ≡ length ms → IsRead ms p s → is_final s ≡ true → IsAmiss ms stop p → ⊥
@@ -126,15 +145,15 @@ side_judges ms stop = record {
 -- a set is refused by its first diagnostic, and read where there is none
 pub set-diagnostic-law : (declared : List (List ℕ)) (text : List ℕ) → FitsSet declared text (read_set declared text)
 set-diagnostic-law declared text =
-    fits (follow_rest format.Plain declared from_arrow (rest_from 1 1 (lex mode.Goal text)))
+    fits (follow_rest format.Plain declared from_arrow (rest_from 1 1 (lex mode.goal text)))
     (judge (side_judges marks stop) format.Plain declared 1 1 marks 0 1 from_arrow
     (left_whole 1 1 marks stop) refl (λ p n less. absurd (omega arith)))
   where
     marks : List Mark
-    marks = (lex mode.Goal text).marks
+    marks = (lex mode.goal text).marks
 
     stop : Option LexError
-    stop = (lex mode.Goal text).stop
+    stop = (lex mode.goal text).stop
 
     to : (p : ℕ) (n : DiagnosticKind) → LineDiagnostic (IsAmiss marks stop) format.Plain declared marks stop p n
         → SetDiagnostic declared text p n

@@ -19,8 +19,8 @@ use Rattle.schema_grammar.specs.Diagnostics.{IsLine, BeginsLine, Wants, Carries,
 use Rattle.schema_grammar.specs.Grammar.{Reached, start, left, left_empty, after_sign, right, right_empty, advance, finish_dependency}
 use Rattle.schema_grammar.specs.Reading.{step, follow}
 use Rattle.schema_grammar.specs.Refusals.{at, expect}
+use Rattle.schema_grammar.specs.Words.{is_word_token, is_reserved, is_reserved_token, look_up, known_attribute}
 use Rattle.schema_grammar.specs.Rests.{◌>>=◌}
-use Rattle.schema_grammar.specs.Words.{is_reserved, look_up, known_attribute}
 use Rattle.schema_grammar.proofs.GoalLaws.{dependency-law}
 use Rattle.schema_grammar.proofs.KindLemmas.{same_number}
 
@@ -44,15 +44,19 @@ shape_of (right_empty s x) = past_end
 -- where a token of a kind leads
 abbrev pub advance_shape : Shape → TokenKind → Option Shape
 advance_shape at_start token.Identifier = Some in_left
+advance_shape at_start token.Quoted = Some in_left
 advance_shape at_start token.Empty = Some past_empty
 advance_shape in_left token.Identifier = Some in_left
+advance_shape in_left token.Quoted = Some in_left
 advance_shape in_left token.Arrow = Some past_arrow
 advance_shape in_left token.DoubleArrow = Some past_arrow
 advance_shape past_empty token.Arrow = Some past_arrow
 advance_shape past_empty token.DoubleArrow = Some past_arrow
 advance_shape past_arrow token.Identifier = Some in_right
+advance_shape past_arrow token.Quoted = Some in_right
 advance_shape past_arrow token.Empty = Some past_end
 advance_shape in_right token.Identifier = Some in_right
+advance_shape in_right token.Quoted = Some in_right
 advance_shape s k = None
 
 abbrev pub is_final : Shape → Bool
@@ -79,6 +83,7 @@ runs s (k ∷ ks) = bind (advance_shape s k) (λ t. runs t ks)
 -- what a token is to the grammar, where a word names this attribute
 abbrev symbol_at : ℕ → TokenKind → Symbol
 symbol_at a token.Identifier = symbol.Attribute a
+symbol_at a token.Quoted = symbol.Attribute a
 symbol_at a token.Arrow = symbol.Arrow sign.Functional
 symbol_at a token.DoubleArrow = symbol.Arrow sign.Multivalued
 symbol_at a token.Empty = symbol.Empty
@@ -92,16 +97,31 @@ Turns r k (Err w) = (advance_shape (shape_of r) k ≡ None) × (w ≡ wanted_by 
 advance-Turns : (r : Reached) (k : TokenKind) (a : ℕ) → Turns r k (advance r (symbol_at a k))
 unfolding advance
 advance-Turns start token.Identifier a = refl
+advance-Turns start token.Quoted a = refl
 advance-Turns start token.Empty a = refl
 advance-Turns (left x) token.Identifier a = refl
+advance-Turns (left x) token.Quoted a = refl
 advance-Turns (left x) token.Arrow a = refl
 advance-Turns (left x) token.DoubleArrow a = refl
 advance-Turns left_empty token.Arrow a = refl
 advance-Turns left_empty token.DoubleArrow a = refl
 advance-Turns (after_sign s x) token.Identifier a = refl
+advance-Turns (after_sign s x) token.Quoted a = refl
 advance-Turns (after_sign s x) token.Empty a = refl
 advance-Turns (right s x y) token.Identifier a = refl
+advance-Turns (right s x y) token.Quoted a = refl
 advance-Turns r k a = (refl, refl)
+
+-- where a side goes on, no word is stuck
+pub stuck_first : (k : TokenKind) → advance_shape past_arrow k ≡ None → is_word_token k ≡ false
+stuck_first token.Identifier e = cc
+stuck_first token.Quoted e = cc
+stuck_first k e = refl
+
+pub stuck_later : (k : TokenKind) → advance_shape in_right k ≡ None → is_word_token k ≡ false
+stuck_later token.Identifier e = cc
+stuck_later token.Quoted e = cc
+stuck_later k e = refl
 
 -- what a step gives: where it leads, or the diagnostic
 abbrev pub StepFits : Format → List (List ℕ) → Reached → Mark → Result Reached SchemaRefusalKind → Type 0
@@ -124,20 +144,24 @@ pub step_fits : (f : Format) (declared : List (List ℕ)) (r : Reached) (m : Mar
 unfolding step look_up
 step_fits f declared r m = told m.kind
   where
-    word : (b : Bool) (o : Option ℕ) → is_reserved f m.word ≡ b → attribute_named declared m.word ≡ o
-        → StepFits f declared r (record m { kind = token.Identifier })
+    word : (k : TokenKind) → is_word_token k ≡ true → ((a : ℕ) → Turns r k (advance r (symbol.Attribute a)))
+        → (b : Bool) (o : Option ℕ) → is_reserved_token f k m.word ≡ b → attribute_named declared m.word ≡ o
+        → StepFits f declared r (record m { kind = k })
         (cond b (Err kind.ReservedName) (known_attribute o) >>= (λ a. Ok (symbol.Attribute a))
         >>= (λ s. expect (advance r s)))
-    word true o reserved lookup =
-        (inl (refl, inl (refl, reserved)), (λ n diagnostic. grind (arith, same_number)), omega arith, tt)
-    word false None free lookup =
-        (inl (refl, inr (refl, lookup)), (λ n diagnostic. grind (arith, same_number)), omega arith, tt)
-    word false (Some a) free lookup =
-        advance_fits f declared r (record m { kind = token.Identifier }) _ (advance-Turns r token.Identifier a)
+    word k is turns true o reserved lookup =
+        (inl (is, inl (refl, reserved)), (λ n diagnostic. grind (arith, same_number)), omega arith, tt)
+    word k is turns false None free lookup =
+        (inl (is, inr (refl, lookup)), (λ n diagnostic. grind (arith, same_number)), omega arith, tt)
+    word k is turns false (Some a) free lookup =
+        advance_fits f declared r (record m { kind = k }) _ (turns a)
         (λ n diagnostic. grind arith)
 
     told : (k : TokenKind) → StepFits f declared r (record m { kind = k }) (step f declared r k m.word)
-    told token.Identifier = word (is_reserved f m.word) (attribute_named declared m.word) refl refl
+    told token.Identifier = word token.Identifier refl (advance-Turns r token.Identifier) (is_reserved_token f token.Identifier m.word)
+        (attribute_named declared m.word) refl refl
+    told token.Quoted = word token.Quoted refl (advance-Turns r token.Quoted) (is_reserved_token f token.Quoted m.word)
+        (attribute_named declared m.word) refl refl
     told k =
         advance_fits f declared r (record m { kind = k }) _ (advance-Turns r k 0)
         (λ n diagnostic. let is = diagnostic.0 in cc)
@@ -168,19 +192,24 @@ follow_runs f declared line r from [] d e = told (finish_dependency r) (end_fits
     told (Ok dep) final e = record { last = shape_of r; leads = refl; final = final }
     told (Err what) final e = cc
 follow_runs f declared line r from (m ∷ ms) d e =
-    told (step f declared r m.kind m.word) (step_fits f declared r m) (λ next h. follow_runs f declared line next (m.column + length m.word) ms d h) e
+    told (step f declared r m.kind m.word) (step_fits f declared r m) (λ next h. follow_runs f declared line next (m.column + m.length) ms d h) e
   where
-    told : (o : Result Reached SchemaRefusalKind) → StepFits f declared r m o → ((next : Reached) → follow f declared line next (m.column + length m.word) ms None ≡ Ok d → Ends (shape_of next) (kinds ms))
-        → (at line m.column (length m.word) o >>= (λ next. follow f declared line next (m.column + length m.word) ms None)) ≡ Ok d → Ends (shape_of r) (m.kind ∷ kinds ms)
+    told : (o : Result Reached SchemaRefusalKind) → StepFits f declared r m o → ((next : Reached) → follow f declared line next (m.column + m.length) ms None ≡ Ok d → Ends (shape_of next) (kinds ms))
+        → (at line m.column m.length o >>= (λ next. follow f declared line next (m.column + m.length) ms None)) ≡ Ok d → Ends (shape_of r) (m.kind ∷ kinds ms)
     told (Ok next) fit rest e = let more = rest next e in record { last = more.last; leads = rw fit.0 more.leads; final = more.final }
     told (Err why) fit rest e = cc
 
 -- a token of each kind, over the one name `a`
 abbrev sample_mark : TokenKind → Mark
-sample_mark k = record { kind = k; column = 0; word = 97 ∷ [] }
+sample_mark k = record { kind = k; column = 0; length = 1; word = 97 ∷ [] }
 
 abbrev one_name : List (List ℕ)
 one_name = (97 ∷ []) ∷ []
+
+sample_is_free : (k : TokenKind) → is_reserved_token format.Plain k (97 ∷ []) ≡ false
+unfolding is_reserved
+sample_is_free token.Identifier = refl
+sample_is_free k = refl
 
 record Reads (r : Reached) (ks : List TokenKind) : Type 0 where
   marks : List Mark
@@ -211,7 +240,7 @@ runs_read r (k ∷ ks) s e final = told (step format.Plain one_name r k (97 ∷ 
           read = ap (λ o. at 1 0 1 o >>= (λ n. follow format.Plain one_name 1 n 1 more.marks None)) is
               ∙ more.read;
         }
-    told (Err why) is (inl (word, inl (number, reserved)), less, small, carries) rest = cc
+    told (Err why) is (inl (word, inl (number, reserved)), less, small, carries) rest = let free = sample_is_free k in cc
     told (Err why) is (inl (word, inr (number, unknown)), less, small, carries) rest = cc
     told (Err why) is (inr (six, stuck), less, small, carries) rest =
         let wrong : None ≡ Some s = ap (λ o. bind o (λ t. runs t ks)) (sym stuck) ∙ e in cc

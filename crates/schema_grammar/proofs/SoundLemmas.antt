@@ -23,20 +23,20 @@ use Rattle.dep_model.specs.Validity.{IsSchema, AreColumns}
 use Rattle.dep_model.proofs.DepLemmas.{dependencies_all-to}
 use Rattle.lexer.specs.declared.piece.Piece.{Piece}
 use Rattle.lexer.specs.declared.piece.Piece.TheVariants as piece
-use Rattle.lexer.specs.declared.token.Mode.{Mode}
-use Rattle.lexer.specs.declared.token.Mode.TheVariants as mode
+use Rattle.lexer.specs.declared.mode.Mode.{Mode}
+use Rattle.lexer.specs.Modes as mode
 use Rattle.lexer.specs.declared.token.TokenKind.{TokenKind}
 use Rattle.lexer.specs.declared.token.TokenKind.TheVariants as token
 use Rattle.lexer.specs.Pieces.{front_piece}
 use Rattle.lexer.specs.Tokens.{Mark, Lexed, tokens_after, led_by}
-use Rattle.lexer.proofs.Steps.{is_a_word}
+use Rattle.lexer.proofs.Steps.{is_a_word, not_quoted, quoted_at}
 use Rattle.schema_grammar.specs.declared.format.Format.{Format}
 use Rattle.schema_grammar.specs.declared.format.Format.TheVariants as format
 use Rattle.schema_grammar.specs.Declarations.{Declarations, no_declaration, add_name, add_dependency, read_line}
 use Rattle.schema_grammar.specs.Grammar.{start}
 use Rattle.schema_grammar.specs.Schemas.{IsNewName, DeclareNames, MeansTextLine, MeansLines}
 use Rattle.schema_grammar.specs.Texts.{read_opening}
-use Rattle.schema_grammar.specs.Words.{is_reserved, is_common_word, column_type_of_token, column_type_of_word}
+use Rattle.schema_grammar.specs.Words.{is_word_token, is_reserved, is_reserved_token, is_common_word, column_type_of_token, column_type_of_word}
 use Rattle.schema_grammar.proofs.DeclaringLaws.{line_there}
 use Rattle.schema_grammar.proofs.RefusalLemmas.{when_ok}
 use Rattle.schema_grammar.proofs.SchemaLaws.{opening_means}
@@ -76,25 +76,35 @@ nothing_sound f = record {
   ];
 }
 
--- the bytes of a token are a name if it is a word
-abbrev IsProper : Mark → Type 0
-IsProper m = m.kind ≡ token.Identifier → is_bare_name m.word ≡ true
+-- a token is no quoted name, and its bytes are a bare name if it is a word
+record IsProper (m : Mark) : Type 0 where
+  unquoted : m.kind ≡ token.Quoted → ⊥
+  bare : is_word_token m.kind ≡ true → is_bare_name m.word ≡ true
 
-led_proper : (m : Mode) (column : ℕ) (text : List ℕ) (afterwards : ℕ → Lexed) (p : Piece) → 0 < length text
+bare_kind : (k : TokenKind) → is_word_token k ≡ true → (k ≡ token.Quoted → ⊥) → k ≡ token.Identifier
+bare_kind token.Identifier is unquoted = refl
+bare_kind token.Quoted is unquoted = absurd (unquoted refl)
+bare_kind k is unquoted = cc
+
+led_proper : (m : Mode) → m.quotes ≡ false → (column : ℕ) (text : List ℕ) (afterwards : ℕ → Lexed) (p : Piece) → 0 < length text
     → p ≡ front_piece m text
     → ((n : ℕ) → All IsProper (afterwards n).marks) → All IsProper (led_by p column text afterwards).marks
-led_proper m column text afterwards piece.Gap some e later = later 0
-led_proper m column text afterwards (piece.Token k n) some e later =
-    All-cons IsProper _ _ (is_a_word m text k n some e) (later (n - 1))
-led_proper m column text afterwards p some e later = All-nil IsProper
+led_proper m none column text afterwards piece.Gap some e later = later 0
+led_proper m none column text afterwards (piece.Token k n) some e later =
+    let unquoted = not_quoted m text k n some e in
+    All-cons IsProper _ _
+    (record { unquoted = unquoted; bare = λ is. is_a_word m text k n some e (bare_kind k is unquoted) }) (later (n - 1))
+led_proper m none column text afterwards (piece.Quoted name n) some e later =
+    let taken = (quoted_at m text name n some e).taken in cc
+led_proper m none column text afterwards p some e later = All-nil IsProper
 
-lexed_proper : (m : Mode) (skip column : ℕ) (text : List ℕ) → All IsProper (tokens_after m skip column text).marks
+lexed_proper : (m : Mode) → m.quotes ≡ false → (skip column : ℕ) (text : List ℕ) → All IsProper (tokens_after m skip column text).marks
 unfolding tokens_after
-lexed_proper m skip column [] = All-nil IsProper
-lexed_proper m zero column (b ∷ bs) =
-    led_proper m column (b ∷ bs) (λ skip. tokens_after m skip (column + 1) bs) (front_piece m (b ∷ bs)) (omega arith) refl
-    (λ skip. lexed_proper m skip (column + 1) bs)
-lexed_proper m (suc n) column (b ∷ bs) = lexed_proper m n (column + 1) bs
+lexed_proper m none skip column [] = All-nil IsProper
+lexed_proper m none zero column (b ∷ bs) =
+    led_proper m none column (b ∷ bs) (λ skip. tokens_after m skip (column + 1) bs) (front_piece m (b ∷ bs)) (omega arith) refl
+    (λ skip. lexed_proper m none skip (column + 1) bs)
+lexed_proper m none (suc n) column (b ∷ bs) = lexed_proper m none n (column + 1) bs
 
 below-wider : (n m : ℕ) (x : Attributes) → n ≤ m → IsSubset x (below n) → IsSubset x (below m)
 below-wider n m x h within k e = let small : k < n = ltb-true k n (within k e) in lt-ltb k m (omega arith)
@@ -129,12 +139,14 @@ name_sound f column d m h proper sound new =
     let more : length (d.names ++ m.word ∷ []) ≡ length d.names + 1 = length-append d.names (m.word ∷ []) in
     let columns : length (d.columns ++ column ∷ []) ≡ length d.columns + 1 = length-append d.columns (column ∷ []) in
     let room = new.room in
+    let free : is_reserved f m.word ≡ false =
+    ap (λ k. is_reserved_token f k m.word) (sym (bare_kind m.kind new.word proper.unquoted)) ∙ new.free in
     record {
       few_names = omega arith;
       names_differ = all_pairs_push (λ a b. same_name a b ≡ false) d.names m.word sound.names_differ
           (no_name d.names m.word new.new);
-      free = All-push (λ name. is_reserved f name ≡ false) d.names m.word sound.free new.free;
-      proper = All-push (λ name. is_bare_name name ≡ true) d.names m.word sound.proper (proper new.word);
+      free = All-push (λ name. is_reserved f name ≡ false) d.names m.word sound.free free;
+      proper = All-push (λ name. is_bare_name name ≡ true) d.names m.word sound.proper (proper.bare new.word);
       few_deps = sound.few_deps;
       deps_within = λ k e below_k. let inside = sound.deps_within k e below_k in (
         below-wider (length d.names) (length (d.names ++ m.word ∷ [])) (left_of (get_or d.deps k e))
@@ -144,7 +156,7 @@ name_sound f column d m h proper sound new =
       );
       one_line_each = sound.one_line_each;
       one_column_each = let same = sound.one_column_each in omega arith;
-      fits = name_fits f column d m.word h new.free sound.fits;
+      fits = name_fits f column d m.word h free sound.fits;
     }
 
 names_sound : (f : Format) (column : ColumnType) (d : Declarations) (ms : List Mark) (whole : Declarations)
@@ -191,7 +203,7 @@ means_sound : (f : Format) (number : ℕ) (d : Declarations) (line : List ℕ) (
 means_sound f number d line next sound (inl (inl blank)) = subst (IsSound f) (sym blank.same) sound
 means_sound f number d line next sound (inl (inr is)) =
     let marks : All IsProper (is.head ∷ is.words) =
-    subst (λ (l : Lexed). All IsProper l.marks) is.tokens (lexed_proper mode.Plain 0 1 line) in
+    subst (λ (l : Lexed). All IsProper l.marks) is.tokens (lexed_proper mode.plain refl 0 1 line) in
     names_sound f is.column d is.words next (declares_fits f is.head.kind is.head.word is.column is.declaring)
     (All-tail IsProper is.head is.words marks) sound is.names
 means_sound f number d line next sound (inr is) =

@@ -1,6 +1,6 @@
 -- A schema text is read where nothing is wrong, or refused by its first diagnostic.
 use Rattle.std.proofs.Common.{◌≡◌, ◌+◌, ◌⊎◌, inl, inr, ℕ, Bool, true, false, cond, List, [], ◌∷◌, length, Option, Some, None, Ok, Err, Result, refl, subst, arith, ◌==◌}
-use Rattle.lexer.specs.declared.token.Mode.TheVariants as mode
+use Rattle.lexer.specs.Modes as mode
 use Rattle.lexer.specs.declared.token.LexError.{LexError}
 use Rattle.lexer.specs.Lines.{line_texts, without_mark}
 use Rattle.lexer.specs.Tokens.{Mark, lex}
@@ -48,23 +48,23 @@ version-law line next_column (m ∷ ms) stop = told (number_in m.kind) refl
         (λ n diagnostic. grind (arith, flaw_least s))
     ends i some two (k ∷ ks) o =
         first_at (VersionDiagnostic (m ∷ k ∷ ks) o) VersionWants (span_at line next_column (m ∷ k ∷ ks) o)
-        (refusal line k.column (length k.word) (kind.Expected what.LineEnd)) 1
+        (refusal line k.column k.length (kind.Expected what.LineEnd)) 1
         (λ p n less diagnostic. grind arith) (inl (inr (inr (k, refl, refl, refl))))
         (inr (omega arith, refl)) refl (λ n diagnostic. grind (arith, same_number))
 
     number : (i : ℕ) (b : Bool) → number_in m.kind ≡ Some i → (i == VERSION) ≡ b
         → FitsVersion line next_column (m ∷ ms) stop
-        (cond b (unless (refusal_at_end_from line ms stop) no_declaration) (Err (refusal line m.column (length m.word) kind.UnknownVersion)))
+        (cond b (unless (refusal_at_end_from line ms stop) no_declaration) (Err (refusal line m.column m.length kind.UnknownVersion)))
     number i true some two = ends i some two ms stop
     number i false some other =
         first_at (VersionDiagnostic (m ∷ ms) stop) VersionWants (span_at line next_column (m ∷ ms) stop)
-        (refusal line m.column (length m.word) kind.UnknownVersion) 0 (λ p n less. absurd (omega arith))
+        (refusal line m.column m.length kind.UnknownVersion) 0 (λ p n less. absurd (omega arith))
         (inl (inr (inl (m, i, refl, some, other, refl, refl)))) tt refl (λ n diagnostic. grind (arith, same_number))
 
-    told : (o : Option ℕ) → number_in m.kind ≡ o → FitsVersion line next_column (m ∷ ms) stop (version_number m (record { line = line; next_column = m.column + length m.word; marks = ms; stop = stop }) o)
+    told : (o : Option ℕ) → number_in m.kind ≡ o → FitsVersion line next_column (m ∷ ms) stop (version_number m (record { line = line; next_column = m.column + m.length; marks = ms; stop = stop }) o)
     told None none =
         first_at (VersionDiagnostic (m ∷ ms) stop) VersionWants (span_at line next_column (m ∷ ms) stop)
-        (refusal line m.column (length m.word) (kind.Expected what.Number)) 0
+        (refusal line m.column m.length (kind.Expected what.Number)) 0
         (λ p n less. absurd (omega arith))
         (inl (inl (inl (m, refl, none, refl, refl)))) (inl (refl, refl)) refl (λ n diagnostic. grind (arith, same_number))
     told (Some i) some = number i (i == VERSION) some refl
@@ -89,9 +89,9 @@ text-law text = fits (version_line_or_none lines)
     typed has is (Err e) later = inr (has, inr (is, later))
 
     version : (has : HasVersionLine lines) (o : Result Declarations SchemaRefusal)
-        → read_version (record { line = length has.before + 1; next_column = has.head.column + length has.head.word; marks = has.others; stop = (lex mode.Numbered has.version).stop }) ≡ o
-        → FitsVersion (length has.before + 1) (has.head.column + length has.head.word) has.others
-        (lex mode.Numbered has.version).stop o
+        → read_version (record { line = length has.before + 1; next_column = has.head.column + has.head.length; marks = has.others; stop = (lex mode.numbered has.version).stop }) ≡ o
+        → FitsVersion (length has.before + 1) (has.head.column + has.head.length) has.others
+        (lex mode.numbered has.version).stop o
         → FitsText 1 lines (o >>= (λ d. read_lines format.Typed (length has.before + 1 + 1) d has.later))
     version has (Ok d) read fine =
         let is = version_there lines has (length has.before + 1) d read in
@@ -104,7 +104,7 @@ text-law text = fits (version_line_or_none lines)
         rw (plain_opening 1 lines none) (plain none _ (lines-law format.Plain 1 no_declaration lines))
     fits (inr has) =
         rw (typed_opening 1 lines has)
-        (version has _ refl (version-law _ _ has.others (lex mode.Numbered has.version).stop))
+        (version has _ refl (version-law _ _ has.others (lex mode.numbered has.version).stop))
 
 pub schema_refused : (text : List ℕ) (e : SchemaRefusal) → read_text text ≡ Err e → RefusesSchema text e
 schema_refused text e h = subst (FitsSchema text) h (text-law text)

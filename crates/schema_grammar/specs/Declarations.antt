@@ -6,7 +6,7 @@ use Rattle.dep_model.specs.declared.column_type.ColumnType.{ColumnType}
 use Rattle.schema_grammar.specs.declared.format.TheConstants.{MOST_DEPENDENCY_LINES}
 use Rattle.dep_model.specs.Dependencies.{Dependency}
 use Rattle.dep_model.specs.Schemas.{attribute_named}
-use Rattle.lexer.specs.declared.token.Mode.TheVariants as mode
+use Rattle.lexer.specs.Modes as mode
 use Rattle.lexer.specs.declared.token.LexError.{LexError}
 use Rattle.lexer.specs.declared.token.Token.{Token}
 use Rattle.lexer.specs.declared.token.TokenKind.{TokenKind}
@@ -21,8 +21,8 @@ use Rattle.schema_grammar.specs.declared.format.Format.{Format}
 use Rattle.schema_grammar.specs.Grammar.{Reached, start}
 use Rattle.schema_grammar.specs.Reading.{step, follow}
 use Rattle.schema_grammar.specs.Refusals.{refused_by, at}
+use Rattle.schema_grammar.specs.Words.{is_reserved_token, column_type_of_token}
 use Rattle.schema_grammar.specs.Rests.{Rest, ◌>>=◌}
-use Rattle.schema_grammar.specs.Words.{is_reserved, column_type_of_token}
 
 -- what a schema text declares: names and the types of their columns, dependencies and their lines
 pub record Declarations : Type 0 where
@@ -40,10 +40,11 @@ add_name d name column = record d { names = d.names ++ name ∷ []; columns = d.
 abbrev pub add_dependency : Declarations → Dependency → ℕ → Declarations
 add_dependency d dep line = record d { deps = d.deps ++ dep ∷ []; lines = d.lines ++ line ∷ [] }
 
--- a word declares a name
-unfoldable pub declare : Format → ColumnType → Declarations → List ℕ → Result Declarations SchemaRefusalKind
-declare f column d word =
-    if is_reserved f word then Err kind.ReservedName
+-- a word, or a quoted name, declares a name
+unfoldable pub declare : Format → ColumnType → Declarations → TokenKind → List ℕ
+    → Result Declarations SchemaRefusalKind
+declare f column d k word =
+    if is_reserved_token f k word then Err kind.ReservedName
     else if is_some (attribute_named d.names word) then Err kind.DoubleName
     else if nat_le MOST_ATTRIBUTES (length d.names) then Err kind.TooManyAttributes
     else Ok (add_name d word column)
@@ -55,7 +56,8 @@ what_after_declaring some = if some then what.LineEnd else what.Name
 -- a token after a declaring word; `some` is whether a name stood before
 abbrev pub name_step : Format → ColumnType → Declarations → Bool → TokenKind → List ℕ
     → Result Declarations SchemaRefusalKind
-name_step f column d some token.Identifier word = declare f column d word
+name_step f column d some token.Identifier word = declare f column d token.Identifier word
+name_step f column d some token.Quoted word = declare f column d token.Quoted word
 name_step f column d some _ word = Err (kind.Expected (what_after_declaring some))
 
 -- the tokens after a declaring word
@@ -65,8 +67,8 @@ list_names f column line d true next_column [] None = Ok d
 list_names f column line d false next_column [] None = at line next_column 0 (Err (kind.Expected what.Name))
 list_names f column line d some next_column [] (Some stop) = Err (refused_by line stop)
 list_names f column line d some next_column (m ∷ ms) stop =
-    at line m.column (length m.word) (name_step f column d some m.kind m.word)
-    >>= (λ next. list_names f column line next true (m.column + length m.word) ms stop)
+    at line m.column m.length (name_step f column d some m.kind m.word)
+    >>= (λ next. list_names f column line next true (m.column + m.length) ms stop)
 
 abbrev pub list_names_rest : Format → ColumnType → Declarations → Bool → Rest → Result Declarations SchemaRefusal
 list_names_rest f column d some r = list_names f column r.line d some r.next_column r.marks r.stop
@@ -82,8 +84,8 @@ begin f d k word =
 unfoldable pub dependency_line : Format → ℕ → Declarations → Mark → List Mark → Option LexError
     → Result Declarations SchemaRefusal
 dependency_line f line d m ms stop =
-    at line m.column (length m.word) (begin f d m.kind m.word)
-    >>= (λ next. follow f d.names line next (m.column + length m.word) ms stop
+    at line m.column m.length (begin f d m.kind m.word)
+    >>= (λ next. follow f d.names line next (m.column + m.length) ms stop
     >>= (λ dep. Ok (add_dependency d dep line)))
 
 abbrev pub dependency_rest : Format → Declarations → Mark → Rest → Result Declarations SchemaRefusal
@@ -91,13 +93,13 @@ dependency_rest f d m r = dependency_line f r.line d m r.marks r.stop
 
 -- a token with its bytes
 abbrev pub mark_of : Token → List ℕ → Mark
-mark_of t word = record { kind = t.kind; column = t.column; word = word }
+mark_of t word = record { kind = t.kind; column = t.column; length = t.length; word = word }
 
 -- a line whose first token is this: it declares names, or states a dependency
 abbrev pub line_from : Format → ℕ → Declarations → Mark → List Mark → Option LexError → Option ColumnType
     → Result Declarations SchemaRefusal
 line_from f line d m ms stop (Some column) =
-    list_names f column line d false (m.column + length m.word) ms stop
+    list_names f column line d false (m.column + m.length) ms stop
 line_from f line d m ms stop None = dependency_line f line d m ms stop
 
 abbrev pub line_of_marks : Format → ℕ → Declarations → List Mark → Option LexError
@@ -108,4 +110,4 @@ line_of_marks f line d (m ∷ ms) stop = line_from f line d m ms stop (column_ty
 
 -- what is declared after one line more
 unfoldable pub read_line : Format → ℕ → Declarations → List ℕ → Result Declarations SchemaRefusal
-read_line f line d text = line_of_marks f line d (lex mode.Plain text).marks (lex mode.Plain text).stop
+read_line f line d text = line_of_marks f line d (lex mode.plain text).marks (lex mode.plain text).stop

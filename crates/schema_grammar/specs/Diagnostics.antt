@@ -1,12 +1,12 @@
 -- What is wrong with a dependency line, a declaring line or a goal, and which refusal is the first:
 -- for schema texts (`Schemas`), goals, and the lines of plans and certificates.
-use Rattle.std.specs.Prelude.{◌≡◌, ◌<◌, ◌≤◌, ◌⊎◌, ℕ, zero, suc, ◌+◌, true, List, [], ◌∷◌, ◌++◌, length, take, map, Option, Some, None, Result, Ok, Err, slice_get, is_some, All}
+use Rattle.std.specs.Prelude.{◌≡◌, ◌<◌, ◌≤◌, ◌⊎◌, ℕ, zero, suc, ◌+◌, true, false, List, [], ◌∷◌, ◌++◌, length, take, map, Option, Some, None, Result, Ok, Err, slice_get, is_some, All}
 use Rattle.attr_sets.specs.declared.set.TheConstants.{MOST_ATTRIBUTES}
 use Rattle.dep_model.specs.declared.column_type.ColumnType.{ColumnType}
 use Rattle.schema_grammar.specs.declared.format.TheConstants.{MOST_DEPENDENCY_LINES}
 use Rattle.dep_model.specs.Dependencies.{Dependency}
 use Rattle.dep_model.specs.Schemas.{attribute_named}
-use Rattle.lexer.specs.declared.token.Mode.TheVariants as mode
+use Rattle.lexer.specs.Modes as mode
 use Rattle.lexer.specs.declared.token.LexError.{LexError}
 use Rattle.lexer.specs.declared.token.TokenKind.{TokenKind}
 use Rattle.lexer.specs.declared.token.TokenKind.TheVariants as token
@@ -22,7 +22,7 @@ use Rattle.schema_grammar.specs.declared.format.Format.TheVariants as format
 use Rattle.schema_grammar.specs.Declarations.{Declarations}
 use Rattle.schema_grammar.specs.DiagnosticKinds.{DiagnosticKind, reserved_name, double_name, unknown_name, expected, too_many_attributes, too_many_dependencies, diagnostic_kind, diagnostic_of_flaw, IsNoLater}
 use Rattle.schema_grammar.specs.Meanings.{IsDependency}
-use Rattle.schema_grammar.specs.Words.{is_reserved, column_type_of_token}
+use Rattle.schema_grammar.specs.Words.{is_word_token, is_reserved_token, column_type_of_token}
 
 abbrev pub kinds : List Mark → List TokenKind
 kinds ms = map (λ m. m.kind) ms
@@ -54,11 +54,11 @@ Wants ks what.Arrow = BeginsLine (ks ++ token.Arrow ∷ [])
 Wants ks what.LineEnd = IsLine ks
 Wants ks _ = ⊥
 
--- a word of a dependency that is reserved, or that no name is
+-- a word of a dependency that is reserved, or a word or quoted name that names no attribute
 abbrev pub DiagnosesOfWord : Format → List (List ℕ) → Mark → DiagnosticKind → Type 0
 DiagnosesOfWord f declared m why =
-    (m.kind ≡ token.Identifier)
-    × (((why ≡ reserved_name) × (is_reserved f m.word ≡ true))
+    (is_word_token m.kind ≡ true)
+    × (((why ≡ reserved_name) × (is_reserved_token f m.kind m.word ≡ true))
     ⊎ ((why ≡ unknown_name) × (attribute_named declared m.word ≡ None)))
 
 -- what is wrong with the tokens of a dependency line at a position, before which so many tokens stand
@@ -74,8 +74,8 @@ abbrev pub span_at : ℕ → ℕ → List Mark → Option LexError → ℕ → S
 span_at line next_column [] None position = record { line = line; column = next_column; length = 0 }
 span_at line next_column [] (Some s) position = record { line = line; column = s.column; length = s.length }
 span_at line next_column (m ∷ ms) stop zero =
-    record { line = line; column = m.column; length = length m.word }
-span_at line next_column (m ∷ ms) stop (suc position) = span_at line (m.column + length m.word) ms stop position
+    record { line = line; column = m.column; length = m.length }
+span_at line next_column (m ∷ ms) stop (suc position) = span_at line (m.column + m.length) ms stop position
 
 -- a refusal of what is expected carries what is wanted
 abbrev pub Carries : (What → Type 0) → SchemaRefusalKind → Type 0
@@ -112,28 +112,28 @@ FitsDependency f declared line ms stop (Err e) = RefusesDependency f declared li
 -- a goal over declared names is refused by its first diagnostic
 abbrev pub RefusesGoal : List (List ℕ) → List ℕ → SchemaRefusal → Type 0
 RefusesGoal declared text e =
-    RefusesDependency format.Plain declared 1 (lex mode.Goal text).marks (lex mode.Goal text).stop e
+    RefusesDependency format.Plain declared 1 (lex mode.goal text).marks (lex mode.goal text).stop e
 
 -- a goal is refused by the first diagnostic, and read where there is none
 abbrev pub FitsGoal : List (List ℕ) → List ℕ → Result Dependency SchemaRefusal → Type 0
 FitsGoal declared text reading =
-    FitsDependency format.Plain declared 1 (lex mode.Goal text).marks (lex mode.Goal text).stop reading
+    FitsDependency format.Plain declared 1 (lex mode.goal text).marks (lex mode.goal text).stop reading
 
 -- what is wrong with the words after a declaring word, before the last of which so many stand
 abbrev pub NameDiagnostic : Format → Declarations → List Mark → ℕ → Mark → DiagnosticKind → Type 0
 NameDiagnostic f d words position m why =
-    ((m.kind ≡ token.Identifier)
-    × ((((why ≡ reserved_name) × (is_reserved f m.word ≡ true))
+    ((is_word_token m.kind ≡ true)
+    × ((((why ≡ reserved_name) × (is_reserved_token f m.kind m.word ≡ true))
     ⊎ ((why ≡ double_name) × (is_some (attribute_named (d.names ++ map (λ w. w.word) (take position words)) m.word)
     ≡ true)))
     ⊎ ((why ≡ too_many_attributes) × (MOST_ATTRIBUTES ≤ length d.names + position))))
-    ⊎ ((why ≡ expected) × (m.kind ≡ token.Identifier → ⊥))
+    ⊎ ((why ≡ expected) × (is_word_token m.kind ≡ false))
 
 -- what is wrong with a declaring line after its declaring word: at a token before which words stand,
 -- at the line's end where no word stands, or at bytes that are no token
 abbrev pub NamesDiagnostic : Format → Declarations → List Mark → Option LexError → ℕ → DiagnosticKind → Type 0
 NamesDiagnostic f d words stop position why =
-    (((m : Mark) × (slice_get words position ≡ Some m) × All (λ w. w.kind ≡ token.Identifier) (take position words)
+    (((m : Mark) × (slice_get words position ≡ Some m) × All (λ w. is_word_token w.kind ≡ true) (take position words)
     × NameDiagnostic f d words position m why)
     ⊎ ((why ≡ expected) × (position ≡ 0) × (words ≡ []) × (stop ≡ None)))
     ⊎ ((s : LexError) × (stop ≡ Some s) × (position ≡ length words) × (why ≡ diagnostic_of_flaw s.flaw))

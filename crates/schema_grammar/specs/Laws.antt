@@ -5,8 +5,8 @@ use Rattle.attr_sets.specs.Attributes.{Attributes}
 use Rattle.dep_model.specs.declared.schema.Schema.{Schema}
 use Rattle.dep_model.specs.Dependencies.{Dependency}
 use Rattle.dep_model.specs.Schemas.{names_of, types_of, theory_of}
-use Rattle.lexer.specs.declared.token.Mode.{Mode}
-use Rattle.lexer.specs.declared.token.Mode.TheVariants as mode
+use Rattle.lexer.specs.declared.mode.Mode.{Mode}
+use Rattle.lexer.specs.Modes as mode
 use Rattle.lexer.specs.Tokens.{lex}
 use Rattle.schema_grammar.specs.declared.format.Format.{Format}
 use Rattle.schema_grammar.specs.declared.format.Format.TheVariants as format
@@ -55,7 +55,7 @@ SchemaMeaning = (text : List ℕ) (whole : Declarations) → (read_text text ≡
 abbrev pub TextLineDiagnostics : Type 0
 TextLineDiagnostics =
     (f : Format) (number : ℕ) (d : Declarations) (line : List ℕ)
-    → FitsTextLine f d number (lex mode.Plain line).marks (lex mode.Plain line).stop
+    → FitsTextLine f d number (lex mode.plain line).marks (lex mode.plain line).stop
     (read_line f number d line)
 
 abbrev pub LinesDiagnostics : Type 0

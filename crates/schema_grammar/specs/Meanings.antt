@@ -1,11 +1,11 @@
 -- What dependency a goal or a dependency line means: for `read_goal`, schema texts (`Schemas`) and
 -- the lines of certificates.
-use Rattle.std.specs.Prelude.{◌≡◌, ◌<◌, ◌⊎◌, ℕ, ◌==◌, false, List, [], ◌∷◌, ◌++◌, length, Option, Some, None, All}
+use Rattle.std.specs.Prelude.{◌≡◌, ◌<◌, ◌⊎◌, ℕ, ◌==◌, true, false, List, [], ◌∷◌, ◌++◌, length, Option, Some, None, All}
 use Rattle.std.specs.List.{list_any}
 use Rattle.attr_sets.specs.Attributes.{Attributes, none}
 use Rattle.dep_model.specs.Dependencies.{Dependency}
 use Rattle.dep_model.specs.Schemas.{attribute_named}
-use Rattle.lexer.specs.declared.token.Mode.TheVariants as mode
+use Rattle.lexer.specs.Modes as mode
 use Rattle.lexer.specs.declared.token.TokenKind.{TokenKind}
 use Rattle.lexer.specs.declared.token.TokenKind.TheVariants as token
 use Rattle.lexer.specs.Tokens.{Mark, Lexed, lex}
@@ -14,7 +14,7 @@ use Rattle.schema_grammar.specs.declared.symbol.Sign.TheVariants as sign
 use Rattle.schema_grammar.specs.declared.format.Format.{Format}
 use Rattle.schema_grammar.specs.declared.format.Format.TheVariants as format
 use Rattle.schema_grammar.specs.Grammar.{dependency_of_sign}
-use Rattle.schema_grammar.specs.Words.{is_reserved}
+use Rattle.schema_grammar.specs.Words.{is_word_token, is_reserved_token}
 
 -- a line has exactly these tokens
 abbrev pub HasTokens : Lexed → List Mark → Type 0
@@ -28,18 +28,18 @@ is_at (Some a) k = k == a
 abbrev pub attributes_of_words : List (List ℕ) → List Mark → Attributes
 attributes_of_words declared words k = list_any (λ m. is_at (attribute_named declared m.word) k) words
 
--- a word that names a declared attribute
+-- a word or a quoted name that names a declared attribute
 pub record IsAttribute (f : Format) (declared : List (List ℕ)) (m : Mark) : Type 0 where
-  pub word : m.kind ≡ token.Identifier
-  pub free : is_reserved f m.word ≡ false
+  pub word : is_word_token m.kind ≡ true
+  pub free : is_reserved_token f m.kind m.word ≡ false
   pub index : ℕ
   pub known : attribute_named declared m.word ≡ Some index
 
 -- a side is `()`, for no attribute
 pub record IsEmptySide (ms : List Mark) (x : Attributes) : Type 0 where
-  pub column : ℕ
-  pub bytes : List ℕ
-  pub alone : ms ≡ record { kind = token.Empty; column = column; word = bytes } ∷ []
+  pub mark : Mark
+  pub alone : ms ≡ mark ∷ []
+  pub is_empty : mark.kind ≡ token.Empty
   pub nothing : x ≡ none
 
 -- or it is one or more words, for the attributes that they name
@@ -74,5 +74,5 @@ pub record IsDependency (f : Format) (declared : List (List ℕ)) (ms : List Mar
 -- a goal over declared names means a dependency
 pub record MeansGoal (declared : List (List ℕ)) (text : List ℕ) (d : Dependency) : Type 0 where
   pub marks : List Mark
-  pub tokens : HasTokens (lex mode.Goal text) marks
+  pub tokens : HasTokens (lex mode.goal text) marks
   pub dependency : IsDependency format.Plain declared marks d

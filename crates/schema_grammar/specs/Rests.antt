@@ -1,6 +1,6 @@
 -- What is left of a line, and what is read of it token by token: for the reading of schema texts,
 -- goals, plans and certificates.
-use Rattle.std.specs.Prelude.{ℕ, ◌+◌, Bool, true, false, if◌then◌else◌, List, [], ◌∷◌, length, Option, Some, None, Result, Ok, Err, ok_or}
+use Rattle.std.specs.Prelude.{ℕ, ◌+◌, if◌then◌else◌, List, [], ◌∷◌, Option, Some, None, Result, Ok, Err, ok_or}
 use Rattle.attr_sets.specs.Attributes.{Attributes, only, none, union}
 use Rattle.lexer.specs.declared.token.LexError.{LexError}
 use Rattle.lexer.specs.declared.token.TokenKind.{TokenKind}
@@ -14,16 +14,13 @@ use Rattle.schema_grammar.specs.declared.refusal.What.TheVariants as what
 use Rattle.schema_grammar.specs.declared.symbol.Sign.{Sign}
 use Rattle.schema_grammar.specs.declared.symbol.Sign.TheVariants.{Functional, Multivalued}
 use Rattle.schema_grammar.specs.Refusals.{refusal, refused_by, at}
-use Rattle.schema_grammar.specs.Words.{look_up}
-
-abbrev pub is_word_token : TokenKind → Bool
-is_word_token token.Identifier = true
-is_word_token _ = false
+use Rattle.schema_grammar.specs.Words.{is_word_token, look_up}
 
 -- the value of a number
 abbrev pub number_in : TokenKind → Option ℕ
 number_in (token.Number n) = Some n
 number_in token.Identifier = None
+number_in token.Quoted = None
 number_in token.Arrow = None
 number_in token.DoubleArrow = None
 number_in token.Empty = None
@@ -35,9 +32,9 @@ arrow_in token.Arrow = Some Functional
 arrow_in token.DoubleArrow = Some Multivalued
 arrow_in _ = None
 
--- the attribute that a word of a side stands for
+-- the attribute that a word of a side, or a quoted name, stands for
 abbrev pub attribute_of_word : List (List ℕ) → ℕ → Mark → Result ℕ SchemaRefusal
-attribute_of_word names line m = at line m.column (length m.word) (look_up format.Plain names m.word)
+attribute_of_word names line m = at line m.column m.length (look_up format.Plain names m.kind m.word)
 
 -- what is left of a line after a column: its tokens, and where they stop
 pub record Rest : Type 0 where
@@ -61,14 +58,14 @@ abbrev pub take_from : What → ℕ → ℕ → List Mark → Option LexError �
 take_from want line next_column [] None = Err (refusal line next_column 0 (kind.Expected want))
 take_from want line next_column [] (Some stop) = Err (refused_by line stop)
 take_from want line next_column (m ∷ ms) stop =
-    Ok (m, record { line = line; next_column = m.column + length m.word; marks = ms; stop = stop })
+    Ok (m, record { line = line; next_column = m.column + m.length; marks = ms; stop = stop })
 
 unfoldable pub take : What → Rest → Result (Mark × Rest) SchemaRefusal
 take want r = take_from want r.line r.next_column r.marks r.stop
 
 -- the refusal of a token where something else is wanted
 abbrev pub refusal_of_token : What → Mark → Rest → SchemaRefusal
-refusal_of_token want m r = refusal r.line m.column (length m.word) (kind.Expected want)
+refusal_of_token want m r = refusal r.line m.column m.length (kind.Expected want)
 
 unfoldable pub number : Rest → Result (ℕ × Rest) SchemaRefusal
 number r = do
@@ -86,7 +83,7 @@ arrow r = do
 abbrev pub refusal_at_end_from : ℕ → List Mark → Option LexError → Option SchemaRefusal
 refusal_at_end_from line [] None = None
 refusal_at_end_from line [] (Some stop) = Some (refused_by line stop)
-refusal_at_end_from line (m ∷ ms) stop = Some (refusal line m.column (length m.word) (kind.Expected what.LineEnd))
+refusal_at_end_from line (m ∷ ms) stop = Some (refusal line m.column m.length (kind.Expected what.LineEnd))
 
 unfoldable pub refusal_at_end : Rest → Option SchemaRefusal
 refusal_at_end r = refusal_at_end_from r.line r.marks r.stop
@@ -104,7 +101,7 @@ words_from names line x next_column [] stop =
 words_from names line x next_column (m ∷ ms) stop =
     if is_word_token m.kind
     then (attribute_of_word names line m >>= λ a. words_from names line (union x (only a))
-    (m.column + length m.word) ms stop)
+    (m.column + m.length) ms stop)
     else Ok (x, record { line = line; next_column = next_column; marks = m ∷ ms; stop = stop })
 
 abbrev pub words : List (List ℕ) → Attributes → Rest → Result (Attributes × Rest) SchemaRefusal
@@ -113,6 +110,7 @@ words names x r = words_from names r.line x r.next_column r.marks r.stop
 -- a side that begins with this token
 abbrev pub side_from : List (List ℕ) → Mark → Rest → TokenKind → Result (Attributes × Rest) SchemaRefusal
 side_from names m r token.Identifier = attribute_of_word names r.line m >>= λ a. words names (only a) r
+side_from names m r token.Quoted = attribute_of_word names r.line m >>= λ a. words names (only a) r
 side_from names m r token.Empty = Ok (none, r)
 side_from names m r _ = Err (refusal_of_token what.Side m r)
 

@@ -6,7 +6,7 @@ use Rattle.dep_model.specs.declared.column_type.ColumnType.{ColumnType}
 use Rattle.schema_grammar.specs.declared.format.TheConstants.{MOST_DEPENDENCY_LINES}
 use Rattle.dep_model.specs.Dependencies.{Dependency}
 use Rattle.dep_model.specs.Schemas.{attribute_named}
-use Rattle.lexer.specs.declared.token.Mode.TheVariants as mode
+use Rattle.lexer.specs.Modes as mode
 use Rattle.lexer.specs.declared.token.LexError.{LexError}
 use Rattle.lexer.specs.declared.token.TokenKind.TheVariants as token
 use Rattle.lexer.specs.Lines.{line_texts, without_mark}
@@ -23,14 +23,14 @@ use Rattle.schema_grammar.specs.declared.format.Format.{Format}
 use Rattle.schema_grammar.specs.declared.format.Format.TheVariants as format
 use Rattle.schema_grammar.specs.Declarations.{Declarations, no_declaration, add_name, add_dependency}
 use Rattle.schema_grammar.specs.Meanings.{HasTokens, IsDependency}
-use Rattle.schema_grammar.specs.Rests.{number_in}
 use Rattle.schema_grammar.specs.Texts.{is_version}
-use Rattle.schema_grammar.specs.Words.{is_reserved, column_type_of_token}
+use Rattle.schema_grammar.specs.Words.{is_word_token, is_reserved_token, column_type_of_token}
+use Rattle.schema_grammar.specs.Rests.{number_in}
 
--- a word that declares one name more
+-- a word or a quoted name that declares one name more
 pub record IsNewName (f : Format) (d : Declarations) (m : Mark) : Type 0 where
-  pub word : m.kind ≡ token.Identifier
-  pub free : is_reserved f m.word ≡ false
+  pub word : is_word_token m.kind ≡ true
+  pub free : is_reserved_token f m.kind m.word ≡ false
   pub new : attribute_named d.names m.word ≡ None
   pub room : length d.names < MOST_ATTRIBUTES
 
@@ -45,7 +45,7 @@ pub record IsDeclaring (f : Format) (d : Declarations) (line : List ℕ) (whole 
   pub head : Mark
   pub words : List Mark
   pub column : ColumnType
-  pub tokens : HasTokens (lex mode.Plain line) (head ∷ words)
+  pub tokens : HasTokens (lex mode.plain line) (head ∷ words)
   pub declaring : column_type_of_token f head.kind head.word ≡ Some column
   pub some : 0 < length words
   pub names : DeclareNames f column d words whole
@@ -56,7 +56,7 @@ pub record IsStating (f : Format) (number : ℕ) (d : Declarations) (line : List
   pub head : Mark
   pub others : List Mark
   pub dep : Dependency
-  pub tokens : HasTokens (lex mode.Plain line) (head ∷ others)
+  pub tokens : HasTokens (lex mode.plain line) (head ∷ others)
   pub stating : column_type_of_token f head.kind head.word ≡ None
   pub dependency : IsDependency f d.names (head ∷ others) dep
   pub room : length d.deps < MOST_DEPENDENCY_LINES
@@ -64,7 +64,7 @@ pub record IsStating (f : Format) (number : ℕ) (d : Declarations) (line : List
 
 -- a line without tokens means nothing
 pub record IsBlank (d : Declarations) (line : List ℕ) (whole : Declarations) : Type 0 where
-  pub tokens : HasTokens (lex mode.Plain line) []
+  pub tokens : HasTokens (lex mode.plain line) []
   pub same : whole ≡ d
 
 -- after a line of this number the whole is declared
@@ -87,7 +87,7 @@ begins_version (m ∷ ms) stop later = is_version m.kind m.word
 unfoldable pub has_version_line : List (List ℕ) → Bool
 has_version_line [] = false
 has_version_line (line ∷ lines) =
-    begins_version (lex mode.Numbered line).marks (lex mode.Numbered line).stop (has_version_line lines)
+    begins_version (lex mode.numbered line).marks (lex mode.numbered line).stop (has_version_line lines)
 
 -- a text without a version line
 pub record IsPlainText (lines : List (List ℕ)) (whole : Declarations) : Type 0 where
@@ -98,7 +98,7 @@ pub record IsPlainText (lines : List (List ℕ)) (whole : Declarations) : Type 0
 pub record IsVersionLine (line : List ℕ) : Type 0 where
   pub head : Mark
   pub number : Mark
-  pub tokens : HasTokens (lex mode.Numbered line) (head ∷ number ∷ [])
+  pub tokens : HasTokens (lex mode.numbered line) (head ∷ number ∷ [])
   pub is_word : is_version head.kind head.word ≡ true
   pub is_number : number.kind ≡ token.Number VERSION
 
@@ -108,7 +108,7 @@ pub record IsTypedText (lines : List (List ℕ)) (whole : Declarations) : Type 0
   pub version : List ℕ
   pub later : List (List ℕ)
   pub cut : lines ≡ before ++ version ∷ later
-  pub blank : All (λ line. HasTokens (lex mode.Numbered line) []) before
+  pub blank : All (λ line. HasTokens (lex mode.numbered line) []) before
   pub versioned : IsVersionLine version
   pub declared : MeansLines format.Typed (length before + 2) no_declaration later whole
 
@@ -129,8 +129,8 @@ pub record LinesDiagnostic (f : Format) (first : ℕ) (d : Declarations) (lines 
   pub cut : lines ≡ before ++ line ∷ after
   pub means : MeansLines f first d before declared
   pub stands_on : number ≡ first + length before
-  pub diagnostic : TextLineDiagnostic f declared (lex mode.Plain line).marks
-      (lex mode.Plain line).stop position why
+  pub diagnostic : TextLineDiagnostic f declared (lex mode.plain line).marks
+      (lex mode.plain line).stop position why
 
 -- a refusal is the diagnostic of the first line, there at the first position, and there of the least
 -- number; where it is of what is expected, it carries what is wanted there
@@ -138,9 +138,9 @@ pub record IsFirstOfLines (f : Format) (first : ℕ) (d : Declarations) (lines :
     (e : SchemaRefusal) : Type 0 where
   pub position : ℕ
   pub stands : LinesDiagnostic f first d lines e.span.line position (diagnostic_kind e.kind)
-  pub carries : Carries (TextLineWants f (lex mode.Plain stands.line).marks position) e.kind
-  pub there : e.span ≡ span_at e.span.line 1 (lex mode.Plain stands.line).marks
-      (lex mode.Plain stands.line).stop position
+  pub carries : Carries (TextLineWants f (lex mode.plain stands.line).marks position) e.kind
+  pub there : e.span ≡ span_at e.span.line 1 (lex mode.plain stands.line).marks
+      (lex mode.plain stands.line).stop position
   pub least : (l p : ℕ) (why : DiagnosticKind) → LinesDiagnostic f first d lines l p why
       → (e.span.line < l) ⊎ ((e.span.line ≡ l) × IsNoLater position (diagnostic_kind e.kind) p why)
 
@@ -194,17 +194,17 @@ pub record HasVersionLine (lines : List (List ℕ)) : Type 0 where
   pub version : List ℕ
   pub later : List (List ℕ)
   pub cut : lines ≡ before ++ version ∷ later
-  pub blank : All (λ line. HasTokens (lex mode.Numbered line) []) before
+  pub blank : All (λ line. HasTokens (lex mode.numbered line) []) before
   pub head : Mark
   pub others : List Mark
-  pub starts : (lex mode.Numbered version).marks ≡ head ∷ others
+  pub starts : (lex mode.numbered version).marks ≡ head ∷ others
   pub is_word : is_version head.kind head.word ≡ true
 
 -- it is refused at its version line, or by its later lines
 abbrev pub RefusesTyped : (number : ℕ) (lines : List (List ℕ)) → HasVersionLine lines → SchemaRefusal → Type 0
 RefusesTyped number lines text e =
-    RefusesVersion (length text.before + number) (text.head.column + length text.head.word) text.others
-    (lex mode.Numbered text.version).stop e
+    RefusesVersion (length text.before + number) (text.head.column + text.head.length) text.others
+    (lex mode.numbered text.version).stop e
     ⊎ (IsVersionLine text.version
     × RefusesLines format.Typed (length text.before + number + 1) no_declaration text.later e)
 

@@ -1,9 +1,9 @@
 -- A set of attributes as a text of its own, as the right side of a goal: what it means, how it is
 -- refused and how it is read. For `read_set` and the command `basis` (`desk_cli/Inputs`).
-use Rattle.std.specs.Prelude.{◌≡◌, ◌⊎◌, ℕ, zero, suc, List, [], length, Option, Some, None, Result, Ok, Err, slice_get}
+use Rattle.std.specs.Prelude.{◌≡◌, ◌⊎◌, ℕ, zero, suc, false, List, [], length, Option, Some, None, Result, Ok, Err, slice_get}
 use Rattle.attr_sets.specs.Attributes.{Attributes, none}
 use Rattle.dep_model.specs.Dependencies.{right_of}
-use Rattle.lexer.specs.declared.token.Mode.TheVariants as mode
+use Rattle.lexer.specs.Modes as mode
 use Rattle.lexer.specs.declared.token.LexError.{LexError}
 use Rattle.lexer.specs.declared.token.TokenKind.{TokenKind}
 use Rattle.lexer.specs.declared.token.TokenKind.TheVariants as token
@@ -18,12 +18,13 @@ use Rattle.schema_grammar.specs.Diagnostics.{DiagnosesOfWord, IsFirst, AtFirst, 
 use Rattle.schema_grammar.specs.Grammar.{after_sign}
 use Rattle.schema_grammar.specs.Meanings.{HasTokens, IsSide}
 use Rattle.schema_grammar.specs.Reading.{follow_rest}
+use Rattle.schema_grammar.specs.Words.{is_word_token}
 use Rattle.schema_grammar.specs.Rests.{◌>>=◌, rest_from}
 
 -- a text over declared names means a set of attributes: it is a side
 pub record MeansSet (declared : List (List ℕ)) (text : List ℕ) (x : Attributes) : Type 0 where
   pub marks : List Mark
-  pub tokens : HasTokens (lex mode.Goal text) marks
+  pub tokens : HasTokens (lex mode.goal text) marks
   pub side : IsSide format.Plain declared marks x
 
 -- tokens begin with `()`
@@ -32,11 +33,11 @@ pub record BeginsEmpty (ms : List Mark) : Type 0 where
   pub there : slice_get ms 0 ≡ Some first
   pub is_empty : first.kind ≡ token.Empty
 
--- a side can't have a token of this kind here: first only a word or `()`, and later only a word that
--- comes after words
+-- a side can't have a token of this kind here: first only a word, a quoted name or `()`, and later only
+-- a word or quoted name that comes after such
 abbrev pub IsOutOfPlace : List Mark → ℕ → TokenKind → Type 0
-IsOutOfPlace ms zero k = (k ≡ token.Identifier → ⊥) × (k ≡ token.Empty → ⊥)
-IsOutOfPlace ms (suc position) k = (k ≡ token.Identifier → ⊥) ⊎ BeginsEmpty ms
+IsOutOfPlace ms zero k = (is_word_token k ≡ false) × (k ≡ token.Empty → ⊥)
+IsOutOfPlace ms (suc position) k = (is_word_token k ≡ false) ⊎ BeginsEmpty ms
 
 -- what is wrong with the tokens of a side at a position, before which so many tokens stand: a token, the
 -- line's end where no token stands, or bytes that are no token
@@ -49,7 +50,7 @@ SideDiagnostic declared ms stop position why =
 
 -- what is wrong with a set over declared names
 abbrev pub SetDiagnostic : List (List ℕ) → List ℕ → ℕ → DiagnosticKind → Type 0
-SetDiagnostic declared text = SideDiagnostic declared (lex mode.Goal text).marks (lex mode.Goal text).stop
+SetDiagnostic declared text = SideDiagnostic declared (lex mode.goal text).marks (lex mode.goal text).stop
 
 -- a side is wanted first, and then the line's end
 abbrev pub SetWants : ℕ → What → Type 0
@@ -59,7 +60,7 @@ SetWants = AtFirst what.Side
 abbrev pub RefusesSet : List (List ℕ) → List ℕ → SchemaRefusal → Type 0
 RefusesSet declared text e =
     IsFirst (SetDiagnostic declared text) SetWants
-    (span_at 1 1 (lex mode.Goal text).marks (lex mode.Goal text).stop) e
+    (span_at 1 1 (lex mode.goal text).marks (lex mode.goal text).stop) e
 
 -- a set is refused by the first diagnostic, and read where there is none
 abbrev pub FitsSet : List (List ℕ) → List ℕ → Result Attributes SchemaRefusal → Type 0
@@ -70,5 +71,5 @@ FitsSet declared text (Err e) = RefusesSet declared text e
 -- the set that a text states over declared names, or its refusal: it is read as what follows `() ->`
 abbrev pub read_set : List (List ℕ) → List ℕ → Result Attributes SchemaRefusal
 read_set declared text =
-    follow_rest format.Plain declared (after_sign sign.Functional none) (rest_from 1 1 (lex mode.Goal text))
+    follow_rest format.Plain declared (after_sign sign.Functional none) (rest_from 1 1 (lex mode.goal text))
     >>= (λ d. Ok (right_of d))

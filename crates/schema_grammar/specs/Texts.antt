@@ -4,7 +4,7 @@ use Rattle.std.specs.Prelude.{ℕ, ◌+◌, ◌-◌, ◌==◌, Bool, false, if�
 use Rattle.std.specs.Str.{bytes_eq}
 use Rattle.dep_model.specs.declared.schema.Schema.{Schema}
 use Rattle.dep_model.specs.Schemas.{names_of, types_of, theory_of, lines_of}
-use Rattle.lexer.specs.declared.token.Mode.TheVariants as mode
+use Rattle.lexer.specs.Modes as mode
 use Rattle.lexer.specs.declared.token.LexError.{LexError}
 use Rattle.lexer.specs.declared.token.TokenKind.{TokenKind}
 use Rattle.lexer.specs.declared.token.TokenKind.TheVariants as token
@@ -39,7 +39,7 @@ abbrev pub version_number : Mark → Rest → Option ℕ → Result Declarations
 version_number m r None = Err (refusal_of_token what.Number m r)
 version_number m r (Some n) =
     if n == VERSION then unless (refusal_at_end r) no_declaration
-    else Err (refusal r.line m.column (length m.word) kind.UnknownVersion)
+    else Err (refusal r.line m.column m.length kind.UnknownVersion)
 
 -- what stands after the word `version` in its line
 unfoldable pub read_version : Rest → Result Declarations SchemaRefusal
@@ -52,6 +52,7 @@ read_typed lines r = read_version r >>= (λ d. read_lines format.Typed (r.line +
 -- whether the first token of a text makes its line a version line
 unfoldable pub is_version : TokenKind → List ℕ → Bool
 is_version token.Identifier word = bytes_eq word (codes "version")
+is_version token.Quoted word = false
 is_version (token.Number n) word = false
 is_version token.Arrow word = false
 is_version token.DoubleArrow word = false
@@ -66,15 +67,15 @@ opening_from number line lines later [] None = later
 opening_from number line lines later [] (Some stop) = read_lines format.Plain number no_declaration (line ∷ lines)
 opening_from number line lines later (m ∷ ms) stop =
     if is_version m.kind m.word
-    then read_typed lines (record { line = number; next_column = m.column + length m.word; marks = ms; stop = stop })
+    then read_typed lines (record { line = number; next_column = m.column + m.length; marks = ms; stop = stop })
     else read_lines format.Plain number no_declaration (line ∷ lines)
 
 -- what the lines of a text declare from its first token on
 unfoldable pub read_opening : ℕ → List (List ℕ) → Result Declarations SchemaRefusal
 read_opening number [] = finish (number - 1) no_declaration
 read_opening number (line ∷ lines) =
-    opening_from number line lines (read_opening (number + 1) lines) (lex mode.Numbered line).marks
-    (lex mode.Numbered line).stop
+    opening_from number line lines (read_opening (number + 1) lines) (lex mode.numbered line).marks
+    (lex mode.numbered line).stop
 
 -- what a schema text declares, or its refusal
 unfoldable pub read_text : List ℕ → Result Declarations SchemaRefusal

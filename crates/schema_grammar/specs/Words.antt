@@ -1,6 +1,6 @@
 -- Reserved words, declaring words and the attributes that words name: for the grammars of schemas,
 -- plans and certificates.
-use Rattle.std.specs.Prelude.{ℕ, Bool, ◌||◌, List, Option, Some, None, Result, Ok, Err, codes, if◌then◌else◌}
+use Rattle.std.specs.Prelude.{ℕ, Bool, true, false, ◌||◌, List, Option, Some, None, Result, Ok, Err, codes, if◌then◌else◌}
 use Rattle.std.specs.Str.{bytes_eq}
 use Rattle.dep_model.specs.declared.column_type.ColumnType.{ColumnType}
 use Rattle.dep_model.specs.declared.column_type.ColumnType.TheVariants.{Text, Integer}
@@ -24,14 +24,25 @@ unfoldable pub is_reserved : Format → List ℕ → Bool
 is_reserved format.Plain word = is_common_word word
 is_reserved format.Typed word = is_common_word word || is_type_name word
 
+-- a token that may stand for a name: a word, or a name between quotes
+abbrev pub is_word_token : TokenKind → Bool
+is_word_token token.Identifier = true
+is_word_token token.Quoted = true
+is_word_token _ = false
+
+-- a token is a reserved word, which no quoted name is
+abbrev pub is_reserved_token : Format → TokenKind → List ℕ → Bool
+is_reserved_token f token.Identifier word = is_reserved f word
+is_reserved_token f _ word = false
+
 abbrev pub known_attribute : Option ℕ → Result ℕ SchemaRefusalKind
 known_attribute (Some attribute) = Ok attribute
 known_attribute None = Err kind.UnknownName
 
--- the attribute that a word of a side stands for
-unfoldable pub look_up : Format → List (List ℕ) → List ℕ → Result ℕ SchemaRefusalKind
-look_up f declared word =
-    if is_reserved f word then Err kind.ReservedName else known_attribute (attribute_named declared word)
+-- the attribute that a word of a side, or a quoted name, stands for
+unfoldable pub look_up : Format → List (List ℕ) → TokenKind → List ℕ → Result ℕ SchemaRefusalKind
+look_up f declared k word =
+    if is_reserved_token f k word then Err kind.ReservedName else known_attribute (attribute_named declared word)
 
 -- the type of the columns that a declaring word declares; it is in lower case
 unfoldable pub column_type_of_word : Format → List ℕ → Option ColumnType
@@ -45,6 +56,7 @@ column_type_of_word format.Typed word =
 -- the same of the first token of a line
 unfoldable pub column_type_of_token : Format → TokenKind → List ℕ → Option ColumnType
 column_type_of_token f token.Identifier word = column_type_of_word f word
+column_type_of_token f token.Quoted word = None
 column_type_of_token f (token.Number n) word = None
 column_type_of_token f token.Arrow word = None
 column_type_of_token f token.DoubleArrow word = None

@@ -22,7 +22,7 @@ follow_stopped f names reading r e stopped = rw (stopped.marks, stopped.stop, st
 
 pub follow_refused : (f : Format) (names : List (List ℕ)) (reading : Reached) (r : Rest) (m : Mark) (after : Rest) (why : SchemaRefusalKind)
     → IsLed r m after → step f names reading m.kind m.word ≡ Err why
-    → follow_rest f names reading r ≡ Err (refusal r.line m.column (length m.word) why)
+    → follow_rest f names reading r ≡ Err (refusal r.line m.column m.length why)
 unfolding follow
 follow_refused f names reading r m after why led refused = rw (led.marks, refused) refl
 

@@ -1,7 +1,7 @@
 -- A line is read by what comes next on it: the names after a declaring word, or a dependency.
 use Rattle.std.proofs.Common.{◌≡◌, ℕ, Bool, true, false, List, length, Some, None, Ok, Err, ap, refl, sym}
 use Rattle.dep_model.specs.declared.column_type.ColumnType.{ColumnType}
-use Rattle.lexer.specs.declared.token.Mode.TheVariants as mode
+use Rattle.lexer.specs.Modes as mode
 use Rattle.lexer.specs.Tokens.{Mark, lex}
 use Rattle.schema_grammar.specs.declared.format.Format.{Format}
 use Rattle.schema_grammar.specs.declared.refusal.SchemaRefusal.{SchemaRefusal}
@@ -19,7 +19,7 @@ use Rattle.tokens.specs.Views.{HasEnded, IsStopped, IsLed}
 abbrev pub line_rest : Format → Declarations → Rest → Result Declarations SchemaRefusal
 line_rest f d r = line_of_marks f r.line d r.marks r.stop
 
-pub line_whole : (f : Format) (line : ℕ) (d : Declarations) (text : List ℕ) (r : Rest) → r ≡ rest_from line 1 (lex mode.Plain text)
+pub line_whole : (f : Format) (line : ℕ) (d : Declarations) (text : List ℕ) (r : Rest) → r ≡ rest_from line 1 (lex mode.plain text)
     → read_line f line d text ≡ line_rest f d r
 unfolding read_line
 line_whole f line d text r whole = ap (line_rest f d) (sym whole)
@@ -57,7 +57,7 @@ names_stopped f column d false r e stopped = rw (stopped.marks, stopped.stop, st
 
 pub names_refused : (f : Format) (column : ColumnType) (d : Declarations) (some : Bool) (r : Rest) (m : Mark) (after : Rest) (why : SchemaRefusalKind)
     → IsLed r m after → name_step f column d some m.kind m.word ≡ Err why
-    → list_names_rest f column d some r ≡ Err (refusal r.line m.column (length m.word) why)
+    → list_names_rest f column d some r ≡ Err (refusal r.line m.column m.length why)
 unfolding list_names
 names_refused f column d true r m after why led refused = rw (led.marks, refused) refl
 names_refused f column d false r m after why led refused = rw (led.marks, refused) refl

@@ -2,7 +2,7 @@
 -- comes next on it.
 use Rattle.std.proofs.Common.{◌≡◌, ◌<◌, ◌≤◌, ◌+◌, ◌^◌, ℕ, true, false, List, [], ◌∷◌, length, Result, ap, sym, refl, arith}
 use Rattle.attr_sets.specs.declared.set.TheConstants.{MOST_ATTRIBUTES}
-use Rattle.lexer.specs.declared.token.Mode.TheVariants as mode
+use Rattle.lexer.specs.Modes as mode
 use Rattle.lexer.specs.Lines.{line_texts}
 use Rattle.lexer.specs.Tokens.{Mark, lex}
 use Rattle.schema_grammar.proofs.SoundLemmas.{IsSound}
@@ -32,7 +32,7 @@ abbrev pub opening_rest : List ℕ → List (List ℕ) → Rest → Result Decla
 opening_rest line lines r = opening_from r.line line lines (read_opening (r.line + 1) lines) r.marks r.stop
 
 pub opening_whole_line : (number : ℕ) (text line : List ℕ) (lines : List (List ℕ)) (r : Rest) → line_texts text ≡ line ∷ lines
-    → r ≡ rest_from number 1 (lex mode.Numbered line) → read_opening number (line_texts text) ≡ opening_rest line lines r
+    → r ≡ rest_from number 1 (lex mode.numbered line) → read_opening number (line_texts text) ≡ opening_rest line lines r
 unfolding read_opening
 opening_whole_line number text line lines r cut whole = rw cut (ap (opening_rest line lines) (sym whole))
 

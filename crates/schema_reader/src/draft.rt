@@ -2,6 +2,8 @@ ghost use Rattle.std.specs.Prelude.{◌≡◌, ◌+◌, ◌<◌, ◌≤◌, ◌^
 ghost use Rattle.dep_model.specs.Deps.{dependency_of};
 ghost use Rattle.dep_model.specs.Names.{is_bare_name};
 ghost use Rattle.schema_reader.specs.Views.{reached_of};
+ghost use Rattle.lexer.specs.Quotes.{is_name};
+ghost use Rattle.lexer.specs.Tokens.{bytes_of};
 ghost use Rattle.schema_grammar.specs.Refusals.{Refuses};
 
 use crate::goal::{follow, step};
@@ -9,12 +11,10 @@ use crate::stage::Stage;
 use crate::words::column_type_of_token;
 use attr_sets::MOST_ATTRIBUTES;
 use dep_model::{ColumnType, Dep, Failure, Name, OutOfMemory};
-use lexer::{Mode, Token, TokenKind};
-use schema_grammar::{
-    Format, MOST_DEPENDENCY_LINES, SchemaRefusal, SchemaRefusalKind, What,
-};
+use lexer::{Mode, Token, TokenKind, Word};
+use schema_grammar::{Format, MOST_DEPENDENCY_LINES, SchemaRefusal, SchemaRefusalKind, What};
 use std::alloc::Global;
-use tokens::{Cursor, Names, NextToken, is_reserved, position_among};
+use tokens::{Cursor, Names, NextToken, is_reserved_token, position_among};
 
 /// What a schema text declares, as far as it is read.
 #[derive(Drop)]
@@ -56,14 +56,14 @@ impl Draft {
             (λ failure. Refuses failure (read_line format line
             (declarations_of_draft self.old) text.now)) }
     {
-        let start = Cursor::start(line, Mode::Plain, text);
+        let start = Cursor::start(line, Mode::PLAIN, text);
         match start.next() {
             NextToken::End => Ok(()),
             NextToken::Refusal(refusal) => Err(Failure::Refused(refusal)),
             NextToken::Token(token, word, rest) => {
-                match column_type_of_token(format, token.kind, word) {
+                match column_type_of_token(format, token.kind, &word) {
                     Some(column) => self.list_names(format, column, rest),
-                    None => self.read_dependency(format, token, word, rest),
+                    None => self.read_dependency(format, token, &word, rest),
                 }
             }
         }
@@ -95,7 +95,7 @@ impl Draft {
                 }
                 NextToken::Refusal(refusal) => return Err(Failure::Refused(refusal)),
                 NextToken::Token(token, word, after) => {
-                    match self.name_step(format, column, some, token.kind, word) {
+                    match self.name_step(format, column, some, token.kind, &word) {
                         Err(Failure::Refused(kind)) => {
                             return Err(Failure::Refused(rest.refusal_of(token, kind)));
                         }
@@ -117,18 +117,21 @@ impl Draft {
         column: ColumnType,
         some: bool,
         kind: TokenKind,
-        word: &[u8],
+        word: &Word<'_>,
     ) -> Result<(), Failure<SchemaRefusalKind>>
-        requires { kind ≡ TokenKind.Identifier → is_bare_name word.now ≡ true }
+        requires bare { kind ≡ TokenKind.Identifier → is_bare_name (bytes_of word.now) ≡ true }
+        requires name { kind ≡ TokenKind.Quoted → is_name (bytes_of word.now) ≡ true }
         ensures ok { OnOk result (name_step format column
-            (declarations_of_draft self.old) some kind word.now
+            (declarations_of_draft self.old) some kind (bytes_of word.now)
             ≡ Ok (declarations_of_draft self.new)) }
         ensures err { IfErr result
             (λ failure. Refuses failure (name_step format column
-            (declarations_of_draft self.old) some kind word.now)) }
+            (declarations_of_draft self.old) some kind (bytes_of word.now))) }
     {
         match kind {
-            TokenKind::Identifier => self.declare(format, column, word),
+            TokenKind::Identifier | TokenKind::Quoted => {
+                self.declare(format, column, kind, word.bytes())
+            }
             _ => {
                 let want = if some { What::LineEnd } else { What::Name };
                 Err(Failure::Refused(SchemaRefusalKind::Expected(want)))
@@ -136,22 +139,23 @@ impl Draft {
         }
     }
 
-    /// Declares a name.
+    /// Declares the name that a word or a quoted name is.
     #[tactic(auto, unfolding(schema_grammar::specs::Declarations::declare))]
     fn declare(
         &mut self,
         format: Format,
         column: ColumnType,
+        kind: TokenKind,
         word: &[u8],
     ) -> Result<(), Failure<SchemaRefusalKind>>
-        requires { is_bare_name word.now ≡ true }
-        ensures ok { OnOk result (declare format column (declarations_of_draft self.old) word.now
+        requires { is_name word.now ≡ true }
+        ensures ok { OnOk result (declare format column (declarations_of_draft self.old) kind word.now
             ≡ Ok (declarations_of_draft self.new)) }
         ensures err { IfErr result
             (λ failure. Refuses failure (declare format column
-            (declarations_of_draft self.old) word.now)) }
+            (declarations_of_draft self.old) kind word.now)) }
     {
-        if is_reserved(format, word) {
+        if is_reserved_token(format, kind, word) {
             return Err(Failure::Refused(SchemaRefusalKind::ReservedName));
         }
         if position_among(&self.names, word).is_some() {
@@ -178,17 +182,16 @@ impl Draft {
         &mut self,
         format: Format,
         token: Token,
-        word: &[u8],
+        word: &Word<'_>,
         rest: Cursor<'_>,
     ) -> Result<(), Failure<SchemaRefusal>>
         requires within_limit { length (declarations_of_draft self.old).names ≤ MOST_ATTRIBUTES }
-        requires word { token.length ≡ length word.now }
         requires follows { (rest_of rest).next_column ≡ token.column + token.length }
         ensures ok { OnOk result
-            (dependency_rest format (declarations_of_draft self.old) (mark_of token word.now)
+            (dependency_rest format (declarations_of_draft self.old) (mark_of token (bytes_of word.now))
             (rest_of rest.entry) ≡ Ok (declarations_of_draft self.new)) }
         ensures err { IfErr result (λ failure. Refuses failure
-            (dependency_rest format (declarations_of_draft self.old) (mark_of token word.now)
+            (dependency_rest format (declarations_of_draft self.old) (mark_of token (bytes_of word.now))
             (rest_of rest.entry))) }
     {
         let stage = match self.begin(format, token.kind, word) {
@@ -211,13 +214,13 @@ impl Draft {
         &self,
         format: Format,
         kind: TokenKind,
-        word: &[u8],
+        word: &Word<'_>,
     ) -> Result<Stage, SchemaRefusalKind>
         requires { length (declarations_of_draft self.now).names ≤ MOST_ATTRIBUTES }
         ensures ok { IfOk result
-            (λ stage. begin format (declarations_of_draft self.now) kind word.now
+            (λ stage. begin format (declarations_of_draft self.now) kind (bytes_of word.now)
             ≡ Ok (reached_of stage)) }
-        ensures err { IfErr result (λ why. begin format (declarations_of_draft self.now) kind word.now
+        ensures err { IfErr result (λ why. begin format (declarations_of_draft self.now) kind (bytes_of word.now)
             ≡ Err why) }
     {
         let stage = step(
@@ -243,9 +246,9 @@ impl Draft {
     }
 }
 
-/// The name that a word is.
+/// The name that the bytes are.
 fn name_of_word(word: &[u8]) -> Name
-    requires { is_bare_name word.now ≡ true }
+    requires { is_name word.now ≡ true }
     ensures name { result ≡ word.now }
 {
     Name::new(word).unwrap()

@@ -2,6 +2,7 @@ ghost use Rattle.std.specs.Prelude.{◌≡◌, ◌+◌, ◌<◌, ◌≤◌, ◌^
 ghost use Rattle.attr_sets.specs.Attributes.{below};
 ghost use Rattle.dep_model.specs.Deps.{dependency_of, IsDepWithin};
 ghost use Rattle.dep_model.specs.Schemas.{names_of, universe_of};
+ghost use Rattle.lexer.specs.Tokens.{bytes_of};
 ghost use Rattle.schema_grammar.specs.Grammar.{finish_dependency, IsInRange};
 ghost use Rattle.schema_reader.specs.Views.{reached_of};
 ghost use Rattle.tokens.specs.Views.{names_in, rest_of};
@@ -13,7 +14,7 @@ ghost use Rattle.schema_grammar.specs.Refusals.{at, expect};
 use crate::stage::{Stage, advance, finish};
 use attr_sets::MOST_ATTRIBUTES;
 use dep_model::{Dep, Schema};
-use lexer::{Mode, TokenKind};
+use lexer::{Mode, TokenKind, Word};
 use schema_grammar::{Format, SchemaRefusal, SchemaRefusalKind, Sign, Symbol};
 use tokens::{Cursor, Names, NextToken, look_up};
 
@@ -28,7 +29,7 @@ pub fn read_goal(schema: &Schema, text: &[u8]) -> Result<Dep, SchemaRefusal>
     ensures err { IfErr result (RefusesGoal (names_of schema.now) text.now) }
     ensures within { IfOk result (IsDepWithin (universe_of schema.now)) }
 {
-    let start = Cursor::start(1, Mode::Goal, text);
+    let start = Cursor::start(1, Mode::GOAL, text);
     follow(&Names::Of(schema), Format::Plain, Stage::Start, start)
 }
 
@@ -52,7 +53,7 @@ pub fn follow(
             NextToken::End => return end_line(rest, stage),
             NextToken::Refusal(refusal) => return Err(refusal),
             NextToken::Token(token, word, after) => {
-                match step(names, format, stage, token.kind, word) {
+                match step(names, format, stage, token.kind, &word) {
                     Err(kind) => return Err(rest.refusal_of(token, kind)),
                     Ok(next) => {
                         stage = next;
@@ -86,14 +87,14 @@ pub fn step(
     format: Format,
     stage: Stage,
     kind: TokenKind,
-    word: &[u8],
+    word: &Word<'_>,
 ) -> Result<Stage, SchemaRefusalKind>
     requires { length (names_in names.now) ≤ MOST_ATTRIBUTES }
     ensures ok { IfOk result
-        (λ next. step format (names_in names.now) (reached_of stage) kind word.now
+        (λ next. step format (names_in names.now) (reached_of stage) kind (bytes_of word.now)
         ≡ Ok (reached_of next)) }
     ensures err { IfErr result
-        (λ why. step format (names_in names.now) (reached_of stage) kind word.now ≡ Err why) }
+        (λ why. step format (names_in names.now) (reached_of stage) kind (bytes_of word.now) ≡ Err why) }
 {
     let symbol = symbol_of(names, format, kind, word)?;
     match advance(stage, symbol) {
@@ -107,14 +108,16 @@ fn symbol_of(
     names: &Names<'_>,
     format: Format,
     kind: TokenKind,
-    word: &[u8],
+    word: &Word<'_>,
 ) -> Result<Symbol, SchemaRefusalKind>
     requires { length (names_in names.now) ≤ MOST_ATTRIBUTES }
-    ensures exact { result ≡ symbol_of format (names_in names.now) kind word.now }
+    ensures exact { result ≡ symbol_of format (names_in names.now) kind (bytes_of word.now) }
     ensures in_range { IfOk result IsInRange }
 {
     match kind {
-        TokenKind::Identifier => Ok(Symbol::Attribute(look_up(names, format, word)?)),
+        TokenKind::Identifier | TokenKind::Quoted => {
+            Ok(Symbol::Attribute(look_up(names, format, kind, word)?))
+        }
         TokenKind::Arrow => Ok(Symbol::Arrow(Sign::Functional)),
         TokenKind::DoubleArrow => Ok(Symbol::Arrow(Sign::Multivalued)),
         TokenKind::Empty => Ok(Symbol::Empty),

@@ -23,7 +23,7 @@ pub fn read_set(schema: &Schema, text: &[u8]) -> Result<AttrSet, SchemaRefusal>
     ensures err { IfErr result (RefusesSet (names_of schema.now) text.now) }
     ensures within { IfOk result (λ set. IsSubset (attributes set) (universe_of schema.now)) }
 {
-    let start = Cursor::start(1, Mode::Goal, text);
+    let start = Cursor::start(1, Mode::GOAL, text);
     match follow(&Names::Of(schema), Format::Plain, after_arrow(), start) {
         Ok(dep) => {
             let (_, set) = sides(dep);

@@ -1,6 +1,7 @@
 ghost use Rattle.std.specs.Prelude.{All, false, ◌≡◌, ◌+◌, ◌<◌, ◌≤◌, ◌^◌, length, OnOk, IfOk, IfErr, Ok, Err};
 ghost use Rattle.dep_model.specs.Failures.{RefusesAs};
 ghost use Rattle.dep_model.specs.Schemas.{names_of};
+ghost use Rattle.lexer.specs.Tokens.{bytes_of};
 ghost use Rattle.schema_grammar.specs.Words.{is_reserved};
 ghost use Rattle.lexer.specs.Lines.{line_texts, lines_after};
 ghost use Rattle.tokens.specs.Views.{rest_of};
@@ -12,7 +13,7 @@ ghost use Rattle.schema_grammar.specs.Texts.{finish, is_version, read_lines, rea
 
 use crate::draft::Draft;
 use dep_model::{Failure, Schema};
-use lexer::{Mode, TokenKind, cut_line, without_mark};
+use lexer::{Mode, TokenKind, Word, cut_line, without_mark};
 use schema_grammar::{Format, SchemaRefusal, SchemaRefusalKind, VERSION, What};
 use std::alloc::Global;
 use tokens::{Cursor, NextToken, number_in};
@@ -53,11 +54,11 @@ fn read_opening(alloc: Global, text: &[u8]) -> Result<Draft, Failure<SchemaRefus
     let mut rest = text;
     'lines: loop {
         let (line, after) = cut_line(rest);
-        let start = Cursor::start(number, Mode::Numbered, line);
+        let start = Cursor::start(number, Mode::NUMBERED, line);
         match start.next() {
             NextToken::Refusal(_) => return read_lines(alloc, Format::Plain, number, rest),
             NextToken::Token(token, word, others) => {
-                return if is_version(token.kind, word) {
+                return if is_version(token.kind, &word) {
                     read_typed(alloc, others, after)
                 } else {
                     read_lines(alloc, Format::Plain, number, rest)
@@ -102,26 +103,28 @@ fn read_version(start: Cursor<'_>) -> Result<(), SchemaRefusal>
     ensures ok { OnOk result (read_version (rest_of start.entry) ≡ Ok no_declaration) }
     ensures err { IfErr result (λ refusal. read_version (rest_of start.entry) ≡ Err refusal) }
 {
-    let (token, _, rest) = start.take(What::Number)?;
-    match number_in(token.kind) {
-        None => Err(rest.refusal_of_token(token, What::Number)),
-        Some(version) => {
-            if version == VERSION {
-                rest.end()
-            } else {
-                Err(rest.refusal_of(token, SchemaRefusalKind::UnknownVersion))
+    match start.take(What::Number) {
+        Err(refusal) => Err(refusal),
+        Ok((token, _, rest)) => match number_in(token.kind) {
+            None => Err(rest.refusal_of_token(token, What::Number)),
+            Some(version) => {
+                if version == VERSION {
+                    rest.end()
+                } else {
+                    Err(rest.refusal_of(token, SchemaRefusalKind::UnknownVersion))
+                }
             }
-        }
+        },
     }
 }
 
 /// Whether the first token of a text makes its line a version line.
 #[tactic(auto, unfolding(schema_grammar::specs::Texts::is_version))]
-fn is_version(kind: TokenKind, word: &[u8]) -> bool
-    ensures exact { result ≡ is_version kind word.now }
+fn is_version(kind: TokenKind, word: &Word<'_>) -> bool
+    ensures exact { result ≡ is_version kind (bytes_of word.now) }
 {
     match kind {
-        TokenKind::Identifier => word == b"version".as_slice(),
+        TokenKind::Identifier => word.bytes() == b"version".as_slice(),
         _ => false,
     }
 }

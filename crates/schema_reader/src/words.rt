@@ -1,17 +1,18 @@
 ghost use Rattle.std.specs.Prelude.{◌≡◌};
+ghost use Rattle.lexer.specs.Tokens.{bytes_of};
 ghost use Rattle.schema_grammar.specs.Words.{column_type_of_token, column_type_of_word};
 
 use dep_model::ColumnType;
-use lexer::TokenKind;
+use lexer::{TokenKind, Word};
 use schema_grammar::Format;
 
 /// The type of the columns that a line declares, where its first token is a declaring word.
 #[tactic(auto, unfolding(schema_grammar::specs::Words::column_type_of_token))]
-pub fn column_type_of_token(format: Format, kind: TokenKind, word: &[u8]) -> Option<ColumnType>
-    ensures exact { result ≡ column_type_of_token format kind word.now }
+pub fn column_type_of_token(format: Format, kind: TokenKind, word: &Word<'_>) -> Option<ColumnType>
+    ensures exact { result ≡ column_type_of_token format kind (bytes_of word.now) }
 {
     match kind {
-        TokenKind::Identifier => column_type_of_word(format, word),
+        TokenKind::Identifier => column_type_of_word(format, word.bytes()),
         _ => None,
     }
 }

@@ -27,13 +27,13 @@ fn check(rt: &impl Abort, line: &[u8], mode: Mode, want: u32) {
 #[test]
 fn a_line_has_its_tokens(rt: HostRuntime) -> Result<(), Fail> {
     let table: [(&[u8], Mode, u32); 7] = [
-        (b"A->>B () x_1", Mode::Plain, 5),
-        (b"12: A -> B : given 007", Mode::Numbered, 8),
-        (b"\t, # 12", Mode::Plain, 0),
-        (b"12", Mode::Plain, 101),
-        (b"A : B", Mode::Plain, 301),
-        (b"A -> 1234567890", Mode::Numbered, 601),
-        (b"A-B", Mode::Plain, 201),
+        (b"A->>B () x_1", Mode::PLAIN, 5),
+        (b"12: A -> B : given 007", Mode::NUMBERED, 8),
+        (b"\t, # 12", Mode::PLAIN, 0),
+        (b"12", Mode::PLAIN, 101),
+        (b"A : B", Mode::PLAIN, 301),
+        (b"A -> 1234567890", Mode::NUMBERED, 601),
+        (b"A-B", Mode::PLAIN, 201),
     ];
     for (line, mode, want) in table {
         check(&rt, line, mode, want);
@@ -42,7 +42,13 @@ fn a_line_has_its_tokens(rt: HostRuntime) -> Result<(), Fail> {
 }
 
 // The first token of what is left, and what is left after it.
-fn taken<'a>(rt: &impl Abort, rest: Cursor<'a>, kind: TokenKind, column: u32, length: u32) -> Cursor<'a> {
+fn taken<'a>(
+    rt: &impl Abort,
+    rest: Cursor<'a>,
+    kind: TokenKind,
+    column: u32,
+    length: u32,
+) -> Cursor<'a> {
     match rest.next() {
         NextToken::Token(token, _, after) => {
             assert!(rt; token.kind == kind);
@@ -56,7 +62,7 @@ fn taken<'a>(rt: &impl Abort, rest: Cursor<'a>, kind: TokenKind, column: u32, le
 
 #[test]
 fn tokens_stand_in_their_columns(rt: HostRuntime) -> Result<(), Fail> {
-    let rest = Cursor::start(1, Mode::Numbered, b"12: A");
+    let rest = Cursor::start(1, Mode::NUMBERED, b"12: A");
     let rest = taken(&rt, rest, TokenKind::Number(12), 1, 2);
     let rest = taken(&rt, rest, TokenKind::Colon, 3, 1);
     let rest = taken(&rt, rest, TokenKind::Identifier, 5, 1);

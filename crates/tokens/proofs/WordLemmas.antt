@@ -7,7 +7,8 @@ use Rattle.schema_grammar.specs.declared.refusal.SchemaRefusalKind.TheVariants a
 use Rattle.schema_grammar.specs.declared.refusal.What.{What}
 use Rattle.schema_grammar.specs.declared.refusal.What.TheVariants as what
 use Rattle.schema_grammar.specs.Refusals.{refusal}
-use Rattle.schema_grammar.specs.Rests.{Rest, take, refusal_at_end, refusal_of_token, is_word_token, attribute_of_word, words, words_from}
+use Rattle.schema_grammar.specs.Rests.{Rest, take, refusal_at_end, refusal_of_token, attribute_of_word, words, words_from}
+use Rattle.schema_grammar.specs.Words.{is_word_token}
 use Rattle.tokens.specs.Views.{HasEnded, IsStopped, IsLed}
 
 -- ---- a token

@@ -6,7 +6,8 @@ use Rattle.dep_model.specs.Schemas.{names_of}
 use Rattle.lexer.specs.declared.token.LexError.{LexError}
 use Rattle.lexer.specs.declared.token.Token.{Token}
 use Rattle.lexer.specs.declared.token.TokenKind.TheVariants as token
-use Rattle.lexer.specs.Tokens.{Mark, tokens_after}
+use Rattle.lexer.specs.Quotes.{is_name}
+use Rattle.lexer.specs.Tokens.{Mark, tokens_after, bytes_of}
 use Rattle.schema_grammar.specs.declared.refusal.SchemaRefusal.{SchemaRefusal}
 use Rattle.schema_grammar.specs.Declarations.{mark_of}
 use Rattle.schema_grammar.specs.Refusals.{refused_by}
@@ -48,17 +49,17 @@ pub record IsLed (r : Rest) (m : Mark) (after : Rest) : Type 0 where
   pub marks : r.marks ≡ m ∷ after.marks
   pub stop : r.stop ≡ after.stop
   pub line : after.line ≡ r.line
-  pub column : after.next_column ≡ m.column + length m.word
+  pub column : after.next_column ≡ m.column + m.length
 
--- the same of a cursor; where the token is a word, its bytes form one
+-- the same of a cursor; the bytes of a word form one, and those of a quoted name
 pub record Takes (c : Cursor) (t : Token) (word : List ℕ) (after : Cursor) : Type 0 where
   pub led : IsLed (rest_of c) (mark_of t word) (rest_of after)
-  pub same_length : t.length ≡ length word
   pub is_a_word : t.kind ≡ token.Identifier → is_bare_name word ≡ true
+  pub is_a_name : t.kind ≡ token.Quoted → is_name word ≡ true
   pub shorter : bytes_left after < bytes_left c
 
 -- what comes next on a line
 abbrev pub ComesNext : Cursor → NextToken → Type 0
 ComesNext c next.End = HasEnded (rest_of c)
-ComesNext c (next.Token t word after) = Takes c t word.now after
+ComesNext c (next.Token t word after) = Takes c t (bytes_of word) after
 ComesNext c (next.Refusal e) = IsStopped (rest_of c) e

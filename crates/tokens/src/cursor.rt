@@ -1,7 +1,7 @@
 ghost use Rattle.std.specs.Prelude.{◌≡◌, ◌+◌, ◌<◌, ◌≤◌, ◌^◌, length, OnOk, IfOk, IfErr, Ok, Err, Some, None};
 ghost use Rattle.attr_sets.specs.Attributes.{below, IsSubset};
 ghost use Rattle.attr_sets.specs.Sets.{attributes};
-ghost use Rattle.lexer.specs.Tokens.{lex};
+ghost use Rattle.lexer.specs.Tokens.{lex, bytes_of};
 ghost use Rattle.schema_grammar.specs.Declarations.{mark_of};
 ghost use Rattle.schema_grammar.specs.Refusals.{refusal};
 ghost use Rattle.schema_grammar.specs.Rests.{rest_from};
@@ -9,7 +9,7 @@ ghost use Rattle.schema_grammar.specs.Rests.{rest_from};
 use crate::names::{Names, attribute_of_word};
 use crate::tokens::{arrow_in, is_word, number_in};
 use attr_sets::{AttrSet, MOST_ATTRIBUTES};
-use lexer::{Mode, Next, Token, TokenKind, next_token};
+use lexer::{Mode, Next, Token, TokenKind, Word, next_token};
 use schema_grammar::{SchemaRefusal, SchemaRefusalKind, Sign, What};
 
 /// What is left of a line, from a column on.
@@ -27,8 +27,8 @@ pub struct Cursor<'a> {
 pub enum NextToken<'a> {
     /// No token: the line ends, but for blanks and a comment.
     End,
-    /// A token, its bytes, and what is left after it.
-    Token(Token, &'a [u8], Cursor<'a>),
+    /// A token, the bytes that it stands for, and what is left after it.
+    Token(Token, Word<'a>, Cursor<'a>),
     /// Bytes that are no token.
     Refusal(SchemaRefusal),
 }
@@ -79,11 +79,10 @@ impl<'a> Cursor<'a> {
         }
     }
 
-    /// The next token, its bytes, and what stands after it; `want` is what the line wants there.
-    pub fn take(self, want: What) -> Result<(Token, &'a [u8], Cursor<'a>), SchemaRefusal>
+    /// The next token, its word, and what stands after it; `want` is what the line wants there.
+    pub fn take(self, want: What) -> Result<(Token, Word<'a>, Cursor<'a>), SchemaRefusal>
         ensures ok { IfOk result (λ x.
-            take want (rest_of self.entry) ≡ Ok (mark_of x.0 x.1.now, rest_of x.2)) }
-        ensures length { IfOk result (λ x. x.0.length ≡ length x.1.now) }
+            take want (rest_of self.entry) ≡ Ok (mark_of x.0 (bytes_of x.1), rest_of x.2)) }
         ensures err { IfErr result (λ e. take want (rest_of self.entry) ≡ Err e) }
     {
         match self.next() {
@@ -125,10 +124,12 @@ impl<'a> Cursor<'a> {
         ensures ok { IfOk result (λ x. number (rest_of self.entry) ≡ Ok (x.0, rest_of x.1)) }
         ensures err { IfErr result (λ e. number (rest_of self.entry) ≡ Err e) }
     {
-        let (token, _, rest) = self.take(What::Number)?;
-        match number_in(token.kind) {
-            Some(number) => Ok((number, rest)),
-            None => Err(rest.refusal_of_token(token, What::Number)),
+        match self.take(What::Number) {
+            Err(refusal) => Err(refusal),
+            Ok((token, _, rest)) => match number_in(token.kind) {
+                Some(number) => Ok((number, rest)),
+                None => Err(rest.refusal_of_token(token, What::Number)),
+            },
         }
     }
 
@@ -138,10 +139,12 @@ impl<'a> Cursor<'a> {
         ensures ok { IfOk result (λ x. arrow (rest_of self.entry) ≡ Ok (x.0, rest_of x.1)) }
         ensures err { IfErr result (λ e. arrow (rest_of self.entry) ≡ Err e) }
     {
-        let (token, _, rest) = self.take(What::Arrow)?;
-        match arrow_in(token.kind) {
-            Some(arrow) => Ok((arrow, rest)),
-            None => Err(rest.refusal_of_token(token, What::Arrow)),
+        match self.take(What::Arrow) {
+            Err(refusal) => Err(refusal),
+            Ok((token, _, rest)) => match arrow_in(token.kind) {
+                Some(arrow) => Ok((arrow, rest)),
+                None => Err(rest.refusal_of_token(token, What::Arrow)),
+            },
         }
     }
 
@@ -157,7 +160,7 @@ impl<'a> Cursor<'a> {
         }
     }
 
-    /// A side: words, or `()`. What stands after it is the reader's next question.
+    /// A side: words and quoted names, or `()`. What stands after it is the reader's next question.
     #[tactic(auto, unfolding(schema_grammar::specs::Rests::side))]
     pub fn side(self, names: &Names<'_>) -> Result<(AttrSet, Cursor<'a>), SchemaRefusal>
         requires within_limit { length (names_in names.now) ≤ MOST_ATTRIBUTES }
@@ -167,14 +170,16 @@ impl<'a> Cursor<'a> {
             (names_in names.now)))) }
         ensures err { IfErr result (λ e. side (names_in names.now) (rest_of self.entry) ≡ Err e) }
     {
-        let (token, word, rest) = self.take(What::Side)?;
-        match token.kind {
-            TokenKind::Identifier => {
-                let first = attribute_of_word(names, rest.line(), token, word)?;
-                rest.words(names, AttrSet::single(first))
-            }
-            TokenKind::Empty => Ok((AttrSet::empty(), rest)),
-            _ => Err(rest.refusal_of_token(token, What::Side)),
+        match self.take(What::Side) {
+            Err(refusal) => Err(refusal),
+            Ok((token, word, rest)) => match token.kind {
+                TokenKind::Identifier | TokenKind::Quoted => {
+                    let first = attribute_of_word(names, rest.line(), token, &word)?;
+                    rest.words(names, AttrSet::single(first))
+                }
+                TokenKind::Empty => Ok((AttrSet::empty(), rest)),
+                _ => Err(rest.refusal_of_token(token, What::Side)),
+            },
         }
     }
 
@@ -200,7 +205,7 @@ impl<'a> Cursor<'a> {
                     if !is_word(token.kind) {
                         return Ok((set, rest));
                     }
-                    match attribute_of_word(names, rest.line(), token, word) {
+                    match attribute_of_word(names, rest.line(), token, &word) {
                         Err(refusal) => return Err(refusal),
                         Ok(attribute) => {
                             set = set.with(attribute);

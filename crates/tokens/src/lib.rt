@@ -2,7 +2,7 @@
 //!
 //! A `Cursor` is what is left of a line. `next` says what comes next; the other calls take a token, a
 //! number, an arrow, a side or the line's end, or refuse the line at its place, by what it wants there.
-//! `look_up` gives the attribute that a word of a side stands for.
+//! `look_up` gives the attribute that a word of a side, or a quoted name, stands for.
 #![tactic(auto)]
 
 mod cursor;
@@ -12,5 +12,7 @@ mod tokens;
 
 pub use cursor::{Cursor, NextToken};
 pub use guide::Guide;
-pub use names::{Names, attribute_of_word, is_reserved, look_up, position_among};
+pub use names::{
+    Names, attribute_of_word, is_reserved, is_reserved_token, look_up, position_among,
+};
 pub use tokens::number_in;

@@ -3,13 +3,14 @@ ghost use Rattle.std.specs.Str.{str_to_ascii_lowercase};
 ghost use Rattle.dep_model.specs.Schemas.{names_of, attribute_named};
 ghost use Rattle.schema_grammar.specs.Declarations.{mark_of};
 ghost use Rattle.schema_grammar.specs.Rests.{attribute_of_word};
-ghost use Rattle.schema_grammar.specs.Words.{is_reserved, look_up};
+ghost use Rattle.schema_grammar.specs.Words.{is_reserved, is_reserved_token, look_up};
+ghost use Rattle.lexer.specs.Tokens.{bytes_of};
 ghost use Rattle.tokens.specs.Views.{names_in};
 
 use crate::guide::Guide;
 use attr_sets::MOST_ATTRIBUTES;
 use dep_model::{Name, Schema};
-use lexer::Token;
+use lexer::{Token, TokenKind, Word};
 use schema_grammar::{Format, SchemaRefusal, SchemaRefusalKind};
 
 /// The names among which a word is looked up.
@@ -24,38 +25,59 @@ pub enum Names<'a> {
 // The fewest bytes of a reserved word.
 const FEWEST_RESERVED: usize = 4;
 
-/// The attribute that a word of a side stands for.
-#[tactic(auto, using(crate::proofs::NameLemmas::short_is_free), unfolding(schema_grammar::specs::Words::look_up))]
-pub fn look_up(names: &Names<'_>, format: Format, word: &[u8]) -> Result<u8, SchemaRefusalKind>
+/// The attribute that a word of a side, or a quoted name, stands for.
+#[tactic(auto, unfolding(schema_grammar::specs::Words::look_up))]
+pub fn look_up(
+    names: &Names<'_>,
+    format: Format,
+    kind: TokenKind,
+    word: &Word<'_>,
+) -> Result<u8, SchemaRefusalKind>
     requires { length (names_in names.now) ≤ MOST_ATTRIBUTES }
-    ensures exact { result ≡ look_up format (names_in names.now) word.now }
+    ensures exact { result ≡ look_up format (names_in names.now) kind (bytes_of word.now) }
     ensures declared { IfOk result (λ attribute. attribute < length (names_in names.now)) }
 {
-    if word.len() >= FEWEST_RESERVED && is_reserved(format, word) {
+    let bytes = word.bytes();
+    if is_reserved_token(format, kind, bytes) {
         return Err(SchemaRefusalKind::ReservedName);
     }
-    match attribute_named(names, word) {
+    match attribute_named(names, bytes) {
         Some(attribute) => Ok(attribute),
         None => Err(SchemaRefusalKind::UnknownName),
     }
 }
 
-/// The attribute that a word in a side of a line stands for.
+/// Whether a token is a reserved word, which no quoted name is.
+#[tactic(auto, using(crate::proofs::NameLemmas::short_is_free))]
+pub fn is_reserved_token(format: Format, kind: TokenKind, word: &[u8]) -> bool
+    ensures reserved { result ≡ is_reserved_token format kind word.now }
+{
+    match kind {
+        TokenKind::Identifier => {
+            if word.len() < FEWEST_RESERVED {
+                return false;
+            }
+            is_reserved(format, word)
+        }
+        _ => false,
+    }
+}
+
+/// The attribute that a word, or a quoted name, in a side of a line stands for.
 pub fn attribute_of_word(
     names: &Names<'_>,
     line: u32,
     token: Token,
-    word: &[u8],
+    word: &Word<'_>,
 ) -> Result<u8, SchemaRefusal>
     requires within_limit { length (names_in names.now) ≤ MOST_ATTRIBUTES }
-    requires length { token.length ≡ length word.now }
     ensures ok { IfOk result (λ x. attribute_of_word (names_in names.now) line
-        (mark_of token word.now) ≡ Ok x) }
+        (mark_of token (bytes_of word.now)) ≡ Ok x) }
     ensures inside { IfOk result (λ x. x < length (names_in names.now)) }
     ensures err { IfErr result (λ e. attribute_of_word (names_in names.now) line
-        (mark_of token word.now) ≡ Err e) }
+        (mark_of token (bytes_of word.now)) ≡ Err e) }
 {
-    match look_up(names, Format::Plain, word) {
+    match look_up(names, Format::Plain, token.kind, word) {
         Ok(attribute) => Ok(attribute),
         Err(kind) => Err(SchemaRefusal::at(line, token.column, token.length, kind)),
     }

@@ -1,14 +1,15 @@
 ghost use Rattle.std.specs.Prelude.{◌≡◌};
-ghost use Rattle.schema_grammar.specs.Rests.{is_word_token, number_in, arrow_in};
+ghost use Rattle.schema_grammar.specs.Rests.{number_in, arrow_in};
+ghost use Rattle.schema_grammar.specs.Words.{is_word_token};
 
 use lexer::TokenKind;
 use schema_grammar::Sign;
 
-/// Whether a token is a word.
+/// Whether a token is a word or a quoted name.
 pub fn is_word(kind: TokenKind) -> bool
     ensures exact { result ≡ is_word_token kind }
 {
-    matches!(kind, TokenKind::Identifier)
+    matches!(kind, TokenKind::Identifier | TokenKind::Quoted)
 }
 
 /// The value of a number.

@@ -1,6 +1,6 @@
 use Rattle.std.proofs.Common.{arith, sym, ◌∙◌, ap, ◌+◌}
 use Rattle.lexer.specs.Tokens.{tokens_after}
-use Rattle.lexer.proofs.Steps.{is_some, is_none, after_gap, at_comment, at_end, at_flaw, lies_in, flaw_lies_in, token_leads, token_after}
+use Rattle.lexer.proofs.Steps.{is_some, is_none, after_gap, at_comment, at_end, at_flaw, lies_in, flaw_lies_in, token_leads, token_after, quoted_at, quoted_leads}
 use Rattle.lexer.proofs.token.next_token.Goals as goal
 
 pub pieces-preserved : goal.pieces-preserved
@@ -21,8 +21,8 @@ pub returns-in-Flaw-clause-exact : goal.returns-in-Flaw-clause-exact
 returns-in-Flaw-clause-exact c =
     c.pieces.invariant.same ∙ at_flaw _ _ _ _ _ (is_some _ c.pieces-test.ensures) c.in-Flaw.ensures.exact
 
-pub overflow_cast-result-in-Flaw : goal.overflow_cast-result-in-Flaw
-overflow_cast-result-in-Flaw c =
+pub overflow_cast-result : goal.overflow_cast-result
+overflow_cast-result c =
     let lies = flaw_lies_in _ _ _ _ (is_some _ c.pieces-test.ensures) c.in-Flaw.ensures.exact in
     omega (arith, lies.within, c.pieces.invariant.fits)
 
@@ -41,3 +41,22 @@ pub returns-in-Token-clause-advances : goal.returns-in-Token-clause-advances
 returns-in-Token-clause-advances c =
     let lies = lies_in _ _ _ _ (is_some _ c.pieces-test.ensures) c.in-Token.ensures.exact in
     token_after _ _ _ _ _ _ _ _ c.pieces.invariant lies c.split_at-in-Token.ensures.back_len
+
+pub split_at-requires-in-Quoted : goal.split_at-requires-in-Quoted
+split_at-requires-in-Quoted c =
+    (quoted_at _ _ _ _ (is_some _ c.pieces-test.ensures) c.in-Quoted.ensures.exact).lies.within
+
+pub returns-in-Quoted-clause-exact : goal.returns-in-Quoted-clause-exact
+returns-in-Quoted-clause-exact c =
+    quoted_leads _ _ _ _ _ _ _ _ c.pieces.invariant (is_some _ c.pieces-test.ensures) c.in-Quoted.ensures.exact
+    c.split_at-in-Quoted.ensures.back
+
+pub returns-in-Quoted-clause-advances : goal.returns-in-Quoted-clause-advances
+returns-in-Quoted-clause-advances c =
+    let fits = quoted_at _ _ _ _ (is_some _ c.pieces-test.ensures) c.in-Quoted.ensures.exact in
+    token_after _ _ _ _ _ _ _ _ c.pieces.invariant fits.lies c.split_at-in-Quoted.ensures.back_len
+
+pub overflow_cast-token-in-Quoted : goal.overflow_cast-token-in-Quoted
+overflow_cast-token-in-Quoted c =
+    let fits = quoted_at _ _ _ _ (is_some _ c.pieces-test.ensures) c.in-Quoted.ensures.exact in
+    omega (arith, fits.lies.within, c.pieces.invariant.fits)

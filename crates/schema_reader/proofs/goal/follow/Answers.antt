@@ -18,7 +18,7 @@ returns-in-Refusal-clause-err c = c.tokens.invariant ∙ follow_stopped _ _ _ _ 
 pub returns-in-Err-clause-err : goal.returns-in-Err-clause-err
 returns-in-Err-clause-err c =
     c.tokens.invariant ∙ follow_refused _ _ _ _ _ _ _ c.in-Token.ensures.exact.led c.in-Err.ensures.err
-    ∙ rw (c.refusal_of.ensures.refusal, c.in-Token.ensures.exact.same_length) refl
+    ∙ rw c.refusal_of.ensures.refusal refl
 
 pub tokens-preserved : goal.tokens-preserved
 tokens-preserved c =

@@ -3,7 +3,7 @@ use Rattle.attr_sets.specs.Attributes.{Attributes, IsSubset}
 use Rattle.dep_model.specs.Dependencies.{Dependency, IsWithin, right_of}
 use Rattle.dep_model.specs.Deps.{dependency_of}
 use Rattle.dep_model.specs.Schemas.{universe_of, names_of}
-use Rattle.lexer.specs.declared.token.Mode.TheVariants as mode
+use Rattle.lexer.specs.Modes as mode
 use Rattle.lexer.specs.Tokens.{lex}
 use Rattle.schema_grammar.specs.declared.format.Format.TheVariants as format
 use Rattle.schema_grammar.specs.declared.refusal.SchemaRefusal.{SchemaRefusal}
@@ -30,7 +30,7 @@ returns-in-Ok c =
     let names = names_of c.args.schema.now in
     let text = c.args.text.now in
     let d = dependency_of c.in-Ok.dep in
-    let begun = ap (λ (r : Reached). reading names r (rest_from 1 1 (lex mode.Goal text))) (sym c.after_arrow.ensures.reached) in
+    let begun = ap (λ (r : Reached). reading names r (rest_from 1 1 (lex mode.goal text))) (sym c.after_arrow.ensures.reached) in
     let here = ap (λ (r : Rest). reading names (reached_of c.after_arrow.result) r) (sym c.start-start.ensures.whole) in
     let read = ap set_in (begun ∙ here ∙ c.in-Ok.ensures.ok) in
     let inside : IsWithin (universe_of c.args.schema.now) d =
@@ -47,6 +47,6 @@ pub returns-in-Err : goal.returns-in-Err
 returns-in-Err c =
     let names = names_of c.args.schema.now in
     let text = c.args.text.now in
-    let begun = ap (λ (r : Reached). reading names r (rest_from 1 1 (lex mode.Goal text))) (sym c.after_arrow.ensures.reached) in
+    let begun = ap (λ (r : Reached). reading names r (rest_from 1 1 (lex mode.goal text))) (sym c.after_arrow.ensures.reached) in
     let here = ap (λ (r : Rest). reading names (reached_of c.after_arrow.result) r) (sym c.start-start.ensures.whole) in
     record { ok = tt; within = tt; err = set_refused names text c.in-Err.refusal (ap set_in (begun ∙ here ∙ c.in-Err.ensures.err)) }

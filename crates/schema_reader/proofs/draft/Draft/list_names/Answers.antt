@@ -19,7 +19,7 @@ pub returns-in-Err-Refused-clause-err : goal.returns-in-Err-Refused-clause-err
 returns-in-Err-Refused-clause-err c =
     let refused = refused_is _ _ _ c.in-Err-Refused.field-0-is c.in-Err-Refused.ensures.err in
     c.names.invariant ∙ names_refused _ _ _ _ _ _ _ _ c.in-Token.ensures.exact.led refused
-    ∙ rw (c.refusal_of.ensures.refusal, c.in-Token.ensures.exact.same_length, c.in-Err-Refused.field-0-is) refl
+    ∙ rw (c.refusal_of.ensures.refusal, c.in-Err-Refused.field-0-is) refl
 
 pub names-preserved : goal.names-preserved
 names-preserved c = c.names.invariant ∙ names_more _ _ _ _ _ _ _ _ c.in-Token.ensures.exact.led c.in-Ok.ensures.ok

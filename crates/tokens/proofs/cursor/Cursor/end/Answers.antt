@@ -11,4 +11,4 @@ returns-in-Refusal-clause-err c = end_stopped _ _ c.in-Refusal.ensures.exact
 pub returns-in-Token-clause-err : goal.returns-in-Token-clause-err
 returns-in-Token-clause-err c =
     end_led _ _ _ c.in-Token.ensures.exact.led
-    ∙ rw (c.refusal_of_token.ensures.refusal, c.in-Token.ensures.exact.same_length) refl
+    ∙ rw c.refusal_of_token.ensures.refusal refl

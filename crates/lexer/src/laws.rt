@@ -1,0 +1,20 @@
+//! What the definition of tokens comes to. A function does nothing, and its clause is the law.
+
+ghost use Rattle.std.specs.Prelude.{◌≡◌};
+ghost use Rattle.lexer.specs.Laws.{QuotedNames};
+ghost use Rattle.lexer.specs.Modes.{plain, goal, numbered};
+
+use crate::mode::Mode;
+
+/// The modes of code are those of the definitions.
+pub fn modes_are_named()
+    ensures plain { Mode.PLAIN ≡ plain }
+    ensures goal { Mode.GOAL ≡ goal }
+    ensures numbered { Mode.NUMBERED ≡ numbered }
+{}
+
+/// The text of a name between quotes, in which each double quote is doubled, is one token for that name, as
+/// long as the text, whatever follows but a double quote.
+pub fn quoted_names()
+    ensures law { QuotedNames }
+{}
