@@ -1,10 +1,8 @@
 -- The relation of the irreducible closed sets obeys exactly what is implied; it is legal, and of either type.
 use Rattle.std.proofs.Common.{◌≡◌, ℕ, ◌-◌, ◌^◌, ◌<◌, ◌≤◌, true, false, List, length, get_or, refl, sym, subst, ap, ◌∙◌, inl, inr, ⊎_elim, arith}
 use Rattle.std.specs.Prelude.{All}
-use Rattle.std.specs.Fmt.{decimal}
-use Rattle.std.specs.Str.Parse.{digits_value}
 use Rattle.std.proofs.lemmas.Bool.{true≢false, cases_eq, cases_Bool, ltb-true, lt-ltb}
-use Rattle.std.proofs.lemmas.Fmt.{decimal_injective, decimal_nonempty, first_decimal, digits_decimal, digits_value-decimal}
+use Rattle.std.proofs.lemmas.Fmt.{decimal_injective}
 use Rattle.std.proofs.lemmas.List.Elements.{Contains-get_or}
 use Rattle.std.proofs.lemmas.Option.{slice_get_within}
 use Rattle.attr_sets.specs.Attributes.{Attributes, below, intersection, IsSubset}
@@ -24,7 +22,7 @@ use Rattle.dep_model.proofs.DepLemmas.{dependencies_all-from}
 use Rattle.dep_model.proofs.ListLemmas.{Contains-head}
 use Rattle.dep_model.proofs.PreservationLemmas.{fd-obeys, fd-obeyed}
 use Rattle.dep_model.proofs.TwoTupleLemmas.{value_at-all_zeros}
-use Rattle.dep_model.proofs.NumeralLemmas.{decimal_zero, decimal_numeral_model}
+use Rattle.dep_model.proofs.NumeralLemmas.{decimal_integer}
 use Rattle.fd_closure.proofs.ClosureLemmas.{fd_each-to, fd_each-from}
 use Rattle.fd_closure.proofs.ClosedSets.{all_functional}
 use Rattle.armstrong_rel.specs.ClosedSets.{IsClosedSet, AreIrreducible}
@@ -143,21 +141,6 @@ armstrong_legal n ds r within same over armstrong = record {
 }
 
 -- ---- and its values are integer texts
-
-decimal_integer : (v : ℕ) → v < 2 ^ 63 → IsIntegerText (decimal v)
-decimal_integer v few = elim (cases_eq v 0) [
-  | inl none ↦ inl (ap decimal none ∙ decimal_zero)
-  | inr some ↦
-      let wide : v < 2 ^ 64 = omega (arith, few) in
-      let first : 48 < get_or (decimal v) 0 0 = first_decimal v (omega (arith, some)) wide in
-      let value : digits_value 10 (decimal v) ≡ v = digits_value-decimal decimal_numeral_model v wide in
-      inr (inl (record {
-        some = decimal_nonempty v wide;
-        first = λ (e : get_or (decimal v) 0 0 ≡ 48). absurd (omega (arith, e, first));
-        digits = digits_decimal decimal_numeral_model v wide;
-        value = omega (arith, value, few);
-      }))
-]
 
 pub tuples_typed : (n : ℕ) (columns : List ColumnType) (sets : List Attributes) → length columns ≡ n → length sets < 2 ^ 63
     → IsTyped columns (tuples_for n sets)

@@ -1,14 +1,13 @@
 -- A closed tableau that is reached, as a relation: it is legal, and its projections have the row of
 -- distinguished symbols in their join.
 use Rattle.std.proofs.Common.{◌≡◌, ℕ, ◌^◌, ◌<◌, ◌≤◌, zero, suc, Bool, true, false, cond, List, [], ◌∷◌, ◌++◌, length, map, get_or, refl, sym, ap, subst, ◌∙◌, inl, inr, arith}
-use Rattle.std.proofs.lemmas.Bool.{cases_Bool, cases_eq, cases_lt}
+use Rattle.std.proofs.lemmas.Bool.{cases_Bool, cases_lt}
 use Rattle.std.proofs.lemmas.Bool.Decides.{nat_tests}
-use Rattle.std.proofs.lemmas.Fmt.{decimal_injective, decimal_nonempty, first_decimal, digits_decimal, digits_value-decimal}
+use Rattle.std.proofs.lemmas.Fmt.{decimal_injective}
 use Rattle.std.proofs.lemmas.List.{get_or_past, get_or-map, length-map, map-append, append-nil}
 use Rattle.std.proofs.lemmas.List.Elements.{Contains-get_or}
 use Rattle.std.proofs.lemmas.Option.{slice_get_within}
 use Rattle.std.specs.List.{AllZip}
-use Rattle.std.specs.Str.Parse.{digits_value}
 use Rattle.std.specs.Prelude.{Contains, decimal}
 use Rattle.attr_sets.specs.Attributes.{Attributes, below, union, difference}
 use Rattle.dep_model.specs.declared.column_type.ColumnType.TheVariants.{Integer}
@@ -22,7 +21,7 @@ use Rattle.dep_model.specs.Columns.{columns_on, IsTyped}
 use Rattle.dep_model.proofs.ListLemmas.{map-member, Contains-map, Contains-head, Contains-later}
 use Rattle.dep_model.proofs.TwoTupleLemmas.{length-all_zeros, value_at-all_zeros}
 use Rattle.dep_model.proofs.ColumnLemmas.{length-columns_on}
-use Rattle.dep_model.proofs.NumeralLemmas.{decimal_zero, decimal_numeral_model}
+use Rattle.dep_model.proofs.NumeralLemmas.{decimal_zero, decimal_integer}
 use Rattle.chase_laws.specs.Tableaux.{SymbolRow, Tableau, symbol_at, SymbolsAgree, distinguished_row}
 use Rattle.chase_laws.specs.Steps.{exchange_rows, IsClosed, IsFunctionallyClosed}
 use Rattle.chase_laws.specs.Rounds.{ReachesTableau}
@@ -164,21 +163,6 @@ pub gaining_lossy : (n : ℕ) (ds : List Dependency) (plan : List Attributes) (r
 gaining_lossy n ds plan r gaining lossless = gaining.gained (lossless.gains_none r gaining.legal (all_zeros n) gaining.joined)
 
 -- ---- columns of either type
-
-decimal_integer : (v : ℕ) → v < 2 ^ 32 → IsIntegerText (decimal v)
-decimal_integer v few = elim (cases_eq v 0) [
-  | inl none ↦ inl (ap decimal none ∙ decimal_zero)
-  | inr some ↦
-      let wide : v < 2 ^ 64 = omega (arith, few) in
-      let first : 48 < get_or (decimal v) 0 0 = first_decimal v (omega (arith, some)) wide in
-      let value : digits_value 10 (decimal v) ≡ v = digits_value-decimal decimal_numeral_model v wide in
-      inr (inl (record {
-        some = decimal_nonempty v wide;
-        first = λ (e : get_or (decimal v) 0 0 ≡ 48). absurd (omega (arith, e, first));
-        digits = digits_decimal decimal_numeral_model v wide;
-        value = omega (arith, value, few);
-      }))
-]
 
 pub reached_typed : (n : ℕ) (integers : Attributes) (ds : List Dependency) (plan : List Attributes) (s : Tableau) → length plan < 2 ^ 32 → ReachesTableau n ds plan s → IsTyped (columns_on n integers) (texts_of s)
 reached_typed n integers ds plan s few reached i d l k is_integer =

@@ -1,16 +1,18 @@
--- The value of a numeral and of its front.
-use Rattle.std.proofs.Common.{◌≡◌, ℕ, ◌+◌, ◌*◌, ◌-◌, ◌<◌, ◌≤◌, true, get_or, List, ◌++◌, length, map, take, drop, ap, subst, ◌∙◌, arith}
+-- The value of a numeral and of its front; and a number in decimal as an integer text.
+use Rattle.std.proofs.Common.{◌≡◌, inl, inr, ℕ, ◌+◌, ◌*◌, ◌-◌, ◌^◌, ◌<◌, ◌≤◌, true, get_or, List, ◌++◌, length, map, take, drop, ap, subst, ◌∙◌, arith}
 use Rattle.std.specs.Char.{digit_value, is_ascii_digit}
 use Rattle.std.specs.Int.Digits.{number_from_digits_after}
 use Rattle.std.specs.Str.Parse.{digits_value}
 use Rattle.std.proofs.lemmas.Int.Digits.{digits_value_is, digits_value_more, number_after_append, number_after_ge}
+use Rattle.std.proofs.lemmas.Bool.{cases_eq}
 use Rattle.std.proofs.lemmas.Bool.Decides.{nat_tests}
 use Rattle.std.proofs.lemmas.List.{take-append-drop, map-append}
-use Rattle.std.proofs.lemmas.Fmt.{decimal_digit}
+use Rattle.std.proofs.lemmas.Fmt.{decimal_digit, decimal_nonempty, first_decimal, digits_decimal, digits_value-decimal}
 use Rattle.std.proofs.lemmas.Str.Parse.{IsNumeralModel, IsDigitsTest, numerals_by_value}
 use borrow.Author.Rules.{rules}
 use Rattle.std.specs.List.{list_all}
 use Rattle.std.specs.Prelude.{decimal}
+use Rattle.dep_model.specs.Integers.{IsIntegerText}
 use Rattle.dep_model.specs.TwoTuples.{zero_text}
 
 -- more digits give no smaller value
@@ -39,3 +41,19 @@ digits_value-model = search rules
 
 pub decimal_numeral_model : IsNumeralModel (λ ds. list_all is_ascii_digit ds ≡ true) (digits_value 10)
 decimal_numeral_model = numerals_by_value (λ ds. list_all is_ascii_digit ds ≡ true) digits_value-model
+
+-- a number in decimal is an integer text, where an integer of 64 bits has its value
+pub decimal_integer : (v : ℕ) → v < 2 ^ 63 → IsIntegerText (decimal v)
+decimal_integer v fits = elim (cases_eq v 0) [
+  | inl none ↦ inl (ap decimal none ∙ decimal_zero)
+  | inr other ↦
+      let wide : v < 2 ^ 64 = omega (arith, fits) in
+      let first : 48 < get_or (decimal v) 0 0 = first_decimal v (omega (arith, other)) wide in
+      let value : digits_value 10 (decimal v) ≡ v = digits_value-decimal decimal_numeral_model v wide in
+      inr (inl (record {
+        some = decimal_nonempty v wide;
+        first = λ (e : get_or (decimal v) 0 0 ≡ 48). absurd (omega (arith, e, first));
+        digits = digits_decimal decimal_numeral_model v wide;
+        value = omega (arith, value, fits);
+      }))
+]

@@ -1,5 +1,5 @@
 -- The parts of a tree, and what becomes of a tree that gives way to its smallest part.
-use Rattle.std.proofs.Common.{◌≡◌, ◌+◌, ◌<◌, ◌≤◌, inl, inr, ⊎_elim, refl, sym, ◌∙◌, ap, subst, arith}
+use Rattle.std.proofs.Common.{◌≡◌, ◌⊎◌, ◌+◌, ◌<◌, ◌≤◌, inl, inr, ⊎_elim, refl, sym, ◌∙◌, ap, subst, arith}
 use Rattle.std.specs.Prelude.{Option, None, Some, Result, Ok, Err}
 use Rattle.dep_model.specs.declared.dep.Dep.{Dep}
 use Rattle.dep_model.specs.declared.schema.Schema.{Schema}
@@ -114,28 +114,26 @@ found_step s rule t d u found = record {
       inside;
 }
 
--- in the first premise, where none in the second is smaller
-pub found_first : (s : Schema) (rule : Pair) (t w : Tree) (d : Dependency) (u : Tree) → IsLeast s t d u → ((v : Tree) → IsIn v w → Proves s v d → nodes u ≤ nodes v) → IsLeast s (pair rule t w) d u
-found_first s rule t w d u found rest = record {
-  part = inr (inl found.part);
-  proves = found.proves;
-  least = λ v inside proves.
+-- in either premise, where none in the premises is smaller
+found_pair : (s : Schema) (rule : Pair) (t w : Tree) (d : Dependency) (u : Tree) → IsIn u t ⊎ IsIn u w → Proves s u d → ((v : Tree) → IsIn v t → Proves s v d → nodes u ≤ nodes v)
+    → ((v : Tree) → IsIn v w → Proves s v d → nodes u ≤ nodes v) → IsLeast s (pair rule t w) d u
+found_pair s rule t w d u part proves left right = record {
+  part = inr part;
+  proves = proves;
+  least = λ v inside shows.
       ⊎_elim
-      (λ (whole : v ≡ pair rule t w). let equal : nodes v ≡ nodes t + nodes w + 1 = ap nodes whole in omega (arith, equal, part-nodes u t found.part))
-      (λ below. ⊎_elim (λ left. found.least v left proves) (λ right. rest v right proves) below)
+      (λ (whole : v ≡ pair rule t w).
+      let equal : nodes v ≡ nodes t + nodes w + 1 = ap nodes whole in
+      ⊎_elim (λ first. omega (arith, equal, part-nodes u t first)) (λ second. omega (arith, equal, part-nodes u w second)) part)
+      (λ below. ⊎_elim (λ first. left v first shows) (λ second. right v second shows) below)
       inside;
 }
 
+pub found_first : (s : Schema) (rule : Pair) (t w : Tree) (d : Dependency) (u : Tree) → IsLeast s t d u → ((v : Tree) → IsIn v w → Proves s v d → nodes u ≤ nodes v) → IsLeast s (pair rule t w) d u
+found_first s rule t w d u found rest = found_pair s rule t w d u (inl found.part) found.proves found.least rest
+
 pub found_second : (s : Schema) (rule : Pair) (t w : Tree) (d : Dependency) (u : Tree) → IsLeast s w d u → ((v : Tree) → IsIn v t → Proves s v d → nodes u ≤ nodes v) → IsLeast s (pair rule t w) d u
-found_second s rule t w d u found rest = record {
-  part = inr (inr found.part);
-  proves = found.proves;
-  least = λ v inside proves.
-      ⊎_elim
-      (λ (whole : v ≡ pair rule t w). let equal : nodes v ≡ nodes t + nodes w + 1 = ap nodes whole in omega (arith, equal, part-nodes u w found.part))
-      (λ below. ⊎_elim (λ left. rest v left proves) (λ right. found.least v right proves) below)
-      inside;
-}
+found_second s rule t w d u found rest = found_pair s rule t w d u (inr found.part) found.proves rest found.least
 
 -- the whole tree, where no node below its root concludes what is sought
 pub found_whole : (s : Schema) (t u : Tree) (d : Dependency) → u ≡ t → Proves s t d → NoneBelow s t d → IsLeast s t d u

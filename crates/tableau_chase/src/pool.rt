@@ -39,7 +39,8 @@ impl Pool {
         requires pool { IsPool limit self.old }
         ensures pool { OnOk result (IsPool limit self.new) }
         ensures rows { OnOk result (IsAdded self.old.rows.items row self.new.rows.items) }
-        ensures absent { result ≡ Err (Failure.Refused ChaseRefusal.TooManyRows) → Contains self.old.rows.items row → ⊥ }
+        ensures absent { result ≡ Err (Failure.Refused ChaseRefusal.TooManyRows)
+            → Contains self.old.rows.items row → ⊥ }
         ensures full { result ≡ Err (Failure.Refused ChaseRefusal.TooManyRows) → length self.old.rows.items ≡ limit }
     {
         let count = self.rows.len() as u32;

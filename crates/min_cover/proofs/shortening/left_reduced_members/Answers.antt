@@ -1,22 +1,22 @@
 use Rattle.std.proofs.Common.{subst}
-use Rattle.attr_sets.specs.Attributes.{below}
 use Rattle.dep_model.specs.declared.dep.Dep.{Dep}
+use Rattle.dep_model.specs.declared.dep.Dep.TheVariants.{Fd}
 use Rattle.dep_model.specs.Deps.{IsDepWithin}
-use Rattle.dep_model.specs.Schemas.{width_of}
+use Rattle.dep_model.specs.Schemas.{universe_of}
 use Rattle.std.specs.Prelude.{All}
 use Rattle.std.proofs.Common.{List, sym}
 use Rattle.min_cover.proofs.shortening.left_reduced_members.Goals as goal
+use Rattle.min_cover.proofs.shortening.left_reduced_members.Goals.{In-Fd}
+
+-- the sides of a functional member lie within the universe
+sides_within : (c : In-Fd) → IsDepWithin (universe_of c.args.schema.now) (Fd c.in-Fd.lhs c.in-Fd.rhs)
+sides_within c =
+    let u = universe_of c.args.schema.now in
+    let within : All (IsDepWithin u) c.deps-dep-items.result.now = subst (λ (es : List Dep). All (IsDepWithin u) es) (sym c.deps-dep-items.ensures.deps) c.args.schema.now.valid.deps_within in
+    subst (λ (d : Dep). IsDepWithin u d) c.in-Fd.is (within c.loop-dep.dep-index _ c.loop-dep-test.true)
 
 pub add_members-requires-clause-lhs : goal.add_members-requires-clause-lhs
-add_members-requires-clause-lhs c =
-    let n = width_of c.args.schema.now in
-    let within : All (IsDepWithin (below n)) c.deps-dep-items.result.now = subst (λ (es : List Dep). All (IsDepWithin (below n)) es) (sym c.deps-dep-items.ensures.deps) c.args.schema.now.valid.deps_within in
-    let one = subst (λ (d : Dep). IsDepWithin (below n) d) c.in-Fd.is (within c.loop-dep.dep-index _ c.loop-dep-test.true) in
-    one.0
+add_members-requires-clause-lhs c = (sides_within (goal.at.add_members-requires-clause-lhs c).In-Fd).0
 
 pub add_members-requires-clause-rhs : goal.add_members-requires-clause-rhs
-add_members-requires-clause-rhs c =
-    let n = width_of c.args.schema.now in
-    let within : All (IsDepWithin (below n)) c.deps-dep-items.result.now = subst (λ (es : List Dep). All (IsDepWithin (below n)) es) (sym c.deps-dep-items.ensures.deps) c.args.schema.now.valid.deps_within in
-    let one = subst (λ (d : Dep). IsDepWithin (below n) d) c.in-Fd.is (within c.loop-dep.dep-index _ c.loop-dep-test.true) in
-    one.1
+add_members-requires-clause-rhs c = (sides_within (goal.at.add_members-requires-clause-rhs c).In-Fd).1

@@ -25,6 +25,7 @@ use Rattle.tableau_chase.specs.Making.{AddsAll, Overflows}
 use Rattle.tableau_chase.proofs.ChaseLemmas.{EndsLossy, first_round, first_exceeds, round_over, settled_over, reached_settled, next_round, next_lower, ended, next_exceeds, ends_lossy, closed_typed, functional_none}
 use Rattle.tableau_chase.proofs.PoolLemmas.{extends_length}
 use Rattle.tableau_chase.proofs.chasing.chase.Goals as goal
+use Rattle.tableau_chase.proofs.chasing.chase.Goals.{In-Ok-pool_of, After-drop-rows-then-len-count}
 
 -- a failure handed on
 refused : (failure : Failure ChaseRefusal) → ◌≡◌ {A = Result Chased (Failure ChaseRefusal)} (Err failure) (Err (Refused TooManyRows)) → ◌≡◌ {A = Result (Unit {0}) (Failure ChaseRefusal)} (Err failure) (Err (Refused TooManyRows))
@@ -41,6 +42,20 @@ close_functionally-requires-clause-over c =
     subst (λ (r : Tableau). IsTableauOver c.width-width.result r) (sym c.deref_mut.ensures.value)
     (round_over c.width-width.result (theory_of c.args.schema.now) (schemes_of c.args.schemes.now) c.args.limit c.loop-rows.rows.items c.loop-rows.invariant)
 
+-- what the rows of a round close functionally to
+closes : (c : In-Ok-pool_of) → ClosesFunctionallyTo (theory_of c.args.schema.now) c.loop-rows.rows.items c.close_functionally.new.rows
+closes c =
+    let s = c.close_functionally.new.rows in
+    subst (λ (d : List Dep). ClosesFunctionallyTo (dependencies_of d) c.loop-rows.rows.items s) c.deps-deps.ensures.deps
+    (subst (λ (r : Tableau). ClosesFunctionallyTo (dependencies_of c.deps-deps.result.now) r s) c.deref_mut.ensures.value c.in_ok-close_functionally.ensures.closes)
+
+-- and the pool has the rows of that
+pooled : (c : In-Ok-pool_of) → SameTableau c.close_functionally.new.rows c.in-Ok-pool_of.pool.rows.items
+pooled c =
+    let s = c.close_functionally.new.rows in
+    let back : c.deref.result.now ≡ s = c.deref.ensures.value ∙ with_items_is c.loop-rows.rows s (c.in_ok-close_functionally.ensures.count ∙ c.deref_mut.ensures.len) in
+    subst (λ (r : Tableau). SameTableau r c.in-Ok-pool_of.pool.rows.items) back c.in-Ok-pool_of.ensures.same
+
 pub has_distinguished-requires : goal.has_distinguished-requires
 has_distinguished-requires c =
     let n = c.width-width.result in
@@ -51,11 +66,8 @@ has_distinguished-requires c =
     let round = c.loop-rows.invariant in
     let s = c.close_functionally.new.rows in
     let t = c.in-Ok-pool_of.pool.rows.items in
-    let closes : ClosesFunctionallyTo ds rows s = subst (λ (d : List Dep). ClosesFunctionallyTo (dependencies_of d) rows s) c.deps-deps.ensures.deps
-    (subst (λ (r : Tableau). ClosesFunctionallyTo (dependencies_of c.deps-deps.result.now) r s) c.deref_mut.ensures.value c.in_ok-close_functionally.ensures.closes) in
-    let back : c.deref.result.now ≡ s = c.deref.ensures.value ∙ with_items_is c.loop-rows.rows s (c.in_ok-close_functionally.ensures.count ∙ c.deref_mut.ensures.len) in
-    let same : SameTableau s t = subst (λ (r : Tableau). SameTableau r t) back c.in-Ok-pool_of.ensures.same in
-    record { over = subst (λ (r : Tableau). IsTableauOver n r) (sym c.deref-in-loop-rows.ensures.value) (settled_over n ds plan limit rows s t round closes same) }
+    let at = (goal.at.has_distinguished-requires c).In-Ok-pool_of in
+    record { over = subst (λ (r : Tableau). IsTableauOver n r) (sym c.deref-in-loop-rows.ensures.value) (settled_over n ds plan limit rows s t round (closes at) (pooled at)) }
 
 pub add_next-requires-clause-over : goal.add_next-requires-clause-over
 add_next-requires-clause-over c =
@@ -67,11 +79,8 @@ add_next-requires-clause-over c =
     let round = c.loop-rows.invariant in
     let s = c.close_functionally.new.rows in
     let t = c.in-Ok-pool_of.pool.rows.items in
-    let closes : ClosesFunctionallyTo ds rows s = subst (λ (d : List Dep). ClosesFunctionallyTo (dependencies_of d) rows s) c.deps-deps.ensures.deps
-    (subst (λ (r : Tableau). ClosesFunctionallyTo (dependencies_of c.deps-deps.result.now) r s) c.deref_mut.ensures.value c.in_ok-close_functionally.ensures.closes) in
-    let back : c.deref.result.now ≡ s = c.deref.ensures.value ∙ with_items_is c.loop-rows.rows s (c.in_ok-close_functionally.ensures.count ∙ c.deref_mut.ensures.len) in
-    let same : SameTableau s t = subst (λ (r : Tableau). SameTableau r t) back c.in-Ok-pool_of.ensures.same in
-    settled_over n ds plan limit rows s t round closes same
+    let at = (goal.at.add_next-requires-clause-over c).In-Ok-pool_of in
+    settled_over n ds plan limit rows s t round (closes at) (pooled at)
 
 pub returns-then-has_distinguished-clause-within_limit : goal.returns-then-has_distinguished-clause-within_limit
 returns-then-has_distinguished-clause-within_limit c =
@@ -83,12 +92,9 @@ returns-then-has_distinguished-clause-within_limit c =
     let round = c.loop-rows.invariant in
     let s = c.close_functionally.new.rows in
     let t = c.in-Ok-pool_of.pool.rows.items in
-    let closes : ClosesFunctionallyTo ds rows s = subst (λ (d : List Dep). ClosesFunctionallyTo (dependencies_of d) rows s) c.deps-deps.ensures.deps
-    (subst (λ (r : Tableau). ClosesFunctionallyTo (dependencies_of c.deps-deps.result.now) r s) c.deref_mut.ensures.value c.in_ok-close_functionally.ensures.closes) in
-    let back : c.deref.result.now ≡ s = c.deref.ensures.value ∙ with_items_is c.loop-rows.rows s (c.in_ok-close_functionally.ensures.count ∙ c.deref_mut.ensures.len) in
-    let same : SameTableau s t = subst (λ (r : Tableau). SameTableau r t) back c.in-Ok-pool_of.ensures.same in
+    let at = (goal.at.returns-then-has_distinguished-clause-within_limit c).In-Ok-pool_of in
     let has : Contains t (distinguished_row n) = subst (λ (r : Tableau). Contains r (distinguished_row n)) c.deref-in-loop-rows.ensures.value (c.if-has_distinguished.ensures.found.0 refl) in
-    subst (λ (m : ℕ). RoundsExceed m ds plan limit → ⊥) c.width-width.ensures.count (ended n ds plan limit rows s t round closes same (inl has))
+    subst (λ (m : ℕ). RoundsExceed m ds plan limit → ⊥) c.width-width.ensures.count (ended n ds plan limit rows s t round (closes at) (pooled at) (inl has))
 
 pub returns-then-has_distinguished-clause-lossless : goal.returns-then-has_distinguished-clause-lossless
 returns-then-has_distinguished-clause-lossless c =
@@ -100,12 +106,9 @@ returns-then-has_distinguished-clause-lossless c =
     let round = c.loop-rows.invariant in
     let s = c.close_functionally.new.rows in
     let t = c.in-Ok-pool_of.pool.rows.items in
-    let closes : ClosesFunctionallyTo ds rows s = subst (λ (d : List Dep). ClosesFunctionallyTo (dependencies_of d) rows s) c.deps-deps.ensures.deps
-    (subst (λ (r : Tableau). ClosesFunctionallyTo (dependencies_of c.deps-deps.result.now) r s) c.deref_mut.ensures.value c.in_ok-close_functionally.ensures.closes) in
-    let back : c.deref.result.now ≡ s = c.deref.ensures.value ∙ with_items_is c.loop-rows.rows s (c.in_ok-close_functionally.ensures.count ∙ c.deref_mut.ensures.len) in
-    let same : SameTableau s t = subst (λ (r : Tableau). SameTableau r t) back c.in-Ok-pool_of.ensures.same in
+    let at = (goal.at.returns-then-has_distinguished-clause-lossless c).In-Ok-pool_of in
     let has : Contains t (distinguished_row n) = subst (λ (r : Tableau). Contains r (distinguished_row n)) c.deref-in-loop-rows.ensures.value (c.if-has_distinguished.ensures.found.0 refl) in
-    let lossless : IsLossless n ds plan = lossless_from_distinguished n ds plan t (λ (k : ℕ) l. c.requires.cover k (omega (arith, l, c.width-width.ensures.count))) (reached_settled n ds plan limit rows s t round closes same) has in
+    let lossless : IsLossless n ds plan = lossless_from_distinguished n ds plan t (λ (k : ℕ) l. c.requires.cover k (omega (arith, l, c.width-width.ensures.count))) (reached_settled n ds plan limit rows s t round (closes at) (pooled at)) has in
     ((λ _. subst (λ (m : ℕ). IsLossless m ds plan) c.width-width.ensures.count lossless), (λ _. refl))
 
 pub returns-in-Err-clause-too_many_rows : goal.returns-in-Err-clause-too_many_rows
@@ -130,13 +133,10 @@ returns-in-Err-add_next-clause-too_many_rows c e =
     let round = c.loop-rows.invariant in
     let s = c.close_functionally.new.rows in
     let t = c.in-Ok-pool_of.pool.rows.items in
-    let closes : ClosesFunctionallyTo ds rows s = subst (λ (d : List Dep). ClosesFunctionallyTo (dependencies_of d) rows s) c.deps-deps.ensures.deps
-    (subst (λ (r : Tableau). ClosesFunctionallyTo (dependencies_of c.deps-deps.result.now) r s) c.deref_mut.ensures.value c.in_ok-close_functionally.ensures.closes) in
-    let back : c.deref.result.now ≡ s = c.deref.ensures.value ∙ with_items_is c.loop-rows.rows s (c.in_ok-close_functionally.ensures.count ∙ c.deref_mut.ensures.len) in
-    let same : SameTableau s t = subst (λ (r : Tableau). SameTableau r t) back c.in-Ok-pool_of.ensures.same in
+    let at = (goal.at.returns-in-Err-add_next-clause-too_many_rows c).In-Ok-pool_of in
     let lacks : Contains t (distinguished_row n) → ⊥ = λ h. false≢true (c.if-has_distinguished.ensures.found.1 (subst (λ (r : Tableau). Contains r (distinguished_row n)) (sym c.deref-in-loop-rows.ensures.value) h)) in
     let over : Overflows (IsMadeOf n ds t) limit t = subst (λ (d : List Dep). Overflows (IsMadeOf n (dependencies_of d) t) limit t) c.deps-deps.ensures.deps (c.in-Err-add_next.ensures.too_many (refused c.in-Err-add_next.failure e)) in
-    let exceeds : RoundsExceed n ds plan limit = next_exceeds n ds plan limit rows s t round closes same lacks c.in-Ok-pool_of.ensures.pool.few over in
+    let exceeds : RoundsExceed n ds plan limit = next_exceeds n ds plan limit rows s t round (closes at) (pooled at) lacks c.in-Ok-pool_of.ensures.pool.few over in
     subst (λ (m : ℕ). RoundsExceed m ds plan limit) c.width-width.ensures.count exceeds
 
 pub returns-in-Err-add_next-clause-never_too_many : goal.returns-in-Err-add_next-clause-never_too_many
@@ -149,13 +149,10 @@ returns-in-Err-add_next-clause-never_too_many c whole low e =
     let round = c.loop-rows.invariant in
     let s = c.close_functionally.new.rows in
     let t = c.in-Ok-pool_of.pool.rows.items in
-    let closes : ClosesFunctionallyTo ds rows s = subst (λ (d : List Dep). ClosesFunctionallyTo (dependencies_of d) rows s) c.deps-deps.ensures.deps
-    (subst (λ (r : Tableau). ClosesFunctionallyTo (dependencies_of c.deps-deps.result.now) r s) c.deref_mut.ensures.value c.in_ok-close_functionally.ensures.closes) in
-    let back : c.deref.result.now ≡ s = c.deref.ensures.value ∙ with_items_is c.loop-rows.rows s (c.in_ok-close_functionally.ensures.count ∙ c.deref_mut.ensures.len) in
-    let same : SameTableau s t = subst (λ (r : Tableau). SameTableau r t) back c.in-Ok-pool_of.ensures.same in
+    let at = (goal.at.returns-in-Err-add_next-clause-never_too_many c).In-Ok-pool_of in
     let lacks : Contains t (distinguished_row n) → ⊥ = λ h. false≢true (c.if-has_distinguished.ensures.found.1 (subst (λ (r : Tableau). Contains r (distinguished_row n)) (sym c.deref-in-loop-rows.ensures.value) h)) in
     let over : Overflows (IsMadeOf n ds t) limit t = subst (λ (d : List Dep). Overflows (IsMadeOf n (dependencies_of d) t) limit t) c.deps-deps.ensures.deps (c.in-Err-add_next.ensures.too_many (refused c.in-Err-add_next.failure e)) in
-    let exceeds : RoundsExceed n ds plan limit = next_exceeds n ds plan limit rows s t round closes same lacks c.in-Ok-pool_of.ensures.pool.few over in
+    let exceeds : RoundsExceed n ds plan limit = next_exceeds n ds plan limit rows s t round (closes at) (pooled at) lacks c.in-Ok-pool_of.ensures.pool.few over in
     functional_few n ds plan limit (functional_none ds whole) (omega (arith, low, length-map c.args.schemes.now attributes)) exceeds
 
 pub loop-rows-preserved : goal.loop-rows-preserved
@@ -168,15 +165,12 @@ loop-rows-preserved c =
     let round = c.loop-rows.invariant in
     let s = c.close_functionally.new.rows in
     let t = c.in-Ok-pool_of.pool.rows.items in
-    let closes : ClosesFunctionallyTo ds rows s = subst (λ (d : List Dep). ClosesFunctionallyTo (dependencies_of d) rows s) c.deps-deps.ensures.deps
-    (subst (λ (r : Tableau). ClosesFunctionallyTo (dependencies_of c.deps-deps.result.now) r s) c.deref_mut.ensures.value c.in_ok-close_functionally.ensures.closes) in
-    let back : c.deref.result.now ≡ s = c.deref.ensures.value ∙ with_items_is c.loop-rows.rows s (c.in_ok-close_functionally.ensures.count ∙ c.deref_mut.ensures.len) in
-    let same : SameTableau s t = subst (λ (r : Tableau). SameTableau r t) back c.in-Ok-pool_of.ensures.same in
+    let at = (goal.at.loop-rows-preserved c).In-Ok-pool_of in
     let lacks : Contains t (distinguished_row n) → ⊥ = λ h. false≢true (c.if-has_distinguished.ensures.found.1 (subst (λ (r : Tableau). Contains r (distinguished_row n)) (sym c.deref-in-loop-rows.ensures.value) h)) in
     let u = c.add_next.new.pool.rows.items in
     let adds : AddsAll (IsMadeOf n ds t) t u = subst (λ (d : List Dep). AddsAll (IsMadeOf n (dependencies_of d) t) t u) c.deps-deps.ensures.deps c.in_default.ensures.next in
     let grows : length t < length u = omega (arith, extends_length t u adds.extends, c.if-len-count.false, c.len.ensures, c.len-count.ensures) in
-    next_round n ds plan limit rows s t round closes same u adds c.in_default.ensures.pool.differ c.in_default.ensures.pool.few lacks grows
+    next_round n ds plan limit rows s t round (closes at) (pooled at) u adds c.in_default.ensures.pool.differ c.in_default.ensures.pool.few lacks grows
 
 pub loop-rows-smaller : goal.loop-rows-smaller
 loop-rows-smaller c =
@@ -188,17 +182,14 @@ loop-rows-smaller c =
     let round = c.loop-rows.invariant in
     let s = c.close_functionally.new.rows in
     let t = c.in-Ok-pool_of.pool.rows.items in
-    let closes : ClosesFunctionallyTo ds rows s = subst (λ (d : List Dep). ClosesFunctionallyTo (dependencies_of d) rows s) c.deps-deps.ensures.deps
-    (subst (λ (r : Tableau). ClosesFunctionallyTo (dependencies_of c.deps-deps.result.now) r s) c.deref_mut.ensures.value c.in_ok-close_functionally.ensures.closes) in
-    let back : c.deref.result.now ≡ s = c.deref.ensures.value ∙ with_items_is c.loop-rows.rows s (c.in_ok-close_functionally.ensures.count ∙ c.deref_mut.ensures.len) in
-    let same : SameTableau s t = subst (λ (r : Tableau). SameTableau r t) back c.in-Ok-pool_of.ensures.same in
+    let at = (goal.at.loop-rows-smaller c).In-Ok-pool_of in
     let u = c.add_next.new.pool.rows.items in
     let adds : AddsAll (IsMadeOf n ds t) t u = subst (λ (d : List Dep). AddsAll (IsMadeOf n (dependencies_of d) t) t u) c.deps-deps.ensures.deps c.in_default.ensures.next in
     let grows : length t < length u = omega (arith, extends_length t u adds.extends, c.if-len-count.false, c.len.ensures, c.len-count.ensures) in
-    next_lower n ds plan limit rows s t round closes same u adds c.in_default.ensures.pool.differ c.in_default.ensures.pool.few grows
+    next_lower n ds plan limit rows s t round (closes at) (pooled at) u adds c.in_default.ensures.pool.differ c.in_default.ensures.pool.few grows
 
 -- the end at a closed tableau
-ends : (c : goal.After-drop-rows-then-len-count) → EndsLossy (width_of c.args.schema.now) (theory_of c.args.schema.now) (schemes_of c.args.schemes.now) c.args.limit c.in_ok-ascending_texts.field-0.items
+ends : (c : After-drop-rows-then-len-count) → EndsLossy (width_of c.args.schema.now) (theory_of c.args.schema.now) (schemes_of c.args.schemes.now) c.args.limit c.in_ok-ascending_texts.field-0.items
 ends c =
     let n = c.width-width.result in
     let ds = theory_of c.args.schema.now in
