@@ -6,9 +6,10 @@
 
 ghost use Rattle.std.specs.Prelude.{◌≡◌, ◌<◌, ◌≤◌, ◌^◌, ℕ, List, length, Contains};
 ghost use Rattle.attr_sets.specs.Attributes.{Attributes};
+ghost use Rattle.dep_model.specs.declared.column_type.ColumnType.{ColumnType};
 ghost use Rattle.dep_model.specs.Dependencies.{Dependency, mvd};
 ghost use Rattle.dep_model.specs.Tuples.{Relation};
-ghost use Rattle.dep_model.specs.Columns.{columns_on, IsTyped};
+ghost use Rattle.dep_model.specs.Columns.{IsTyped};
 ghost use Rattle.dep_model.specs.Projections.{Covers, IsLossless};
 ghost use Rattle.chase_laws.specs.Tableaux.{Tableau, SameTableau, IsTableauOver, distinguished_row};
 ghost use Rattle.chase_laws.specs.Steps.{IsClosed};
@@ -74,10 +75,10 @@ pub fn gaining_is_lossy()
         → IsGaining n ds plan (texts_of s) → IsLossless n ds plan → ⊥ }
 {}
 
-/// The texts of a tableau that is reached fit columns of either type.
+/// The texts of a tableau that is reached fit columns of every type.
 pub fn texts_are_typed()
-    ensures law { (n : ℕ) (integers : Attributes) (ds : List Dependency) (plan : List Attributes)
+    ensures law { (n : ℕ) (columns : List ColumnType) (ds : List Dependency) (plan : List Attributes)
         (s : Tableau)
-        → length plan < 2 ^ 32 → ReachesTableau n ds plan s
-        → IsTyped (columns_on n integers) (texts_of s) }
+        → length columns ≡ n → length plan < 2 ^ 32 → ReachesTableau n ds plan s
+        → IsTyped columns (texts_of s) }
 {}

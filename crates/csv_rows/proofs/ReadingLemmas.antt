@@ -21,7 +21,6 @@ use Rattle.dep_model.specs.Tuples.{Tuple, Relation, IsOver, value_at}
 use Rattle.dep_model.specs.declared.column_type.ColumnType.{ColumnType}
 use Rattle.dep_model.specs.declared.column_type.ColumnType.TheVariants.{Integer}
 use Rattle.dep_model.specs.declared.schema.Schema.{Schema}
-use Rattle.dep_model.proofs.ColumnLemmas.{length-columns_on}
 use Rattle.dep_model.proofs.SchemeLemmas.{length-members_below, members_below-at}
 use Rattle.attr_sets.specs.Sets.{attributes}
 use Rattle.csv_rows.proofs.NumberingLemmas.{same_default}
@@ -243,7 +242,7 @@ takes_all s columns fields values h i row kept takes end even few =
       (even ∙ kept.count, few),
       takes.so_far ∙ ap (map (value_of columns fields)) all,
       λ a has.
-          let small : a < width_of s = omega (arith, slice_get_within (types_of s) a Integer has.1, length-columns_on (width_of s) (attributes s.integers)) in
+          let small : a < width_of s = omega (arith, slice_get_within (types_of s) a Integer has.1, s.typed.one_each) in
           takes.typed a has (omega (arith, count_below-before_member (width_of s) a (with_columns columns) small has.0, length-members_below (width_of s) (with_columns columns), end, size)),
     )
 
@@ -349,7 +348,7 @@ row_whole s columns row fields t within (fits, is, typed) =
     let size : length ms ≡ n = length-members_below n (with_columns columns) ∙ whole_count n (with_columns columns) within n (omega arith) in (
       ap length is ∙ length-map ms (value_of columns fields) ∙ size,
       λ k integer.
-          let small : k < n = omega (arith, slice_get_within (types_of s) k Integer integer, length-columns_on n (attributes s.integers)) in
+          let small : k < n = omega (arith, slice_get_within (types_of s) k Integer integer, s.typed.one_each) in
           let has : with_columns columns k ≡ true = within k (grind (arith, small)) in
           let at : get_or ms k k ≡ k = ap (λ (j : ℕ). get_or ms j k) (sym (whole_count n (with_columns columns) within k (omega (arith, small)))) ∙ members_below-at n (with_columns columns) k k small has in
           let long : k < length (map (value_of columns fields) ms) = omega (arith, length-map ms (value_of columns fields), size, small) in

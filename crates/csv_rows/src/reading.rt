@@ -136,6 +136,6 @@ fn fits(column: ColumnType, value: &[u8]) -> bool
 {
     match column {
         ColumnType::Integer => integer_text(value),
-        ColumnType::Text => true,
+        _ => true,
     }
 }

@@ -1,6 +1,6 @@
 -- Lists of quoted names, and elements on their lines: one more at the end.
 use Rattle.std.proofs.Common.{◌≡◌, ◌<◌, ◌+◌, ℕ, Bool, true, false, ◌||◌, List, [], ◌∷◌, ◌++◌, length, get_or, map, take, Option, Some, Result, Ok, Err, inl, inr, refl, sym, ap, ◌∙◌, arith, append_assoc, append-nil, add-one}
-use Rattle.std.specs.Prelude.{if◌then◌else◌, codes, slice_get, unwrap_or, option_map, OnOk}
+use Rattle.std.specs.Prelude.{if◌then◌else◌, codes, slice_get, slice_index_or, unwrap_or, option_map, OnOk}
 use Rattle.std.proofs.Math.Bool.{or-false}
 use Rattle.std.proofs.lemmas.Bool.{true≢false, false_from_ne_true, cases_Bool}
 use Rattle.std.proofs.lemmas.List.{map-append, take_more, length-take-le, flat_map_more}
@@ -10,11 +10,10 @@ use Rattle.attr_sets.specs.Attributes.{Attributes, none, IsEmpty}
 use Rattle.attr_sets.specs.Sets.{attributes}
 use Rattle.attr_sets.proofs.AttributesLemmas.{attributes_below, is_subset-from, is_subset-not}
 use Rattle.dep_model.specs.declared.column_type.ColumnType.{ColumnType}
+use Rattle.dep_model.specs.declared.column_type.ColumnType.TheVariants.{Text}
 use Rattle.dep_model.specs.declared.schema.Schema.{Schema}
-use Rattle.dep_model.specs.Columns.{column_at}
-use Rattle.dep_model.specs.Schemas.{names_of, width_of, types_of}
+use Rattle.dep_model.specs.Schemas.{names_of, width_of, types_of, nullable_of}
 use Rattle.dep_model.specs.Projections.{members_below}
-use Rattle.dep_model.proofs.ColumnLemmas.{slice_get-columns_on}
 use Rattle.dep_model.proofs.SchemeLemmas.{members_below-member, members_below-outside}
 use Rattle.schema_printer.specs.Printing.{members_from}
 use Rattle.sql_names.specs.Names.{separator, comma_list, quoted_name, name_list, has_some}
@@ -68,24 +67,22 @@ lines_more first some xs x before text mid next so_far is_some opened added =
     ∙ ap (λ (t : List ℕ). before ++ t) (sym (lines_append first xs (x ∷ [])))
 
 -- ---- columns
-pub column_is : (s : Schema) (k : ℕ) (column : ColumnType) → k < width_of s → slice_get (types_of s) k ≡ Some column
-    → column ≡ column_at (attributes s.integers) k
-column_is s k column lt at =
-    sym (get_or_from_slice_get (types_of s) k column column at)
-    ∙ get_or_from_slice_get (types_of s) k (column_at (attributes s.integers) k) column
-    (slice_get-columns_on (width_of s) (attributes s.integers) k lt)
+pub column_is : (s : Schema) (k : ℕ) (column : ColumnType) → slice_get (types_of s) k ≡ Some column
+    → column ≡ slice_index_or (types_of s) k Text
+column_is s k column at = sym (get_or_from_slice_get (types_of s) k column Text at)
 
-pub column_added : {T E : Type 0} (r : Result T E) (s : Schema) (k : ℕ) (name : List ℕ) (column : ColumnType)
-    (old mid new : List ℕ) → k < width_of s
-    → slice_get (names_of s) k ≡ Some name → slice_get (types_of s) k ≡ Some column
-    → mid ≡ old ++ quoted_name name → OnOk r (new ≡ mid ++ column_type column)
+pub column_added : {T E : Type 0} (r : Result T E) (s : Schema) (k : ℕ) (name : List ℕ) (column : ColumnType) (nullable : Bool)
+    (old mid new : List ℕ)
+    → slice_get (names_of s) k ≡ Some name → slice_get (types_of s) k ≡ Some column → nullable ≡ nullable_of s k
+    → mid ≡ old ++ quoted_name name → OnOk r (new ≡ mid ++ column_type column nullable)
     → OnOk r (new ≡ old ++ column_element s k)
 unfolding column_element
-column_added r s k name column old mid new lt named typed first second =
-    adds_last r old (quoted_name (get_or (names_of s) k [])) (column_type (column_at (attributes s.integers) k)) mid new
+column_added r s k name column nullable old mid new named typed missing first second =
+    adds_last r old (quoted_name (get_or (names_of s) k [])) (column_type (slice_index_or (types_of s) k Text) (nullable_of s k)) mid new
     (first ∙ ap (λ (n : List ℕ). old ++ quoted_name n) (sym (name_is s k name named)))
-    (on_ok r (new ≡ mid ++ column_type column) (new ≡ mid ++ column_type (column_at (attributes s.integers) k))
-    (λ e. e ∙ ap (λ (c : ColumnType). mid ++ column_type c) (column_is s k column lt typed)) second)
+    (on_ok r (new ≡ mid ++ column_type column nullable) (new ≡ mid ++ column_type (slice_index_or (types_of s) k Text) (nullable_of s k))
+    (λ e. e ∙ ap (λ (c : ColumnType). mid ++ column_type c nullable) (column_is s k column typed)
+    ∙ ap (λ (b : Bool). mid ++ column_type (slice_index_or (types_of s) k Text) b) missing) second)
 
 -- ---- keys
 pub empty_passes : (x : Attributes) → IsEmpty x → is_empty x ≡ true

@@ -1,27 +1,35 @@
 -- A design as SQL: for `print_ddl` and the command `ddl` (`desk_cli/Designs`), and for the
 -- statements of `sql migrate`.
-use Rattle.std.specs.Prelude.{ℕ, Bool, true, false, if◌then◌else◌, List, [], ◌∷◌, ◌++◌, map, codes, slice_get, slice_index_or, unwrap_or, option_map}
+use Rattle.std.specs.Prelude.{ℕ, Bool, true, false, if◌then◌else◌, List, [], ◌∷◌, ◌++◌, map, codes, decimal, slice_get, slice_index_or, unwrap_or, option_map}
 use Rattle.std.specs.List.{flat_map}
 use Rattle.attr_sets.specs.Attributes.{Attributes, none}
 use Rattle.attr_sets.specs.Sets.{attributes, is_subset}
 use Rattle.dep_model.specs.declared.column_type.ColumnType.{ColumnType}
-use Rattle.dep_model.specs.declared.column_type.ColumnType.TheVariants.{Text, Integer}
+use Rattle.dep_model.specs.declared.column_type.ColumnType.TheVariants.{Text, Integer, Date, Timestamp, Decimal, Uuid, Other}
 use Rattle.dep_model.specs.declared.schema.Schema.{Schema}
 use Rattle.dep_model.specs.Projections.{members_below}
-use Rattle.dep_model.specs.Columns.{column_at}
-use Rattle.dep_model.specs.Schemas.{names_of, width_of}
+use Rattle.dep_model.specs.Schemas.{names_of, width_of, types_of, nullable_of}
 use Rattle.sql_names.specs.Names.{name_list, quoted_name}
 use Rattle.ddl_text.specs.declared.table.TableDesign.{TableDesign}
 
--- what stands after the name of a column of a type
-abbrev pub column_type : ColumnType → List ℕ
-column_type Text = codes " TEXT NOT NULL"
-column_type Integer = codes " BIGINT NOT NULL"
+-- a type of columns in SQL
+abbrev pub sql_type : ColumnType → List ℕ
+sql_type Text = codes "TEXT"
+sql_type Integer = codes "BIGINT"
+sql_type Date = codes "DATE"
+sql_type Timestamp = codes "TIMESTAMP"
+sql_type (Decimal scale) = codes "DECIMAL(15, " ++ decimal scale ++ codes ")"
+sql_type Uuid = codes "UUID"
+sql_type (Other text) = text
+
+-- what stands after the name of a column of a type, whose values may be missing or not
+unfoldable pub column_type : ColumnType → Bool → List ℕ
+column_type column nullable = 32 ∷ (sql_type column ++ (if nullable then [] else codes " NOT NULL"))
 
 -- the column of an attribute
 unfoldable pub column_element : Schema → ℕ → List ℕ
 column_element s k = quoted_name (slice_index_or (names_of s) k [])
-    ++ column_type (column_at (attributes s.integers) k)
+    ++ column_type (slice_index_or (types_of s) k Text) (nullable_of s k)
 
 -- the columns of a scheme, ascending
 abbrev pub column_elements : Schema → Attributes → List (List ℕ)

@@ -1,13 +1,14 @@
-ghost use Rattle.std.specs.Prelude.{◌≡◌, ◌<◌, ◌++◌, false, IfOk, OnOk};
+ghost use Rattle.std.specs.Prelude.{◌≡◌, ◌<◌, ◌++◌, false, codes, decimal, IfOk, IsTrue, OnOk};
 ghost use Rattle.attr_sets.specs.Sets.{attributes};
+ghost use Rattle.dep_model.specs.Columns.{is_column_type};
 ghost use Rattle.dep_model.specs.Schemas.{width_of};
-ghost use Rattle.ddl_text.specs.Ddl.{column_element, column_elements, column_type, element_lines};
+ghost use Rattle.ddl_text.specs.Ddl.{column_element, column_elements, column_type, sql_type, element_lines};
 ghost use Rattle.sql_names.specs.Names.{has_some};
 
 use crate::elements::add_opening;
 use attr_sets::AttrSet;
 use dep_model::{ColumnType, OutOfMemory, Schema};
-use schema_printer::add;
+use schema_printer::{add, add_digit};
 use sql_names::add_quoted;
 
 // Adds the columns of a scheme as the first elements, and tells whether there are some.
@@ -39,15 +40,47 @@ fn add_column(text: &mut Vec<u8>, schema: &Schema, attribute: u8) -> Result<(), 
         ++ column_element schema.now attribute) }
 {
     add_quoted(text, schema.name(attribute))?;
-    add_type(text, schema.column(attribute))
+    let column = schema.column(attribute);
+    add_type(text, &column, schema.nullable().contains(attribute))
 }
 
-// Adds the type of a column.
-fn add_type(text: &mut Vec<u8>, column: ColumnType) -> Result<(), OutOfMemory>
-    ensures added { OnOk result (text.new.items ≡ text.old.items ++ column_type column) }
+// Adds the type of a column, and whether its values may be missing.
+#[tactic(auto, unfolding(crate::specs::Ddl::column_type))]
+fn add_type(text: &mut Vec<u8>, column: &ColumnType, nullable: bool) -> Result<(), OutOfMemory>
+    requires { IsTrue (is_column_type column.now) }
+    ensures added { OnOk result (text.new.items ≡ text.old.items ++ column_type column.now nullable) }
+{
+    add(text, b" ")?;
+    add_sql_type(text, column)?;
+    if nullable {
+        Ok(())
+    } else {
+        add(text, b" NOT NULL")
+    }
+}
+
+// Adds a type of columns.
+fn add_sql_type(text: &mut Vec<u8>, column: &ColumnType) -> Result<(), OutOfMemory>
+    requires { IsTrue (is_column_type column.now) }
+    ensures added { OnOk result (text.new.items ≡ text.old.items ++ sql_type column.now) }
 {
     match column {
-        ColumnType::Text => add(text, b" TEXT NOT NULL"),
-        ColumnType::Integer => add(text, b" BIGINT NOT NULL"),
+        ColumnType::Text => add(text, b"TEXT"),
+        ColumnType::Integer => add(text, b"BIGINT"),
+        ColumnType::Date => add(text, b"DATE"),
+        ColumnType::Timestamp => add(text, b"TIMESTAMP"),
+        ColumnType::Decimal(scale) => add_decimal_type(text, *scale),
+        ColumnType::Uuid => add(text, b"UUID"),
+        ColumnType::Other(other) => add(text, other.bytes()),
     }
+}
+
+fn add_decimal_type(text: &mut Vec<u8>, scale: u8) -> Result<(), OutOfMemory>
+    requires { scale < 10 }
+    ensures added { OnOk result (text.new.items
+        ≡ text.old.items ++ codes "DECIMAL(15, " ++ decimal scale ++ codes ")") }
+{
+    add(text, b"DECIMAL(15, ")?;
+    add_digit(text, scale)?;
+    add(text, b")")
 }

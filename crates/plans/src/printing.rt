@@ -2,7 +2,8 @@ ghost use Rattle.std.specs.Prelude.{◌≡◌, ◌∷◌, ◌++◌, [], All, IfO
 ghost use Rattle.attr_sets.specs.Attributes.{IsSubset, IsEmpty};
 ghost use Rattle.attr_sets.specs.Sets.{attributes};
 ghost use Rattle.dep_model.specs.Plans.{schemes_of};
-ghost use Rattle.dep_model.specs.Schemas.{names_of, universe_of};
+ghost use Rattle.dep_model.specs.Schemas.{universe_of};
+ghost use Rattle.schema_printer.specs.Spelling.{printed_names_of};
 ghost use Rattle.plans.specs.Printing.{scheme_text, plan_text};
 ghost use Rattle.plans.specs.Plans.{plan_of, IsPlanOver};
 
@@ -16,7 +17,7 @@ use std::alloc::Global;
 /// be read, it means the same schemes.
 pub fn print_plan(alloc: Global, schema: &Schema, plan: &Plan) -> Result<Vec<u8>, OutOfMemory>
     requires universe { IsPlanOver schema.now plan.now }
-    ensures text { IfOk result (λ text. text.items ≡ plan_text (names_of schema.now) (plan_of plan.now)) }
+    ensures text { IfOk result (λ text. text.items ≡ plan_text (printed_names_of schema.now) (plan_of plan.now)) }
 {
     let mut text = Vec::new(alloc);
     add_schemes(&mut text, schema, plan.schemes())?;
@@ -29,7 +30,7 @@ fn add_schemes(text: &mut Vec<u8>, schema: &Schema, schemes: &[AttrSet]) -> Resu
         (universe_of schema.now)) schemes.now }
     requires nonempty { All (λ scheme. IsEmpty (attributes scheme) → ⊥) schemes.now }
     ensures added { OnOk result (text.new.items
-        ≡ text.old.items ++ plan_text (names_of schema.now) (schemes_of schemes.now)) }
+        ≡ text.old.items ++ plan_text (printed_names_of schema.now) (schemes_of schemes.now)) }
 {
     for scheme in schemes {
         add_scheme(text, schema, *scheme)?;
@@ -42,7 +43,7 @@ fn add_scheme(text: &mut Vec<u8>, schema: &Schema, scheme: AttrSet) -> Result<()
     requires within { IsSubset (attributes scheme) (universe_of schema.now) }
     requires nonempty { IsEmpty (attributes scheme) → ⊥ }
     ensures added { OnOk result (text.new.items
-        ≡ text.old.items ++ (scheme_text (names_of schema.now) (attributes scheme) ++ 10 ∷ [])) }
+        ≡ text.old.items ++ (scheme_text (printed_names_of schema.now) (attributes scheme) ++ 10 ∷ [])) }
 {
     add(text, b"scheme ")?;
     add_set(text, schema, scheme)?;

@@ -3,7 +3,7 @@ use Rattle.std.proofs.lemmas.List.{append-nil}
 use Rattle.attr_sets.specs.declared.set.AttrSet.{AttrSet}
 use Rattle.attr_sets.specs.Sets.{attributes}
 use Rattle.dep_model.specs.Plans.{schemes_of}
-use Rattle.dep_model.specs.Schemas.{names_of}
+use Rattle.schema_printer.specs.Spelling.{printed_names_of}
 use Rattle.plans.specs.Printing.{scheme_text, plan_text}
 use Rattle.plans.proofs.PrintingLemmas.{lines_more}
 use Rattle.plans.proofs.printing.add_schemes.Goals as goal
@@ -13,7 +13,7 @@ loop-scheme-init c = sym (append-nil c.args.text.now.items)
 
 pub loop-scheme-preserved : goal.loop-scheme-preserved
 loop-scheme-preserved c =
-    let names = names_of c.args.schema.now in
+    let names = printed_names_of c.args.schema.now in
     let i = c.loop-scheme.scheme-index in
     let schemes = c.args.schemes.now in
     let first : AttrSet = record { 0 = 0 } in
@@ -25,4 +25,4 @@ loop-scheme-preserved c =
     ∙ ap (λ (text : List ℕ). c.args.text.now.items ++ text) (sym (lines_more names schemes i first c.loop-scheme-test.true))
 
 pub returns : goal.returns
-returns c = record { added = subst (λ (xs : List AttrSet). c.loop-scheme.text.items ≡ c.args.text.now.items ++ plan_text (names_of c.args.schema.now) (schemes_of xs)) (take_all c.loop-scheme.scheme-index c.args.schemes.now c.loop-scheme-test.false) c.loop-scheme.invariant }
+returns c = record { added = subst (λ (xs : List AttrSet). c.loop-scheme.text.items ≡ c.args.text.now.items ++ plan_text (printed_names_of c.args.schema.now) (schemes_of xs)) (take_all c.loop-scheme.scheme-index c.args.schemes.now c.loop-scheme-test.false) c.loop-scheme.invariant }

@@ -1,8 +1,8 @@
 use Rattle.std.proofs.Common.{◌≡◌, ◌++◌, take}
 use Rattle.dep_model.specs.Plans.{schemes_of}
-use Rattle.dep_model.specs.Schemas.{names_of}
+use Rattle.schema_printer.specs.Spelling.{printed_names_of}
 use Rattle.plans.specs.Printing.{plan_text}
 use Rattle.plans.proofs.printing.add_schemes.Given as goal
 
 abbrev pub invariant-loop-scheme : goal.invariant-loop-scheme
-invariant-loop-scheme l = l.text.items ≡ l.fn.text.items ++ plan_text (names_of l.schema) (schemes_of (take l.scheme-index l.schemes))
+invariant-loop-scheme l = l.text.items ≡ l.fn.text.items ++ plan_text (printed_names_of l.schema) (schemes_of (take l.scheme-index l.schemes))

@@ -4,6 +4,7 @@ use Rattle.dep_model.specs.declared.name.Name.{Name}
 use Rattle.std.specs.Fmt.{decimal}
 use Rattle.std.proofs.lemmas.Fmt.{length-decimal-le}
 use Rattle.dep_model.specs.Names.{is_bare_name}
+use Rattle.dep_model.proofs.NameLemmas.{bare_name_is_name}
 use Rattle.table_names.proofs.NumeralLemmas.{is_table_name, last_bytes}
 use Rattle.table_names.proofs.numbered.table_name.Goals as goal
 
@@ -27,8 +28,8 @@ unwrap-requires c =
     let written = c.write_digits-start.ensures.written ∙ append-nil (decimal c.args.number) in
     let bytes = last_bytes c.write_digits-start.new.buf (start - 1) start c.args.number (omega arith)
     (omega arith) c.write_digits-start.ensures.start written c.write_digits-start.ensures.before in
-    c.new.ensures.is_bare_name.1
-    (subst (λ (l : List ℕ). IsTrue (is_bare_name l)) (sym bytes) (is_table_name c.args.number (omega arith)))
+    c.new.ensures.name.1 (bare_name_is_name _
+    (subst (λ (l : List ℕ). IsTrue (is_bare_name l)) (sym bytes) (is_table_name c.args.number (omega arith))))
 
 pub returns : goal.returns
 returns c =
