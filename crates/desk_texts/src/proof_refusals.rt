@@ -1,5 +1,6 @@
 ghost use Rattle.std.specs.Prelude.{◌≡◌, ◌++◌, IfOk, OnOk};
-ghost use Rattle.dep_model.specs.Schemas.{names_of, universe_of};
+ghost use Rattle.dep_model.specs.Schemas.{universe_of};
+ghost use Rattle.schema_printer.specs.Spelling.{printed_names_of};
 ghost use Rattle.dep_model.specs.Deps.{dependency_of, IsDepWithin};
 ghost use Rattle.proof_grammar.specs.Diagnostics.{states_other, diagnostic_of, line_diagnostic_of, IsRefusalWithin};
 ghost use Rattle.desk_texts.specs.ProofTexts.{fault_text, diagnostic_number, diagnostic_text, position_text, proof_refusal_text};
@@ -22,7 +23,7 @@ pub fn proof_refusal_line(
     requires within { IsRefusalWithin (universe_of schema.now) refusal.kind }
     ensures text { IfOk result
         (λ text. text.items
-        ≡ proof_refusal_text (names_of schema.now) name.now (line_diagnostic_of refusal)) }
+        ≡ proof_refusal_text (printed_names_of schema.now) name.now (line_diagnostic_of refusal)) }
 {
     let mut text = Vec::new(alloc);
     put(&mut text, b"refused: proof ")?;
@@ -81,7 +82,7 @@ fn put_reason(
 ) -> Result<(), OutOfMemory>
     requires within { IsRefusalWithin (universe_of schema.now) kind }
     ensures added { OnOk result (text.new.items
-        ≡ text.old.items ++ diagnostic_text (names_of schema.now) (diagnostic_of kind)) }
+        ≡ text.old.items ++ diagnostic_text (printed_names_of schema.now) (diagnostic_of kind)) }
 {
     match kind {
         ProofRefusalKind::BadLine(bad) => put(text, reason_of(bad.kind)),
@@ -114,7 +115,7 @@ fn put_states(
     requires stated { IsDepWithin (universe_of schema.now) stated }
     requires concluded { IsDepWithin (universe_of schema.now) concluded }
     ensures added { OnOk result (text.new.items
-        ≡ text.old.items ++ diagnostic_text (names_of schema.now)
+        ≡ text.old.items ++ diagnostic_text (printed_names_of schema.now)
         (states_other (dependency_of stated) (dependency_of concluded))) }
 {
     let mut reason = Vec::new(alloc);

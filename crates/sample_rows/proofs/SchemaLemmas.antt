@@ -1,13 +1,13 @@
 -- The schema of the sample is a schema.
 use Rattle.std.proofs.Common.{◌≡◌, ◌<◌, ℕ, zero, suc, false, List, [], ◌∷◌, length, refl, sym, subst, ◌∙◌, arith}
-use Rattle.std.specs.Prelude.{All, AllPairs, codes}
+use Rattle.std.specs.Prelude.{All, AllPairs, IsTrue, codes}
 use Rattle.std.proofs.lemmas.Bool.{eqb-true}
 use Rattle.std.proofs.lemmas.Bool.Decides.{nat_tests}
 use Rattle.std.proofs.lemmas.List.Kept.{AllPairs-cons}
 use Rattle.attr_sets.specs.Attributes.{Attributes, IsSubset, below, only}
 use Rattle.attr_sets.specs.Sets.{attributes}
 use Rattle.attr_sets.specs.declared.set.AttrSet.{AttrSet}
-use Rattle.dep_model.specs.Names.{same_name}
+use Rattle.dep_model.specs.Names.{is_bare_name, same_name}
 use Rattle.dep_model.specs.Deps.{IsDepWithin}
 use Rattle.dep_model.specs.Validity.{IsSchema}
 use Rattle.dep_model.specs.declared.dep.Dep.{Dep}
@@ -66,3 +66,14 @@ schema_valid names deps lines l r s is_names is_deps two hl hr hs =
       deps_within = each_within l r s hl hr hs;
       one_line_each = two;
     }))
+
+-- the names are bare names
+pub names_bare : (names : List (List ℕ)) → names ≡ sample_names → All (λ name. IsTrue (is_bare_name name)) names
+names_bare names is = subst (All (λ name. IsTrue (is_bare_name name))) (sym is) each
+  where
+    each : All (λ name. IsTrue (is_bare_name name)) sample_names
+    each zero d low = refl
+    each (suc zero) d low = refl
+    each (suc (suc zero)) d low = refl
+    each (suc (suc (suc zero))) d low = refl
+    each (suc (suc (suc (suc k)))) d low = absurd (omega (arith, low))

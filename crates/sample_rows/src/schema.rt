@@ -44,6 +44,7 @@ pub fn sample_schema(alloc: Global) -> Result<Schema, OutOfMemory>
 }
 
 // The name that a word is.
+#[tactic(auto, using(dep_model::proofs::NameLemmas::bare_name_is_name))]
 fn name_of_word(word: &[u8]) -> Name
     requires name { is_bare_name word.now ≡ true }
     ensures name { result ≡ word.now }

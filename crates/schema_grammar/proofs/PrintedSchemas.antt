@@ -1,19 +1,21 @@
 -- What is printed of a schema means it.
-use Rattle.std.proofs.Common.{◌≡◌, ◌<◌, ◌≤◌, ◌+◌, inl, inr, ℕ, suc, Bool, true, false, cond, List, [], ◌∷◌, ◌++◌, length, get_or, Some, refl, sym, ◌∙◌, ap, subst, arith, append_assoc, length-append}
+use Rattle.std.proofs.Common.{◌≡◌, ◌<◌, ◌≤◌, ◌+◌, inl, inr, ℕ, suc, Bool, true, false, IsTrue, All, cond, List, [], ◌∷◌, ◌++◌, length, get_or, Some, refl, sym, ◌∙◌, ap, subst, arith, append_assoc, length-append}
 use Rattle.std.specs.Prelude.{codes, map}
 use Rattle.std.specs.List.{list_any, flat_map, Contains}
-use Rattle.std.proofs.lemmas.Bool.{cases_Bool}
+use Rattle.std.proofs.lemmas.Bool.{cases_Bool, false≢true}
 use Rattle.std.proofs.lemmas.List.{append-nil, length-map}
-use Rattle.std.proofs.lemmas.List.Elements.{All-nil}
+use Rattle.std.proofs.lemmas.List.Elements.{All-nil, All-head, All-tail}
 use Rattle.std.proofs.lemmas.List.Folds.{Any-from_list_any}
 use Rattle.attr_sets.specs.declared.set.TheConstants.{MOST_ATTRIBUTES}
 use Rattle.dep_model.specs.declared.column_type.ColumnType.{ColumnType}
 use Rattle.dep_model.specs.declared.column_type.ColumnType.TheVariants.{Text, Integer}
+use Rattle.dep_model.specs.declared.naming.Naming.TheVariants.{Bare}
 use Rattle.dep_model.specs.declared.schema.Schema.{Schema}
 use Rattle.dep_model.specs.Dependencies.{Dependency, IsWithin}
 use Rattle.dep_model.specs.Deps.{dependency_of}
-use Rattle.dep_model.specs.Schemas.{names_of, types_of, deps_of, theory_of, universe_of}
+use Rattle.dep_model.specs.Schemas.{naming_of, names_of, types_of, deps_of, theory_of, universe_of}
 use Rattle.dep_model.proofs.DepLemmas.{dependencies_all-from}
+use Rattle.dep_model.specs.Columns.{is_plain_type}
 use Rattle.dep_model.specs.Names.{is_bare_name}
 use Rattle.lexer.specs.declared.token.Mode.TheVariants as mode
 use Rattle.lexer.specs.declared.token.TokenKind.TheVariants as token
@@ -22,10 +24,12 @@ use Rattle.lexer.specs.Lines.{line_texts, without_mark}
 use Rattle.lexer.specs.Pieces.{front_piece, run_piece}
 use Rattle.lexer.specs.Tokens.{lex, led_by_mark}
 use Rattle.lexer.proofs.Steps.{at_token}
+use Rattle.schema_grammar.specs.declared.format.TheConstants.{MOST_DEPENDENCY_LINES}
 use Rattle.schema_grammar.specs.declared.format.Format.{Format}
 use Rattle.schema_grammar.specs.declared.format.Format.TheVariants as format
 use Rattle.schema_grammar.specs.Declarations.{Declarations, no_declaration, add_name}
 use Rattle.schema_grammar.specs.Meanings.{HasTokens}
+use Rattle.schema_printer.proofs.PrintLemmas.{same_column-is, integer_is}
 use Rattle.schema_printer.specs.Printing.{words_text, dependency_text, Run, run_line, runs_of, in_front, same_column, type_word, is_integer, declaring_lines, declared_text}
 use Rattle.schema_grammar.specs.Schemas.{DeclareNames, MeansTextLine, MeansLines, IsVersionLine, IsPlainText, IsTypedText, MeansSchema, has_version_line}
 use Rattle.schema_grammar.specs.Texts.{is_version}
@@ -96,13 +100,21 @@ declaring_mean f column number d key names words rest position are cut few some 
       names = declare_front f column d names words rest (1 + length key) position are cut few;
     }))
 
+-- text and integer columns
+abbrev IsPlain : ColumnType → Type 0
+IsPlain column = IsTrue (is_plain_type column)
+
+abbrev AllPlain : List ColumnType → Type 0
+AllPlain columns = All IsPlain columns
+
 -- a text of text columns
-all_text : (columns : List ColumnType) (names : List (List ℕ)) → length columns ≡ length names → list_any is_integer columns ≡ false → map (λ (w : List ℕ). Text) names ≡ columns
-all_text [] [] e none = refl
-all_text [] (name ∷ names) e none = absurd (omega arith)
-all_text (column ∷ columns) [] e none = absurd (omega arith)
-all_text (Text ∷ columns) (name ∷ names) e none = ap (λ t. Text ∷ t) (all_text columns names (omega arith) none)
-all_text (Integer ∷ columns) (name ∷ names) e none = cc
+all_text : (columns : List ColumnType) (names : List (List ℕ)) → length columns ≡ length names → AllPlain columns → list_any is_integer columns ≡ false → map (λ (w : List ℕ). Text) names ≡ columns
+all_text [] [] e plain none = refl
+all_text [] (name ∷ names) e plain none = absurd (omega arith)
+all_text (column ∷ columns) [] e plain none = absurd (omega arith)
+all_text (Text ∷ columns) (name ∷ names) e plain none = ap (λ t. Text ∷ t) (all_text columns names (omega arith) (All-tail IsPlain Text columns plain) none)
+all_text (Integer ∷ columns) (name ∷ names) e plain none = cc
+all_text (column ∷ columns) (name ∷ names) e plain none = absurd (false≢true (plain 0 Text (omega arith)))
 
 -- the declarations that a printed text means
 abbrev printed_declarations : List ColumnType → List (List ℕ) → List Dependency → ℕ → Declarations
@@ -117,7 +129,7 @@ run_columns runs = flat_map (λ r. map (λ (w : List ℕ). r.column) r.names) ru
 
 abbrev EachSome : List Run → Type 0
 EachSome [] = Unit {0}
-EachSome (r ∷ rs) = (0 < length r.names) × EachSome rs
+EachSome (r ∷ rs) = (0 < length r.names) × IsPlain r.column × EachSome rs
 
 -- the names and columns of attributes, in runs none of which is empty
 record AreRuns (runs : List Run) (columns : List ColumnType) (names : List (List ℕ)) : Type 0 where
@@ -126,49 +138,62 @@ record AreRuns (runs : List Run) (columns : List ColumnType) (names : List (List
   some : EachSome runs
 
 front_runs : (c : ColumnType) (name : List ℕ) (runs : List Run) (columns : List ColumnType) (names : List (List ℕ))
-    → AreRuns runs columns names
+    → IsPlain c → AreRuns runs columns names
     → AreRuns (in_front c name runs) (c ∷ columns) (name ∷ names)
-front_runs c name [] columns names are =
+front_runs c name [] columns names plain are =
     record {
       names_are = ap (λ t. name ∷ t) are.names_are;
       columns_are = ap (λ t. c ∷ t) are.columns_are;
-      some = (omega arith, tt);
+      some = (omega arith, plain, tt);
     }
-front_runs c name (r ∷ rs) columns names are = told (same_column c r.column) refl
+front_runs c name (r ∷ rs) columns names plain are = told (same_column c r.column) refl
   where
-    same_type : (a b : ColumnType) → same_column a b ≡ true → a ≡ b
-    same_type Text Text e = refl
-    same_type Integer Integer e = refl
-    same_type a b e = cc
-
     told : (b : Bool) → same_column c r.column ≡ b
         → AreRuns (cond b (record { column = c; names = name ∷ r.names } ∷ rs)
         (record { column = c; names = name ∷ [] } ∷ r ∷ rs)) (c ∷ columns) (name ∷ names)
     told true e = record {
       names_are = ap (λ t. name ∷ t) are.names_are;
-      columns_are = ap (λ k. (c ∷ map (λ (w : List ℕ). k) r.names) ++ run_columns rs) (same_type c r.column e)
+      columns_are = ap (λ k. (c ∷ map (λ (w : List ℕ). k) r.names) ++ run_columns rs) (same_column-is c r.column e)
           ∙ ap (λ t. c ∷ t) are.columns_are;
-      some = (omega arith, are.some.1);
+      some = (omega arith, plain, are.some.2);
     }
     told false e =
         record {
           names_are = ap (λ t. name ∷ t) are.names_are;
           columns_are = ap
               (λ t. c ∷ t) are.columns_are;
-          some = (omega arith, are.some);
+          some = (omega arith, plain, are.some);
         }
 
-are_runs : (columns : List ColumnType) (names : List (List ℕ)) → length columns ≡ length names
+are_runs : (columns : List ColumnType) (names : List (List ℕ)) → length columns ≡ length names → AllPlain columns
     → AreRuns (runs_of columns names) columns names
-are_runs [] [] e = record { names_are = refl; columns_are = refl; some = tt }
-are_runs [] (name ∷ names) e = absurd (omega arith)
-are_runs (column ∷ columns) [] e = absurd (omega arith)
-are_runs (column ∷ columns) (name ∷ names) e =
-    front_runs column name (runs_of columns names) columns names (are_runs columns names (omega arith))
+are_runs [] [] e plain = record { names_are = refl; columns_are = refl; some = tt }
+are_runs [] (name ∷ names) e plain = absurd (omega arith)
+are_runs (column ∷ columns) [] e plain = absurd (omega arith)
+are_runs (column ∷ columns) (name ∷ names) e plain =
+    front_runs column name (runs_of columns names) columns names (All-head IsPlain column columns plain)
+    (are_runs columns names (omega arith) (All-tail IsPlain column columns plain))
 
 -- after runs that are printed line by line
 abbrev with_runs : Declarations → List Run → Declarations
 with_runs d runs = record { names = d.names ++ run_names runs; columns = d.columns ++ run_columns runs; deps = d.deps; lines = d.lines }
+
+-- the words of text and integer columns
+plain_word : (c : ColumnType) → IsPlain c → is_bare_name (type_word c) ≡ true
+plain_word Text plain = refl
+plain_word Integer plain = refl
+plain_word c plain = absurd (false≢true plain)
+
+plain_declares : (c : ColumnType) → IsPlain c → column_type_of_token format.Typed token.Identifier (type_word c) ≡ Some c
+unfolding column_type_of_token column_type_of_word
+plain_declares Text plain = refl
+plain_declares Integer plain = refl
+plain_declares c plain = absurd (false≢true plain)
+
+plain_bytes : (c : ColumnType) → IsPlain c → Bytes (type_word c)
+plain_bytes Text plain = refl
+plain_bytes Integer plain = refl
+plain_bytes c plain = absurd (false≢true plain)
 
 runs_mean : (number : ℕ) (d : Declarations) (names : List (List ℕ)) (runs : List Run) (lines : List (List ℕ)) (whole : Declarations) (position : ℕ) → AreNames format.Typed names
     → IsCutAt names d.names (run_names runs) position → length names ≤ MOST_ATTRIBUTES → EachSome runs → MeansLines format.Typed (number + length runs) (with_runs d runs) lines whole
@@ -180,16 +205,15 @@ runs_mean number d names [] lines whole position are cut few some rest =
     let of : Declarations → Type 0 = λ e. MeansLines format.Typed number e lines whole in
     let of_n : ℕ → Type 0 = λ n. MeansLines format.Typed n (with_runs d []) lines whole in
     subst of same (subst of_n back rest)
-runs_mean number d names (r ∷ runs) lines whole position are cut few (here, some) rest =
+runs_mean number d names (r ∷ runs) lines whole position are cut few (here, plain, some) rest =
     let next = with_names d r.names r.column in
     let same : with_runs d (r ∷ runs) ≡ with_runs next runs =
     (λ i. record { names = sym (append_assoc d.names r.names (run_names runs)) i; columns = sym (append_assoc d.columns (map (λ w. r.column) r.names) (run_columns runs)) i; deps = d.deps; lines = d.lines }) in
     let later : number + suc (length runs) ≡ (number + 1) + length runs = omega arith in
     let of : Declarations → Type 0 = λ e. MeansLines format.Typed (number + suc (length runs)) e lines whole in
     let of_n : ℕ → Type 0 = λ n. MeansLines format.Typed n (with_runs next runs) lines whole in
-    let proper = elim (r.column) as (λ c. is_bare_name (type_word c) ≡ true) [ Text ↦ refl | Integer ↦ refl ] in
-    let declares_it = elim (r.column) as
-    (λ c. column_type_of_token format.Typed token.Identifier (type_word c) ≡ Some c) [ Text ↦ refl | Integer ↦ refl ] in (
+    let proper = plain_word r.column plain in
+    let declares_it = plain_declares r.column plain in (
       next,
       declaring_mean format.Typed r.column number d (type_word r.column) names r.names
           (run_names runs) position are cut few here proper declares_it,
@@ -213,8 +237,7 @@ typed_names columns names deps is some = record {
     has : Contains columns Integer
     has =
         let any = Any-from_list_any is_integer columns some in
-        let is_one : any.1 ≡ Integer = (elim (any.1) as
-        (λ c. is_integer c ≡ true → c ≡ Integer) [ Text ↦ λ e. cc | Integer ↦ λ e. refl ]) any.4 in
+        let is_one : any.1 ≡ Integer = integer_is any.1 any.4 in
         (any.0, any.2, ap (get_or columns any.0) (sym is_one) ∙ any.3 ∙ is_one)
 
 version_line : IsVersionLine (codes "version 2")
@@ -241,14 +264,14 @@ split_names : (xs ys : List (List ℕ)) → AllNames (xs ++ ys) → AllNames xs 
 split_names [] ys h = (tt, h)
 split_names (x ∷ xs) ys (here, rest) = let more = split_names xs ys rest in ((here, more.0), more.1)
 
-runs_bytes : (runs : List Run) → AllNames (run_names runs) → EachBytes (map run_line runs)
-runs_bytes [] names = tt
-runs_bytes (r ∷ rs) names =
+runs_bytes : (runs : List Run) → EachSome runs → AllNames (run_names runs) → EachBytes (map run_line runs)
+runs_bytes [] some names = tt
+runs_bytes (r ∷ rs) (here, plain, some) names =
     let parts = split_names r.names (run_names rs) names in
-    let word = elim (r.column) as (λ c. Bytes (type_word c)) [ Text ↦ refl | Integer ↦ refl ] in (
+    let word = plain_bytes r.column plain in (
       bytes_both (type_word r.column) (words_text r.names) word
           (words_bytes r.names parts.0),
-      runs_bytes rs parts.1,
+      runs_bytes rs some parts.1,
     )
 
 -- a printed text is cut into its lines and an empty one
@@ -289,7 +312,7 @@ plain_means columns names deps is none =
     let more = dependencies_mean format.Plain 2 after_names deps is.are_names is.within (omega arith) in
     let of_columns : List ColumnType → Type 0 =
     λ cs. MeansLines format.Plain 2 after_names rest (printed_declarations cs names deps 2) in
-    let means = subst of_columns (all_text columns names is.are_columns.one_each none) more in
+    let means = subst of_columns (all_text columns names is.are_columns.one_each is.are_columns.plain none) more in
     let of : List (List ℕ) → Type 0 = λ ls. IsPlainText ls (printed_declarations columns names deps 2) in (
       line_numbers 2 deps,
       record {
@@ -305,11 +328,11 @@ typed_means columns names deps is some =
     let are = typed_names columns names deps is some in
     let runs = runs_of columns names in
     let first : declaring_lines columns names ≡ codes "version 2" ∷ map run_line runs = rw some refl in
-    let cut_up = are_runs columns names is.are_columns.one_each in
+    let cut_up = are_runs columns names is.are_columns.one_each is.are_columns.plain in
     let back : run_names runs ≡ names = cut_up.names_are in
     let types : run_columns runs ≡ columns = cut_up.columns_are in
     let proper : AllNames (run_names runs) = subst AllNames (sym back) (all_names format.Typed names are) in
-    let each : EachBytes (declaring_lines columns names) = subst EachBytes (sym first) (refl, runs_bytes runs proper) in
+    let each : EachBytes (declaring_lines columns names) = subst EachBytes (sym first) (refl, runs_bytes runs cut_up.some proper) in
     let unmarked : without_mark (declared_text columns names deps) ≡ declared_text columns names deps = rw some refl in
     let rest = map (dependency_text names) deps ++ [] ∷ [] in
     let cut : line_texts (without_mark (declared_text columns names deps)) ≡ codes "version 2" ∷ (map run_line runs ++ rest) =
@@ -338,9 +361,9 @@ typed_means columns names deps is some =
     )
 
 -- what is printed of a schema, none of whose names is reserved, means it
-pub printed-schema-law : (s : Schema) → AreNames format.Plain (names_of s)
+pub printed-schema-law : (s : Schema) → naming_of s ≡ Bare → length (deps_of s) ≤ MOST_DEPENDENCY_LINES → AreNames format.Plain (names_of s)
     → Means (types_of s) (names_of s) (theory_of s)
-printed-schema-law s are = elim (cases_Bool (list_any is_integer (types_of s))) [
+printed-schema-law s bare few are = elim (cases_Bool (list_any is_integer (types_of s))) [
   | inl some ↦ typed_means (types_of s) (names_of s) (theory_of s) printable some
   | inr none ↦ plain_means (types_of s) (names_of s) (theory_of s) printable none
 ]
@@ -350,8 +373,7 @@ printed-schema-law s are = elim (cases_Bool (list_any is_integer (types_of s))) 
       some = s.valid.some_names;
       few = s.valid.few_names;
       are_names = are;
-      are_columns = s.typed;
-      few_deps = let size = length-map (deps_of s) dependency_of in
-          let few = s.valid.few_deps in omega (arith, size, few);
+      are_columns = (s.typed.bare bare).are_columns;
+      few_deps = let size = length-map (deps_of s) dependency_of in omega (arith, size, few);
       within = dependencies_all-from (IsWithin (universe_of s)) (deps_of s) s.valid.deps_within;
     }

@@ -1,5 +1,5 @@
 -- What is declared is sound: names differ, and columns fit their format.
-use Rattle.std.proofs.Common.{◌≡◌, ◌<◌, ◌≤◌, ◌+◌, ◌-◌, inl, inr, ℕ, zero, suc, true, false, List, [], ◌∷◌, ◌++◌, length, Some, None, refl, sym, ◌∙◌, ap, subst, arith, length-append, get_or, lt-ltb, ltb-true}
+use Rattle.std.proofs.Common.{◌≡◌, ◌<◌, ◌≤◌, ◌+◌, ◌-◌, inl, inr, ℕ, zero, suc, true, false, IsTrue, List, [], ◌∷◌, ◌++◌, length, Some, None, refl, sym, ◌∙◌, ap, subst, arith, length-append, get_or, lt-ltb, ltb-true}
 use Rattle.std.specs.List.{All, AllPairs, Contains, position_or_len}
 use Rattle.std.specs.Str.{bytes_eq}
 use Rattle.std.specs.Result.{IfOk}
@@ -17,6 +17,7 @@ use Rattle.dep_model.specs.declared.dep.Dep.{Dep}
 use Rattle.schema_grammar.specs.declared.format.TheConstants.{MOST_DEPENDENCY_LINES}
 use Rattle.dep_model.specs.Dependencies.{Dependency, IsWithin, left_of, right_of}
 use Rattle.dep_model.specs.Deps.{dependency_of, dependencies_of}
+use Rattle.dep_model.specs.Columns.{is_plain_type}
 use Rattle.dep_model.specs.Names.{is_bare_name, same_name, is_type_name}
 use Rattle.dep_model.specs.Schemas.{attribute_named}
 use Rattle.dep_model.specs.Validity.{IsSchema, AreColumns}
@@ -57,6 +58,7 @@ pub record IsSound (f : Format) (d : Declarations) : Type 0 where
   pub deps_within : All (IsWithin (below (length d.names))) d.deps
   pub one_line_each : length d.lines ≡ length d.deps
   pub one_column_each : length d.columns ≡ length d.names
+  pub plain : All (λ column. IsTrue (is_plain_type column)) d.columns
   pub fits : FitsFormat f d
 
 pub nothing_sound : (f : Format) → IsSound f no_declaration
@@ -69,6 +71,7 @@ nothing_sound f = record {
   deps_within = λ k d h. absurd (omega arith);
   one_line_each = refl;
   one_column_each = refl;
+  plain = λ k d h. absurd (omega arith);
   fits = elim f as (λ f. FitsFormat f no_declaration) [
     | format.Plain ↦ λ k d h. absurd
         (omega arith)
@@ -102,7 +105,11 @@ below-wider n m x h within k e = let small : k < n = ltb-true k n (within k e) i
 -- the type of a column that a line declares
 abbrev pub FitsColumn : Format → ColumnType → Type 0
 FitsColumn format.Plain c = c ≡ Text
-FitsColumn format.Typed c = Unit {0}
+FitsColumn format.Typed c = IsTrue (is_plain_type c)
+
+column_plain : (f : Format) (c : ColumnType) → FitsColumn f c → IsTrue (is_plain_type c)
+column_plain format.Plain c text = subst (λ (column : ColumnType). IsTrue (is_plain_type column)) (sym text) refl
+column_plain format.Typed c plain = plain
 
 no_name : (names : List (List ℕ)) (word : List ℕ) → attribute_named names word ≡ None
     → All (λ name. same_name name word ≡ false) names
@@ -144,6 +151,7 @@ name_sound f column d m h proper sound new =
       );
       one_line_each = sound.one_line_each;
       one_column_each = let same = sound.one_column_each in omega arith;
+      plain = All-push (λ c. IsTrue (is_plain_type c)) d.columns column sound.plain (column_plain f column h);
       fits = name_fits f column d m.word h new.free sound.fits;
     }
 
@@ -169,16 +177,30 @@ dependency_sound f d dep line sound room inside =
       deps_within = All-push (IsWithin (below (length d.names))) d.deps dep sound.deps_within inside;
       one_line_each = let same = sound.one_line_each in omega arith;
       one_column_each = sound.one_column_each;
+      plain = sound.plain;
       fits = (elim f as (λ f. FitsFormat f d → FitsFormat f (add_dependency d dep line)) [
         | format.Plain ↦ λ fits. fits
         | format.Typed ↦ λ fits. fits
       ]) sound.fits;
     }
 
+some_type : (c d : ColumnType) → Some c ≡ Some d → c ≡ d
+some_type c d same = cc
+
 declares_fits : (f : Format) (k : TokenKind) (word : List ℕ) (column : ColumnType)
     → column_type_of_token f k word ≡ Some column → FitsColumn f column
 unfolding column_type_of_token column_type_of_word
-declares_fits format.Typed k word column e = tt
+declares_fits format.Typed token.Identifier word column e = elim (cases_Bool (bytes_eq word (codes "attributes"))) [
+  | inl is ↦ let text : Some Text ≡ Some column = rw is at e in subst (λ (c : ColumnType). IsTrue (is_plain_type c)) (some_type Text column text) refl
+  | inr other ↦ elim (cases_Bool (bytes_eq word (codes "text"))) [
+    | inl is ↦ let text : Some Text ≡ Some column = rw (other, is) at e in subst (λ (c : ColumnType). IsTrue (is_plain_type c)) (some_type Text column text) refl
+    | inr another ↦ elim (cases_Bool (bytes_eq word (codes "integer"))) [
+      | inl is ↦ let integer : Some Integer ≡ Some column = rw (other, another, is) at e in subst (λ (c : ColumnType). IsTrue (is_plain_type c)) (some_type Integer column integer) refl
+      | inr none ↦ let wrong = rw (other, another, none) at e in cc
+    ]
+  ]
+]
+declares_fits format.Typed k word column e = cc
 declares_fits format.Plain token.Identifier word column e = elim (cases_Bool (bytes_eq word (codes "attributes"))) [
   | inl is ↦ let text = rw is at e in cc
   | inr other ↦ let wrong = rw other at e in cc
@@ -250,6 +272,7 @@ forms_schema d deps whole e =
 pub forms_columns : (d : Declarations) → IsWhole d → AreColumns d.names d.columns
 forms_columns d whole = record {
   one_each = whole.sound.one_column_each;
+  plain = whole.sound.plain;
   no_type_name = (elim (whole.format) as
       (λ f. FitsFormat f d → Contains d.columns Integer → All (λ name. is_type_name name ≡ false) d.names) [
         | format.Plain ↦ λ fits has. let wrong : Integer ≡ Text =

@@ -2,9 +2,11 @@
 -- functions of `laws.rt`. `Desk` does not cite it.
 use Rattle.std.specs.Prelude.{◌≡◌, ◌<◌, ◌≤◌, ◌↔◌, ℕ, List, length, Ok, Err}
 use Rattle.attr_sets.specs.Attributes.{Attributes}
+use Rattle.dep_model.specs.declared.naming.Naming.TheVariants.{Bare}
 use Rattle.dep_model.specs.declared.schema.Schema.{Schema}
+use Rattle.schema_grammar.specs.declared.format.TheConstants.{MOST_DEPENDENCY_LINES}
 use Rattle.dep_model.specs.Dependencies.{Dependency}
-use Rattle.dep_model.specs.Schemas.{names_of, types_of, theory_of}
+use Rattle.dep_model.specs.Schemas.{naming_of, names_of, types_of, deps_of, theory_of}
 use Rattle.lexer.specs.declared.token.Mode.{Mode}
 use Rattle.lexer.specs.declared.token.Mode.TheVariants as mode
 use Rattle.lexer.specs.Tokens.{lex}
@@ -79,7 +81,8 @@ PositionsRise =
 -- ---- printed schemas
 abbrev pub PrintedSchemaMeans : Type 0
 PrintedSchemaMeans =
-    (s : Schema) → AreNames format.Plain (names_of s)
+    (s : Schema) → naming_of s ≡ Bare → length (deps_of s) ≤ MOST_DEPENDENCY_LINES
+    → AreNames format.Plain (names_of s)
     → (lines : List ℕ) × MeansSchema (declared_text (types_of s) (names_of s) (theory_of s))
     (record { names = names_of s; columns = types_of s; deps = theory_of s; lines = lines })
 

@@ -7,7 +7,7 @@ use Rattle.std.specs.Prelude.{Contains, All, AllPairs}
 use Rattle.attr_sets.specs.Attributes.{Attributes, union}
 use Rattle.attr_sets.specs.Sets.{attributes}
 use Rattle.dep_model.specs.declared.schema.Schema.{Schema}
-use Rattle.dep_model.specs.Schemas.{width_of, theory_of, TypedFor}
+use Rattle.dep_model.specs.Schemas.{width_of, types_of, theory_of, TypedFor}
 use Rattle.dep_model.specs.Tuples.{Relation}
 use Rattle.dep_model.specs.Dependencies.{Dependency, mvd, is_fd, functional_part}
 use Rattle.chase_laws.specs.Tableaux.{SymbolRow, Tableau, SameTableau, IsTableauOver, distinguished_row, plan_tableau}
@@ -213,7 +213,7 @@ closed_gains n ds plan t texts few reached closed are lacks =
 
 pub closed_typed : (schema : Schema) (plan : List Attributes) (limit : ℕ) (texts : Relation) → length plan < 2 ^ 32 → IsClosedTableau (width_of schema) (theory_of schema) plan limit texts → TypedFor schema texts
 closed_typed schema plan limit texts few closed =
-    subst (λ (r : Relation). TypedFor schema r) (sym closed.texts) (reached_typed (width_of schema) (attributes schema.integers) (theory_of schema) plan closed.symbols few closed.reached)
+    subst (λ (r : Relation). TypedFor schema r) (sym closed.texts) (reached_typed (width_of schema) (types_of schema) (theory_of schema) plan closed.symbols schema.typed.one_each few closed.reached)
 
 -- what is said of the texts of the rows, where the rounds end at a closed tableau
 pub record EndsLossy (n : ℕ) (ds : List Dependency) (plan : List Attributes) (limit : ℕ) (texts : Relation) : Type 0 where

@@ -1,6 +1,6 @@
 use Rattle.std.proofs.Common.{◌≡◌, length, ap, arith}
 use Rattle.sample_rows.specs.Sample.{sample_names}
-use Rattle.sample_rows.proofs.SchemaLemmas.{one_within, schema_valid}
+use Rattle.sample_rows.proofs.SchemaLemmas.{one_within, schema_valid, names_bare}
 use Rattle.sample_rows.proofs.schema.sample_schema.Goals as goal
 
 pub new-requires : goal.new-requires
@@ -12,4 +12,5 @@ new-requires c =
           (one_within _ _ 4 (omega arith) c.single-person.ensures.members)
           (one_within _ _ 4 (omega arith) c.single.ensures.members)
           (one_within _ _ 4 (omega arith) c.single-2.ensures.members);
+      bare = names_bare _ names;
     }
