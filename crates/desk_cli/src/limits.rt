@@ -5,7 +5,7 @@ ghost use Rattle.attr_sets.specs.declared.set.TheConstants.{MOST_ATTRIBUTES};
 ghost use Rattle.armstrong_rel.specs.declared.refusal.TheConstants.{WIDEST_EXHIBITED};
 ghost use Rattle.csv_rows.specs.declared.reading.TheConstants.{MOST_ROWS};
 ghost use Rattle.plan_reader.specs.declared.reading.TheConstants.{MOST_PLAN_BYTES};
-ghost use Rattle.dep_model.specs.declared.name.TheConstants.{MOST_NAME_BYTES};
+ghost use Rattle.dep_model.specs.declared.name.TheConstants.{MOST_BARE_NAME_BYTES};
 ghost use Rattle.schema_grammar.specs.declared.format.TheConstants.{MOST_DEPENDENCY_LINES};
 ghost use Rattle.derivation.specs.declared.measures.TheConstants.{MOST_LEVELS, MOST_NODES};
 ghost use Rattle.desk_cli.specs.declared.decomposition.TheConstants.{MOST_SPLIT_SCHEMES};
@@ -28,7 +28,7 @@ ghost use Rattle.table_scripts.specs.declared.naming.TheConstants.{MOST_PARTS, M
 pub fn limits_of_schemas()
     ensures attributes { MOST_ATTRIBUTES ≡ 128 }
     ensures dependencies { MOST_DEPENDENCY_LINES ≡ 256 }
-    ensures name { MOST_NAME_BYTES ≡ 31 }
+    ensures name { MOST_BARE_NAME_BYTES ≡ 31 }
 {}
 
 /// How many bytes a text may have.

@@ -1,6 +1,7 @@
 ghost use Rattle.std.specs.Prelude.{◌≡◌, ◌++◌, codes, IfOk, OnOk};
 ghost use Rattle.std.specs.Fmt.{decimal};
-ghost use Rattle.dep_model.specs.Schemas.{names_of, universe_of};
+ghost use Rattle.dep_model.specs.Schemas.{universe_of};
+ghost use Rattle.schema_printer.specs.Spelling.{printed_names_of};
 ghost use Rattle.dep_model.specs.Deps.{dependency_of, IsDepWithin};
 ghost use Rattle.derivation.specs.FaultTexts.{fault_number, fault_text};
 ghost use Rattle.proof_grammar.specs.Diagnostics.{states_other, diagnostic_of, line_diagnostic_of, IsRefusalWithin};
@@ -24,7 +25,7 @@ pub fn proof_refusal_line(
     requires within { IsRefusalWithin (universe_of schema.now) refusal.kind }
     ensures text { IfOk result
         (λ text. text.items
-        ≡ proof_refusal_text (names_of schema.now) name.now (line_diagnostic_of refusal)) }
+        ≡ proof_refusal_text (printed_names_of schema.now) name.now (line_diagnostic_of refusal)) }
 {
     let mut text = Vec::new(alloc);
     add(&mut text, b"refused: proof ")?;
@@ -59,7 +60,7 @@ fn put_reason(
 ) -> Result<(), OutOfMemory>
     requires within { IsRefusalWithin (universe_of schema.now) kind }
     ensures added { OnOk result (text.new.items
-        ≡ text.old.items ++ diagnostic_text (names_of schema.now) (diagnostic_of kind)) }
+        ≡ text.old.items ++ diagnostic_text (printed_names_of schema.now) (diagnostic_of kind)) }
 {
     match kind {
         ProofRefusalKind::BadLine(bad) => add_displayed(text, alloc, &bad.kind),
@@ -88,7 +89,7 @@ fn put_states(
     requires stated { IsDepWithin (universe_of schema.now) stated }
     requires concluded { IsDepWithin (universe_of schema.now) concluded }
     ensures added { OnOk result (text.new.items
-        ≡ text.old.items ++ diagnostic_text (names_of schema.now)
+        ≡ text.old.items ++ diagnostic_text (printed_names_of schema.now)
         (states_other (dependency_of stated) (dependency_of concluded))) }
 {
     let mut reason = Vec::new(alloc);

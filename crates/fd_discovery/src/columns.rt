@@ -7,7 +7,7 @@ use crate::DiscoverRefusal;
 use crate::headed_rows::WIDEST_HEADED;
 use crate::records::field;
 use csv::ByteRecord;
-use dep_model::{Failure, Name};
+use dep_model::{Failure, Name, is_bare_name};
 use schema_grammar::Format;
 use std::alloc::Global;
 use tokens::{is_reserved, position_among};
@@ -41,7 +41,7 @@ fn column_name(before: &[Name], field: &[u8], column: u32) -> Result<Name, Disco
     ensures fits { IfOk result (λ _. NamesColumn before.now field.now) }
     ensures err { IfErr result (RefusesColumn before.now field.now column) }
 {
-    if is_reserved(Format::Plain, field) {
+    if is_reserved(Format::Plain, field) || !is_bare_name(field) {
         return Err(DiscoverRefusal::BadColumn { column });
     }
     match Name::new(field) {

@@ -3,7 +3,8 @@ ghost use Rattle.attr_sets.specs.Attributes.{IsSubset};
 ghost use Rattle.attr_sets.specs.Sets.{attributes};
 ghost use Rattle.dep_model.specs.Dependencies.{Dependency};
 ghost use Rattle.dep_model.specs.Deps.{dependency_of, IsDepWithin};
-ghost use Rattle.dep_model.specs.Schemas.{names_of, universe_of};
+ghost use Rattle.dep_model.specs.Schemas.{universe_of};
+ghost use Rattle.schema_printer.specs.Spelling.{printed_names_of};
 ghost use Rattle.derivation.specs.Trees.{nodes, depth};
 ghost use Rattle.derivation.specs.Derivs.{tree_of, leaf_of, step_of, pair_of};
 ghost use Rattle.derivation.specs.Table.{leaf_conclusion, step_conclusion, pair_conclusion};
@@ -48,7 +49,7 @@ fn add_lines(
     requires proof { IsProof schema.now (tree_of deriv.now) }
     requires fits_u32 { printed.old + nodes (tree_of deriv.now) < 2 ^ 32 }
     ensures added { OnOk result (text.new.items
-        ≡ text.old.items ++ certificate_lines_text (names_of schema.now)
+        ≡ text.old.items ++ certificate_lines_text (printed_names_of schema.now)
         (node_lines_after schema.now printed.old (tree_of deriv.now))) }
     ensures printed { OnOk result (printed.new ≡ printed.old + nodes (tree_of deriv.now)) }
     ensures proves { IfOk result (λ d. Proves schema.now (tree_of deriv.now) (dependency_of d)) }
@@ -89,7 +90,7 @@ fn add_node(
     requires body { IsBodyWithin (universe_of schema.now) (body_of body) }
     requires fits_u32 { printed.old + 1 < 2 ^ 32 }
     ensures added { OnOk result (text.new.items
-        ≡ text.old.items ++ certificate_line_text (names_of schema.now)
+        ≡ text.old.items ++ certificate_line_text (printed_names_of schema.now)
         (numbered_line (printed.old + 1) (dependency_of stated) (body_of body))) }
     ensures printed { OnOk result (printed.new ≡ printed.old + 1) }
     ensures stated { IfOk result (λ d. d ≡ stated) }
@@ -161,7 +162,7 @@ fn add_line(
     requires stated { IsDepWithin (universe_of schema.now) line.now.stated }
     requires body { IsBodyWithin (universe_of schema.now) (body_of line.now.body) }
     ensures added { OnOk result (text.new.items
-        ≡ text.old.items ++ certificate_line_text (names_of schema.now) (line_of line.now)) }
+        ≡ text.old.items ++ certificate_line_text (printed_names_of schema.now) (line_of line.now)) }
 {
     add_number(text, alloc, line.number)?;
     add(text, b": ")?;
@@ -180,7 +181,7 @@ fn add_body(
 ) -> Result<(), OutOfMemory>
     requires body { IsBodyWithin (universe_of schema.now) (body_of body) }
     ensures added { OnOk result (text.new.items
-        ≡ text.old.items ++ body_text (names_of schema.now) (body_of body)) }
+        ≡ text.old.items ++ body_text (printed_names_of schema.now) (body_of body)) }
 {
     match body {
         Body::Given(k) => {
@@ -218,7 +219,7 @@ fn add_step_word(text: &mut Vec<u8>, rule: StepRule) -> Result<(), OutOfMemory>
 fn add_sides(text: &mut Vec<u8>, schema: &Schema, rule: StepRule) -> Result<(), OutOfMemory>
     requires rule { IsStepWithin (universe_of schema.now) (step_of rule) }
     ensures added { OnOk result (text.new.items
-        ≡ text.old.items ++ sides_text (names_of schema.now) (step_of rule)) }
+        ≡ text.old.items ++ sides_text (printed_names_of schema.now) (step_of rule)) }
 {
     match rule {
         StepRule::Augmentation { by } => {

@@ -1,7 +1,8 @@
 ghost use Rattle.std.specs.Prelude.{All, false, ◌≡◌, ◌+◌, ◌<◌, ◌≤◌, ◌^◌, length, OnOk, IfOk, IfErr, Ok, Err};
 ghost use Rattle.dep_model.specs.Failures.{RefusesAs};
-ghost use Rattle.dep_model.specs.Schemas.{names_of};
+ghost use Rattle.dep_model.specs.Schemas.{names_of, naming_of, deps_of};
 ghost use Rattle.lexer.specs.Tokens.{bytes_of};
+ghost use Rattle.schema_grammar.specs.declared.format.TheConstants.{MOST_DEPENDENCY_LINES};
 ghost use Rattle.schema_grammar.specs.Words.{is_reserved};
 ghost use Rattle.lexer.specs.Lines.{line_texts, lines_after};
 ghost use Rattle.tokens.specs.Views.{rest_of};
@@ -12,8 +13,9 @@ ghost use Rattle.schema_grammar.specs.Schemas.{MeansSchema, RefusesSchema};
 ghost use Rattle.schema_grammar.specs.Texts.{finish, is_version, read_lines, read_version, read_typed, read_opening, declarations_of};
 
 use crate::draft::Draft;
-use dep_model::{Failure, Schema};
+use dep_model::{Failure, Schema, Naming};
 use lexer::{Mode, TokenKind, Word, cut_line, without_mark};
+use attr_sets::AttrSet;
 use schema_grammar::{Format, SchemaRefusal, SchemaRefusalKind, VERSION, What};
 use std::alloc::Global;
 use tokens::{Cursor, NextToken, number_in};
@@ -27,6 +29,8 @@ pub fn read_schema(alloc: Global, text: &[u8]) -> Result<Schema, Failure<SchemaR
     requires { length text.now ≤ MOST_TEXT_BYTES }
     ensures ok { IfOk result (λ schema. MeansSchema text.now (declarations_of schema)) }
     ensures err { IfErr result (RefusesAs (RefusesSchema text.now)) }
+    ensures bare { IfOk result (λ schema. naming_of schema ≡ Naming.Bare) }
+    ensures deps { IfOk result (λ schema. length (deps_of schema) ≤ MOST_DEPENDENCY_LINES) }
     ensures not_reserved { IfOk result
         (λ schema. All (λ name. is_reserved Format.Plain name ≡ false) (names_of schema)) }
 {
@@ -40,7 +44,8 @@ pub fn read_schema(alloc: Global, text: &[u8]) -> Result<Schema, Failure<SchemaR
         deps,
         lines,
     } = draft;
-    Ok(Schema::make_typed(names, columns, deps, lines))
+    let nullable = AttrSet::empty();
+    Ok(Schema::with_columns(Naming::Bare, names, columns, nullable, deps, lines))
 }
 
 /// Reads a text from its beginning: lines without tokens, and then a version line or any other.

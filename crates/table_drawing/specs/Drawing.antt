@@ -7,6 +7,7 @@ use Rattle.dep_model.specs.declared.schema.Schema.{Schema}
 use Rattle.dep_model.specs.Projections.{members_below}
 use Rattle.dep_model.specs.Schemas.{names_of, width_of}
 use Rattle.schema_printer.specs.Printing.{set_text}
+use Rattle.schema_printer.specs.Spelling.{printed_names_of}
 use Rattle.ddl_text.specs.declared.table.TableDesign.{TableDesign}
 
 -- a name, underlined where it is in the key
@@ -35,7 +36,7 @@ node_text s table =
 unfoldable pub edge_text : Schema → TableDesign → TableDesign → List ℕ
 edge_text s table other =
     codes "  " ++ table.name ++ codes " -> " ++ other.name ++ codes " [label=\""
-    ++ set_text (names_of s) (attributes other.key) ++ codes "\"];\n"
+    ++ set_text (printed_names_of s) (attributes other.key) ++ codes "\"];\n"
 
 -- the edges from a table to those at these positions, in order
 abbrev pub edges_to : Schema → List TableDesign → TableDesign → List ℕ → List ℕ

@@ -1,12 +1,12 @@
 -- Texts of queries, from those of their pieces.
 use Rattle.std.proofs.Common.{◌≡◌, ◌<◌, ℕ, Bool, false, ◌||◌, Some, None, List, ◌++◌, sym, ap, ◌∙◌}
-use Rattle.std.specs.Prelude.{if◌then◌else◌, codes, slice_get}
+use Rattle.std.specs.Prelude.{if◌then◌else◌, codes, slice_get, slice_index_or}
 use Rattle.attr_sets.specs.declared.set.AttrSet.{AttrSet}
 use Rattle.attr_sets.specs.Attributes.{Attributes, below, union, difference, IsEmpty}
 use Rattle.attr_sets.specs.Sets.{attributes, is_subset}
 use Rattle.dep_model.specs.declared.column_type.ColumnType.{ColumnType}
+use Rattle.dep_model.specs.declared.column_type.ColumnType.TheVariants.{Text}
 use Rattle.dep_model.specs.declared.schema.Schema.{Schema}
-use Rattle.dep_model.specs.Columns.{column_at}
 use Rattle.dep_model.specs.Schemas.{names_of, width_of, types_of}
 use Rattle.sql_names.specs.Names.{name_list}
 use Rattle.ddl_text.proofs.TextLemmas.{column_is, empty_passes, empty_fails}
@@ -16,12 +16,12 @@ use Rattle.table_scripts.specs.QueryTexts.{column_text, column_item, link_text, 
 use Rattle.table_scripts.specs.Checking.{breaches_text}
 
 -- ---- columns
-pub item_is : (s : Schema) (k : ℕ) (name : List ℕ) (column : ColumnType) → k < width_of s
+pub item_is : (s : Schema) (k : ℕ) (name : List ℕ) (column : ColumnType)
     → slice_get (names_of s) k ≡ Some name → slice_get (types_of s) k ≡ Some column → column_text column name ≡ column_item s k
 unfolding column_item
-item_is s k name column lt named typed =
-    ap (λ (c : ColumnType). column_text c name) (column_is s k column lt typed)
-    ∙ ap (λ (n : List ℕ). column_text (column_at (attributes s.integers) k) n) (sym (name_is s k name named))
+item_is s k name column named typed =
+    ap (λ (c : ColumnType). column_text c name) (column_is s k column typed)
+    ∙ ap (λ (n : List ℕ). column_text (slice_index_or (types_of s) k Text) n) (sym (name_is s k name named))
 
 -- ---- joins
 pub link_crosswise : (s : Schema) (shared : Attributes) (source : List ℕ) → IsEmpty shared → codes " CROSS JOIN " ++ source ≡ link_text s shared source

@@ -9,6 +9,7 @@ use Rattle.dep_model.specs.Schemas.{names_of, width_of, universe_of, lines_of, t
 use Rattle.dep_model.specs.Tuples.{Relation}
 use Rattle.sql_names.specs.Names.{name_list, quoted_name}
 use Rattle.schema_printer.specs.Printing.{dependency_text}
+use Rattle.schema_printer.specs.Spelling.{printed_names_of}
 use Rattle.table_queries.specs.Queries.{Query, breaches_of}
 use Rattle.table_queries.specs.Meanings.{GivesNone}
 use Rattle.table_scripts.specs.QueryTexts.{query_text}
@@ -37,7 +38,7 @@ breaches_text s table (Some q) = codes "\n" ++ query_text s table q ++ codes ";\
 -- a rule: its line in the schema's file, the dependency, and the query
 unfoldable pub rule_text : Schema → List ℕ → ℕ → Dependency → List ℕ
 rule_text s table line d =
-    codes "-- line " ++ decimal line ++ codes ": " ++ dependency_text (names_of s) d
+    codes "-- line " ++ decimal line ++ codes ": " ++ dependency_text (printed_names_of s) d
     ++ breaches_text s table (breaches_of (width_of s) d)
 
 -- each rule, in the order of the file

@@ -5,9 +5,8 @@ use Rattle.attr_sets.specs.Sets.{attributes}
 use Rattle.dep_model.specs.declared.column_type.ColumnType.{ColumnType}
 use Rattle.dep_model.specs.declared.column_type.ColumnType.TheVariants.{Text, Integer}
 use Rattle.dep_model.specs.declared.schema.Schema.{Schema}
-use Rattle.dep_model.specs.Columns.{column_at}
 use Rattle.dep_model.specs.Projections.{members_below}
-use Rattle.dep_model.specs.Schemas.{names_of, width_of, universe_of}
+use Rattle.dep_model.specs.Schemas.{names_of, width_of, types_of, universe_of}
 use Rattle.ddl_text.specs.Ddl.{is_empty}
 use Rattle.sql_names.specs.Names.{name_list, quoted_name, comma_list}
 use Rattle.table_queries.specs.Queries.{Query, whole, values_on, several, join, except, kept, attributes_of}
@@ -15,12 +14,12 @@ use Rattle.table_queries.specs.Queries.{Query, whole, values_on, several, join, 
 -- ---- columns
 -- a column of the table: an integer one is cast, and keeps its name
 unfoldable pub column_text : ColumnType → List ℕ → List ℕ
-column_text Text name = quoted_name name
 column_text Integer name = codes "CAST(" ++ quoted_name name ++ codes " AS BIGINT) AS " ++ quoted_name name
+column_text column name = quoted_name name
 
 -- the column of an attribute
 unfoldable pub column_item : Schema → ℕ → List ℕ
-column_item s k = column_text (column_at (attributes s.integers) k) (slice_index_or (names_of s) k [])
+column_item s k = column_text (slice_index_or (types_of s) k Text) (slice_index_or (names_of s) k [])
 
 -- the columns of a set's attributes, ascending, with a comma and a blank between
 abbrev pub column_list : Schema → Attributes → List ℕ

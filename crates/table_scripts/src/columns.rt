@@ -46,17 +46,22 @@ fn column_item(alloc: Global, schema: &Schema, attribute: u8) -> Result<Vec<u8>,
     requires attribute { attribute < width_of schema.now }
     ensures text { IfOk result (λ text. text.items ≡ column_item schema.now attribute) }
 {
-    column(alloc, schema.column(attribute), schema.name(attribute))
+    let column = schema.column(attribute);
+    column_of_type(alloc, &column, schema.name(attribute))
 }
 
 // A column of a type.
 #[tactic(auto, unfolding(crate::specs::QueryTexts::column_text))]
-fn column(alloc: Global, column: ColumnType, name: &Name) -> Result<Vec<u8>, OutOfMemory>
-    ensures text { IfOk result (λ text. text.items ≡ column_text column name.now) }
+fn column_of_type(
+    alloc: Global,
+    column: &ColumnType,
+    name: &Name,
+) -> Result<Vec<u8>, OutOfMemory>
+    ensures text { IfOk result (λ text. text.items ≡ column_text column.now name.now) }
 {
     match column {
-        ColumnType::Text => quoted_name(alloc, name),
         ColumnType::Integer => cast_text(alloc, name),
+        _ => quoted_name(alloc, name),
     }
 }
 

@@ -1,7 +1,7 @@
 -- The names of the attributes are names, and differ.
 use Rattle.std.proofs.Common.{◌≡◌, ℕ, ◌+◌, ◌^◌, ◌<◌, ◌≤◌, ◌&&◌, Bool, true, false, List, [], ◌∷◌, length, drop, get_or, IsTrue, refl, sym, ap, subst, ◌∙◌, arith}
 use Rattle.std.specs.Fmt.{decimal}
-use Rattle.std.specs.List.{list_all, AllPairs}
+use Rattle.std.specs.List.{list_all, All, AllPairs}
 use Rattle.std.specs.Str.{str_to_ascii_lowercase}
 use Rattle.std.specs.Str.Parse.{AllDigits}
 use Rattle.std.specs.Char.{to_ascii_lowercase}
@@ -75,3 +75,10 @@ attribute_names_differ n few i j d before within =
     subst (λ (x : List ℕ). same_name x (get_or (attribute_names n) j d) ≡ false) (sym first)
     (subst (λ (y : List ℕ). same_name (attribute_name i) y ≡ false) (sym second)
     (names_differ i j before (omega arith)))
+
+pub attribute_names_bare : (n : ℕ) → n ≤ 128 → All (λ name. IsTrue (is_bare_name name)) (attribute_names n)
+attribute_names_bare n few i d within =
+    let low : i < n = omega (arith, within, length-map-range_with_len attribute_name 0 n) in
+    let is : get_or (attribute_names n) i d ≡ attribute_name i =
+    get_or-map-range_with_len attribute_name 0 n i i d low (omega arith) in
+    subst (λ (x : List ℕ). IsTrue (is_bare_name x)) (sym is) (is_attribute_name i (omega (arith, low, few)))

@@ -1,8 +1,11 @@
 use Rattle.std.specs.List.{All}
 use Rattle.schema_grammar.specs.Words.{is_reserved}
 use Rattle.schema_grammar.specs.declared.format.Format.TheVariants as format
-use Rattle.std.proofs.Common.{◌≡◌, ◌∙◌, ℕ, List, subst, false, sym, ap, refl, Ok}
-use Rattle.dep_model.specs.Deps.{dependencies_of}
+use Rattle.std.proofs.Common.{◌≡◌, ◌∙◌, ℕ, List, subst, false, sym, ap, refl, Ok, length, arith}
+use Rattle.std.proofs.lemmas.List.{length-map}
+use Rattle.attr_sets.proofs.AttributesLemmas.{same_at}
+use Rattle.dep_model.specs.Deps.{dependency_of, dependencies_of}
+use Rattle.dep_model.proofs.ColumnLemmas.{AreDeclared-bare}
 use Rattle.dep_model.proofs.FailureLemmas.{refuses_also}
 use Rattle.lexer.specs.Lines.{line_texts}
 use Rattle.schema_reader.specs.Views.{declarations_of_draft}
@@ -19,29 +22,35 @@ returns-in-Err-clause-err c =
     let here = ap (λ text. read_opening 1 (line_texts text)) (sym c.without_mark.ensures.text) in
     refuses_also _ _ c.in-Err.failure (λ refusal refused. schema_refused c.args.text.now refusal (here ∙ refused)) c.in-Err.ensures.err
 
-pub make_typed-requires-clause-schema : goal.make_typed-requires-clause-schema
-make_typed-requires-clause-schema c =
+pub with_columns-requires-clause-schema : goal.with_columns-requires-clause-schema
+with_columns-requires-clause-schema c =
     forms_schema (declarations_of_draft c.in-Ok.draft) _ (ok_at IsWhole _ _ c.in-Ok.ensures.ok (opening_whole _ _)) refl
 
-pub make_typed-requires-clause-columns : goal.make_typed-requires-clause-columns
-make_typed-requires-clause-columns c =
-    forms_columns (declarations_of_draft c.in-Ok.draft) (ok_at IsWhole _ _ c.in-Ok.ensures.ok (opening_whole _ _))
+pub with_columns-requires-clause-columns : goal.with_columns-requires-clause-columns
+with_columns-requires-clause-columns c =
+    let whole = ok_at IsWhole _ _ c.in-Ok.ensures.ok (opening_whole _ _) in
+    AreDeclared-bare _ _ _ whole.sound.proper (forms_columns (declarations_of_draft c.in-Ok.draft) whole) (same_at c.empty-nullable.ensures.members)
+
+pub returns-clause-deps : goal.returns-clause-deps
+returns-clause-deps c =
+    let whole = ok_at IsWhole _ _ c.in-Ok.ensures.ok (opening_whole _ _) in
+    omega (arith, whole.sound.few_deps, length-map c.in-Ok.draft.deps.items dependency_of, ap length c.with_columns.ensures.deps)
 
 pub returns-clause-ok : goal.returns-clause-ok
 unfolding read_text
 returns-clause-ok c =
     let here = ap (λ text. read_opening 1 (line_texts text)) (sym c.without_mark.ensures.text) in
-    let of = c.make_typed.ensures in
+    let of = c.with_columns.ensures in
     let theory = ap dependencies_of of.deps in
-    let made : declarations_of c.make_typed.result ≡ declarations_of_draft c.in-Ok.draft = λ i. record {
+    let made : declarations_of c.with_columns.result ≡ declarations_of_draft c.in-Ok.draft = λ i. record {
       names = of.names i;
       columns = of.columns i;
       deps = theory i;
       lines = of.lines i;
     } in
-    (schema-law c.args.text.now (declarations_of c.make_typed.result)).0 (here ∙ c.in-Ok.ensures.ok ∙ ap Ok (sym made))
+    (schema-law c.args.text.now (declarations_of c.with_columns.result)).0 (here ∙ c.in-Ok.ensures.ok ∙ ap Ok (sym made))
 
 pub returns-clause-not_reserved : goal.returns-clause-not_reserved
 returns-clause-not_reserved c =
     let of : List (List ℕ) → Type 0 = λ names. All (λ name. is_reserved format.Plain name ≡ false) names in
-    subst of (sym c.make_typed.ensures.names) (whole_free (declarations_of_draft c.in-Ok.draft) (ok_at IsWhole _ _ c.in-Ok.ensures.ok (opening_whole _ _)))
+    subst of (sym c.with_columns.ensures.names) (whole_free (declarations_of_draft c.in-Ok.draft) (ok_at IsWhole _ _ c.in-Ok.ensures.ok (opening_whole _ _)))

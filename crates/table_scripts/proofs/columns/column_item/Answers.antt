@@ -5,7 +5,7 @@ use Rattle.table_scripts.proofs.columns.column_item.Goals as goal
 
 pub returns : goal.returns
 returns c = record {
-  text = subst (λ (item : List ℕ). IfOk c.column-2.result (λ text. text.items ≡ item))
-      (item_is c.args.schema.now c.args.attribute c.name.result.now c.column.result c.requires.attribute c.name.ensures.name c.column.ensures.column)
-      c.column-2.ensures.text;
+  text = subst (λ (item : List ℕ). IfOk c.column_of_type.result (λ text. text.items ≡ item))
+      (item_is c.args.schema.now c.args.attribute c.name.result.now c.column-column.result c.name.ensures.name c.column-column.ensures.column)
+      c.column_of_type.ensures.text;
 }

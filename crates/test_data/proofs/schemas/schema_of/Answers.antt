@@ -1,14 +1,14 @@
-use Rattle.std.proofs.Common.{◌≡◌, ℕ, false, List, length, arith, sym, ap, subst, ◌∙◌}
+use Rattle.std.proofs.Common.{◌≡◌, ℕ, IsTrue, false, List, length, arith, sym, ap, subst, ◌∙◌}
 use Rattle.std.proofs.lemmas.List.{length-replicate}
 use Rattle.std.proofs.lemmas.List.FromFn.{length-map-range_with_len}
 use Rattle.std.specs.Prelude.{All, AllPairs}
 use Rattle.attr_sets.specs.Attributes.{below}
 use Rattle.dep_model.specs.declared.dep.Dep.{Dep}
-use Rattle.dep_model.specs.Names.{same_name}
+use Rattle.dep_model.specs.Names.{is_bare_name, same_name}
 use Rattle.dep_model.specs.Deps.{IsDepWithin}
 use Rattle.dep_model.specs.Schemas.{names_of}
 use Rattle.test_data.specs.TestSchemas.{attribute_name, attribute_names}
-use Rattle.test_data.proofs.NamesLemmas.{attribute_names_differ}
+use Rattle.test_data.proofs.NamesLemmas.{attribute_names_differ, attribute_names_bare}
 use Rattle.test_data.proofs.schemas.schema_of.Goals as goal
 
 names_count : (names : List (List ℕ)) (n : ℕ) → names ≡ attribute_names n → length names ≡ n
@@ -34,6 +34,8 @@ new-requires c =
         one_line_each = ap (λ (xs : List ℕ). length xs) (c.in_ok-lines.ensures.items_if_clones_equal (λ y e. e))
             ∙ length-replicate (length c.args.deps.now) 1 ∙ sym (ap (λ (ds : List Dep). length ds) same);
       };
+      bare = subst (λ (xs : List (List ℕ)). All (λ name. IsTrue (is_bare_name name)) xs) (sym made)
+          (attribute_names_bare c.args.width fit.few_names);
     }
 
 pub returns-clause-width : goal.returns-clause-width
