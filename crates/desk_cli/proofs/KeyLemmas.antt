@@ -9,8 +9,8 @@ use Rattle.attr_sets.specs.Attributes.{Attributes}
 use Rattle.attr_sets.specs.Sets.{attributes}
 use Rattle.attr_sets.specs.declared.set.AttrSet.{AttrSet}
 use Rattle.dep_model.specs.Plans.{schemes_of}
-use Rattle.dep_model.specs.Schemas.{names_of}
 use Rattle.dep_model.specs.declared.schema.Schema.{Schema}
+use Rattle.schema_printer.specs.Spelling.{printed_names_of}
 use Rattle.desk_cli.specs.Keys.{HasKeys, IsListed, KeyedScheme, keyed_text}
 
 abbrev pub keyed_scheme : AttrSet → List AttrSet → KeyedScheme
@@ -20,7 +20,7 @@ pub record Told (s : Schema) (schemes : List AttrSet) (text : List ℕ) : Type 0
   pub listed : List KeyedScheme
   pub schemes_are : map (λ k. k.scheme) listed ≡ schemes_of schemes
   pub keys : All (HasKeys s) listed
-  pub is : text ≡ flat_map (keyed_text (names_of s)) listed
+  pub is : text ≡ flat_map (keyed_text (printed_names_of s)) listed
   pub passed : All (λ scheme. IsListed s (attributes scheme)) schemes
 
 pub told_nothing : (s : Schema) (text : List ℕ) → text ≡ [] → Told s [] text
@@ -34,7 +34,7 @@ told_nothing s text none = record {
 
 pub told_more : (s : Schema) (schemes : List AttrSet) (i : ℕ) (d : AttrSet) (keys : List AttrSet) (text more : List ℕ)
     → Told s (take i schemes) text → i < length schemes → HasKeys s (keyed_scheme (get_or schemes i d) keys)
-    → more ≡ text ++ keyed_text (names_of s) (keyed_scheme (get_or schemes i d) keys) → Told s (take (i + 1) schemes) more
+    → more ≡ text ++ keyed_text (printed_names_of s) (keyed_scheme (get_or schemes i d) keys) → Told s (take (i + 1) schemes) more
 told_more s schemes i d keys text more before low has added =
     let next = keyed_scheme (get_or schemes i d) keys in
     record {
@@ -44,8 +44,8 @@ told_more s schemes i d keys text more before low has added =
           ∙ sym (map-append attributes (take i schemes) (get_or schemes i d ∷ []))
           ∙ ap schemes_of (sym (take_more schemes i d low));
       keys = All-append (HasKeys s) before.listed (next ∷ []) before.keys (All-cons (HasKeys s) next [] has (All-nil (HasKeys s)));
-      is = added ∙ ap (λ (t : List ℕ). t ++ keyed_text (names_of s) next) before.is
-          ∙ ap (λ (t : List ℕ). flat_map (keyed_text (names_of s)) before.listed ++ t) (sym (append-nil (keyed_text (names_of s) next)))
-          ∙ sym (flat_map-append (keyed_text (names_of s)) before.listed (next ∷ []));
+      is = added ∙ ap (λ (t : List ℕ). t ++ keyed_text (printed_names_of s) next) before.is
+          ∙ ap (λ (t : List ℕ). flat_map (keyed_text (printed_names_of s)) before.listed ++ t) (sym (append-nil (keyed_text (printed_names_of s) next)))
+          ∙ sym (flat_map-append (keyed_text (printed_names_of s)) before.listed (next ∷ []));
       passed = All-more (λ (scheme : AttrSet). IsListed s (attributes scheme)) schemes i d low before.passed (keys, has);
     }

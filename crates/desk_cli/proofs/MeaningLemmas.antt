@@ -3,6 +3,7 @@ use Rattle.std.proofs.Common.{inr, ℕ, List}
 use Rattle.std.specs.Prelude.{codes}
 use Rattle.dep_model.specs.declared.schema.Schema.{Schema}
 use Rattle.dep_model.specs.Schemas.{names_of}
+use Rattle.schema_printer.specs.Spelling.{printed_names_of}
 use Rattle.schema_grammar.specs.declared.refusal.SchemaRefusal.{SchemaRefusal}
 use Rattle.schema_grammar.specs.Schemas.{RefusesSchema}
 use Rattle.schema_reader.specs.declared.text.TheConstants.{MOST_TEXT_BYTES}
@@ -29,7 +30,7 @@ schema_stop r name bytes refusal exit content refused exits_as = λ response is.
     inr (refusal, record { bytes = bytes; content = content; refused = refused }, exits_as response is)
 
 pub proof_stop : (r : Reading) (s : Schema) (name bytes : List ℕ) (refusal : ProofRefusal) (exit : EarlyExit) → IsContent r name MOST_PROOF_BYTES bytes
-    → RefusesProof s bytes refusal → ExitsAs (Says Refused (proof_refusal_text (names_of s) name (line_diagnostic_of refusal))) exit
+    → RefusesProof s bytes refusal → ExitsAs (Says Refused (proof_refusal_text (printed_names_of s) name (line_diagnostic_of refusal))) exit
     → ExitsAs (ProofStops r s name) exit
 proof_stop r s name bytes refusal exit content refused exits_as = λ response is.
     inr (line_diagnostic_of refusal, record { bytes = bytes; content = content; refused = refused }, exits_as response is)

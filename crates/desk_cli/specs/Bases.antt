@@ -8,8 +8,9 @@ use Rattle.attr_sets.specs.declared.set.AttrSet.{AttrSet}
 use Rattle.dep_basis.specs.Bases.{IsBasis}
 use Rattle.dep_basis.specs.Traces.{blocks_of}
 use Rattle.dep_basis.specs.declared.gathering.Blocks.{Blocks}
-use Rattle.dep_model.specs.Schemas.{names_of, width_of, theory_of}
+use Rattle.dep_model.specs.Schemas.{width_of, theory_of}
 use Rattle.dep_model.specs.declared.schema.Schema.{Schema}
+use Rattle.schema_printer.specs.Spelling.{printed_names_of}
 use Rattle.desk_cli.specs.declared.status.Status.TheVariants.{Yes}
 use Rattle.desk_cli.specs.ResponseValues.{Allowed, Says}
 use Rattle.desk_cli.specs.Inputs.{WithSet}
@@ -30,7 +31,7 @@ basis_text names closed blocks = set_line (codes "closure ") names closed ++ blo
 abbrev pub TellsBasis : Schema → Attributes → Allowed
 TellsBasis schema x response =
     (found : Blocks) × IsBasis (width_of schema) (theory_of schema) x found
-    × Says Yes (basis_text (names_of schema) (attributes found.closed) (blocks_of found)) response
+    × Says Yes (basis_text (printed_names_of schema) (attributes found.closed) (blocks_of found)) response
 
 -- of a set that is given as a text
 abbrev pub GivesBasis : Schema → List ℕ → Allowed

@@ -1,9 +1,9 @@
 -- What says the same as a schema, shortened: for `cover`.
 use Rattle.std.specs.Prelude.{List}
 use Rattle.dep_model.specs.Dependencies.{Dependency, functional_part}
-use Rattle.dep_model.specs.Schemas.{names_of, types_of, width_of, theory_of}
+use Rattle.dep_model.specs.Schemas.{width_of, theory_of}
 use Rattle.dep_model.specs.declared.schema.Schema.{Schema}
-use Rattle.schema_printer.specs.Printing.{declared_text}
+use Rattle.schema_printer.specs.Printing.{schema_text}
 use Rattle.min_cover.specs.Covers.{IsFixedWholeCover, IsMinimalCover, IsWholeCover}
 use Rattle.desk_cli.specs.declared.status.Status.TheVariants.{Yes}
 use Rattle.desk_cli.specs.ResponseValues.{Allowed, Says}
@@ -15,4 +15,4 @@ GivesCover schema response =
     (whole : List Dependency) × IsFixedWholeCover (width_of schema) (theory_of schema) whole
     × IsMinimalCover (width_of schema) (theory_of schema) (functional_part whole)
     × IsWholeCover (width_of schema) (theory_of schema) whole
-    × Says Yes (declared_text (types_of schema) (names_of schema) whole) response
+    × Says Yes (schema_text schema whole) response

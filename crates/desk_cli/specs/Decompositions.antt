@@ -5,8 +5,9 @@ use Rattle.attr_sets.specs.declared.set.AttrSet.{AttrSet}
 use Rattle.dep_model.specs.Forms.{IsBcnf}
 use Rattle.dep_model.specs.Plans.{schemes_of}
 use Rattle.dep_model.specs.Projections.{IsLossless}
-use Rattle.dep_model.specs.Schemas.{names_of, width_of, theory_of}
+use Rattle.dep_model.specs.Schemas.{width_of, theory_of}
 use Rattle.dep_model.specs.declared.schema.Schema.{Schema}
+use Rattle.schema_printer.specs.Spelling.{printed_names_of}
 use Rattle.normal_forms.specs.declared.forms.Form.{Form}
 use Rattle.normal_forms.specs.declared.forms.Form.TheVariants.{Third, Bcnf, Fourth}
 use Rattle.normal_forms.specs.Chosen.{IsInForm}
@@ -47,7 +48,7 @@ IsPlanInForm schema Fourth plan = IsSplitInForm schema Fourth plan
 abbrev pub SplitStops : Schema → Form → Allowed
 SplitStops schema form response =
     ((scheme : Attributes) × IsTooWideAt (width_of schema) (theory_of schema) form MOST_SPLIT_SCHEMES scheme
-    × Says Refused (too_wide_text (names_of schema) scheme) response)
+    × Says Refused (too_wide_text (printed_names_of schema) scheme) response)
     ⊎ (HasTooManySchemes (width_of schema) (theory_of schema) form MOST_SPLIT_SCHEMES
     × Says Refused too_many_schemes_text response)
 
@@ -64,7 +65,7 @@ WithPlanInForm schema form = With (FormStops schema form) (IsPlanInForm schema f
 -- ---- answers
 -- yes, with a plan
 abbrev pub ShowsPlan : Schema → List AttrSet → Allowed
-ShowsPlan schema plan = Says Yes (plan_text (names_of schema) (schemes_of plan))
+ShowsPlan schema plan = Says Yes (plan_text (printed_names_of schema) (schemes_of plan))
 
 -- yes, with the plan of a normal form
 abbrev pub Splits : Schema → Form → Allowed
@@ -82,4 +83,4 @@ pub record IsWideSplit (schema : Schema) (plan : List AttrSet) : Type 0 where
 abbrev pub SplitsWide : Schema → Allowed
 SplitsWide schema response =
     (plan : List AttrSet) × IsWideSplit schema plan
-    × Says Yes (wide_text (names_of schema) (schemes_of plan)) response
+    × Says Yes (wide_text (printed_names_of schema) (schemes_of plan)) response

@@ -8,6 +8,7 @@ use Rattle.csv_text.specs.Rows.{rows_text}
 use Rattle.dep_model.specs.Schemas.{names_of, width_of, theory_of, lines_of, universe_of}
 use Rattle.dep_model.specs.declared.schema.Schema.{Schema}
 use Rattle.dep_model.specs.Tuples.{Relation}
+use Rattle.schema_printer.specs.Spelling.{printed_names_of}
 use Rattle.desk_cli.specs.declared.status.Status.TheVariants.{Yes, Refused}
 use Rattle.desk_cli.specs.ResponseValues.{Allowed, Says}
 use Rattle.desk_cli.specs.Keys.{too_wide_text}
@@ -36,4 +37,4 @@ Exhibits schema response =
     ⊎ (((dep : ℕ) × IsRefusedExhibit schema (NotFunctional dep)
     × Says Refused (multivalued_text schema dep) response)
     ⊎ (IsRefusedExhibit schema TooWide
-    × Says Refused (too_wide_text (names_of schema) (universe_of schema)) response))
+    × Says Refused (too_wide_text (printed_names_of schema) (universe_of schema)) response))

@@ -1,9 +1,11 @@
 -- How a schema, a goal, a set and a certificate are read, and how their reading ends a command.
-use Rattle.std.specs.Prelude.{◌⊎◌, ℕ, ◌<◌, ◌≤◌, List, length, codes}
+use Rattle.std.specs.Prelude.{◌≡◌, ◌⊎◌, ℕ, ◌<◌, ◌≤◌, List, length, codes}
 use Rattle.attr_sets.specs.Attributes.{Attributes}
 use Rattle.dep_model.specs.Dependencies.{Dependency}
-use Rattle.dep_model.specs.Schemas.{names_of}
+use Rattle.dep_model.specs.Schemas.{names_of, naming_of}
+use Rattle.dep_model.specs.declared.naming.Naming.TheVariants.{Bare}
 use Rattle.dep_model.specs.declared.schema.Schema.{Schema}
+use Rattle.schema_printer.specs.Spelling.{printed_names_of}
 use Rattle.derivation.specs.Trees.{Tree}
 use Rattle.schema_reader.specs.declared.goal.TheConstants.{MOST_GOAL_BYTES}
 use Rattle.schema_reader.specs.declared.set.TheConstants.{MOST_SET_BYTES}
@@ -37,11 +39,12 @@ pub record IsRefusedSchema (r : Reading) (name : List ℕ) (refusal : SchemaRefu
   pub content : IsContent r name MOST_TEXT_BYTES bytes
   pub refused : RefusesSchema bytes refusal
 
--- the text of a file means this schema
+-- the text of a file means this schema, which is one of bare names
 pub record IsSchemaFile (r : Reading) (name : List ℕ) (schema : Schema) : Type 0 where
   pub bytes : List ℕ
   pub content : IsContent r name MOST_TEXT_BYTES bytes
   pub means : MeansSchema bytes (declarations_of schema)
+  pub bare : naming_of schema ≡ Bare
 
 -- how the reading of a schema file ends a command
 abbrev pub SchemaStops : Reading → List ℕ → Allowed
@@ -117,7 +120,7 @@ abbrev pub ProofStops : Reading → Schema → List ℕ → Allowed
 ProofStops r schema name response =
     FileStops r name MOST_PROOF_BYTES response
     ⊎ ((refusal : LineDiagnostic) × IsRefusedProof r schema name refusal
-    × Says Refused (proof_refusal_text (names_of schema) name refusal) response)
+    × Says Refused (proof_refusal_text (printed_names_of schema) name refusal) response)
 
 -- a certificate file is read, and then the rest follows
 abbrev pub WithProof : Reading → Schema → List ℕ → (Tree → Allowed) → Allowed

@@ -8,6 +8,7 @@ use Rattle.dep_model.specs.Preservation.{KeepsDependencies}
 use Rattle.dep_model.specs.Schemas.{names_of, width_of, theory_of, deps_of, lines_of}
 use Rattle.dep_model.specs.TwoTuples.{two_tuples}
 use Rattle.dep_model.specs.declared.schema.Schema.{Schema}
+use Rattle.schema_printer.specs.Spelling.{printed_names_of}
 use Rattle.preservation.specs.declared.losing.Loss.{Loss}
 use Rattle.preservation.specs.Keeping.{LossesOf}
 use Rattle.desk_cli.specs.declared.status.Status.TheVariants.{Yes, No}
@@ -25,7 +26,7 @@ kept_text = line (codes "every functional dependency is kept")
 abbrev pub loss_text : Schema → Loss → List ℕ
 loss_text schema loss =
     line (codes "line " ++ line_number_text (slice_get (lines_of schema) loss.dep)
-    ++ codes ": " ++ dep_text (names_of schema) (slice_get (deps_of schema) loss.dep) ++ codes " is lost")
+    ++ codes ": " ++ dep_text (printed_names_of schema) (slice_get (deps_of schema) loss.dep) ++ codes " is lost")
 
 -- the two tuples that show a loss
 abbrev pub shown_text : Schema → Loss → List ℕ

@@ -4,9 +4,10 @@ use Rattle.std.specs.List.{flat_map}
 use Rattle.attr_sets.specs.Attributes.{Attributes}
 use Rattle.attr_sets.specs.declared.set.AttrSet.{AttrSet}
 use Rattle.attr_sets.specs.Sets.{attributes}
-use Rattle.dep_model.specs.Schemas.{names_of, width_of, theory_of, universe_of}
+use Rattle.dep_model.specs.Schemas.{width_of, theory_of, universe_of}
 use Rattle.dep_model.specs.declared.schema.Schema.{Schema}
 use Rattle.schema_printer.specs.Printing.{set_text}
+use Rattle.schema_printer.specs.Spelling.{printed_names_of}
 use Rattle.key_listing.specs.declared.refusal.TheConstants.{MOST_KEYS}
 use Rattle.key_listing.specs.Listing.{AreAllKeys, AreManyKeys}
 use Rattle.key_listing.specs.Refusals.{IsTooWide, IsWideScheme}
@@ -38,8 +39,8 @@ abbrev pub ListsKeys : Schema → Allowed
 ListsKeys schema response =
     ((keys : List AttrSet) × AreAllKeys (width_of schema) (theory_of schema) (universe_of schema) keys
     × (length keys ≤ MOST_KEYS) × (IsTooWide schema → ⊥)
-    × Says Yes (sets_text (names_of schema) keys) response)
-    ⊎ (IsTooWide schema × Says Refused (too_wide_text (names_of schema) (universe_of schema)) response)
+    × Says Yes (sets_text (printed_names_of schema) keys) response)
+    ⊎ (IsTooWide schema × Says Refused (too_wide_text (printed_names_of schema) (universe_of schema)) response)
     ⊎ ((IsTooWide schema → ⊥) × HasManyKeys schema × Says Refused too_many_keys_text response)
 
 -- ---- the schemes of a plan
@@ -70,7 +71,7 @@ IsListed schema scheme = (keys : List AttrSet) × HasKeys schema (record { schem
 -- a scheme ends the command: it is too wide, or narrow with more keys than are listed
 abbrev pub EndsKeys : Schema → Attributes → Allowed
 EndsKeys schema scheme response =
-    (IsWideScheme scheme × Says Refused (too_wide_text (names_of schema) scheme) response)
+    (IsWideScheme scheme × Says Refused (too_wide_text (printed_names_of schema) scheme) response)
     ⊎ ((IsWideScheme scheme → ⊥)
     × ((found : List AttrSet) × AreManyKeys (width_of schema) (theory_of schema) scheme found
     × Says Refused too_many_keys_text response))
@@ -80,7 +81,7 @@ abbrev pub TellsKeys : Schema → List Attributes → Allowed
 TellsKeys schema plan response =
     ((listed : List KeyedScheme)
     × (map (λ keyed. keyed.scheme) listed ≡ plan) × All (HasKeys schema) listed
-    × Says Yes (flat_map (keyed_text (names_of schema)) listed) response)
+    × Says Yes (flat_map (keyed_text (printed_names_of schema)) listed) response)
     ⊎ ((scheme : Attributes) × IsFirstFailing (IsListed schema) plan scheme × EndsKeys schema scheme response)
 
 -- of a plan file

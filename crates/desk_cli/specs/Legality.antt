@@ -3,11 +3,12 @@ use Rattle.std.specs.Prelude.{ℕ, List, [], ◌++◌, codes, Option, Some, None
 use Rattle.std.specs.Fmt.{decimal}
 use Rattle.std.specs.List.{flat_map}
 use Rattle.dep_model.specs.Deps.{dependency_of}
-use Rattle.dep_model.specs.Schemas.{names_of, width_of, theory_of, deps_of, lines_of, LegalFor}
+use Rattle.dep_model.specs.Schemas.{width_of, theory_of, deps_of, lines_of, LegalFor}
 use Rattle.dep_model.specs.Tuples.{Relation}
 use Rattle.dep_model.specs.declared.dep.Dep.{Dep}
 use Rattle.dep_model.specs.declared.schema.Schema.{Schema}
 use Rattle.schema_printer.specs.Printing.{dependency_text}
+use Rattle.schema_printer.specs.Spelling.{printed_names_of}
 use Rattle.legality.specs.declared.offence.Offence.{Offence}
 use Rattle.legality.specs.Offences.{OffencesOf}
 use Rattle.desk_cli.specs.declared.status.Status.TheVariants.{Yes, No}
@@ -33,7 +34,7 @@ dep_text names None = []
 abbrev pub offence_text : Schema → Offence → List ℕ
 offence_text schema offence =
     line (codes "line " ++ line_number_text (slice_get (lines_of schema) offence.dep)
-    ++ codes ": " ++ dep_text (names_of schema) (slice_get (deps_of schema) offence.dep)
+    ++ codes ": " ++ dep_text (printed_names_of schema) (slice_get (deps_of schema) offence.dep)
     ++ codes " broken by rows " ++ decimal offence.first ++ codes " and " ++ decimal offence.second)
 
 -- a line for each offence

@@ -5,7 +5,8 @@ use Rattle.std.specs.List.{flat_map}
 use Rattle.attr_sets.specs.Attributes.{Attributes}
 use Rattle.csv_migrate.specs.Migration.{tables_of_migration, JoinIs}
 use Rattle.dep_model.specs.Plans.{schemes_of}
-use Rattle.dep_model.specs.Schemas.{names_of, width_of, theory_of}
+use Rattle.dep_model.specs.Schemas.{names_of, naming_of, width_of, theory_of}
+use Rattle.dep_model.specs.declared.naming.Naming.TheVariants.{Bare}
 use Rattle.dep_model.specs.declared.schema.Schema.{Schema}
 use Rattle.dep_model.specs.Tuples.{Relation}
 use Rattle.normal_forms.specs.declared.forms.Form.{Form}
@@ -62,8 +63,9 @@ MigratesPlan r schema plan_file file =
     WithPlan r schema plan_file
     (λ plan. WithRows r schema file (λ rows. WithoutLoss schema plan (MigratesRows schema plan rows)))
 
--- the schema of the sample
+-- the schema of the sample, which is one of bare names
 pub record IsSampleSchema (schema : Schema) : Type 0 where
+  pub bare : naming_of schema ≡ Bare
   pub names : names_of schema ≡ sample_names
   pub theory : theory_of schema ≡ sample_theory
 

@@ -2,12 +2,13 @@
 use Rattle.std.specs.Prelude.{◌⊎◌, ℕ, List, ◌++◌, codes, All}
 use Rattle.attr_sets.specs.Attributes.{Attributes}
 use Rattle.dep_model.specs.Dependencies.{Dependency, fd, mvd}
-use Rattle.dep_model.specs.Schemas.{names_of, width_of, theory_of}
+use Rattle.dep_model.specs.Schemas.{width_of, theory_of}
 use Rattle.dep_model.specs.declared.schema.Schema.{Schema}
 use Rattle.normal_forms.specs.declared.forms.Form.{Form}
 use Rattle.normal_forms.specs.declared.forms.Form.TheVariants.{Third, Bcnf, Fourth}
 use Rattle.normal_forms.specs.Chosen.{IsInForm, IsWide, IsChosenViolation}
 use Rattle.schema_printer.specs.Printing.{set_text, dependency_text}
+use Rattle.schema_printer.specs.Spelling.{printed_names_of}
 use Rattle.desk_cli.specs.declared.status.Status.TheVariants.{Yes, No, Refused}
 use Rattle.desk_cli.specs.ResponseValues.{Allowed, Says}
 use Rattle.desk_cli.specs.Keys.{too_wide_text}
@@ -46,10 +47,10 @@ pub record PassesForm (schema : Schema) (form : Form) (scheme : Attributes) : Ty
 -- a scheme ends the test: it is too wide, or narrow and violates the form
 abbrev pub EndsForm : Schema → Form → Attributes → Allowed
 EndsForm schema form scheme response =
-    (IsWide scheme × Says Refused (too_wide_text (names_of schema) scheme) response)
+    (IsWide scheme × Says Refused (too_wide_text (printed_names_of schema) scheme) response)
     ⊎ ((IsWide scheme → ⊥)
     × ((x : Attributes) × (y : Attributes) × IsChosenViolation (width_of schema) (theory_of schema) form scheme x y
-    × Says No (violated_text (names_of schema) form scheme x y) response))
+    × Says No (violated_text (printed_names_of schema) form scheme x y) response))
 
 -- yes exactly where every scheme passes; else the first that does not decides: refused where it is too
 -- wide, and no, with what violates the form, where it is not

@@ -2,8 +2,9 @@
 use Rattle.std.specs.Prelude.{◌⊎◌, ℕ, List, ◌++◌, codes, slice_get}
 use Rattle.std.specs.List.{flat_map}
 use Rattle.attr_sets.specs.Attributes.{IsFirstFrom}
-use Rattle.dep_model.specs.Schemas.{names_of, deps_of, lines_of}
+use Rattle.dep_model.specs.Schemas.{deps_of, lines_of}
 use Rattle.dep_model.specs.declared.schema.Schema.{Schema}
+use Rattle.schema_printer.specs.Spelling.{printed_names_of}
 use Rattle.schema_match.specs.Carried.{IsImpliedBy, HaveSameLegalRelations}
 use Rattle.schema_match.specs.Columns.{IsDeclaredBy, SameNames, name_of_attribute, undeclared_attributes}
 use Rattle.schema_match.specs.Differences.{AreDifferences}
@@ -26,7 +27,7 @@ equivalent_text = line (codes "equivalent")
 abbrev pub difference_text : Schema → List ℕ → List ℕ → ℕ → List ℕ
 difference_text schema file other k =
     line (codes "line " ++ line_number_text (slice_get (lines_of schema) k) ++ codes " of " ++ file
-    ++ codes ": " ++ dep_text (names_of schema) (slice_get (deps_of schema) k)
+    ++ codes ": " ++ dep_text (printed_names_of schema) (slice_get (deps_of schema) k)
     ++ codes " does not follow from " ++ other)
 
 -- a line for each of them

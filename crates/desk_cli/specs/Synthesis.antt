@@ -6,8 +6,9 @@ use Rattle.dep_model.specs.Forms.{IsThird}
 use Rattle.dep_model.specs.Plans.{schemes_of}
 use Rattle.dep_model.specs.Preservation.{KeepsDependencies}
 use Rattle.dep_model.specs.Projections.{IsLossless}
-use Rattle.dep_model.specs.Schemas.{names_of, width_of, theory_of}
+use Rattle.dep_model.specs.Schemas.{width_of, theory_of}
 use Rattle.dep_model.specs.declared.schema.Schema.{Schema}
+use Rattle.schema_printer.specs.Spelling.{printed_names_of}
 use Rattle.plans.specs.Printing.{plan_text}
 use Rattle.synthesis_3nf.specs.GroupedPlans.{IsGroupedPlan}
 use Rattle.desk_cli.specs.declared.status.Status.TheVariants.{Yes}
@@ -25,4 +26,4 @@ pub record IsThirdFormPlan (schema : Schema) (plan : List AttrSet) : Type 0 wher
 abbrev pub Synthesizes : Schema → Allowed
 Synthesizes schema response =
     (plan : List AttrSet) × IsThirdFormPlan schema plan
-    × Says Yes (plan_text (names_of schema) (schemes_of plan)) response
+    × Says Yes (plan_text (printed_names_of schema) (schemes_of plan)) response

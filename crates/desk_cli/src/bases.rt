@@ -1,7 +1,8 @@
 ghost use Rattle.std.specs.Prelude.{◌≡◌, ◌++◌, All, IfOk, OnOk};
 ghost use Rattle.attr_sets.specs.Attributes.{IsSubset};
 ghost use Rattle.attr_sets.specs.Sets.{attributes};
-ghost use Rattle.dep_model.specs.Schemas.{names_of, universe_of};
+ghost use Rattle.dep_model.specs.Schemas.{universe_of};
+ghost use Rattle.schema_printer.specs.Spelling.{printed_names_of};
 ghost use Rattle.desk_cli.specs.Bases.{GivesBasis, TellsBasis, basis_text, blocks_text};
 ghost use Rattle.desk_cli.specs.Responses.{response_value, RespondsAs};
 
@@ -50,7 +51,7 @@ fn basis_lines(
     requires closed { IsSubset (attributes closed) (universe_of schema.now) }
     requires blocks { All (λ block. IsSubset (attributes block) (universe_of schema.now)) blocks.now }
     ensures text { IfOk result
-        (λ text. text.items ≡ basis_text (names_of schema.now) (attributes closed) blocks.now) }
+        (λ text. text.items ≡ basis_text (printed_names_of schema.now) (attributes closed) blocks.now) }
 {
     let mut text = Vec::new(alloc);
     put_set_line(&mut text, schema, b"closure ", closed)?;
@@ -62,7 +63,7 @@ fn basis_lines(
 fn put_blocks(text: &mut Vec<u8>, schema: &Schema, blocks: &[AttrSet]) -> Result<(), OutOfMemory>
     requires within { All (λ block. IsSubset (attributes block) (universe_of schema.now)) blocks.now }
     ensures added { OnOk result (text.new.items
-        ≡ text.old.items ++ blocks_text (names_of schema.now) blocks.now) }
+        ≡ text.old.items ++ blocks_text (printed_names_of schema.now) blocks.now) }
 {
     for block in blocks {
         put_set_line(text, schema, b"block ", *block)?;

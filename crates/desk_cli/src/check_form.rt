@@ -3,10 +3,11 @@ ghost use Rattle.attr_sets.specs.Attributes.{IsSubset};
 ghost use Rattle.attr_sets.specs.Sets.{attributes};
 ghost use Rattle.dep_model.specs.Deps.{dependency_of};
 ghost use Rattle.dep_model.specs.Plans.{schemes_of};
-ghost use Rattle.dep_model.specs.Schemas.{names_of, universe_of};
+ghost use Rattle.dep_model.specs.Schemas.{universe_of};
 ghost use Rattle.desk_cli.specs.ResponseValues.{Says};
 ghost use Rattle.desk_cli.specs.NormalForms.{ChecksForm, EndsForm, JudgesForm, PassesForm, form_word, in_form_text, violated_text, violation_of};
 ghost use Rattle.schema_printer.specs.Printing.{dependency_text, set_text};
+ghost use Rattle.schema_printer.specs.Spelling.{printed_names_of};
 ghost use Rattle.desk_cli.specs.Readings.{Reading, Shows};
 ghost use Rattle.desk_cli.specs.Responses.{response_value, RespondsAs, ExitsAs};
 ghost use Rattle.desk_texts.specs.Texts.{line};
@@ -108,7 +109,7 @@ fn violation_exit(
 ) -> EarlyExit
     ensures says { ExitsAs
         (Says Status.No
-        (violated_text (names_of schema.now) form (attributes scheme) (attributes breach.lhs)
+        (violated_text (printed_names_of schema.now) form (attributes scheme) (attributes breach.lhs)
         (attributes breach.rhs))) result }
 {
     EarlyExit::with_text(
@@ -125,7 +126,7 @@ fn violation_lines(
     breach: Breach,
 ) -> Result<Vec<u8>, OutOfMemory>
     ensures text { IfOk result
-        (λ text. text.items ≡ violated_text (names_of schema.now) form (attributes scheme)
+        (λ text. text.items ≡ violated_text (printed_names_of schema.now) form (attributes scheme)
         (attributes breach.lhs) (attributes breach.rhs)) }
 {
     let mut text = scheme_line(alloc, schema, scheme)?;
@@ -135,7 +136,7 @@ fn violation_lines(
 
 fn scheme_line(alloc: Global, schema: &Schema, scheme: AttrSet) -> Result<Vec<u8>, OutOfMemory>
     ensures text { IfOk result
-        (λ text. text.items ≡ line (codes "scheme " ++ set_text (names_of schema.now) (attributes scheme))) }
+        (λ text. text.items ≡ line (codes "scheme " ++ set_text (printed_names_of schema.now) (attributes scheme))) }
 {
     let mut text = Vec::new(alloc);
     add(&mut text, b"scheme ")?;
@@ -151,7 +152,7 @@ fn breach_line(
     breach: Breach,
 ) -> Result<Vec<u8>, OutOfMemory>
     ensures text { IfOk result (λ text. text.items ≡ line (codes "violated by "
-        ++ dependency_text (names_of schema.now)
+        ++ dependency_text (printed_names_of schema.now)
         (violation_of form (attributes breach.lhs) (attributes breach.rhs)))) }
 {
     let mut text = Vec::new(alloc);

@@ -1,6 +1,7 @@
 ghost use Rattle.std.specs.Prelude.{◌≡◌, ◌≤◌, IfOk};
 ghost use Rattle.dep_model.specs.Deps.{dependency_of, IsDepWithin};
-ghost use Rattle.dep_model.specs.Schemas.{names_of, universe_of};
+ghost use Rattle.dep_model.specs.Schemas.{universe_of};
+ghost use Rattle.schema_printer.specs.Spelling.{printed_names_of};
 ghost use Rattle.derivation.specs.Conclusions.{Proves};
 ghost use Rattle.derivation.specs.Trees.{Tree};
 ghost use Rattle.desk_cli.specs.Certificates.{Checked, ChecksProof};
@@ -79,7 +80,7 @@ fn proof_response(
 
 fn checked_line(alloc: Global, schema: &Schema, dep: Dep) -> Result<Vec<u8>, OutOfMemory>
     requires { IsDepWithin (universe_of schema.now) dep }
-    ensures text { IfOk result (λ text. text.items ≡ checked_text (names_of schema.now) (dependency_of dep)) }
+    ensures text { IfOk result (λ text. text.items ≡ checked_text (printed_names_of schema.now) (dependency_of dep)) }
 {
     line_of(alloc, b"checked ", &print_dep(alloc, schema, dep)?, b"")
 }
@@ -93,7 +94,7 @@ fn concludes_lines(
     requires concluded { IsDepWithin (universe_of schema.now) concluded }
     requires goal { IsDepWithin (universe_of schema.now) goal }
     ensures text { IfOk result
-        (λ text. text.items ≡ concludes_text (names_of schema.now) (dependency_of concluded)
+        (λ text. text.items ≡ concludes_text (printed_names_of schema.now) (dependency_of concluded)
         (dependency_of goal)) }
 {
     let mut text = line_of(

@@ -1,6 +1,7 @@
 ghost use Rattle.std.specs.Prelude.{◌≡◌, ◌≤◌, ◌<◌, ◌^◌, ◌++◌, length, slice_get, IfOk, IfErr, OnOk};
-ghost use Rattle.dep_model.specs.Schemas.{deps_of, lines_of, names_of, width_of, LegalFor};
+ghost use Rattle.dep_model.specs.Schemas.{deps_of, lines_of, width_of, LegalFor};
 ghost use Rattle.dep_model.specs.Tuples.{IsOver};
+ghost use Rattle.schema_printer.specs.Spelling.{printed_names_of};
 ghost use Rattle.desk_cli.specs.Legality.{ChecksRows, OffenceStops, dep_text, legal_text, line_number_text, offence_text, offences_text};
 ghost use Rattle.desk_cli.specs.ResponseValues.{Says};
 ghost use Rattle.desk_cli.specs.Readings.{Reading, Shows};
@@ -118,7 +119,7 @@ pub fn put_line(
 /// A dependency of a schema, at the end of a text.
 pub fn put_dep(text: &mut Vec<u8>, schema: &Schema, k: usize) -> Result<(), OutOfMemory>
     ensures added { OnOk result (text.new.items
-        ≡ text.old.items ++ dep_text (names_of schema.now) (slice_get (deps_of schema.now) k)) }
+        ≡ text.old.items ++ dep_text (printed_names_of schema.now) (slice_get (deps_of schema.now) k)) }
 {
     match schema.deps().get(k) {
         Some(dep) => add_dep(text, schema, *dep),

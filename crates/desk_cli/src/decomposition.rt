@@ -1,7 +1,8 @@
 ghost use Rattle.std.specs.Prelude.{◌≡◌, IfOk, IfErr};
 ghost use Rattle.attr_sets.specs.Attributes.{IsSubset};
 ghost use Rattle.attr_sets.specs.Sets.{attributes};
-ghost use Rattle.dep_model.specs.Schemas.{names_of, universe_of};
+ghost use Rattle.dep_model.specs.Schemas.{universe_of};
+ghost use Rattle.schema_printer.specs.Spelling.{printed_names_of};
 ghost use Rattle.plans.specs.Plans.{IsPlanOver, plan_of, scheme_sets};
 ghost use Rattle.normal_forms.specs.declared.forms.Form.TheVariants as forms;
 ghost use Rattle.desk_cli.specs.ResponseValues.{Says};
@@ -112,7 +113,7 @@ fn wide_plan_response(alloc: Global, schema: &Schema) -> Result<Response, OutOfM
 
 fn wide_lines(alloc: Global, schema: &Schema, plan: &Plan) -> Result<Vec<u8>, OutOfMemory>
     requires universe { IsPlanOver schema.now plan.now }
-    ensures text { IfOk result (λ text. text.items ≡ wide_text (names_of schema.now) (plan_of plan.now)) }
+    ensures text { IfOk result (λ text. text.items ≡ wide_text (printed_names_of schema.now) (plan_of plan.now)) }
 {
     let mut text = line_of(alloc, b"# a scheme in form may have been cut", b"", b"")?;
     add(&mut text, &print_plan(alloc, schema, plan)?)?;

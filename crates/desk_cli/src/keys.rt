@@ -1,7 +1,8 @@
 ghost use Rattle.std.specs.Prelude.{◌≡◌, ◌≤◌, ◌++◌, All, IfOk, OnOk, length};
 ghost use Rattle.attr_sets.specs.Attributes.{IsSubset};
 ghost use Rattle.attr_sets.specs.Sets.{attributes};
-ghost use Rattle.dep_model.specs.Schemas.{names_of, universe_of};
+ghost use Rattle.dep_model.specs.Schemas.{universe_of};
+ghost use Rattle.schema_printer.specs.Spelling.{printed_names_of};
 ghost use Rattle.desk_cli.specs.ResponseValues.{Says};
 ghost use Rattle.desk_cli.specs.Keys.{ListsKeys, sets_text, too_wide_text, too_many_keys_text};
 ghost use Rattle.desk_cli.specs.Responses.{response_value, RespondsAs, ExitsAs};
@@ -38,7 +39,7 @@ pub fn sets_response(
 ) -> Result<Response, OutOfMemory>
     requires within { All (λ set. IsSubset (attributes set) (universe_of schema.now)) sets.now }
     ensures says { IfOk result
-        (λ response. Says Status.Yes (sets_text (names_of schema.now) sets.now)
+        (λ response. Says Status.Yes (sets_text (printed_names_of schema.now) sets.now)
         (response_value response)) }
 {
     Ok(Response::with_text(Status::Yes, set_lines(alloc, schema, sets)?))
@@ -46,7 +47,7 @@ pub fn sets_response(
 
 fn set_lines(alloc: Global, schema: &Schema, sets: &[AttrSet]) -> Result<Vec<u8>, OutOfMemory>
     requires within { All (λ set. IsSubset (attributes set) (universe_of schema.now)) sets.now }
-    ensures text { IfOk result (λ text. text.items ≡ sets_text (names_of schema.now) sets.now) }
+    ensures text { IfOk result (λ text. text.items ≡ sets_text (printed_names_of schema.now) sets.now) }
 {
     let mut text = Vec::new(alloc);
     for set in sets {
@@ -65,7 +66,7 @@ pub fn put_set_line(
 ) -> Result<(), OutOfMemory>
     requires within { IsSubset (attributes set) (universe_of schema.now) }
     ensures added { OnOk result (text.new.items
-        ≡ text.old.items ++ set_line word.now (names_of schema.now) (attributes set)) }
+        ≡ text.old.items ++ set_line word.now (printed_names_of schema.now) (attributes set)) }
 {
     add(text, word)?;
     add_set(text, schema, set)?;
@@ -89,7 +90,7 @@ fn too_many_keys_line(alloc: Global) -> Result<Vec<u8>, OutOfMemory>
 pub fn too_wide_exit(alloc: Global, schema: &Schema, scheme: AttrSet) -> EarlyExit
     requires within { IsSubset (attributes scheme) (universe_of schema.now) }
     ensures says { ExitsAs (Says Status.Refused
-        (too_wide_text (names_of schema.now) (attributes scheme))) result }
+        (too_wide_text (printed_names_of schema.now) (attributes scheme))) result }
 {
     EarlyExit::with_text(Status::Refused, too_wide_line(alloc, schema, scheme))
 }
@@ -97,7 +98,7 @@ pub fn too_wide_exit(alloc: Global, schema: &Schema, scheme: AttrSet) -> EarlyEx
 fn too_wide_line(alloc: Global, schema: &Schema, scheme: AttrSet) -> Result<Vec<u8>, OutOfMemory>
     requires within { IsSubset (attributes scheme) (universe_of schema.now) }
     ensures line { IfOk result (λ text. text.items
-        ≡ too_wide_text (names_of schema.now) (attributes scheme)) }
+        ≡ too_wide_text (printed_names_of schema.now) (attributes scheme)) }
 {
     line_of(
         alloc,

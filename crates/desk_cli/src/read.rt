@@ -1,6 +1,7 @@
 ghost use Rattle.std.specs.Prelude.{◌≡◌, ◌^◌, ◌<◌, ◌≤◌, length, IfOk, IfErr};
-ghost use Rattle.dep_model.specs.Schemas.{names_of, universe_of};
+ghost use Rattle.dep_model.specs.Schemas.{universe_of};
 ghost use Rattle.dep_model.specs.Deps.{dependency_of, IsDepWithin};
+ghost use Rattle.schema_printer.specs.Spelling.{printed_names_of};
 ghost use Rattle.derivation.specs.Conclusions.{Proves};
 ghost use Rattle.derivation.specs.Derivs.{tree_of};
 ghost use Rattle.proof_grammar.specs.Diagnostics.{line_diagnostic_of, IsRefusalWithin};
@@ -148,7 +149,7 @@ fn proof_refusal_exit(
 ) -> EarlyExit
     requires within { IsRefusalWithin (universe_of schema.now) refusal.kind }
     ensures says { ExitsAs (Says Status.Refused
-        (proof_refusal_text (names_of schema.now) name.now (line_diagnostic_of refusal))) result }
+        (proof_refusal_text (printed_names_of schema.now) name.now (line_diagnostic_of refusal))) result }
 {
     EarlyExit::with_text(
         Status::Refused,

@@ -2,7 +2,8 @@ ghost use Rattle.std.specs.Prelude.{◌≡◌, ◌≤◌, ◌++◌, All, IfOk, I
 ghost use Rattle.attr_sets.specs.Attributes.{IsSubset};
 ghost use Rattle.attr_sets.specs.Sets.{attributes};
 ghost use Rattle.dep_model.specs.Plans.{schemes_of};
-ghost use Rattle.dep_model.specs.Schemas.{names_of, universe_of};
+ghost use Rattle.dep_model.specs.Schemas.{universe_of};
+ghost use Rattle.schema_printer.specs.Spelling.{printed_names_of};
 ghost use Rattle.desk_cli.specs.Keys.{EndsKeys, HasKeys, ListsKeysOfPlan, TellsKeys, keyed_text, keys_text};
 ghost use Rattle.desk_cli.specs.Readings.{Reading, Shows};
 ghost use Rattle.desk_cli.specs.Responses.{RespondsAs, ExitsAs};
@@ -82,7 +83,7 @@ fn put_keyed(
     requires scheme { IsSubset (attributes scheme) (universe_of schema.now) }
     requires keys { All (λ key. IsSubset (attributes key) (universe_of schema.now)) keys.now }
     ensures added { OnOk result (text.new.items ≡ text.old.items
-        ++ keyed_text (names_of schema.now) (record { scheme = attributes scheme; keys = keys.now })) }
+        ++ keyed_text (printed_names_of schema.now) (record { scheme = attributes scheme; keys = keys.now })) }
 {
     put_set_line(text, schema, b"scheme ", scheme)?;
     put_keys(text, schema, keys)
@@ -92,7 +93,7 @@ fn put_keyed(
 fn put_keys(text: &mut Vec<u8>, schema: &Schema, keys: &[AttrSet]) -> Result<(), OutOfMemory>
     requires within { All (λ key. IsSubset (attributes key) (universe_of schema.now)) keys.now }
     ensures added { OnOk result (text.new.items ≡ text.old.items
-        ++ keys_text (names_of schema.now) keys.now) }
+        ++ keys_text (printed_names_of schema.now) keys.now) }
 {
     for key in keys {
         put_set_line(text, schema, b"key ", *key)?;

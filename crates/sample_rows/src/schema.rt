@@ -1,15 +1,16 @@
 ghost use Rattle.std.specs.Prelude.{◌≡◌, ◌<◌, ◌∷◌, [], ℕ, slice_get, Some, IfOk, true};
 ghost use Rattle.dep_model.specs.Names.{is_bare_name};
-ghost use Rattle.dep_model.specs.Schemas.{types_of, lines_of, names_of, theory_of, width_of};
+ghost use Rattle.dep_model.specs.Schemas.{types_of, lines_of, names_of, naming_of, theory_of, width_of};
 ghost use Rattle.sample_rows.specs.Sample.{sample_names, sample_theory};
 
 use attr_sets::AttrSet;
-use dep_model::{ColumnType, Dep, Name, OutOfMemory, Schema};
+use dep_model::{ColumnType, Dep, Name, Naming, OutOfMemory, Schema};
 use std::alloc::Global;
 
 /// The schema of the sample, as the text
 /// `attributes PERSON CITY SKILL TONGUE`, `PERSON -> CITY`, `PERSON ->> SKILL` of three lines means it.
 pub fn sample_schema(alloc: Global) -> Result<Schema, OutOfMemory>
+    ensures naming { IfOk result (λ s. naming_of s ≡ Naming.Bare) }
     ensures names { IfOk result (λ s. names_of s ≡ sample_names) }
     ensures columns { IfOk result
         (λ s. (i : ℕ) → i < width_of s → slice_get (types_of s) i ≡ Some ColumnType.Text) }

@@ -7,6 +7,7 @@ use Rattle.csv_text.specs.Rows.{rows_text}
 use Rattle.dep_model.proofs.FailureLemmas.{refused_is}
 use Rattle.dep_model.specs.Schemas.{names_of, universe_of}
 use Rattle.dep_model.specs.Tuples.{Relation}
+use Rattle.schema_printer.specs.Spelling.{printed_names_of}
 use Rattle.desk_cli.specs.ResponseValues.{Says}
 use Rattle.desk_cli.specs.Keys.{too_wide_text}
 use Rattle.desk_cli.specs.Responses.{response_value}
@@ -30,7 +31,7 @@ returns-in-TooWide c =
       response = λ response is. inr (inr (
         subst (λ (refusal : ExhibitRefusal). IsRefusedExhibit s refusal) c.in-TooWide.is
             (refused_is _ _ _ c.in-Err-Refused.field-0-is c.in-Err-Refused.ensures.refused),
-        subst (λ (x : Attributes). Says Refused (too_wide_text (names_of s) x) (response_value response)) all (c.too_wide_exit.ensures.says response is),
+        subst (λ (x : Attributes). Says Refused (too_wide_text (printed_names_of s) x) (response_value response)) all (c.too_wide_exit.ensures.says response is),
       ));
     }
 

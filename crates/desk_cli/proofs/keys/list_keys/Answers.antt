@@ -7,7 +7,8 @@ use Rattle.attr_sets.specs.Sets.{attributes}
 use Rattle.dep_model.specs.Keys.{IsKey}
 use Rattle.dep_model.specs.declared.failure.Failure.{Failure}
 use Rattle.dep_model.specs.declared.failure.Failure.TheVariants as failed
-use Rattle.dep_model.specs.Schemas.{names_of, width_of, theory_of, universe_of}
+use Rattle.dep_model.specs.Schemas.{width_of, theory_of, universe_of}
+use Rattle.schema_printer.specs.Spelling.{printed_names_of}
 use Rattle.key_listing.specs.declared.refusal.KeyRefusal.{KeyRefusal}
 use Rattle.key_listing.specs.Refusals.{IsRefusedListing}
 use Rattle.desk_cli.specs.ResponseValues.{Says}
@@ -32,7 +33,7 @@ returns-in-Err-Refused-TooWide c =
     let listed = subst (λ (failure : Failure KeyRefusal). IsRefusedListing s failure) c.in-Err-Refused-TooWide.field-0-is c.in-Err-Refused-TooWide.ensures.refused in
     let wide = subst (λ (refusal : KeyRefusal). IsRefusedListing s (failed.Refused refusal)) c.in-Err-Refused-TooWide.field-0-0-is listed in
     record {
-      response = λ response is. inr (inl (wide, subst (λ (x : Attributes). Says Refused (too_wide_text (names_of s) x) (response_value response)) all (c.too_wide_exit.ensures.says response is)));
+      response = λ response is. inr (inl (wide, subst (λ (x : Attributes). Says Refused (too_wide_text (printed_names_of s) x) (response_value response)) all (c.too_wide_exit.ensures.says response is)));
     }
 
 pub returns-in-Err-Refused-TooManyKeys : goal.returns-in-Err-Refused-TooManyKeys

@@ -1,7 +1,7 @@
 use Rattle.std.proofs.Common.{ℕ, List, subst}
-use Rattle.dep_model.specs.Schemas.{names_of}
 use Rattle.derivation.specs.Derivs.{tree_of}
 use Rattle.dep_model.proofs.FailureLemmas.{refused_is}
+use Rattle.schema_printer.specs.Spelling.{printed_names_of}
 use Rattle.proof_grammar.specs.Diagnostics.{line_diagnostic_of}
 use Rattle.proof_grammar.specs.Refusals.{RefusesProof}
 use Rattle.proof_grammar.specs.Spelling.{SpellsWithin}
@@ -30,5 +30,5 @@ returns-in-Err-Refused-clause-exit g c = λ r shows.
     let refusal = c.in-Err-Refused.refusal in
     let refused = refused_is _ _ _ c.in-Err-Refused.field-0-is c.in-Err-Refused.ensures.err in
     let of_bytes = subst (λ (bytes : List ℕ). RefusesProof s bytes refusal) c.deref.ensures.value refused in
-    let exits_as = subst (λ (name : List ℕ). ExitsAs (Says Refused (proof_refusal_text (names_of s) name (line_diagnostic_of refusal))) c.proof_refusal_exit.result) c.bytes.ensures.bytes c.proof_refusal_exit.ensures.says in
+    let exits_as = subst (λ (name : List ℕ). ExitsAs (Says Refused (proof_refusal_text (printed_names_of s) name (line_diagnostic_of refusal))) c.proof_refusal_exit.result) c.bytes.ensures.bytes c.proof_refusal_exit.ensures.says in
     proof_stop r s c.args.name.now c.in-Ok.bytes.items refusal c.proof_refusal_exit.result (c.in-Ok.ensures.ok r shows.same) of_bytes exits_as

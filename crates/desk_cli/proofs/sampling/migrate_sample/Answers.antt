@@ -16,7 +16,7 @@ pub returns-in-Err : goal.returns-in-Err
 returns-in-Err c = record {
   response = λ response is. (
     c.in_ok-schema.schema,
-    record { names = c.in_ok-schema.ensures.names; theory = c.in_ok-schema.ensures.theory },
+    record { bare = c.in_ok-schema.ensures.naming; names = c.in_ok-schema.ensures.names; theory = c.in_ok-schema.ensures.theory },
     inl (c.in-Err.ensures.exit response is),
   );
 }
@@ -28,6 +28,6 @@ returns c =
     let plan = c.in-Ok.plan in
     let replies = subst (λ (rows : Relation). RespondsAs (MigratesRows s (plan_of plan) rows) c.migrate_rows.result) c.in_ok-rows.ensures.rows c.migrate_rows.ensures.response in
     record {
-      response = sample_response persons s c.migrate_rows.result (record { names = c.in_ok-schema.ensures.names; theory = c.in_ok-schema.ensures.theory })
+      response = sample_response persons s c.migrate_rows.result (record { bare = c.in_ok-schema.ensures.naming; names = c.in_ok-schema.ensures.names; theory = c.in_ok-schema.ensures.theory })
           (With-found (FormStops s Fourth) (IsPlanInForm s Fourth) (λ (plan : List AttrSet). MigratesRows s (schemes_of plan) (sample_relation persons)) (scheme_sets plan) c.migrate_rows.result c.in-Ok.ensures.ok replies);
     }

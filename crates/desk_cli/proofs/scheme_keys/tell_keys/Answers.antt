@@ -5,7 +5,8 @@ use Rattle.attr_sets.specs.declared.set.AttrSet.{AttrSet}
 use Rattle.attr_sets.specs.Attributes.{IsSubset}
 use Rattle.attr_sets.specs.Sets.{attributes}
 use Rattle.dep_model.specs.Keys.{IsKey}
-use Rattle.dep_model.specs.Schemas.{names_of, width_of, theory_of, universe_of}
+use Rattle.dep_model.specs.Schemas.{width_of, theory_of, universe_of}
+use Rattle.schema_printer.specs.Spelling.{printed_names_of}
 use Rattle.desk_cli.specs.ResponseValues.{Says}
 use Rattle.desk_cli.specs.Keys.{IsListed, keyed_text}
 use Rattle.desk_cli.specs.Responses.{response_value}
@@ -33,7 +34,7 @@ loop-scheme-preserved c =
     let s = c.args.schema.now in
     let i = c.loop-scheme.scheme-index in
     told_more s c.args.schemes.now i nothing c.in-Ok.keys.items c.loop-scheme.text.items c.put_keyed.new.text.items c.loop-scheme.invariant c.loop-scheme-test.true c.in-Ok.ensures.ok
-    (c.in_ok-put_keyed.ensures.added ∙ ap (λ (keys : List AttrSet). c.loop-scheme.text.items ++ keyed_text (names_of s) (keyed_scheme (get_or c.args.schemes.now i nothing) keys)) c.deref.ensures.value)
+    (c.in_ok-put_keyed.ensures.added ∙ ap (λ (keys : List AttrSet). c.loop-scheme.text.items ++ keyed_text (printed_names_of s) (keyed_scheme (get_or c.args.schemes.now i nothing) keys)) c.deref.ensures.value)
 
 pub returns-in-Err : goal.returns-in-Err
 returns-in-Err c =
