@@ -1,20 +1,25 @@
 -- Names of columns as a schema without dependencies, and its text.
-use Rattle.std.proofs.Common.{◌≡◌, ◌<◌, ℕ, suc, Bool, false, Some, None, List, [], ◌∷◌, length, take, get_or, subst, refl, ap, sym, ◌∙◌, arith}
+use Rattle.std.proofs.Common.{◌≡◌, ◌<◌, ℕ, suc, Bool, true, false, Some, None, List, [], ◌∷◌, length, take, get_or, subst, refl, ap, sym, ◌∙◌, arith}
+use Rattle.std.proofs.lemmas.Bool.{and_parts}
 use Rattle.std.proofs.lemmas.Grind.{common_steps}
 use Rattle.std.proofs.lemmas.List.{get_or-take, get_or_default, length-take-le}
 use Rattle.std.proofs.lemmas.List.Sums.{fails_before_first}
 use Rattle.std.specs.List.{list_any}
-use Rattle.std.specs.Prelude.{slice_get, position}
+use Rattle.std.specs.Prelude.{slice_get, position, not, IsTrue, All}
 use Rattle.dep_model.specs.Dependencies.{Dependency}
-use Rattle.dep_model.specs.Names.{same_name}
-use Rattle.dep_model.specs.Schemas.{types_of, names_of, width_of}
+use Rattle.dep_model.specs.Names.{is_bare_name, same_name}
+use Rattle.dep_model.specs.Schemas.{naming_of, types_of, names_of, width_of}
 use Rattle.dep_model.specs.Validity.{IsSchema}
 use Rattle.dep_model.specs.declared.column_type.ColumnType.{ColumnType}
-use Rattle.dep_model.specs.declared.column_type.ColumnType.TheVariants.{Text, Integer}
+use Rattle.dep_model.specs.declared.column_type.ColumnType.TheVariants.{Text}
 use Rattle.dep_model.specs.declared.dep.Dep.{Dep}
+use Rattle.dep_model.specs.declared.naming.Naming.TheVariants.{Bare}
 use Rattle.dep_model.specs.declared.schema.Schema.{Schema}
 use Rattle.fd_discovery.specs.Headers.{IsColumnHeader}
-use Rattle.schema_printer.specs.Printing.{declared_text, declaring_lines, is_integer}
+use Rattle.schema_grammar.specs.Words.{is_reserved}
+use Rattle.schema_grammar.specs.declared.format.Format.TheVariants as format
+use Rattle.schema_printer.specs.Printing.{schema_text, declared_text, declaring_lines, is_integer}
+use Rattle.schema_printer.proofs.SpellingLemmas.{schema_bare}
 use Rattle.desk_cli.specs.Discoveries.{found_text}
 
 -- ---- the names of a header differ
@@ -40,16 +45,26 @@ headed_schema names deps lines header some none empty = record {
   one_line_each = ap length empty ∙ sym (ap length none);
 }
 
+-- a field that names a column is a bare name
+pub headed_bare : (names : List (List ℕ)) → IsColumnHeader names → All (λ name. IsTrue (is_bare_name name)) names
+headed_bare names header i d within =
+    let at = get_or names i [] in
+    let bare : is_bare_name at ≡ true = (and_parts (is_bare_name at) (not (is_reserved format.Plain at)) (header.named i within).0).0 in
+    subst (λ (name : List ℕ). IsTrue (is_bare_name name)) (get_or_default names i [] d within) bare
+
 -- ---- a schema of text columns
 all_text : (columns : List ColumnType) → ((i : ℕ) → i < length columns → slice_get columns i ≡ Some Text) → list_any is_integer columns ≡ false
 all_text [] each = refl
-all_text (Text ∷ columns) each = all_text columns (λ i low. grind (arith, common_steps, each (suc i) (omega (arith, low))))
-all_text (Integer ∷ columns) each = absurd (not_both (each 0 (omega arith)))
-  where
-    not_both : Some Integer ≡ Some Text → ⊥
-    not_both e = cc
+all_text (column ∷ columns) each =
+    let first : Some column ≡ Some Text = each 0 (omega arith) in
+    let text : column ≡ Text = cc in
+    rw text (all_text columns (λ i low. grind (arith, common_steps, each (suc i) (omega (arith, low)))))
 
-pub plain_text : (s : Schema) (ds : List Dependency) → ((i : ℕ) → i < width_of s → slice_get (types_of s) i ≡ Some Text)
+declared_plain : (s : Schema) (ds : List Dependency) → ((i : ℕ) → i < width_of s → slice_get (types_of s) i ≡ Some Text)
     → declared_text (types_of s) (names_of s) ds ≡ found_text (names_of s) ds
 unfolding declared_text declaring_lines
-plain_text s ds each = rw (all_text (types_of s) (λ i low. each i (omega (arith, low, s.typed.one_each)))) refl
+declared_plain s ds each = rw (all_text (types_of s) (λ i low. each i (omega (arith, low, s.typed.one_each)))) refl
+
+pub plain_text : (s : Schema) (ds : List Dependency) → naming_of s ≡ Bare → ((i : ℕ) → i < width_of s → slice_get (types_of s) i ≡ Some Text)
+    → schema_text s ds ≡ found_text (names_of s) ds
+plain_text s ds bare each = schema_bare s ds bare ∙ declared_plain s ds each

@@ -5,7 +5,8 @@ ghost use Rattle.attr_sets.specs.declared.set.TheConstants.{MOST_ATTRIBUTES};
 ghost use Rattle.armstrong_rel.specs.declared.refusal.TheConstants.{WIDEST_EXHIBITED};
 ghost use Rattle.csv_rows.specs.declared.reading.TheConstants.{MOST_ROWS};
 ghost use Rattle.plan_reader.specs.declared.reading.TheConstants.{MOST_PLAN_BYTES};
-ghost use Rattle.dep_model.specs.declared.name.TheConstants.{MOST_BARE_NAME_BYTES};
+ghost use Rattle.dep_model.specs.declared.name.TheConstants.{MOST_BARE_NAME_BYTES, MOST_NAME_BYTES};
+ghost use Rattle.dep_model.specs.declared.schema.TheConstants.{MOST_DEPENDENCIES};
 ghost use Rattle.schema_grammar.specs.declared.format.TheConstants.{MOST_DEPENDENCY_LINES};
 ghost use Rattle.derivation.specs.declared.measures.TheConstants.{MOST_LEVELS, MOST_NODES};
 ghost use Rattle.desk_cli.specs.declared.decomposition.TheConstants.{MOST_SPLIT_SCHEMES};
@@ -24,11 +25,13 @@ ghost use Rattle.schema_reader.specs.declared.set.TheConstants.{MOST_SET_BYTES};
 ghost use Rattle.schema_reader.specs.declared.text.TheConstants.{MOST_TEXT_BYTES};
 ghost use Rattle.table_scripts.specs.declared.naming.TheConstants.{MOST_PARTS, MOST_PART_BYTES};
 
-/// What a schema may have, and how many bytes a name.
+/// What a schema and its text may have, and how many bytes a name.
 pub fn limits_of_schemas()
     ensures attributes { MOST_ATTRIBUTES ≡ 128 }
-    ensures dependencies { MOST_DEPENDENCY_LINES ≡ 256 }
-    ensures name { MOST_BARE_NAME_BYTES ≡ 31 }
+    ensures dependencies { MOST_DEPENDENCIES ≡ 4096 }
+    ensures dependency_lines { MOST_DEPENDENCY_LINES ≡ 256 }
+    ensures name { MOST_NAME_BYTES ≡ 63 }
+    ensures bare_name { MOST_BARE_NAME_BYTES ≡ 31 }
 {}
 
 /// How many bytes a text may have.
