@@ -1,6 +1,7 @@
 pub mod Cuts
 pub mod Digits
 pub mod LineEnds
+pub mod QuotedNames
 pub mod Quoting
 mod Runs
 pub mod Steps

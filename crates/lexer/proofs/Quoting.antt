@@ -75,7 +75,7 @@ closing_doubled : (text : List ℕ) → is_doubled text ≡ true → closing_quo
 unfolding closing_quote
 closing_doubled text e = ap closing_quote (starts_so text (34 ∷ 34 ∷ []) e)
 
-closing_at_quote : (rest : List ℕ) → is_doubled (34 ∷ rest) ≡ false → closing_quote (34 ∷ rest) ≡ Some 0
+pub closing_at_quote : (rest : List ℕ) → is_doubled (34 ∷ rest) ≡ false → closing_quote (34 ∷ rest) ≡ Some 0
 unfolding closing_quote
 closing_at_quote [] e = refl
 closing_at_quote (c ∷ bs) e = let other : (c == 34) ≡ false = grind (arith, nat_tests) in rw other refl
@@ -85,7 +85,7 @@ closing_here text e single =
     let whole : text ≡ 34 ∷ drop 1 text = starts_so text (34 ∷ []) e in
     ap closing_quote whole ∙ closing_at_quote (drop 1 text) (ap is_doubled (sym whole) ∙ single)
 
-closing_other : (text : List ℕ) → 0 < length text → is_quote text ≡ false → closing_quote text ≡ further 1 (closing_quote (drop 1 text))
+pub closing_other : (text : List ℕ) → 0 < length text → is_quote text ≡ false → closing_quote text ≡ further 1 (closing_quote (drop 1 text))
 unfolding closing_quote
 closing_other [] some e = absurd (omega arith)
 closing_other (b ∷ []) some e = let other : (b == 34) ≡ false = grind (arith, nat_tests) in rw other refl
@@ -126,7 +126,7 @@ undoubled_two text e =
     let first : get_or text 0 0 ≡ 34 = ap (λ t. get_or t 0 0) whole in
     ap undoubled whole ∙ ap (λ (b : ℕ). b ∷ undoubled (drop 2 text)) (sym first)
 
-undoubled_one : (text : List ℕ) → 0 < length text → is_doubled text ≡ false → undoubled text ≡ get_or text 0 0 ∷ undoubled (drop 1 text)
+pub undoubled_one : (text : List ℕ) → 0 < length text → is_doubled text ≡ false → undoubled text ≡ get_or text 0 0 ∷ undoubled (drop 1 text)
 unfolding undoubled
 undoubled_one [] some e = absurd (omega arith)
 undoubled_one (b ∷ []) some e = refl

@@ -6,6 +6,7 @@
 #![tactic(auto)]
 
 mod bytes;
+mod laws;
 mod line;
 mod mode;
 mod piece;
@@ -13,6 +14,7 @@ mod quotes;
 mod token;
 mod word;
 
+pub use laws::quoted_names;
 pub use line::{cut_line, without_mark};
 pub use mode::Mode;
 pub use token::{Flaw, LexError, Next, Token, TokenKind, next_token};

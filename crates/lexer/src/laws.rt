@@ -1,0 +1,9 @@
+//! What the definition of tokens comes to. A function does nothing, and its clause is the law.
+
+ghost use Rattle.lexer.specs.Laws.{QuotedNames};
+
+/// The text of a name between quotes, in which each double quote is doubled, is one token for that name, as
+/// long as the text, whatever follows but a double quote.
+pub fn quoted_names()
+    ensures law { QuotedNames }
+{}
