@@ -3,7 +3,7 @@ ghost use Rattle.std.specs.List.{list_all};
 ghost use Rattle.dep_model.specs.Names.{is_name_byte};
 ghost use Rattle.lexer.specs.Pieces.{front_piece, run_piece};
 
-use crate::bytes::{is_gap, is_bare_name, is_number, is_run, number_of, run_length};
+use crate::bytes::{is_bare_name, is_gap, is_number, is_run, number_of, run_length};
 use crate::mode::Mode;
 use crate::quotes::quoted_piece;
 use crate::token::{Flaw, TokenKind};
