@@ -4,7 +4,7 @@ use Rattle.std.proofs.lemmas.Bool.{and_parts, not-true, lt-ltb, le-leb}
 use Rattle.std.proofs.lemmas.Bool.Decides.{Decides-eqb, nat_tests}
 use Rattle.std.proofs.lemmas.List.{append-nil, length-take-le, take_more_set}
 use Rattle.std.proofs.lemmas.Slice.Eq.{starts_is}
-use Rattle.std.proofs.str.Lossy.{IsUtf8-from_is_utf8, is_utf8-from_IsUtf8}
+use Rattle.std.proofs.lemmas.Str.{IsUtf8-from_is_utf8, is_utf8-from_IsUtf8}
 use Rattle.std.specs.Prelude.{nat_lt, nat_le}
 use Rattle.std.specs.List.{starts_with, list_any}
 use Rattle.std.specs.Str.{is_utf8}
