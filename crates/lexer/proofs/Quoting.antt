@@ -27,8 +27,12 @@ name_test name = (
         no_control = not-true (list_any is_control name) size.1;
       },
   λ is.
-      rw (lt-ltb 0 (length name) is.some_bytes, le-leb (length name) MOST_NAME_BYTES is.within_limit, is.no_control,
-      is_utf8-from_IsUtf8 name is.utf8) refl,
+      rw (
+        lt-ltb 0 (length name) is.some_bytes,
+        le-leb (length name) MOST_NAME_BYTES is.within_limit,
+        is.no_control,
+        is_utf8-from_IsUtf8 name is.utf8,
+      ) refl,
 )
 
 name_length : (name : List ℕ) → is_name name ≡ true → length name ≤ MOST_NAME_BYTES

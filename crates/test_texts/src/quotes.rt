@@ -56,7 +56,7 @@ fn a_name_stands_between_quotes(rt: HostRuntime) -> Result<(), Fail> {
     for (line, name, length) in table {
         check(&rt, line, name, length);
     }
-    match next_token(Mode::plain(), 3, b"\"a\"") {
+    match next_token(Mode::PLAIN, 3, b"\"a\"") {
         Next::Error(stop) => {
             assert!(rt; stop.flaw == Flaw::StrangeByte && stop.column == 3 && stop.length == 1);
         }
