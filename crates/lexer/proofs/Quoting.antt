@@ -1,5 +1,5 @@
 -- Where a name between quotes ends, and which bytes it has.
-use Rattle.std.proofs.Common.{◌≡◌, ◌<◌, ◌≤◌, ◌+◌, ◌==◌, ◌&&◌, ℕ, zero, Bool, true, false, cond, not, ◌↔◌, Option, None, Some, List, [], ◌∷◌, ◌++◌, length, take, drop, get_or, slice_set, nat_eq, arith, sym, ◌∙◌, ap, refl, append_assoc, length-append, length-drop, length-set}
+use Rattle.std.proofs.Common.{◌≡◌, ◌<◌, ◌≤◌, ◌+◌, ◌==◌, ◌&&◌, ℕ, Bool, true, false, cond, not, ◌↔◌, Option, None, Some, List, [], ◌∷◌, ◌++◌, length, take, drop, get_or, slice_set, nat_eq, arith, sym, ◌∙◌, ap, refl, append_assoc, length-append, length-drop, length-set}
 use Rattle.std.proofs.lemmas.Bool.{and_parts, not-true, lt-ltb, le-leb}
 use Rattle.std.proofs.lemmas.Bool.Decides.{Decides-eqb, nat_tests}
 use Rattle.std.proofs.lemmas.List.{append-nil, length-take-le, take_more_set}

@@ -1,5 +1,4 @@
-use Rattle.std.proofs.Common.{arith, sym, ◌∙◌, ap}
-use Rattle.lexer.specs.Quotes.{closing_quote}
+use Rattle.std.proofs.Common.{arith, sym, ◌∙◌}
 use Rattle.lexer.proofs.Quoting.{closing_below}
 use Rattle.lexer.proofs.quotes.quoted_piece.Goals as goal
 
