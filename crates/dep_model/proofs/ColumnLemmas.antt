@@ -1,53 +1,44 @@
--- The types of the columns, as a list and as the set of the integer ones.
-use Rattle.std.proofs.Common.{◌≡◌, ℕ, ◌+◌, ◌<◌, zero, suc, Bool, cond, List, [], ◌∷◌, Some, length, map, refl, ap, sym, ◌∙◌, arith}
-use Rattle.std.specs.List.{slice_get, range_with_len, Contains}
-use Rattle.std.proofs.lemmas.List.FromFn.{length-map-range_with_len}
-use Rattle.std.proofs.lemmas.Option.{slice_get_read}
+-- The types of the columns of a schema without types of its own: all text.
+use Rattle.std.proofs.Common.{◌≡◌, ℕ, ◌<◌, zero, suc, List, IsTrue, Some, All, Contains, length, replicate, refl, sym, ◌∙◌, arith}
+use Rattle.std.specs.List.{slice_get}
+use Rattle.std.proofs.lemmas.Bool.{true≢false}
+use Rattle.std.proofs.lemmas.List.{length-replicate, get_or-replicate}
+use Rattle.std.proofs.lemmas.List.Elements.{All-replicate}
 use Rattle.attr_sets.specs.Attributes.{Attributes, IsEmpty}
-use Rattle.dep_model.specs.declared.column_type.ColumnType.{ColumnType}
 use Rattle.dep_model.specs.declared.column_type.ColumnType.TheVariants.{Text, Integer}
-use Rattle.dep_model.specs.Columns.{column_at, columns_on}
-use Rattle.dep_model.specs.Validity.{AreColumns}
+use Rattle.dep_model.specs.declared.naming.Naming.TheVariants.{Bare}
+use Rattle.dep_model.specs.Names.{is_bare_name}
+use Rattle.dep_model.specs.Columns.{is_column_type, is_plain_type}
+use Rattle.dep_model.specs.Validity.{AreDeclared}
 
--- the values of a function at the numbers from a on
-pub slice_get-map_range : {T : Type 0} (f : ℕ → T) (a n i : ℕ) → i < n → slice_get (map f (range_with_len a n)) i ≡ Some (f (a + i))
-slice_get-map_range f a zero i h = absurd (omega arith)
-slice_get-map_range f a (suc n) zero h = ap (λ (k : ℕ). Some (f k)) (omega arith)
-slice_get-map_range f a (suc n) (suc i) h =
-    let below : i < n = omega arith in
-    slice_get-map_range f (a + 1) n i below ∙ ap (λ (k : ℕ). Some (f k)) (omega arith)
+pub slice_get-texts : (n i : ℕ) → i < n → slice_get (replicate n Text) i ≡ Some Text
+slice_get-texts zero i low = absurd (omega arith)
+slice_get-texts (suc n) zero low = refl
+slice_get-texts (suc n) (suc i) low = slice_get-texts n i (omega arith)
 
--- a list is that of a function's values where it has them position by position
-pub map_range-same : {T : Type 0} (f : ℕ → T) (a : ℕ) (xs : List T) → ((i : ℕ) → i < length xs → slice_get xs i ≡ Some (f (a + i))) → map f (range_with_len a (length xs)) ≡ xs
-map_range-same f a [] h = refl
-map_range-same {T} f a (x ∷ xs) h =
-    let first : x ≡ f a = let e : Some x ≡ Some (f (a + 0)) = h 0 (omega arith) in let z : a + 0 ≡ a = omega arith in let e' : Some x ≡ Some (f a) = e ∙ ap (λ (k : ℕ). Some (f k)) z in cc in
-    let rest = map_range-same f (a + 1) xs (λ (i : ℕ) (l : i < length xs). h (suc i) (omega arith) ∙ ap (λ (k : ℕ). Some (f k)) (omega arith)) in
-    cc
+-- no text column is an integer one
+text_not_integer : Text ≡ Integer → ⊥
+text_not_integer same = cc
 
--- the type of the column at an attribute
-pub slice_get-columns_on : (n : ℕ) (integers : Attributes) (i : ℕ) → i < n → slice_get (columns_on n integers) i ≡ Some (column_at integers i)
-slice_get-columns_on n integers i h = slice_get-map_range (column_at integers) 0 n i h ∙ ap (λ (k : ℕ). Some (column_at integers k)) (omega arith)
+no_integer : (n : ℕ) → Contains (replicate n Text) Integer → ⊥
+no_integer n h =
+    let low : h.0 < n = omega (arith, h.1, length-replicate n Text) in
+    text_not_integer (sym (get_or-replicate n h.0 Text Integer low) ∙ h.2)
 
--- the set that has just the integer columns stands for the list
-pub columns_on-same : (columns : List ColumnType) (integers : Attributes) → ((i : ℕ) → i < length columns → slice_get columns i ≡ Some (column_at integers i)) → columns_on (length columns) integers ≡ columns
-columns_on-same columns integers h = map_range-same (column_at integers) 0 columns (λ (i : ℕ) (l : i < length columns). h i l ∙ ap (λ (k : ℕ). Some (column_at integers k)) (omega arith))
-
-pub length-columns_on : (n : ℕ) (integers : Attributes) → length (columns_on n integers) ≡ n
-length-columns_on n integers = length-map-range_with_len (column_at integers) 0 n
-
--- no column is an integer one
-no_integer : (integers : Attributes) → IsEmpty integers → (n : ℕ) → Contains (columns_on n integers) Integer → ⊥
-no_integer integers none n h =
-    let short : h.0 < n = omega (arith, h.1, length-columns_on n integers) in
-    let e : slice_get (columns_on n integers) h.0 ≡ Some Integer = slice_get_read (columns_on n integers) (length (columns_on n integers)) h.0 Integer refl h.1 (sym h.2) in
-    let g : slice_get (columns_on n integers) h.0 ≡ Some Text = slice_get-columns_on n integers h.0 short ∙ ap (λ (b : Bool). Some (cond b Integer Text)) (none h.0) in
-    let bad : Some Integer ≡ Some Text = sym e ∙ g in
-    cc
-
--- text columns fit any names
-pub AreColumns-text : (names : List (List ℕ)) (integers : Attributes) → IsEmpty integers → AreColumns names (columns_on (length names) integers)
-AreColumns-text names integers none = record {
-  one_each = length-columns_on (length names) integers;
-  no_type_name = λ h. absurd (no_integer integers none (length names) h);
+-- text columns fit any bare names
+pub AreDeclared-text : (names : List (List ℕ)) (nullable : Attributes) → All (λ name. IsTrue (is_bare_name name)) names → IsEmpty nullable
+    → AreDeclared Bare names (replicate (length names) Text) nullable
+AreDeclared-text names nullable bare none = record {
+  one_each = length-replicate (length names) Text;
+  each = All-replicate (λ column. IsTrue (is_column_type column)) (length names) Text refl;
+  nullable_within = λ k inside. absurd (true≢false (sym inside ∙ none k));
+  bare = λ is_bare. record {
+    each_bare = bare;
+    are_columns = record {
+      one_each = length-replicate (length names) Text;
+      plain = All-replicate (λ column. IsTrue (is_plain_type column)) (length names) Text refl;
+      no_type_name = λ h. absurd (no_integer (length names) h);
+    };
+    none_nullable = none;
+  };
 }

@@ -10,7 +10,7 @@ pub mod Plans
 pub mod Preservation
 pub mod TwoTuples
 pub mod Names
-pub mod HeldNames
+pub mod HeldBytes
 pub mod Integers
 pub mod Deps
 pub mod Columns

@@ -5,13 +5,14 @@ use Rattle.attr_sets.specs.Attributes.{Attributes, below}
 use Rattle.attr_sets.specs.Sets.{attributes}
 use Rattle.dep_model.specs.declared.dep.Dep.{Dep}
 use Rattle.dep_model.specs.declared.column_type.ColumnType.{ColumnType}
+use Rattle.dep_model.specs.declared.naming.Naming.{Naming}
 use Rattle.dep_model.specs.declared.schema.Schema.{Schema}
 use Rattle.dep_model.specs.Tuples.{Relation}
 use Rattle.dep_model.specs.Dependencies.{Dependency}
 use Rattle.dep_model.specs.Implication.{IsLegal, Implies}
 use Rattle.dep_model.specs.Names.{same_name}
 use Rattle.dep_model.specs.Deps.{dependencies_of}
-use Rattle.dep_model.specs.Columns.{columns_on, IsTyped}
+use Rattle.dep_model.specs.Columns.{types_or_text, IsTyped}
 
 -- the names of the attributes, in the order of declaration
 abbrev pub names_of : Schema → List (List ℕ)
@@ -21,9 +22,17 @@ names_of s = s.names.items
 abbrev pub width_of : Schema → ℕ
 width_of s = length (names_of s)
 
+-- which names they are
+abbrev pub naming_of : Schema → Naming
+naming_of s = s.naming
+
 -- the types of the columns
 abbrev pub types_of : Schema → List ColumnType
-types_of s = columns_on (width_of s) (attributes s.integers)
+types_of s = types_or_text (width_of s) s.types
+
+-- the attributes of which a value may be missing
+abbrev pub nullable_of : Schema → Attributes
+nullable_of s = attributes s.nullable
 
 -- the dependencies, in the order of the file
 abbrev pub deps_of : Schema → List Dep

@@ -1,61 +1,52 @@
-ghost use Rattle.std.specs.Prelude.{◌≡◌, ℕ, ◌-◌, ◌≤◌, ◌↔◌, ◌++◌, List, length, take, drop, replicate, IsTrue, IsSome, IfSome};
-ghost use Rattle.std.specs.List.{list_all};
-ghost use Rattle.dep_model.specs.Names.{is_bare_name, is_name_byte, same_name};
-ghost use Rattle.dep_model.specs.HeldNames.{IsHeldName, padded_is, front_length};
-ghost use Rattle.dep_model.specs.declared.name.TheConstants.{MOST_NAME_BYTES};
+ghost use Rattle.std.specs.Prelude.{◌≡◌, ℕ, ◌↔◌, ◌≤◌, List, length, IsTrue, IsSome, IfSome};
+ghost use Rattle.std.specs.List.{list_all, list_any};
+ghost use Rattle.dep_model.specs.Names.{IsName, is_bare_name, is_name_byte, is_control, same_name};
 
+use crate::held_bytes::HeldBytes;
 use std::marker::Model;
 
 /// The most bytes of a name.
-pub const MOST_NAME_BYTES: usize = 31;
+pub const MOST_NAME_BYTES: usize = 63;
 
-/// A name: a letter, then letters, digits and `_`, at most `MOST_NAME_BYTES` in all. Letters are ASCII.
+/// The most bytes of a bare name.
+pub const MOST_BARE_NAME_BYTES: usize = 31;
+
+/// A name: 1 to `MOST_NAME_BYTES` bytes of UTF-8 without control characters of ASCII.
 #[derive(Clone, Copy, Debug)]
 pub struct Name {
-    bytes: [u8; MOST_NAME_BYTES],
-    len: u8,
+    held: HeldBytes,
 }
 
 impl Model for Name {
     ghost Value = { List ℕ };
 
-    ghost view = { λ n. take n.len n.bytes };
+    ghost view = { λ n. n.held };
 
-    // The unused bytes are zero, so the list determines the value.
-    ghost invariant = { λ n. IsHeldName n.bytes n.len };
+    ghost invariant = { λ n. IsName n.held };
 
-    ghost inverse = { λ bytes. record {
-      bytes = bytes ++ replicate (MOST_NAME_BYTES - length bytes) 0;
-      len = length bytes;
-    } };
-
-    ghost inverse_ok = { λ n held i. record {
-      bytes = padded_is n.bytes n.len held i;
-      len = front_length n.bytes n.len held i;
-    } };
+    ghost inverse = { λ bytes. record { held = bytes } };
 }
 
 impl Name {
     /// The name of these bytes, where they are a name.
     pub fn new(bytes: &[u8]) -> Option<Name>
-        ensures is_bare_name { IsSome result ↔ IsTrue (is_bare_name bytes.now) }
+        ensures name { IsSome result ↔ IsName bytes.now }
         ensures value { IfSome result (λ name. name ≡ bytes.now) }
     {
-        if !are_name(bytes) {
+        if !is_name(bytes) {
             return None;
         }
         Some(Name {
-            bytes: pad_with_zeros(bytes),
-            len: bytes.len() as u8,
+            held: HeldBytes::new(bytes),
         })
     }
 
     /// The bytes in their declared spelling.
     pub fn bytes(&self) -> &[u8]
         ensures value { result.now ≡ self.now }
-        ensures name { IsTrue (is_bare_name self.now) }
+        ensures name { IsName self.now }
     {
-        &self.bytes[..self.len as usize]
+        self.held.bytes()
     }
 
     /// Whether the two are one name, ASCII case aside.
@@ -66,24 +57,36 @@ impl Name {
     }
 }
 
-// The bytes, and zeros after them.
-fn pad_with_zeros(bytes: &[u8]) -> [u8; MOST_NAME_BYTES]
-    requires { length bytes.now ≤ MOST_NAME_BYTES }
-    ensures padded { result ≡ bytes.now ++ replicate (MOST_NAME_BYTES - length bytes.now) 0 }
+// Whether the bytes are a name.
+fn is_name(bytes: &[u8]) -> bool
+    ensures name { IsTrue result ↔ IsName bytes.now }
 {
-    let mut held = [0; MOST_NAME_BYTES];
-    held[..bytes.len()].copy_from_slice(bytes);
-    held
+    if bytes.is_empty() || bytes.len() > MOST_NAME_BYTES || has_control(bytes) {
+        return false;
+    }
+    match str::from_utf8(bytes) {
+        Ok(_) => true,
+        Err(_) => false,
+    }
 }
 
-// Whether the bytes are a name.
-fn are_name(bytes: &[u8]) -> bool
-    ensures name { result ≡ is_bare_name bytes.now }
+// Whether some byte is a control character.
+fn has_control(bytes: &[u8]) -> bool
+    ensures control { result ≡ list_any is_control bytes.now }
+{
+    bytes.iter().any(|b| *b < 32 || *b == 127)
+}
+
+/// Whether the bytes are a bare name: a letter, then letters, digits and `_`, at most
+/// `MOST_BARE_NAME_BYTES` in all. Letters are ASCII. Each bare name is a name.
+pub fn is_bare_name(bytes: &[u8]) -> bool
+    ensures bare { result ≡ is_bare_name bytes.now }
+    ensures name { IsTrue (is_bare_name bytes.now) → IsName bytes.now }
 {
     !bytes.is_empty()
         && bytes[0].is_ascii_alphabetic()
         && are_name_bytes(bytes)
-        && bytes.len() <= MOST_NAME_BYTES
+        && bytes.len() <= MOST_BARE_NAME_BYTES
 }
 
 fn are_name_bytes(bytes: &[u8]) -> bool

@@ -1,68 +1,88 @@
-ghost use Rattle.std.specs.Prelude.{◌≡◌, ℕ, ◌<◌, ◌≤◌, length, slice_get, Some, position};
+ghost use Rattle.std.specs.Prelude.{◌≡◌, ℕ, ◌<◌, IsTrue, length, All, slice_get, Some, position};
 ghost use Rattle.attr_sets.specs.Sets.{attributes};
-ghost use Rattle.dep_model.specs.Names.{same_name};
-ghost use Rattle.dep_model.specs.Columns.{columns_on};
-ghost use Rattle.dep_model.specs.Validity.{IsSchema, AreColumns};
+ghost use Rattle.dep_model.specs.Names.{is_bare_name, same_name};
+ghost use Rattle.dep_model.specs.Columns.{types_or_text};
+ghost use Rattle.dep_model.specs.Validity.{IsSchema, AreDeclared};
 
-use crate::{ColumnType, Dep, Name};
-use attr_sets::{AttrSet, MOST_ATTRIBUTES};
+use crate::{ColumnType, Dep, Name, Naming};
+use attr_sets::AttrSet;
 
 /// The most dependencies of a schema.
-pub const MOST_DEPENDENCIES: usize = 256;
+pub const MOST_DEPENDENCIES: usize = 4096;
 
 /// Attributes with their names and the types of their columns, and dependencies among them, each with
 /// the line of the file on which it stood.
 #[derive(Debug, Drop)]
 pub struct Schema {
+    naming: Naming,
     names: Vec<Name>,
-    // the attributes whose column is an integer one
-    integers: AttrSet,
+    // none where all columns are text columns
+    types: Option<Vec<ColumnType>>,
+    // the attributes of which a value may be missing
+    nullable: AttrSet,
     deps: Vec<Dep>,
     lines: Vec<u32>,
     pub ghost valid: { IsSchema names.items deps.items lines.items },
-    pub ghost typed: { AreColumns names.items (columns_on (length names.items) (attributes integers)) },
+    pub ghost typed: { AreDeclared naming names.items (types_or_text (length names.items) types)
+        (attributes nullable) },
 }
 
 impl Schema {
-    ghost use Rattle.dep_model.specs.Schemas.{names_of, width_of, types_of, deps_of, lines_of, attribute_named};
+    ghost use Rattle.dep_model.specs.Schemas.{naming_of, names_of, width_of, types_of, nullable_of, deps_of, lines_of, attribute_named};
 
-    /// A schema of text columns. The lines are counted from 1.
+    /// A schema of bare names and text columns. The lines are counted from 1.
     pub fn new(names: Vec<Name>, deps: Vec<Dep>, lines: Vec<u32>) -> Schema
         requires schema { IsSchema names.items deps.items lines.items }
+        requires bare { All (λ name. IsTrue (is_bare_name name)) names.items }
+        ensures naming { naming_of result ≡ Naming.Bare }
         ensures names { names_of result ≡ names.items }
         ensures columns { (i : ℕ) → i < width_of result → slice_get (types_of result) i ≡ Some ColumnType.Text }
         ensures deps { deps_of result ≡ deps.items }
         ensures lines { lines_of result ≡ lines.items }
     {
         Schema {
+            naming: Naming::Bare,
             names,
-            integers: AttrSet::empty(),
+            types: None,
+            nullable: AttrSet::empty(),
             deps,
             lines,
         }
     }
 
-    /// A schema whose columns have these types.
-    pub fn make_typed(
+    /// A schema whose columns have these types, with missing values in those of `nullable`.
+    pub fn with_columns(
+        naming: Naming,
         names: Vec<Name>,
         columns: Vec<ColumnType>,
+        nullable: AttrSet,
         deps: Vec<Dep>,
         lines: Vec<u32>,
     ) -> Schema
         requires schema { IsSchema names.items deps.items lines.items }
-        requires columns { AreColumns names.items columns.items }
+        requires columns { AreDeclared naming names.items columns.items (attributes nullable) }
+        ensures naming { naming_of result ≡ naming }
         ensures names { names_of result ≡ names.items }
         ensures columns { types_of result ≡ columns.items }
+        ensures nullable { nullable_of result ≡ attributes nullable }
         ensures deps { deps_of result ≡ deps.items }
         ensures lines { lines_of result ≡ lines.items }
     {
-        let integers = integer_columns(&columns);
         Schema {
+            naming,
             names,
-            integers,
+            types: Some(columns),
+            nullable,
             deps,
             lines,
         }
+    }
+
+    /// Which names the schema has.
+    pub fn naming(&self) -> Naming
+        ensures naming { result ≡ naming_of self.now }
+    {
+        self.naming
     }
 
     /// How many attributes there are.
@@ -85,11 +105,17 @@ impl Schema {
         requires { i < width_of self.now }
         ensures column { slice_get (types_of self.now) i ≡ Some result }
     {
-        if self.integers.contains(i) {
-            ColumnType::Integer
-        } else {
-            ColumnType::Text
+        match &self.types {
+            None => ColumnType::Text,
+            Some(types) => types[i as usize],
         }
+    }
+
+    /// The attributes of which a value may be missing.
+    pub fn nullable(&self) -> AttrSet
+        ensures nullable { attributes result ≡ nullable_of self.now }
+    {
+        self.nullable
     }
 
     /// The dependencies, in the order of the file.
@@ -125,18 +151,4 @@ fn position_named(names: &[Name], bytes: &[u8]) -> Option<usize>
     names
         .iter()
         .position(|name| name.bytes().eq_ignore_ascii_case(bytes))
-}
-
-// The set of the integer columns.
-fn integer_columns(columns: &[ColumnType]) -> AttrSet
-    requires { length columns.now ≤ MOST_ATTRIBUTES }
-    ensures columns { columns_on (length columns.now) (attributes result) ≡ columns.now }
-{
-    let mut integers = AttrSet::empty();
-    for (i, column) in columns.iter().enumerate() {
-        if *column == ColumnType::Integer {
-            integers = integers.with(i as u8);
-        }
-    }
-    integers
 }

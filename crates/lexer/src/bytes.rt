@@ -4,7 +4,7 @@ ghost use Rattle.std.specs.List.{list_all};
 ghost use Rattle.dep_model.specs.Names.{is_bare_name, is_name_byte};
 ghost use Rattle.lexer.specs.Bytes.{is_gap, is_number, number_of, run_length};
 
-use dep_model::MOST_NAME_BYTES;
+use dep_model::MOST_BARE_NAME_BYTES;
 
 /// Whether a byte only separates tokens: a blank, a tab or a comma.
 pub fn is_gap(byte: u8) -> bool
@@ -32,7 +32,7 @@ pub fn is_bare_name(run: &[u8]) -> bool
     requires run { IsTrue (list_all is_name_byte run.now) }
     ensures name { result ≡ is_bare_name run.now }
 {
-    !run.is_empty() && run[0].is_ascii_alphabetic() && run.len() <= MOST_NAME_BYTES
+    !run.is_empty() && run[0].is_ascii_alphabetic() && run.len() <= MOST_BARE_NAME_BYTES
 }
 
 /// Whether a run is a number: 1 to 9 digits.

@@ -1,9 +1,9 @@
 use Rattle.std.proofs.Common.{◌++◌, length, ap}
 use Rattle.std.proofs.lemmas.List.{drop-replicate}
-use Rattle.dep_model.specs.declared.name.TheConstants.{MOST_NAME_BYTES}
-use Rattle.dep_model.proofs.name.pad_with_zeros.Goals as goal
+use Rattle.dep_model.specs.declared.held_bytes.TheConstants.{MOST_HELD_BYTES}
+use Rattle.dep_model.proofs.held_bytes.pad_with_zeros.Goals as goal
 
 pub returns : goal.returns
 returns c =
-    let zeros = drop-replicate (length c.args.bytes.now) MOST_NAME_BYTES 0 in
+    let zeros = drop-replicate (length c.args.bytes.now) MOST_HELD_BYTES 0 in
     record { padded = rw (c.copy_from_slice.ensures.after) (ap (λ xs. c.args.bytes.now ++ xs) zeros) }
