@@ -19,7 +19,7 @@ use Rattle.schema_grammar.specs.Meanings.{attributes_of_words, IsAttribute, IsSi
 use Rattle.schema_grammar.specs.Refusals.{at}
 use Rattle.schema_grammar.specs.Words.{is_word_token, is_reserved_token, look_up, known_attribute}
 use Rattle.schema_grammar.proofs.SideLemmas.{union-only, union-none, attributes_of_words-cons, Names}
-use Rattle.schema_grammar.specs.Rests.{attribute_of_word, Rest, take, take_from, words_from, side, side_from}
+use Rattle.schema_grammar.specs.Rests.{◌>>=◌, attribute_of_word, Rest, take, take_from, words, words_from, side, side_from}
 use Rattle.proof_grammar.proofs.CheckedLemmas.{bind_ok}
 
 -- ---- one token
@@ -194,6 +194,13 @@ pub record SideRead (names : List (List ℕ)) (line from : ℕ) (marks tail : Li
   pub next_column : ℕ
   pub read : side names (left_at line from (marks ++ tail) stop) ≡ Ok (x, left_at line next_column tail stop)
 
+-- a word or a quoted name begins a side
+side_from-word : (names : List (List ℕ)) (m : Mark) (r : Rest) (k : TokenKind) → is_word_token k ≡ true
+    → side_from names m r k ≡ (attribute_of_word names r.line m >>= λ a. words names (only a) r)
+side_from-word names m r token.Identifier is = refl
+side_from-word names m r token.Quoted is = refl
+side_from-word names m r k is = cc
+
 pub side_back : (names : List (List ℕ)) (line from : ℕ) (marks tail : List Mark) (stop : Option LexError) (x : Attributes) → IsSide format.Plain names marks x → NoWord tail
     → SideRead names line from marks tail stop x
 unfolding side take
@@ -206,6 +213,7 @@ side_back names line from (m ∷ marks) tail stop x (inr words) other =
     let members = sym (attributes_of_words-cons names m marks here.index here.known) ∙ sym words.members in
     record {
       next_column = rest.next_column;
-      read = simp (here.word, attribute_back names line m here)
+      read = side_from-word names m (left_at line (m.column + m.length) (marks ++ tail) stop) m.kind here.word
+          ∙ rw (attribute_back names line m here)
           (rest.read ∙ ap (λ (z : Attributes). Ok (z, left_at line rest.next_column tail stop)) members);
     }

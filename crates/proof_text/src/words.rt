@@ -15,11 +15,15 @@ pub fn colon(start: Cursor<'_>) -> Result<Cursor<'_>, SchemaRefusal>
     ensures ok { IfOk result (λ x. colon (rest_of start.entry) ≡ Ok (rest_of x)) }
     ensures err { IfErr result (λ e. colon (rest_of start.entry) ≡ Err e) }
 {
-    let (token, _, rest) = start.take(What::Colon)?;
-    if is_colon(token.kind) {
-        Ok(rest)
-    } else {
-        Err(rest.refusal_of_token(token, What::Colon))
+    match start.take(What::Colon) {
+        Err(refusal) => Err(refusal),
+        Ok((token, _, rest)) => {
+            if is_colon(token.kind) {
+                Ok(rest)
+            } else {
+                Err(rest.refusal_of_token(token, What::Colon))
+            }
+        }
     }
 }
 
@@ -29,11 +33,15 @@ pub fn with_word(start: Cursor<'_>) -> Result<Cursor<'_>, SchemaRefusal>
     ensures ok { IfOk result (λ x. with_word (rest_of start.entry) ≡ Ok (rest_of x)) }
     ensures err { IfErr result (λ e. with_word (rest_of start.entry) ≡ Err e) }
 {
-    let (token, word, rest) = start.take(What::With)?;
-    if is_with(token.kind, &word) {
-        Ok(rest)
-    } else {
-        Err(rest.refusal_of_token(token, What::With))
+    match start.take(What::With) {
+        Err(refusal) => Err(refusal),
+        Ok((token, word, rest)) => {
+            if is_with(token.kind, &word) {
+                Ok(rest)
+            } else {
+                Err(rest.refusal_of_token(token, What::With))
+            }
+        }
     }
 }
 
@@ -43,10 +51,12 @@ pub fn rule_name(start: Cursor<'_>) -> Result<(RuleName, Cursor<'_>), SchemaRefu
     ensures ok { IfOk result (λ x. rule_name (rest_of start.entry) ≡ Ok (x.0, rest_of x.1)) }
     ensures err { IfErr result (λ e. rule_name (rest_of start.entry) ≡ Err e) }
 {
-    let (token, word, rest) = start.take(What::Rule)?;
-    match rule_named(token.kind, &word) {
-        Some(name) => Ok((name, rest)),
-        None => Err(rest.refusal_of_token(token, What::Rule)),
+    match start.take(What::Rule) {
+        Err(refusal) => Err(refusal),
+        Ok((token, word, rest)) => match rule_named(token.kind, &word) {
+            Some(name) => Ok((name, rest)),
+            None => Err(rest.refusal_of_token(token, What::Rule)),
+        },
     }
 }
 

@@ -103,16 +103,18 @@ fn read_version(start: Cursor<'_>) -> Result<(), SchemaRefusal>
     ensures ok { OnOk result (read_version (rest_of start.entry) ≡ Ok no_declaration) }
     ensures err { IfErr result (λ refusal. read_version (rest_of start.entry) ≡ Err refusal) }
 {
-    let (token, _, rest) = start.take(What::Number)?;
-    match number_in(token.kind) {
-        None => Err(rest.refusal_of_token(token, What::Number)),
-        Some(version) => {
-            if version == VERSION {
-                rest.end()
-            } else {
-                Err(rest.refusal_of(token, SchemaRefusalKind::UnknownVersion))
+    match start.take(What::Number) {
+        Err(refusal) => Err(refusal),
+        Ok((token, _, rest)) => match number_in(token.kind) {
+            None => Err(rest.refusal_of_token(token, What::Number)),
+            Some(version) => {
+                if version == VERSION {
+                    rest.end()
+                } else {
+                    Err(rest.refusal_of(token, SchemaRefusalKind::UnknownVersion))
+                }
             }
-        }
+        },
     }
 }
 

@@ -124,10 +124,12 @@ impl<'a> Cursor<'a> {
         ensures ok { IfOk result (λ x. number (rest_of self.entry) ≡ Ok (x.0, rest_of x.1)) }
         ensures err { IfErr result (λ e. number (rest_of self.entry) ≡ Err e) }
     {
-        let (token, _, rest) = self.take(What::Number)?;
-        match number_in(token.kind) {
-            Some(number) => Ok((number, rest)),
-            None => Err(rest.refusal_of_token(token, What::Number)),
+        match self.take(What::Number) {
+            Err(refusal) => Err(refusal),
+            Ok((token, _, rest)) => match number_in(token.kind) {
+                Some(number) => Ok((number, rest)),
+                None => Err(rest.refusal_of_token(token, What::Number)),
+            },
         }
     }
 
@@ -137,10 +139,12 @@ impl<'a> Cursor<'a> {
         ensures ok { IfOk result (λ x. arrow (rest_of self.entry) ≡ Ok (x.0, rest_of x.1)) }
         ensures err { IfErr result (λ e. arrow (rest_of self.entry) ≡ Err e) }
     {
-        let (token, _, rest) = self.take(What::Arrow)?;
-        match arrow_in(token.kind) {
-            Some(arrow) => Ok((arrow, rest)),
-            None => Err(rest.refusal_of_token(token, What::Arrow)),
+        match self.take(What::Arrow) {
+            Err(refusal) => Err(refusal),
+            Ok((token, _, rest)) => match arrow_in(token.kind) {
+                Some(arrow) => Ok((arrow, rest)),
+                None => Err(rest.refusal_of_token(token, What::Arrow)),
+            },
         }
     }
 
@@ -166,14 +170,16 @@ impl<'a> Cursor<'a> {
             (names_in names.now)))) }
         ensures err { IfErr result (λ e. side (names_in names.now) (rest_of self.entry) ≡ Err e) }
     {
-        let (token, word, rest) = self.take(What::Side)?;
-        match token.kind {
-            TokenKind::Identifier | TokenKind::Quoted => {
-                let first = attribute_of_word(names, rest.line(), token, &word)?;
-                rest.words(names, AttrSet::single(first))
-            }
-            TokenKind::Empty => Ok((AttrSet::empty(), rest)),
-            _ => Err(rest.refusal_of_token(token, What::Side)),
+        match self.take(What::Side) {
+            Err(refusal) => Err(refusal),
+            Ok((token, word, rest)) => match token.kind {
+                TokenKind::Identifier | TokenKind::Quoted => {
+                    let first = attribute_of_word(names, rest.line(), token, &word)?;
+                    rest.words(names, AttrSet::single(first))
+                }
+                TokenKind::Empty => Ok((AttrSet::empty(), rest)),
+                _ => Err(rest.refusal_of_token(token, What::Side)),
+            },
         }
     }
 
