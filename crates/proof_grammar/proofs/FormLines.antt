@@ -9,7 +9,7 @@ use Rattle.lexer.specs.declared.token.TokenKind.TheVariants as token
 use Rattle.lexer.specs.Tokens.{Mark}
 use Rattle.schema_grammar.specs.declared.format.Format.TheVariants as format
 use Rattle.schema_grammar.specs.declared.refusal.SchemaRefusal.{SchemaRefusal}
-use Rattle.schema_grammar.specs.Words.{is_reserved}
+use Rattle.schema_grammar.specs.Words.{is_reserved, is_reserved_token}
 use Rattle.proof_grammar.specs.declared.rule_name.RuleName.TheVariants as rule
 use Rattle.proof_grammar.specs.Lines.{Line, certificate_line}
 use Rattle.proof_grammar.specs.LineDiagnostics.{TokenForm, token_form, word_form, token_forms, a_number, a_colon, an_arrow, an_empty, a_with, a_rule, a_word, AreLine, BeginLine, TakesNames, FormsWant}
@@ -51,7 +51,7 @@ sample_forms (f ∷ fs) = (λ i. sample_form f i ∷ sample_forms fs i)
 
 -- the word of a sample is declared and not reserved
 sample_is_name : (f : TokenForm) → (index : ℕ) × (attribute_named all_words (sample_mark f).word ≡ Some index)
-    × (is_reserved format.Plain (sample_mark f).word ≡ false)
+    × (is_reserved_token format.Plain (sample_mark f).kind (sample_mark f).word ≡ false)
 unfolding is_reserved
 sample_is_name (a_rule rule.Given) = (_, refl, refl)
 sample_is_name _ = (_, refl, refl)
