@@ -1,14 +1,42 @@
 -- Where a name between quotes ends, and which bytes it has.
-use Rattle.std.proofs.Common.{◌≡◌, ◌<◌, ◌≤◌, ◌+◌, ◌==◌, ◌&&◌, ℕ, Bool, true, false, cond, Option, None, Some, List, [], ◌∷◌, ◌++◌, length, take, drop, get_or, slice_set, nat_eq, arith, sym, ◌∙◌, ap, refl, append_assoc, length-append, length-drop, length-set}
+use Rattle.std.proofs.Common.{◌≡◌, ◌<◌, ◌≤◌, ◌+◌, ◌==◌, ◌&&◌, ℕ, Bool, true, false, cond, not, ◌↔◌, Option, None, Some, List, [], ◌∷◌, ◌++◌, length, take, drop, get_or, slice_set, nat_eq, arith, sym, ◌∙◌, ap, refl, append_assoc, length-append, length-drop, length-set}
+use Rattle.std.proofs.lemmas.Bool.{and_parts, not-true, lt-ltb, le-leb}
 use Rattle.std.proofs.lemmas.Bool.Decides.{Decides-eqb, nat_tests}
 use Rattle.std.proofs.lemmas.List.{append-nil, length-take-le, take_more_set}
 use Rattle.std.proofs.lemmas.Slice.Eq.{starts_is}
-use Rattle.std.specs.List.{starts_with}
+use Rattle.std.proofs.lemmas.Str.{IsUtf8-from_is_utf8, is_utf8-from_IsUtf8}
+use Rattle.std.specs.Prelude.{nat_lt, nat_le}
+use Rattle.std.specs.List.{starts_with, list_any}
+use Rattle.std.specs.Str.{is_utf8}
 use Rattle.dep_model.specs.declared.name.TheConstants.{MOST_NAME_BYTES}
+use Rattle.dep_model.specs.Names.{IsName, is_control}
 use Rattle.lexer.specs.Quotes.{is_name, further, closing_quote, undoubled}
 
+-- the test of a name
+pub name_test : (name : List ℕ) → (is_name name ≡ true) ↔ IsName name
+name_test name = (
+  λ is.
+      let parts = and_parts ((nat_lt 0 (length name) && nat_le (length name) MOST_NAME_BYTES) && not (list_any is_control name))
+      (is_utf8 name) is in
+      let size = and_parts (nat_lt 0 (length name) && nat_le (length name) MOST_NAME_BYTES) (not (list_any is_control name)) parts.0 in
+      let bounds = and_parts (nat_lt 0 (length name)) (nat_le (length name) MOST_NAME_BYTES) size.0 in
+      record {
+        some_bytes = grind (arith, nat_tests, bounds.0);
+        within_limit = grind (arith, nat_tests, bounds.1);
+        utf8 = IsUtf8-from_is_utf8 name parts.1;
+        no_control = not-true (list_any is_control name) size.1;
+      },
+  λ is.
+      rw (
+        lt-ltb 0 (length name) is.some_bytes,
+        le-leb (length name) MOST_NAME_BYTES is.within_limit,
+        is.no_control,
+        is_utf8-from_IsUtf8 name is.utf8,
+      ) refl,
+)
+
 name_length : (name : List ℕ) → is_name name ≡ true → length name ≤ MOST_NAME_BYTES
-name_length name e = grind (arith, nat_tests)
+name_length name e = ((name_test name).0 e).within_limit
 
 -- what further bytes come to
 pub record IsFurther (n k : ℕ) (o : Option ℕ) : Type 0 where

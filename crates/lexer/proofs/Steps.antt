@@ -16,7 +16,7 @@ use Rattle.dep_model.specs.Names.{is_bare_name, is_name_byte}
 use Rattle.lexer.specs.Bytes.{is_gap, is_number, number_of, run_length}
 use Rattle.lexer.specs.Pieces.{front_piece, run_piece, closed_piece, quoted_piece}
 use Rattle.lexer.specs.Quotes.{is_name, closing_quote, undoubled}
-use Rattle.lexer.proofs.Quoting.{closing_below}
+use Rattle.lexer.proofs.Quoting.{closing_below, name_test}
 use Rattle.lexer.specs.Tokens.{tokens_after, led_by_mark, Leads, StandsAfter}
 
 -- only gaps stand before what is left of the text
@@ -209,7 +209,7 @@ pub quoted_leads : (m : Mode) (start : ℕ) (text : List ℕ) (column : ℕ) (re
 quoted_leads m start text column rest name n after reached some e is_after_it = record {
   all_tokens = rw is_after_it (reached.same ∙ at_quoted m column rest name n some e);
   is_a_word = λ word. cc;
-  is_a_name = λ _. (quoted_at m rest name n some e).a_name;
+  is_a_name = λ _. (name_test name).0 (quoted_at m rest name n some e).a_name;
 }
 
 pub token_after : (m : Mode) (start : ℕ) (text : List ℕ) (column : ℕ) (rest : List ℕ) (k : TokenKind) (n : ℕ) (after : List ℕ)

@@ -1,10 +1,15 @@
--- That a quoted name is one token: for the function of `laws.rt`. `Desk` does not cite it.
-use Rattle.std.specs.Prelude.{◌≡◌, ℕ, ◌+◌, true, false, List, [], ◌∷◌, ◌++◌, length, nat_eq}
+-- That names are tested, and that a quoted name is one token: for the functions of `laws.rt`. `Desk` does not cite it.
+use Rattle.std.specs.Prelude.{◌≡◌, ◌↔◌, ℕ, ◌+◌, true, false, List, [], ◌∷◌, ◌++◌, length, nat_eq}
 use Rattle.std.specs.List.{starts_with}
+use Rattle.dep_model.specs.Names.{IsName}
 use Rattle.lexer.specs.declared.mode.Mode.{Mode}
 use Rattle.lexer.specs.declared.token.TokenKind.TheVariants as token
 use Rattle.lexer.specs.Quotes.{is_name, quoted}
 use Rattle.lexer.specs.Tokens.{tokens_after, led_by_mark}
+
+-- the test of a name
+abbrev pub NamesAreTested : Type 0
+NamesAreTested = (bytes : List ℕ) → (is_name bytes ≡ true) ↔ IsName bytes
 
 -- where quotes are taken, the quoted text of a name is one token for that name, whatever follows but a
 -- quote

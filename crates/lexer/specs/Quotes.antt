@@ -1,11 +1,14 @@
 -- Names between double quotes: for the tokens (`Pieces`) and the law of quoted names.
-use Rattle.std.specs.Prelude.{ℕ, ◌+◌, ◌==◌, Bool, ◌&&◌, Option, Some, None, List, [], ◌∷◌, ◌++◌, if◌then◌else◌}
-use Rattle.std.specs.List.{flat_map}
-use Rattle.dep_model.specs.Names.{is_bare_name}
+use Rattle.std.specs.Prelude.{ℕ, ◌+◌, ◌==◌, Bool, ◌&&◌, not, nat_lt, nat_le, Option, Some, None, List, [], ◌∷◌, ◌++◌, length, if◌then◌else◌}
+use Rattle.std.specs.List.{flat_map, list_any}
+use Rattle.std.specs.Str.{is_utf8}
+use Rattle.dep_model.specs.declared.name.TheConstants.{MOST_NAME_BYTES}
+use Rattle.dep_model.specs.Names.{is_control}
 
--- what may stand between quotes
+-- whether bytes are a name, `IsName` as a test
 abbrev pub is_name : List ℕ → Bool
-is_name bytes = is_bare_name bytes
+is_name bytes = ((nat_lt 0 (length bytes) && nat_le (length bytes) MOST_NAME_BYTES)
+    && not (list_any is_control bytes)) && is_utf8 bytes
 
 -- so many bytes more, where there is a number
 abbrev pub further : ℕ → Option ℕ → Option ℕ

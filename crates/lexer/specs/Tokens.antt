@@ -11,9 +11,8 @@ use Rattle.lexer.specs.declared.token.TokenKind.{TokenKind}
 use Rattle.lexer.specs.declared.word.Word.{Word}
 use Rattle.lexer.specs.declared.word.Word.TheVariants as word
 use Rattle.lexer.specs.declared.token.TokenKind.TheVariants as token
-use Rattle.dep_model.specs.Names.{is_bare_name}
+use Rattle.dep_model.specs.Names.{IsName, is_bare_name}
 use Rattle.lexer.specs.Pieces.{front_piece}
-use Rattle.lexer.specs.Quotes.{is_name}
 
 -- a token with the bytes that it stands for: those of its text, or the name between its quotes
 pub record Mark : Type 0 where
@@ -68,7 +67,7 @@ pub record Leads (m : Mode) (t : Token) (word rest : List ℕ) (all : Lexed) : T
       (record { kind = t.kind; column = t.column; length = t.length; word = word })
       (tokens_after m 0 (t.column + t.length) rest)
   pub is_a_word : t.kind ≡ token.Identifier → is_bare_name word ≡ true
-  pub is_a_name : t.kind ≡ token.Quoted → is_name word ≡ true
+  pub is_a_name : t.kind ≡ token.Quoted → IsName word
 
 -- what comes next is the first of these tokens, or why there is none
 abbrev pub GoesOn : Mode → Next → Lexed → Type 0

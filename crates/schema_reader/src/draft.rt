@@ -1,8 +1,7 @@
 ghost use Rattle.std.specs.Prelude.{◌≡◌, ◌+◌, ◌<◌, ◌≤◌, ◌^◌, true, false, length, OnOk, IfOk, IfErr};
 ghost use Rattle.dep_model.specs.Deps.{dependency_of};
-ghost use Rattle.dep_model.specs.Names.{is_bare_name};
+ghost use Rattle.dep_model.specs.Names.{IsName, is_bare_name};
 ghost use Rattle.schema_reader.specs.Views.{reached_of};
-ghost use Rattle.lexer.specs.Quotes.{is_name};
 ghost use Rattle.lexer.specs.Tokens.{bytes_of};
 ghost use Rattle.schema_grammar.specs.Refusals.{Refuses};
 
@@ -111,6 +110,7 @@ impl Draft {
     }
 
     /// Takes one token after a declaring word; `some` is whether a name stood before.
+    #[tactic(auto, using(dep_model::proofs::NameLemmas::bare_name_is_name))]
     fn name_step(
         &mut self,
         format: Format,
@@ -120,7 +120,7 @@ impl Draft {
         word: &Word<'_>,
     ) -> Result<(), Failure<SchemaRefusalKind>>
         requires bare { kind ≡ TokenKind.Identifier → is_bare_name (bytes_of word.now) ≡ true }
-        requires name { kind ≡ TokenKind.Quoted → is_name (bytes_of word.now) ≡ true }
+        requires name { kind ≡ TokenKind.Quoted → IsName (bytes_of word.now) }
         ensures ok { OnOk result (name_step format column
             (declarations_of_draft self.old) some kind (bytes_of word.now)
             ≡ Ok (declarations_of_draft self.new)) }
@@ -148,7 +148,7 @@ impl Draft {
         kind: TokenKind,
         word: &[u8],
     ) -> Result<(), Failure<SchemaRefusalKind>>
-        requires { is_name word.now ≡ true }
+        requires { IsName word.now }
         ensures ok { OnOk result (declare format column (declarations_of_draft self.old) kind word.now
             ≡ Ok (declarations_of_draft self.new)) }
         ensures err { IfErr result
@@ -248,7 +248,7 @@ impl Draft {
 
 /// The name that the bytes are.
 fn name_of_word(word: &[u8]) -> Name
-    requires { is_name word.now ≡ true }
+    requires { IsName word.now }
     ensures name { result ≡ word.now }
 {
     Name::new(word).unwrap()

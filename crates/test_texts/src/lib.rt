@@ -17,6 +17,8 @@ mod names;
 #[cfg(test)]
 mod plan_texts;
 #[cfg(test)]
+mod quotes;
+#[cfg(test)]
 mod sameness;
 #[cfg(test)]
 mod schemas;

@@ -1,12 +1,11 @@
 -- What the reader's values stand for, in the words of the grammar: for tokens and the readers
 -- above it. `Desk` does not cite it.
 use Rattle.std.specs.Prelude.{◌≡◌, ◌<◌, ℕ, ◌+◌, true, Some, None, List, [], ◌∷◌, length}
-use Rattle.dep_model.specs.Names.{is_bare_name}
+use Rattle.dep_model.specs.Names.{IsName, is_bare_name}
 use Rattle.dep_model.specs.Schemas.{names_of}
 use Rattle.lexer.specs.declared.token.LexError.{LexError}
 use Rattle.lexer.specs.declared.token.Token.{Token}
 use Rattle.lexer.specs.declared.token.TokenKind.TheVariants as token
-use Rattle.lexer.specs.Quotes.{is_name}
 use Rattle.lexer.specs.Tokens.{Mark, tokens_after, bytes_of}
 use Rattle.schema_grammar.specs.declared.refusal.SchemaRefusal.{SchemaRefusal}
 use Rattle.schema_grammar.specs.Declarations.{mark_of}
@@ -55,7 +54,7 @@ pub record IsLed (r : Rest) (m : Mark) (after : Rest) : Type 0 where
 pub record Takes (c : Cursor) (t : Token) (word : List ℕ) (after : Cursor) : Type 0 where
   pub led : IsLed (rest_of c) (mark_of t word) (rest_of after)
   pub is_a_word : t.kind ≡ token.Identifier → is_bare_name word ≡ true
-  pub is_a_name : t.kind ≡ token.Quoted → is_name word ≡ true
+  pub is_a_name : t.kind ≡ token.Quoted → IsName word
   pub shorter : bytes_left after < bytes_left c
 
 -- what comes next on a line

@@ -1,6 +1,6 @@
 use Rattle.std.proofs.Common.{arith, sym}
 use Rattle.lexer.proofs.Steps.{is_some, is_none}
-use Rattle.lexer.proofs.Quoting.{spell_two, spell_one, too_long, spelled_all}
+use Rattle.lexer.proofs.Quoting.{spell_two, spell_one, too_long, spelled_all, name_test}
 use Rattle.lexer.proofs.quotes.name_between.Goals.{then-starts_with, else-starts_with}
 use Rattle.lexer.proofs.quotes.name_between.Goals as goal
 
@@ -24,7 +24,10 @@ loop-rest-preserved c =
     ]
 
 pub returns-clause-name : goal.returns-clause-name
-returns-clause-name c = rw (spelled_all _ _ _ _ c.loop-rest.invariant (is_none _ c.loop-rest-test.ensures)) c.new.ensures.is_bare_name
+returns-clause-name c =
+    let test = name_test _ in
+    rw (spelled_all _ _ _ _ c.loop-rest.invariant (is_none _ c.loop-rest-test.ensures))
+    ((λ found. test.1 (c.new.ensures.name.0 found)), (λ is. c.new.ensures.name.1 (test.0 is)))
 
 pub returns-clause-value : goal.returns-clause-value
 returns-clause-value c = rw (spelled_all _ _ _ _ c.loop-rest.invariant (is_none _ c.loop-rest-test.ensures)) c.new.ensures.value
