@@ -3,7 +3,8 @@ use Rattle.std.proofs.Common.{◌≡◌, ◌≤◌, ℕ, List, [], ◌∷◌, �
 use Rattle.std.specs.Prelude.{codes}
 use Rattle.dep_model.specs.declared.schema.Schema.{Schema}
 use Rattle.dep_model.specs.Dependencies.{Dependency}
-use Rattle.dep_model.specs.Schemas.{names_of}
+use Rattle.dep_model.specs.Schemas.{names_of, naming_of}
+use Rattle.dep_model.specs.declared.naming.Naming.TheVariants.{Bare}
 use Rattle.derivation.specs.declared.deriv.Deriv.{Deriv}
 use Rattle.derivation.specs.Conclusions.{Proves}
 use Rattle.derivation.specs.Derivs.{tree_of}
@@ -46,6 +47,7 @@ record SaidYes (files : Files) (schema goal text : List ℕ) : Type 0 where
   has : bytes_of_file files schema ≡ Some bytes
   few_bytes : length bytes ≤ MOST_TEXT_BYTES
   means : MeansSchema bytes (declarations_of of)
+  bare : naming_of of ≡ Bare
   dep : Dependency
   few_goal : length goal ≤ MOST_GOAL_BYTES
   means_goal : MeansGoal (names_of of) goal dep
@@ -67,6 +69,7 @@ yes_there files schema goal response says_yes (inr (of, file, rest)) = after_goa
       has = file.content.0;
       few_bytes = file.content.1;
       means = file.means;
+      bare = file.bare;
       dep = dep;
       few_goal = few_goal;
       means_goal = means_goal;
@@ -97,7 +100,7 @@ one_goal names goal d e first second =
 printed_within : (files : Files) (schema goal text : List ℕ) (r : Schema) → (said : SaidYes files schema goal text) → AreAlike said.of r → SpellsWithin r text (tree_of said.proof)
 printed_within files schema goal text r said alike =
     let t = tree_of said.proof in
-    let printed = answered_spells said.of said.proof said.dep (declared_are_names said.bytes (declarations_of said.of) said.means) said.is_proof.proves said.is_proof.size.few_nodes in
+    let printed = answered_spells said.of said.proof said.dep said.bare (declared_are_names said.bytes (declarations_of said.of) said.means) said.is_proof.proves said.is_proof.size.few_nodes in
     let moved = spells_alike said.of r (yes_text ++ canonical_certificate said.of t) t alike printed.0 in
     let within : SpellsWithin r (yes_text ++ canonical_certificate said.of t) t = record {
       spells = moved.0;
