@@ -61,7 +61,7 @@ impl Draft {
             NextToken::Refusal(refusal) => Err(Failure::Refused(refusal)),
             NextToken::Token(token, word, rest) => {
                 match column_type_of_token(format, token.kind, &word) {
-                    Some(column) => self.list_names(format, column, rest),
+                    Some(column) => self.list_names(format, &column, rest),
                     None => self.read_dependency(format, token, &word, rest),
                 }
             }
@@ -72,13 +72,13 @@ impl Draft {
     fn list_names(
         &mut self,
         format: Format,
-        column: ColumnType,
+        column: &ColumnType,
         start: Cursor<'_>,
     ) -> Result<(), Failure<SchemaRefusal>>
-        ensures ok { OnOk result (list_names_rest format column (declarations_of_draft self.old) false
+        ensures ok { OnOk result (list_names_rest format column.now (declarations_of_draft self.old) false
             (rest_of start.entry) ≡ Ok (declarations_of_draft self.new)) }
         ensures err { IfErr result (λ failure. Refuses failure
-            (list_names_rest format column (declarations_of_draft self.old) false
+            (list_names_rest format column.now (declarations_of_draft self.old) false
             (rest_of start.entry))) }
     {
         let mut some = false;
@@ -114,18 +114,18 @@ impl Draft {
     fn name_step(
         &mut self,
         format: Format,
-        column: ColumnType,
+        column: &ColumnType,
         some: bool,
         kind: TokenKind,
         word: &Word<'_>,
     ) -> Result<(), Failure<SchemaRefusalKind>>
         requires bare { kind ≡ TokenKind.Identifier → is_bare_name (bytes_of word.now) ≡ true }
         requires name { kind ≡ TokenKind.Quoted → IsName (bytes_of word.now) }
-        ensures ok { OnOk result (name_step format column
+        ensures ok { OnOk result (name_step format column.now
             (declarations_of_draft self.old) some kind (bytes_of word.now)
             ≡ Ok (declarations_of_draft self.new)) }
         ensures err { IfErr result
-            (λ failure. Refuses failure (name_step format column
+            (λ failure. Refuses failure (name_step format column.now
             (declarations_of_draft self.old) some kind (bytes_of word.now))) }
     {
         match kind {
@@ -144,15 +144,15 @@ impl Draft {
     fn declare(
         &mut self,
         format: Format,
-        column: ColumnType,
+        column: &ColumnType,
         kind: TokenKind,
         word: &[u8],
     ) -> Result<(), Failure<SchemaRefusalKind>>
         requires { IsName word.now }
-        ensures ok { OnOk result (declare format column (declarations_of_draft self.old) kind word.now
+        ensures ok { OnOk result (declare format column.now (declarations_of_draft self.old) kind word.now
             ≡ Ok (declarations_of_draft self.new)) }
         ensures err { IfErr result
-            (λ failure. Refuses failure (declare format column
+            (λ failure. Refuses failure (declare format column.now
             (declarations_of_draft self.old) kind word.now)) }
     {
         if is_reserved_token(format, kind, word) {
@@ -168,12 +168,12 @@ impl Draft {
         Ok(())
     }
 
-    fn add_name(&mut self, name: Name, column: ColumnType) -> Result<(), OutOfMemory>
+    fn add_name(&mut self, name: Name, column: &ColumnType) -> Result<(), OutOfMemory>
         ensures ok { OnOk result (declarations_of_draft self.new
-            ≡ add_name (declarations_of_draft self.old) name column) }
+            ≡ add_name (declarations_of_draft self.old) name column.now) }
     {
         self.names.push(name)?;
-        self.columns.push(column)?;
+        self.columns.push(*column)?;
         Ok(())
     }
 

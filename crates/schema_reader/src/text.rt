@@ -13,9 +13,9 @@ ghost use Rattle.schema_grammar.specs.Schemas.{MeansSchema, RefusesSchema};
 ghost use Rattle.schema_grammar.specs.Texts.{finish, is_version, read_lines, read_version, read_typed, read_opening, declarations_of};
 
 use crate::draft::Draft;
-use dep_model::{Failure, Schema, Naming};
-use lexer::{Mode, TokenKind, Word, cut_line, without_mark};
 use attr_sets::AttrSet;
+use dep_model::{Failure, Naming, Schema};
+use lexer::{Mode, TokenKind, Word, cut_line, without_mark};
 use schema_grammar::{Format, SchemaRefusal, SchemaRefusalKind, VERSION, What};
 use std::alloc::Global;
 use tokens::{Cursor, NextToken, number_in};
