@@ -1,8 +1,9 @@
--- What is printed of a derivation within the limits is read again as its tree.
+-- What is printed of a derivation over bare names within the limits is read again as its tree.
 use Rattle.std.proofs.Common.{◌≡◌, ◌≤◌, ◌++◌, Bool, Ok, arith}
+use Rattle.dep_model.specs.declared.naming.Naming.TheVariants.{Bare}
 use Rattle.dep_model.specs.declared.schema.Schema.{Schema}
 use Rattle.dep_model.specs.Dependencies.{Dependency}
-use Rattle.dep_model.specs.Schemas.{names_of}
+use Rattle.dep_model.specs.Schemas.{names_of, naming_of}
 use Rattle.derivation.specs.declared.deriv.Deriv.{Deriv}
 use Rattle.derivation.specs.declared.measures.TheConstants.{MOST_NODES, MOST_LEVELS}
 use Rattle.derivation.specs.Conclusions.{Proves}
@@ -18,11 +19,11 @@ use Rattle.proof_grammar.proofs.PrintedCertificates.{answer_text}
 use Rattle.proof_grammar.proofs.PrintedSpells.{printed_spells}
 
 pub printed_is_read : (answered : Bool) (s : Schema) (p : Deriv) (d : Dependency)
-    → AreNames format.Plain (names_of s) → Proves s (tree_of p) d → nodes (tree_of p) ≤ MOST_NODES
+    → naming_of s ≡ Bare → AreNames format.Plain (names_of s) → Proves s (tree_of p) d → nodes (tree_of p) ≤ MOST_NODES
     → depth (tree_of p) ≤ MOST_LEVELS
     → read_proof s (answer_text answered ++ canonical_certificate s (tree_of p)) ≡ Ok (tree_of p)
-printed_is_read answered s p d are proves few flat =
-    let w = printed_spells answered s p d are proves few in
+printed_is_read answered s p d bare are proves few flat =
+    let w = printed_spells answered s p d bare are proves few in
     spelled_back s (answer_text answered ++ canonical_certificate s (tree_of p)) (tree_of p)
     (record {
       spells = w;

@@ -5,11 +5,11 @@ use Rattle.std.specs.List.{flat_map}
 use Rattle.attr_sets.specs.Attributes.{Attributes, IsSubset}
 use Rattle.dep_model.specs.declared.schema.Schema.{Schema}
 use Rattle.dep_model.specs.Dependencies.{Dependency}
-use Rattle.dep_model.specs.Schemas.{names_of}
 use Rattle.derivation.specs.declared.fault.Fault.{Fault}
 use Rattle.derivation.specs.Trees.{Leaf, given, reflexivity, mreflexivity, Step, augmentation, complementation, maugmentation, replication, Pair, transitivity, mtransitivity, coalescence, Tree, leaf, step, pair, nodes}
 use Rattle.derivation.specs.Conclusions.{Proves, conclusion_after}
 use Rattle.schema_printer.specs.Printing.{set_text, dependency_text}
+use Rattle.schema_printer.specs.Spelling.{printed_names_of}
 use Rattle.proof_grammar.specs.Lines.{Body, by_given, by_reflexivity, by_mreflexivity, by_step, by_pair, Line}
 
 -- ---- a line as text: one blank between two tokens, none before the first colon, and a line feed
@@ -77,7 +77,7 @@ certificate_lines_text names lines = flat_map (certificate_line_text names) line
 
 -- the one certificate in which a tree is printed
 abbrev pub canonical_certificate : Schema → Tree → List ℕ
-canonical_certificate s t = certificate_lines_text (names_of s) (node_lines_after s 0 t)
+canonical_certificate s t = certificate_lines_text (printed_names_of s) (node_lines_after s 0 t)
 
 -- ---- what can be printed
 -- a tree proves some dependency
