@@ -1,21 +1,20 @@
--- What is printed of a derivation spells its tree, also after the answer `yes`.
-use Rattle.std.proofs.Common.{◌≡◌, ◌≤◌, Bool, true, ℕ, List, ◌++◌, length, sym, subst, arith}
+-- What is printed of a derivation over bare names spells its tree, also after the answer `yes`.
+use Rattle.std.proofs.Common.{◌≡◌, ◌≤◌, ℕ, Bool, true, List, ◌++◌, length, ap, sym, subst, arith}
 use Rattle.std.specs.Prelude.{codes}
+use Rattle.dep_model.specs.declared.naming.Naming.TheVariants.{Bare}
 use Rattle.dep_model.specs.declared.schema.Schema.{Schema}
 use Rattle.dep_model.specs.Dependencies.{Dependency}
 use Rattle.dep_model.specs.Schemas.{names_of, naming_of}
-use Rattle.dep_model.specs.declared.naming.Naming.TheVariants.{Bare}
 use Rattle.derivation.specs.declared.deriv.Deriv.{Deriv}
 use Rattle.derivation.specs.declared.measures.TheConstants.{MOST_NODES}
 use Rattle.derivation.specs.Conclusions.{Proves}
 use Rattle.derivation.specs.Derivs.{tree_of}
 use Rattle.derivation.specs.Trees.{nodes}
 use Rattle.derivation.proofs.WithinLemmas.{tree_of-attributes}
-use Rattle.schema_printer.proofs.SpellingLemmas.{printed_bare}
 use Rattle.schema_grammar.specs.declared.format.Format.TheVariants as format
 use Rattle.schema_grammar.specs.Printed.{AreNames}
+use Rattle.schema_printer.proofs.SpellingLemmas.{printed_bare}
 use Rattle.proof_grammar.specs.Printing.{node_lines_after, certificate_lines_text, canonical_certificate}
-use Rattle.proof_grammar.specs.Meanings.{certificate_lines, MeanLines}
 use Rattle.proof_grammar.specs.Spelling.{Spells}
 use Rattle.proof_grammar.proofs.CountLaws.{lines_count}
 use Rattle.proof_grammar.proofs.PrintedCertificates.{answer_text, printed_lines_mean}
@@ -29,11 +28,12 @@ printed_spells answered s p d bare are proves few =
     let lines = node_lines_after s 0 (tree_of p) in
     let mean = printed_lines_mean answered (names_of s) lines are
     (tree_printable s (tree_of p) d 0 (tree_of-attributes p) proves (omega (arith, few))) in
-    let printed = subst (λ (names : List (List ℕ)). MeanLines (names_of s) (certificate_lines (answer_text answered ++ certificate_lines_text names lines)) lines)
-    (sym (printed_bare s bare)) mean in
-    record { lines = lines; mean = printed; nodes = printed_nodes s (tree_of p) d proves }
+    let same = ap (λ (names : List (List ℕ)). answer_text answered ++ certificate_lines_text names lines) (sym (printed_bare s bare)) in
+    subst (λ (text : List ℕ). Spells s text (tree_of p)) same
+    (record { lines = lines; mean = mean; nodes = printed_nodes s (tree_of p) d proves })
 
-pub answered_spells : (s : Schema) (p : Deriv) (d : Dependency) → naming_of s ≡ Bare → AreNames format.Plain (names_of s) → Proves s (tree_of p) d → nodes (tree_of p) ≤ MOST_NODES
+pub answered_spells : (s : Schema) (p : Deriv) (d : Dependency) → naming_of s ≡ Bare → AreNames format.Plain (names_of s) → Proves s (tree_of p) d
+    → nodes (tree_of p) ≤ MOST_NODES
     → (w : Spells s (codes "yes\n" ++ canonical_certificate s (tree_of p)) (tree_of p)) × (length w.lines ≡ nodes (tree_of p))
 answered_spells s p d bare are proves few =
     let w = printed_spells true s p d bare are proves few in (w, lines_count s w.lines (tree_of p) w.nodes)

@@ -1,9 +1,9 @@
--- What is printed of a derivation within the limits is read again as its tree.
+-- What is printed of a derivation over bare names within the limits is read again as its tree.
 use Rattle.std.proofs.Common.{◌≡◌, ◌≤◌, ◌++◌, Bool, Ok, arith}
+use Rattle.dep_model.specs.declared.naming.Naming.TheVariants.{Bare}
 use Rattle.dep_model.specs.declared.schema.Schema.{Schema}
 use Rattle.dep_model.specs.Dependencies.{Dependency}
 use Rattle.dep_model.specs.Schemas.{names_of, naming_of}
-use Rattle.dep_model.specs.declared.naming.Naming.TheVariants.{Bare}
 use Rattle.derivation.specs.declared.deriv.Deriv.{Deriv}
 use Rattle.derivation.specs.declared.measures.TheConstants.{MOST_NODES, MOST_LEVELS}
 use Rattle.derivation.specs.Conclusions.{Proves}

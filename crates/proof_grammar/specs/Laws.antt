@@ -1,10 +1,10 @@
 -- The laws that tie the reading of a certificate to what it spells, and what printed certificates
 -- spell: for the functions of `laws.rt`. `Desk` does not cite it.
 use Rattle.std.specs.Prelude.{◌≡◌, ◌≤◌, ◌↔◌, ℕ, List, ◌++◌, length, codes, Ok, Err}
+use Rattle.dep_model.specs.declared.naming.Naming.TheVariants.{Bare}
 use Rattle.dep_model.specs.declared.schema.Schema.{Schema}
 use Rattle.dep_model.specs.Dependencies.{Dependency}
 use Rattle.dep_model.specs.Schemas.{names_of, naming_of}
-use Rattle.dep_model.specs.declared.naming.Naming.TheVariants.{Bare}
 use Rattle.derivation.specs.declared.deriv.Deriv.{Deriv}
 use Rattle.derivation.specs.declared.measures.TheConstants.{MOST_NODES, MOST_LEVELS}
 use Rattle.derivation.specs.Conclusions.{Proves}
@@ -63,15 +63,16 @@ PrintedNodes =
     → AreNodesOf s (node_lines_after s 0 (tree_of p)) (tree_of p)
     × (length (node_lines_after s 0 (tree_of p)) ≡ nodes (tree_of p))
 
--- what is printed of a derivation over bare names, after these bytes, spells its tree
+-- what is printed of a derivation over a schema of bare names after these bytes spells its tree
 abbrev pub PrintedSpells : List ℕ → Type 0
 PrintedSpells before =
-    (s : Schema) (p : Deriv) (d : Dependency) → naming_of s ≡ Bare → AreNames format.Plain (names_of s) → Proves s (tree_of p) d
-    → nodes (tree_of p) ≤ MOST_NODES → Spells s (before ++ canonical_certificate s (tree_of p)) (tree_of p)
+    (s : Schema) (p : Deriv) (d : Dependency) → naming_of s ≡ Bare → AreNames format.Plain (names_of s)
+    → Proves s (tree_of p) d → nodes (tree_of p) ≤ MOST_NODES
+    → Spells s (before ++ canonical_certificate s (tree_of p)) (tree_of p)
 
 -- and is read as it
 abbrev pub PrintedIsRead : List ℕ → Type 0
 PrintedIsRead before =
-    (s : Schema) (p : Deriv) (d : Dependency) → naming_of s ≡ Bare → AreNames format.Plain (names_of s) → Proves s (tree_of p) d
-    → nodes (tree_of p) ≤ MOST_NODES → depth (tree_of p) ≤ MOST_LEVELS
+    (s : Schema) (p : Deriv) (d : Dependency) → naming_of s ≡ Bare → AreNames format.Plain (names_of s)
+    → Proves s (tree_of p) d → nodes (tree_of p) ≤ MOST_NODES → depth (tree_of p) ≤ MOST_LEVELS
     → read_proof s (before ++ canonical_certificate s (tree_of p)) ≡ Ok (tree_of p)

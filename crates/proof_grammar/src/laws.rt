@@ -27,14 +27,15 @@ pub fn printed_nodes()
     ensures law { PrintedNodes }
 {}
 
-/// What is printed of a derivation spells its tree, also where the answer `yes` stands before it.
+/// What is printed of a derivation over a schema of bare names spells its tree, also where the answer
+/// `yes` stands before it.
 pub fn printed_spells()
     ensures printed { PrintedSpells [] }
     ensures answered { PrintedSpells (codes "yes\n") }
 {}
 
-/// What is printed of a derivation within the limits is read again as its tree, also where the
-/// answer `yes` stands before it.
+/// What is printed of a derivation over a schema of bare names within the limits is read again as its
+/// tree, also where the answer `yes` stands before it.
 pub fn printed_is_read()
     ensures printed { PrintedIsRead [] }
     ensures answered { PrintedIsRead (codes "yes\n") }
