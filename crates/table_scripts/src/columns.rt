@@ -52,11 +52,7 @@ fn column_item(alloc: Global, schema: &Schema, attribute: u8) -> Result<Vec<u8>,
 
 // A column of a type.
 #[tactic(auto, unfolding(crate::specs::QueryTexts::column_text))]
-fn column_of_type(
-    alloc: Global,
-    column: &ColumnType,
-    name: &Name,
-) -> Result<Vec<u8>, OutOfMemory>
+fn column_of_type(alloc: Global, column: &ColumnType, name: &Name) -> Result<Vec<u8>, OutOfMemory>
     ensures text { IfOk result (λ text. text.items ≡ column_text column.now name.now) }
 {
     match column {

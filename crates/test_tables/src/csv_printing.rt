@@ -1,9 +1,9 @@
-ghost use Rattle.std.specs.Prelude.{◌≡◌, false, IfOk, length};
-ghost use Rattle.dep_model.specs.Names.{same_name};
+ghost use Rattle.std.specs.Prelude.{◌≡◌, false, IfOk, IsTrue, length};
+ghost use Rattle.dep_model.specs.Names.{is_bare_name, same_name};
 ghost use Rattle.dep_model.specs.Schemas.{width_of};
 
 use csv_rows::print_rows;
-use dep_model::{Name, OutOfMemory, Row, Schema, Value};
+use dep_model::{Name, OutOfMemory, Row, Schema, Value, is_bare_name};
 use row_store::Rows;
 use std::alloc::Global;
 use std::process::Abort;
@@ -11,7 +11,9 @@ use std::test::Fail;
 
 // A schema of two attributes.
 fn two_attributes(alloc: Global, first: Name, second: Name) -> Result<Schema, OutOfMemory>
-    requires { same_name first second ≡ false }
+    requires differ { same_name first second ≡ false }
+    requires bare_first { IsTrue (is_bare_name first) }
+    requires bare_second { IsTrue (is_bare_name second) }
     ensures { IfOk result (λ s. width_of s ≡ 2) }
 {
     let names = Vec::from_slice(alloc, &[first, second])?;
@@ -19,6 +21,7 @@ fn two_attributes(alloc: Global, first: Name, second: Name) -> Result<Schema, Ou
 }
 
 fn one_attribute(alloc: Global, name: Name) -> Result<Schema, OutOfMemory>
+    requires bare { IsTrue (is_bare_name name) }
     ensures { IfOk result (λ s. width_of s ≡ 1) }
 {
     let names = Vec::from_slice(alloc, &[name])?;
@@ -49,6 +52,8 @@ fn check(rt: &(impl Alloc<A = Global> + Abort), case: (&str, &str, &str)) -> Res
     let first = Name::new(b"Zip").expect(rt, "a name");
     let second = Name::new(b"City").expect(rt, "a name");
     assert!(rt; !first.is_same(&second));
+    assert!(rt; is_bare_name(first.bytes()));
+    assert!(rt; is_bare_name(second.bytes()));
     let schema = two_attributes(alloc, first, second)?;
     let row = pair(alloc, one.as_bytes(), other.as_bytes())?;
     let text = print_rows(alloc, &schema, &Rows::of(alloc, &[row])?)?;
@@ -79,7 +84,9 @@ fn quotes_where_they_are_needed(rt: HostRuntime) -> Result<(), Fail> {
 #[test]
 fn an_empty_value_alone_has_quotes(rt: HostRuntime) -> Result<(), Fail> {
     let alloc = rt.alloc();
-    let schema = one_attribute(alloc, Name::new(b"A").expect(&rt, "a name"))?;
+    let name = Name::new(b"A").expect(&rt, "a name");
+    assert!(rt; is_bare_name(name.bytes()));
+    let schema = one_attribute(alloc, name)?;
     let text = print_rows(alloc, &schema, &Rows::of(alloc, &[single(alloc, b"")?])?)?;
     assert_eq!(rt; text.as_slice(), b"A\n\"\"\n".as_slice());
     Ok(())
@@ -88,7 +95,9 @@ fn an_empty_value_alone_has_quotes(rt: HostRuntime) -> Result<(), Fail> {
 #[test]
 fn rows_stand_in_their_order(rt: HostRuntime) -> Result<(), Fail> {
     let alloc = rt.alloc();
-    let schema = one_attribute(alloc, Name::new(b"A").expect(&rt, "a name"))?;
+    let name = Name::new(b"A").expect(&rt, "a name");
+    assert!(rt; is_bare_name(name.bytes()));
+    let schema = one_attribute(alloc, name)?;
     let text = print_rows(alloc, &schema, &Rows::new(alloc))?;
     assert_eq!(rt; text.as_slice(), b"A\n".as_slice());
     let rows = [single(alloc, b"2")?, single(alloc, b"1")?];

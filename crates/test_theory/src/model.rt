@@ -1,12 +1,13 @@
 use attr_sets::AttrSet;
 use dep_model::{
-    ColumnType, Dep, Name, OutOfMemory, Row, Schema, Value, agreement_of, integer_text, two_rows_obey,
+    ColumnType, Dep, Name, OutOfMemory, Row, Schema, Value, agreement_of, integer_text,
+    is_bare_name, two_rows_obey,
 };
 use std::alloc::Global;
 use std::test::Fail;
 
 #[test]
-fn names_are_words_of_at_most_31_bytes(rt: HostRuntime) {
+fn bare_names_are_words_of_at_most_31_bytes(rt: HostRuntime) {
     let table: [(&[u8], bool); 12] = [
         (b"A", true),
         (b"z", true),
@@ -21,13 +22,44 @@ fn names_are_words_of_at_most_31_bytes(rt: HostRuntime) {
         (b"a b", false),
         (b"\xc3\xa9", false),
     ];
-    for (bytes, is_bare_name) in table {
+    for (bytes, is_bare) in table {
+        assert_eq!(rt; is_bare_name(bytes), is_bare, "{bytes:?}");
+    }
+}
+
+#[test]
+fn names_are_at_most_63_bytes_of_utf_8(rt: HostRuntime) {
+    let table: [(&[u8], bool); 16] = [
+        (b"A", true),
+        (b"a_1", true),
+        (b"1a", true),
+        (b"_a", true),
+        (b"a-b", true),
+        (b"a b", true),
+        (b" \"a\" ", true),
+        (b"\xc3\xa9", true),
+        (
+            b"a12345678901234567890123456789012345678901234567890123456789012",
+            true,
+        ),
+        (
+            b"a123456789012345678901234567890123456789012345678901234567890123",
+            false,
+        ),
+        (b"", false),
+        (b"\xc3", false),
+        (b"a\n", false),
+        (b"a\tb", false),
+        (b"\x00", false),
+        (b"\x7f", false),
+    ];
+    for (bytes, is_name) in table {
         match Name::new(bytes) {
             Some(name) => {
-                assert!(rt; is_bare_name, "{bytes:?}");
+                assert!(rt; is_name, "{bytes:?}");
                 assert_eq!(rt; name.bytes(), bytes);
             }
-            None => assert!(rt; !is_bare_name, "{bytes:?}"),
+            None => assert!(rt; !is_name, "{bytes:?}"),
         }
     }
 }
@@ -100,6 +132,7 @@ fn two_rows_agree_and_obey(rt: HostRuntime) -> Result<(), Fail> {
 #[test]
 fn a_schema_of_one_attribute(rt: HostRuntime) -> Result<(), Fail> {
     let name = Name::new(b"ID").expect(&rt, "a name");
+    assert!(rt; is_bare_name(name.bytes()));
     let mut names = Vec::new(rt.alloc());
     names.push(name)?;
     let schema = Schema::new(names, Vec::new(rt.alloc()), Vec::new(rt.alloc()));

@@ -1,5 +1,5 @@
 use attr_sets::AttrSet;
-use dep_model::Dep;
+use dep_model::{Dep, MOST_DEPENDENCIES};
 use std::test::Fail;
 use test_data::{NoSchema, fd, mvd, schema_of};
 
@@ -23,7 +23,7 @@ fn names_attributes_by_numbers(rt: HostRuntime) -> Result<(), Fail> {
 
 #[test]
 fn makes_no_schema_of_what_does_not_fit(rt: HostRuntime) {
-    let many = [fd(1, 2); 257];
+    let many = [fd(1, 2); MOST_DEPENDENCIES + 1];
     let rows: [(u8, &[Dep]); 5] = [
         (0, &[]),
         (129, &[]),

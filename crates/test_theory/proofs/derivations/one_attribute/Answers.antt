@@ -1,11 +1,13 @@
-use Rattle.std.proofs.Common.{◌≡◌, ℕ, List, [], ◌∷◌, refl, arith}
+use Rattle.std.proofs.Common.{◌≡◌, ℕ, List, [], ◌∷◌, IsTrue, refl, sym, subst, arith}
 use Rattle.std.proofs.lemmas.List.Elements.{All-nil, All-cons}
+use Rattle.std.specs.Prelude.{All, codes}
 use Rattle.attr_sets.specs.declared.set.AttrSet.{AttrSet}
 use Rattle.attr_sets.specs.Attributes.{below, none, IsSubset}
 use Rattle.attr_sets.specs.Sets.{attributes}
 use Rattle.dep_model.specs.declared.dep.Dep.{Dep}
 use Rattle.dep_model.specs.declared.dep.Dep.TheVariants.{Fd, Mvd}
 use Rattle.dep_model.specs.Deps.{IsDepWithin}
+use Rattle.dep_model.specs.Names.{is_bare_name}
 use Rattle.dep_model.specs.Validity.{IsSchema}
 use Rattle.attr_sets.proofs.AttributesLemmas.{same_at}
 use Rattle.test_theory.proofs.derivations.one_attribute.Goals as goal
@@ -25,9 +27,15 @@ schema_of_one name e a empty all =
       one_line_each = refl;
     }
 
+one_bare : (name : List ℕ) → name ≡ codes "A" → All (λ bytes. IsTrue (is_bare_name bytes)) (name ∷ [])
+one_bare name is =
+    let P : List ℕ → Type 0 = λ bytes. IsTrue (is_bare_name bytes) in
+    subst (λ n. All P (n ∷ [])) (sym is) (All-cons P (codes "A") [] refl (All-nil P))
+
 pub new-requires-2 : goal.new-requires-2
 new-requires-2 c =
     record {
       schema = rw (c.in_ok-names.ensures.items, c.in_ok-deps.ensures.items, c.in_ok-lines.ensures.items)
           (schema_of_one c.in-Some.name c.empty-none.result c.full-a.result c.empty-none.ensures.members c.full-a.ensures.members);
+      bare = rw (c.in_ok-names.ensures.items) (one_bare c.in-Some.name c.in-Some.ensures.value);
     }
