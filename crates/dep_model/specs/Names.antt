@@ -1,7 +1,7 @@
 -- Which bytes are names, and which names are the same: for schemas, their grammar and the names of
 -- columns and tables.
-use Rattle.std.specs.Prelude.{ℕ, ◌<◌, ◌≤◌, Bool, ◌&&◌, ◌||◌, ◌==◌, nat_lt, nat_le, List, length, slice_index, codes, IsUtf8, IsFalse}
-use Rattle.std.specs.List.{list_all, list_any}
+use Rattle.std.specs.Prelude.{ℕ, ◌<◌, ◌≤◌, Bool, ◌&&◌, ◌||◌, ◌==◌, nat_lt, nat_le, if◌then◌else◌, List, [], ◌∷◌, ◌++◌, length, slice_index, codes, IsUtf8, IsFalse}
+use Rattle.std.specs.List.{list_all, list_any, flat_map}
 use Rattle.std.specs.Char.{is_ascii_alphabetic, is_ascii_alphanumeric}
 use Rattle.std.specs.Str.{str_eq_ignore_ascii_case}
 use Rattle.dep_model.specs.declared.name.TheConstants.{MOST_NAME_BYTES, MOST_BARE_NAME_BYTES}
@@ -47,3 +47,11 @@ is_type_byte b = is_ascii_alphanumeric b || list_any (λ other. b == other) (cod
 abbrev pub is_type_text : List ℕ → Bool
 is_type_text bytes = nat_lt 0 (length bytes) && nat_le (length bytes) MOST_TYPE_BYTES
     && list_all is_type_byte bytes
+
+-- bytes with each double quote doubled
+unfoldable pub quotes_doubled : List ℕ → List ℕ
+quotes_doubled bytes = flat_map (λ b. if b == 34 then 34 ∷ 34 ∷ [] else b ∷ []) bytes
+
+-- bytes between double quotes, each double quote in them doubled
+abbrev pub quoted : List ℕ → List ℕ
+quoted bytes = 34 ∷ (quotes_doubled bytes ++ 34 ∷ [])

@@ -4,7 +4,8 @@ use Rattle.std.specs.List.{starts_with}
 use Rattle.dep_model.specs.Names.{IsName}
 use Rattle.lexer.specs.declared.mode.Mode.{Mode}
 use Rattle.lexer.specs.declared.token.TokenKind.TheVariants as token
-use Rattle.lexer.specs.Quotes.{is_name, quoted}
+use Rattle.lexer.specs.Quotes.{is_name}
+use Rattle.dep_model.specs.Names.{quoted}
 use Rattle.lexer.specs.Tokens.{tokens_after, led_by_mark}
 
 -- the test of a name

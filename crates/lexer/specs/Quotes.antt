@@ -28,11 +28,3 @@ unfoldable pub undoubled : List ℕ → List ℕ
 undoubled [] = []
 undoubled (b ∷ []) = b ∷ []
 undoubled (b ∷ c ∷ bs) = if (b == 34) && (c == 34) then 34 ∷ undoubled bs else b ∷ undoubled (c ∷ bs)
-
--- bytes with each double quote doubled
-unfoldable pub quotes_doubled : List ℕ → List ℕ
-quotes_doubled bytes = flat_map (λ b. if b == 34 then 34 ∷ 34 ∷ [] else b ∷ []) bytes
-
--- bytes between double quotes, each double quote in them doubled
-abbrev pub quoted : List ℕ → List ℕ
-quoted bytes = 34 ∷ (quotes_doubled bytes ++ 34 ∷ [])

@@ -10,7 +10,8 @@ use Rattle.dep_model.specs.declared.naming.Naming.TheVariants.{Bare, Any}
 use Rattle.dep_model.specs.declared.schema.Schema.{Schema}
 use Rattle.dep_model.specs.Dependencies.{Dependency, fd, mvd}
 use Rattle.dep_model.specs.Schemas.{naming_of, types_of, nullable_of}
-use Rattle.schema_printer.specs.Spelling.{quoted, printed_names_of}
+use Rattle.schema_printer.specs.Spelling.{printed_names_of}
+use Rattle.dep_model.specs.Names.{quoted}
 
 -- words, each after a blank
 abbrev pub words_text : List (List ℕ) → List ℕ

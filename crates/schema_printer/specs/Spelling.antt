@@ -5,7 +5,7 @@ use Rattle.std.specs.List.{flat_map, list_any}
 use Rattle.dep_model.specs.declared.naming.Naming.{Naming}
 use Rattle.dep_model.specs.declared.naming.Naming.TheVariants.{Bare, Any}
 use Rattle.dep_model.specs.declared.schema.Schema.{Schema}
-use Rattle.dep_model.specs.Names.{is_bare_name, same_name}
+use Rattle.dep_model.specs.Names.{is_bare_name, same_name, quoted}
 use Rattle.dep_model.specs.Schemas.{naming_of, names_of}
 
 -- the words of a schema text, which are no bare names there
@@ -17,14 +17,6 @@ schema_words =
 -- whether it is one of them, ASCII case aside
 unfoldable pub is_schema_word : List ℕ → Bool
 is_schema_word name = list_any (same_name name) schema_words
-
--- bytes with each double quote doubled
-unfoldable pub quotes_doubled : List ℕ → List ℕ
-quotes_doubled bytes = flat_map (λ b. if b == 34 then 34 ∷ 34 ∷ [] else b ∷ []) bytes
-
--- bytes between double quotes, each double quote in them doubled
-abbrev pub quoted : List ℕ → List ℕ
-quoted bytes = 34 ∷ (quotes_doubled bytes ++ 34 ∷ [])
 
 -- a name as it is printed: bare where it is a bare name and no word of a schema text, else quoted
 unfoldable pub spelling : Naming → List ℕ → List ℕ

@@ -6,7 +6,8 @@ ghost use Rattle.dep_model.specs.Deps.{dependency_of, dependencies_of, IsDepWith
 ghost use Rattle.dep_model.specs.Columns.{is_column_type};
 ghost use Rattle.dep_model.specs.Schemas.{naming_of, width_of, types_of, nullable_of, theory_of, universe_of};
 ghost use Rattle.schema_printer.specs.Printing.{set_text, dependency_text, members_from, schema_text, schema_lines, nullable_lines, declaring_lines, lines_text, words_text, run_line, runs_of, type_word, same_column, is_integer};
-ghost use Rattle.schema_printer.specs.Spelling.{spelling, quoted, printed_names_of};
+ghost use Rattle.schema_printer.specs.Spelling.{spelling, printed_names_of};
+ghost use Rattle.dep_model.specs.Names.{quoted};
 
 use crate::spelling::{add_name, add_quoted};
 use attr_sets::AttrSet;

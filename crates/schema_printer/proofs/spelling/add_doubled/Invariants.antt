@@ -1,5 +1,5 @@
 use Rattle.std.proofs.Common.{◌≡◌, ◌++◌, take}
-use Rattle.schema_printer.specs.Spelling.{quotes_doubled}
+use Rattle.dep_model.specs.Names.{quotes_doubled}
 use Rattle.schema_printer.proofs.spelling.add_doubled.Given as goal
 
 abbrev pub invariant-loop-b : goal.invariant-loop-b
