@@ -11,7 +11,7 @@ use Rattle.dep_model.proofs.RuleLemmas.{reflexivity_obeyed, transitivity_obeyed,
 use Rattle.fd_closure.proofs.ClosureLemmas.{fd_each-from}
 use Rattle.fd_closure.proofs.ClosedSets.{closure_set}
 use Rattle.armstrong_rel.specs.ClosedSets.{IsClosedSet, IsIrreducible}
-use Rattle.armstrong_rel.specs.Closures.{IsClosureOf, IsMeetBeyond}
+use Rattle.armstrong_rel.specs.Closures.{IsClosureOf, IsIntersectionBeyond}
 
 -- each set of attributes has a closure
 abbrev pub HaveClosures : ℕ → List Dependency → Type 0
@@ -111,7 +111,7 @@ module _ (n : ℕ) (ds : List Dependency) where
         (λ (k : ℕ) m. holds k (grind (arith, m))) (λ back. true≢false (sym (back a a_in) ∙ outside)))
 
     -- irreducible is what is not the intersection beyond it
-    pub irreducible_no_intersection : (c m : Attributes) → IsMeetBeyond n ds c m → IsIrreducible n ds c → m ≡ c → ⊥
+    pub irreducible_no_intersection : (c m : Attributes) → IsIntersectionBeyond n ds c m → IsIrreducible n ds c → m ≡ c → ⊥
     irreducible_no_intersection c m is irreducible same =
         let b = irreducible.attribute in
         let in_intersection = (is b).1 (irreducible.universe, shared_in c b irreducible.closed irreducible.shared) in
@@ -178,18 +178,18 @@ module _ (n : ℕ) (ds : List Dependency) where
     above_lacking c y closed low lacks = above_within n c y closed low lacks (omega arith)
 
   -- a closed set that is not the intersection beyond it is irreducible
-  pub no_intersection_irreducible : (c m : Attributes) → IsClosedSet n ds c → IsMeetBeyond n ds c m → (m ≡ c → ⊥)
+  pub no_intersection_irreducible : (c m : Attributes) → IsClosedSet n ds c → IsIntersectionBeyond n ds c m → (m ≡ c → ⊥)
       → IsIrreducible n ds c
   no_intersection_irreducible c m closed is differ = ⊎_elim
       (λ found.
-      let told = (is found.0).0 found.2 in
+      let fact = (is found.0).0 found.2 in
       record {
         closed = closed;
         attribute = found.0;
         universe = found.1;
         outside = found.3;
         shared = shared_by_all c
-            found.0 told.1;
+            found.0 fact.1;
       })
       (λ inside. absurd (differ (same_from_within m c inside (λ (k : ℕ) member. (is k).1 (
         ltb-true k n (closed.universe k member),

@@ -37,7 +37,7 @@ agree_inside : (n i j : ℕ) (x y : Attributes) (k : ℕ) → i < 2 ^ 64 → j <
 agree_inside n i j x y k i_wide j_wide differ i_first j_first low same = ⊎_elim
     (λ in_x. ⊎_elim
     (λ in_y. grind (arith, in_x, in_y))
-    (λ out_y. absurd (decimal_not_zero j (some j j_first out_y) j_wide
+    (λ out_y. absurd (decimal_not_zero j (not_empty j j_first out_y) j_wide
     (sym (value_outside n j y k low out_y) ∙ sym same ∙ value_inside n i x k low in_x)))
     (cases_Bool (y k)))
     (λ out_x. ⊎_elim
@@ -48,15 +48,15 @@ agree_inside n i j x y k i_wide j_wide differ i_first j_first low same = ⊎_eli
     (cases_Bool (y k)))
     (cases_Bool (x k))
   where
-    some : (j : ℕ) → (j ≡ 0 → y k ≡ true) → y k ≡ false → 0 < j
-    some j first outside = elim (cases_eq j 0)
+    not_empty : (j : ℕ) → (j ≡ 0 → y k ≡ true) → y k ≡ false → 0 < j
+    not_empty j first outside = elim (cases_eq j 0)
         [ inl none ↦ absurd (true≢false (sym (first none) ∙ outside)) | inr more ↦ omega arith ]
 
     some_x : x k ≡ false → 0 < i
     some_x outside = elim (cases_eq i 0)
         [ inl none ↦ absurd (true≢false (sym (i_first none) ∙ outside)) | inr more ↦ omega arith ]
 
-module _ (n : ℕ) (ds : List Dependency) (sets : List Attributes) (few : length sets < 2 ^ 64 - 1)
+module _ (n : ℕ) (ds : List Dependency) (sets : List Attributes) (within_limit : length sets < 2 ^ 64 - 1)
     (are : AreIrreducible n ds sets) where
   closed_at : (j : ℕ) → j ≤ length sets → IsClosedSet n ds (set_of n sets j)
   closed_at j low = set_of_all n sets (IsClosedSet n ds) (universe_closed n ds) (λ i d l. (are.each i d l).closed) j low
@@ -82,7 +82,7 @@ module _ (n : ℕ) (ds : List Dependency) (sets : List Attributes) (few : length
         | inr differ ↦
             let inside : IsSubset x (intersection c d) = λ (a : ℕ) m.
             let a_low : a < n = ltb-true a n (x_in a m) in
-            agree_inside n i j c d a (omega (arith, one.1, few)) (omega (arith, other.1, few)) differ
+            agree_inside n i j c d a (omega (arith, one.1, within_limit)) (omega (arith, other.1, within_limit)) differ
             (universe_first i a a_low) (universe_first j a a_low) a_low
             (ap (λ (v : Tuple). value_at v a) (sym one.2) ∙ agree a m ∙ ap (λ (v : Tuple). value_at v a) other.2) in
             let both : intersection c d k ≡ true =
@@ -113,7 +113,7 @@ module _ (n : ℕ) (ds : List Dependency) (sets : List Attributes) (few : length
       value_at-all_zeros n a a_low ∙ sym (value_inside n tuple.0 s a a_low a_in) in
       let same = obeys (all_zeros n) t
       (Contains-head (all_zeros n) (numbered_from n 1 sets)) tuple.3 agree k beyond.2 in
-      absurd (decimal_not_zero tuple.0 tuple.1 (omega (arith, tuple.2, few))
+      absurd (decimal_not_zero tuple.0 tuple.1 (omega (arith, tuple.2, within_limit))
       (sym (value_outside n tuple.0 s k beyond.1 (same_at listed.4 k ∙ above.3)) ∙ sym same ∙ value_at-all_zeros n k beyond.1)))
       (λ all. fd_each-from n ds x y (λ (a : ℕ) m. ((found.1 a).0 (all a m)).1))
       (tell_subset n y c y_in)
@@ -121,9 +121,9 @@ module _ (n : ℕ) (ds : List Dependency) (sets : List Attributes) (few : length
 pub tuples_for_armstrong : (n : ℕ) (ds : List Dependency) (sets : List Attributes) → All (IsWithin (below n)) ds → functional_part ds
     ≡ ds → AreIrreducible n ds sets → length sets < 2 ^ 64 - 1
     → IsArmstrong n ds (tuples_for n sets)
-tuples_for_armstrong n ds sets within same are few x y x_in y_in = (
-  obeyed_implied n ds sets few are (functional_closures n ds within same) x y x_in y_in,
-  implied_obeyed n ds sets few are x y x_in y_in,
+tuples_for_armstrong n ds sets within same are within_limit x y x_in y_in = (
+  obeyed_implied n ds sets within_limit are (functional_closures n ds within same) x y x_in y_in,
+  implied_obeyed n ds sets within_limit are x y x_in y_in,
 )
 
 -- ---- so the relation is legal
@@ -144,7 +144,7 @@ armstrong_legal n ds r within same over armstrong = record {
 
 pub tuples_typed : (n : ℕ) (columns : List ColumnType) (sets : List Attributes) → length columns ≡ n → length sets < 2 ^ 63
     → IsTyped columns (tuples_for n sets)
-tuples_typed n columns sets one_each few i d l k is_integer =
+tuples_typed n columns sets one_each within_limit i d l k is_integer =
     let low : k < n = omega (
       arith,
       slice_get_within
@@ -159,10 +159,10 @@ tuples_typed n columns sets one_each few i d l k is_integer =
     (⊎_elim
     (λ inside. subst IsIntegerText (sym (value_inside n j x k low inside)) (inl refl))
     (λ outside. subst IsIntegerText (sym (value_outside n j x k low outside))
-    (decimal_integer j (omega (arith, found.1, few))))
+    (decimal_integer j (omega (arith, found.1, within_limit))))
     (cases_Bool (x k)))
 
--- ---- what is shown of a schema of functional dependencies
+-- ---- what is proved of a schema of functional dependencies
 pub record IsLegalExhibit (s : Schema) (r : Relation) : Type 0 where
   pub exhibit : IsExhibit (width_of s) (theory_of s) r
   pub armstrong : IsArmstrong (width_of s) (theory_of s) r
@@ -171,13 +171,13 @@ pub record IsLegalExhibit (s : Schema) (r : Relation) : Type 0 where
 
 pub tuples_for_exhibit : (s : Schema) (sets : List Attributes) → functional_part (theory_of s) ≡ theory_of s
     → AreIrreducible (width_of s) (theory_of s) sets → length sets < 2 ^ 63 → IsLegalExhibit s (tuples_for (width_of s) sets)
-tuples_for_exhibit s sets same are few =
+tuples_for_exhibit s sets same are within_limit =
     let within = dependencies_all-from (IsWithin (below (width_of s))) (deps_of s) s.valid.deps_within in
-    let armstrong = tuples_for_armstrong (width_of s) (theory_of s) sets within same are (omega (arith, few)) in
+    let armstrong = tuples_for_armstrong (width_of s) (theory_of s) sets within same are (omega (arith, within_limit)) in
     record {
       exhibit = record { sets = sets; irreducible = are; tuples = refl };
       armstrong = armstrong;
       legal = armstrong_legal (width_of s) (theory_of s) (tuples_for (width_of s) sets) within same
           (tuples_over (width_of s) sets) armstrong;
-      typed = tuples_typed (width_of s) (types_of s) sets s.typed.one_each few;
+      typed = tuples_typed (width_of s) (types_of s) sets s.typed.one_each within_limit;
     }

@@ -118,11 +118,11 @@ found_all n ds sets low found = record {
       Any-from (λ (z : Attributes). z ≡ c) (schemes_of sets) (attributes s) (Contains-map attributes sets s has)
       as_set.2;
   ascending = λ i j d before l.
-      let few : j < length sets = omega (arith, l, length-map sets attributes) in
+      let within_limit : j < length sets = omega (arith, l, length-map sets attributes) in
       let e : AttrSet = set_at 0 in
       let first : get_or (schemes_of sets) i d
       ≡ attributes (get_or sets i e) = get_or-map attributes sets i e d (omega arith) in
-      let second : get_or (schemes_of sets) j d ≡ attributes (get_or sets j e) = get_or-map attributes sets j e d few in
+      let second : get_or (schemes_of sets) j d ≡ attributes (get_or sets j e) = get_or-map attributes sets j e d within_limit in
       subst (λ (x : Attributes). IsBefore x (get_or (schemes_of sets) j d)) (sym first)
-      (subst (λ (y : Attributes). IsBefore (attributes (get_or sets i e)) y) (sym second) (found.ascending i j e before few));
+      (subst (λ (y : Attributes). IsBefore (attributes (get_or sets i e)) y) (sym second) (found.ascending i j e before within_limit));
 }

@@ -47,7 +47,7 @@ zeros_numbered n = same_lists (all_zeros n) (numbered_tuple n 0 (below n))
 -- ---- texts of numbers
 
 pub decimal_not_zero : (number : ℕ) → 0 < number → number < 2 ^ 64 → decimal number ≡ zero_text → ⊥
-decimal_not_zero number some wide same =
+decimal_not_zero number not_empty wide same =
     let none = decimal_injective number 0 wide (omega arith) (same ∙ sym decimal_zero) in
     omega arith
 

@@ -23,7 +23,7 @@ pub record AreClosures (n : ℕ) (ds : List Dependency) (count : ℕ) (table : L
 
 -- m is the intersection of the closures of x with each attribute outside it, one at a time; all of the
 -- universe where there is none
-abbrev pub IsMeetBeyond : ℕ → List Dependency → Attributes → Attributes → Type 0
-IsMeetBeyond n ds x m =
+abbrev pub IsIntersectionBeyond : ℕ → List Dependency → Attributes → Attributes → Type 0
+IsIntersectionBeyond n ds x m =
     (k : ℕ) → (m k ≡ true)
     ↔ (k < n) × ((a : ℕ) → a < n → x a ≡ false → InClosure n ds (union x (only a)) k)

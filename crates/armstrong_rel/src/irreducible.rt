@@ -5,7 +5,7 @@ ghost use Rattle.dep_model.specs.Dependencies.{Dependency};
 ghost use Rattle.dep_model.specs.Plans.{schemes_of};
 ghost use Rattle.armstrong_rel.specs.declared.refusal.TheConstants.{WIDEST_EXHIBITED};
 ghost use Rattle.armstrong_rel.specs.ClosedSets.{IsIrreducible, AreIrreducible};
-ghost use Rattle.armstrong_rel.specs.Closures.{AreClosures, IsMeetBeyond, IsClosureOf};
+ghost use Rattle.armstrong_rel.specs.Closures.{AreClosures, IsIntersectionBeyond, IsClosureOf};
 
 use attr_sets::AttrSet;
 use dep_model::OutOfMemory;
@@ -50,7 +50,7 @@ fn intersection_beyond(width: u8, table: &[AttrSet], set: AttrSet) -> AttrSet
     requires table { length table.now ≡ 2 ^ width }
     requires set { IsSubset (attributes set) (below width) }
     ensures intersection { (ds : List Dependency) → AreClosures width ds (2 ^ width) table.now
-        → IsMeetBeyond width ds (attributes set) (attributes result) }
+        → IsIntersectionBeyond width ds (attributes set) (attributes result) }
 {
     let mut intersection = AttrSet::full(width);
     for attribute in 0..width {

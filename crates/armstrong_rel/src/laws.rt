@@ -6,14 +6,14 @@ ghost use Rattle.attr_sets.specs.Attributes.{Attributes, below};
 ghost use Rattle.dep_model.specs.Dependencies.{Dependency, functional_part, IsWithin};
 ghost use Rattle.dep_model.specs.Tuples.{Relation};
 ghost use Rattle.armstrong_rel.specs.ClosedSets.{IsClosedSet, IsIrreducible, AreIrreducible};
-ghost use Rattle.armstrong_rel.specs.Closures.{IsMeetBeyond};
+ghost use Rattle.armstrong_rel.specs.Closures.{IsIntersectionBeyond};
 ghost use Rattle.armstrong_rel.specs.Exhibits.{tuples_for, IsArmstrong, IsExhibit};
 
 /// A closed set is irreducible exactly where it is not the intersection of the closures of itself with
 /// each attribute outside it, where all dependencies are functional.
 pub fn irreducible_where_no_intersection()
     ensures law { (n : ℕ) (ds : List Dependency) (c m : Attributes) → All (IsWithin (below n)) ds
-        → functional_part ds ≡ ds → IsClosedSet n ds c → IsMeetBeyond n ds c m
+        → functional_part ds ≡ ds → IsClosedSet n ds c → IsIntersectionBeyond n ds c m
         → IsIrreducible n ds c ↔ (m ≡ c → ⊥) }
 {}
 

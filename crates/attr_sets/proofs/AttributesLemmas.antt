@@ -46,7 +46,7 @@ set_of_attributes x low =
     let found = number_with_bits MOST_ATTRIBUTES x low in
     (record { 0 = found.0 }, found.1, fun_ext found.2)
 
--- the test whether two sets have the same number tells whether they have the same members
+-- the test whether two sets have the same number says whether they have the same members
 pub same_number-decides : (a b : AttrSet) → a.0 < 2 ^ MOST_ATTRIBUTES → b.0 < 2 ^ MOST_ATTRIBUTES → Decides (a.0 == b.0) (attributes a ≡ attributes b)
 same_number-decides a b a_fits b_fits = (
   λ equal. attributes-at_number a b (eqb-true a.0 b.0 equal),
@@ -79,7 +79,7 @@ pub tell_member : (n : ℕ) (x : Attributes) → ((k : ℕ) × (k < n) × (x k �
 tell_member n x =
     ⊎_elim
     (λ none. inr (λ k lt. not-true (x k) (all_below-true n (λ j. not (x j)) none k lt)))
-    (λ some. let found = all_below-false n (λ j. not (x j)) some in inl (found.0, found.1, not-false (x found.0) found.2))
+    (λ not_empty. let found = all_below-false n (λ j. not (x j)) not_empty in inl (found.0, found.1, not-false (x found.0) found.2))
     (cases_Bool (all_below n (λ j. not (x j))))
 
 -- ---- a set with no attribute from n on is tried at each attribute below n
@@ -231,8 +231,8 @@ count_below-pos (suc n) x k lt member =
 -- the attributes below m, of which all are below n
 pub count_below-below : (n m : ℕ) → m ≤ n → count_below (below m) n ≡ m
 unfolding count_below
-count_below-below zero m few = omega arith
-count_below-below (suc n) m few =
+count_below-below zero m within_limit = omega arith
+count_below-below (suc n) m within_limit =
     ⊎_elim
     (λ (all : n < m). let others : count_below (below m) n ≡ n = count_below-equal n (below m) (below n) (λ k lt. grind (arith, nat_tests)) ∙ count_below-below n n (omega arith) in grind (arith, nat_tests, others))
     (λ (low : m ≤ n). grind (arith, nat_tests, count_below-below n m low))
@@ -265,8 +265,8 @@ count_below-full n x full k lt = true_from_ne_false (x k) (λ outside. omega (ar
 -- further attributes only add
 pub count_below-mono : (n m : ℕ) (x : Attributes) → m ≤ n → count_below x m ≤ count_below x n
 unfolding count_below
-count_below-mono zero m x few = let e : m ≡ 0 = omega arith in omega (arith, ap (count_below x) e)
-count_below-mono (suc n) m x few =
+count_below-mono zero m x within_limit = let e : m ≡ 0 = omega arith in omega (arith, ap (count_below x) e)
+count_below-mono (suc n) m x within_limit =
     ⊎_elim
     (λ (all : m ≡ suc n). omega (arith, ap (count_below x) all))
     (λ (other : m ≡ suc n → ⊥). let before = count_below-mono n m x (omega arith) in grind (arith, before))
@@ -279,8 +279,8 @@ count_below-before_member n m x lt member = omega (arith, count_below-member m x
 -- no member from m on counts
 pub count_below-low : (n m : ℕ) (x : Attributes) → IsSubset x (below m) → m ≤ n → count_below x n ≡ count_below x m
 unfolding count_below
-count_below-low zero m x low few = let e : m ≡ 0 = omega arith in ap (count_below x) (sym e)
-count_below-low (suc n) m x low few =
+count_below-low zero m x low within_limit = let e : m ≡ 0 = omega arith in ap (count_below x) (sym e)
+count_below-low (suc n) m x low within_limit =
     ⊎_elim
     (λ (all : m ≡ suc n). ap (count_below x) (sym all))
     (λ (other : m ≡ suc n → ⊥). let before = count_below-low n m x low (omega arith) in grind (arith, nat_tests, before, low n))

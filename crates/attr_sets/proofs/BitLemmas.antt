@@ -98,8 +98,8 @@ and_not-zero w a b a_fits b_fits =
 -- the lowest set bit of a number is the first member of its set
 pub trailing_zeros-least : (w : Width) (n : ℕ) → 0 < n → n < 2 ^ bits w → IsFirstFrom (has_bit (bits w) n) 0 (trailing_zeros w n)
 unfolding has_bit
-trailing_zeros-least w n some fits =
-    let lowest = bit_at-trailing_zeros w n some fits in
+trailing_zeros-least w n not_empty fits =
+    let lowest = bit_at-trailing_zeros w n not_empty fits in
     let within : trailing_zeros w n < bits w = lowest.0 in
     record {
       from_on = omega arith;
@@ -114,7 +114,7 @@ bits_of zero x = (0, omega arith, λ k lt. absurd (omega arith))
 bits_of (suc n) x =
     let high = bits_of n (λ k. x (suc k)) in
     let low : ℕ = cond (x 0) 1 0 in
-    let few : low < 2 = grind arith in
+    let within_limit : low < 2 = grind arith in
     let m : ℕ = 2 * high.0 + low in
     let half : m / 2 ≡ high.0 = omega arith in
     (m, omega (arith, high.1, pow-suc 2 n), λ k lt. elim_bit n x m half (omega (arith, bit_at_lowest m)) high.2 k lt)

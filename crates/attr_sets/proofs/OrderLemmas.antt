@@ -79,7 +79,7 @@ in_each_order Less less equal greater h = less h
 in_each_order Equal less equal greater h = equal h
 in_each_order Greater less equal greater h = greater h
 
--- what `a.cmp(b)` tells of two sets
+-- what `a.cmp(b)` says of two sets
 pub cmp-order : (a b : AttrSet) → a.0 < 2 ^ MOST_ATTRIBUTES → b.0 < 2 ^ MOST_ATTRIBUTES
     → MatchOrdering (nat_cmp a.0 b.0) (IsBefore (attributes a) (attributes b)) (attributes a ≡ attributes b) (IsBefore (attributes b) (attributes a))
 cmp-order a b a_fits b_fits =

@@ -150,9 +150,9 @@ zeros_in n s over small h =
 
 -- ---- the theorem
 pub closed_gaining : (n : ℕ) (ds : List Dependency) (plan : List Attributes) (s : Tableau) → length plan < 2 ^ 32 → ReachesTableau n ds plan s → IsClosed n ds s → (Contains s (distinguished_row n) → ⊥) → IsGaining n ds plan (texts_of s)
-closed_gaining n ds plan s few reached closed lacks =
+closed_gaining n ds plan s within_limit reached closed lacks =
     let over = reached-over n ds plan s reached in
-    let small : (row : SymbolRow) (k : ℕ) → Contains s row → symbol_at row k < 2 ^ 64 = λ (row : SymbolRow) (k : ℕ) h. omega (arith, few, reached-most n ds plan s reached row h k) in
+    let small : (row : SymbolRow) (k : ℕ) → Contains s row → symbol_at row k < 2 ^ 64 = λ (row : SymbolRow) (k : ℕ) h. omega (arith, within_limit, reached-most n ds plan s reached row h k) in
     record {
       legal = closed_legal n ds s over small closed;
       joined = record { over = length-all_zeros n; in_each = in_projections n s over plan (reached-zeros n ds plan s reached) };
@@ -165,8 +165,8 @@ gaining_lossy n ds plan r gaining lossless = gaining.gained (lossless.gains_none
 -- ---- columns of either type
 
 pub reached_typed : (n : ℕ) (columns : List ColumnType) (ds : List Dependency) (plan : List Attributes) (s : Tableau) → length columns ≡ n → length plan < 2 ^ 32 → ReachesTableau n ds plan s → IsTyped columns (texts_of s)
-reached_typed n columns ds plan s one_each few reached i d l k is_integer =
+reached_typed n columns ds plan s one_each within_limit reached i d l k is_integer =
     let p = map-member (map decimal) s (get_or (texts_of s) i d) (Contains-get_or (texts_of s) i d l) in
     let low : k < n = omega (arith, slice_get_within columns k Integer is_integer, one_each) in
     let value : value_at (map decimal p.0) k ≡ decimal (symbol_at p.0 k) = value_at-texts p.0 k (omega (arith, low, reached-over n ds plan s reached p.0 p.1)) in
-    subst (λ (t : Tuple). IsIntegerText (value_at t k)) p.2 (subst IsIntegerText (sym value) (decimal_integer (symbol_at p.0 k) (omega (arith, few, reached-most n ds plan s reached p.0 p.1 k))))
+    subst (λ (t : Tuple). IsIntegerText (value_at t k)) p.2 (subst IsIntegerText (sym value) (decimal_integer (symbol_at p.0 k) (omega (arith, within_limit, reached-most n ds plan s reached p.0 p.1 k))))

@@ -160,20 +160,20 @@ weight_lt limit less more a b lt =
     omega (arith, up, e)
 
 weight_lt_same : (limit less more a b : ℕ) → less ≤ more → b < a → a ≤ limit → less * (limit + 1) + (limit - a) < more * (limit + 1) + (limit - b)
-weight_lt_same limit less more a b le lt few =
+weight_lt_same limit less more a b le lt within_limit =
     let up : less * (limit + 1) ≤ more * (limit + 1) = mul-le-mul_right (limit + 1) le in
-    omega (arith, up, lt, few)
+    omega (arith, up, lt, within_limit)
 
 pub round_lowers : (n most limit : ℕ) (ds : List Dependency) (t s u : Tableau) → Each (HasLength n) t → Each (HasAtMost most) t → LeadsTo (IsFunctionalStep ds) t s → IsNext n ds s u
     → AllPairs (λ p q. p ≡ q → ⊥) t → length s < length u → length u ≤ limit → what_is_left n most limit u < what_is_left n most limit t
 unfolding what_is_left
-round_lowers n most limit ds t s u over low leads next differ grows few =
+round_lowers n most limit ds t s u over low leads next differ grows within_limit =
     let s_over = over-functional n ds leads.0 t s leads.1 over in
     let u_le = use_le_below n (suc most) s u (next_within n ds s u next s_over) in
     ⊎_elim
     (λ same.
     let s_le = symbols_in_use-le n (suc most) t s (same_within t s same) in
     let rows = differ_le t s differ (λ (k : ℕ) (d : SymbolRow) l. (same (get_or t k d)).0 (Contains-get_or t k d l)) in
-    weight_lt_same limit (symbols_in_use n (suc most) u) (symbols_in_use n (suc most) t) (length u) (length t) (omega (arith, u_le, s_le)) (omega (arith, rows, grows)) few)
+    weight_lt_same limit (symbols_in_use n (suc most) u) (symbols_in_use n (suc most) t) (length u) (length t) (omega (arith, u_le, s_le)) (omega (arith, rows, grows)) within_limit)
     (λ less. weight_lt limit (symbols_in_use n (suc most) u) (symbols_in_use n (suc most) t) (length u) (length t) (omega (arith, u_le, less)))
     (leads_use n most ds leads.0 t s over low leads.1)

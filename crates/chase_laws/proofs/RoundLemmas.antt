@@ -156,8 +156,8 @@ differ_le (row ∷ rows) t differ each =
     omega (arith, rest, length-without_row row t here)
 
 pub no_more : (limit : ℕ) (t s : Tableau) → SameTableau t s → length s ≤ limit → HasMoreThan limit t → ⊥
-no_more limit t s same few more =
-    absurd (omega (arith, few, more.many, differ_le more.rows s more.differ (λ (k : ℕ) (d : SymbolRow) l. (same (get_or more.rows k d)).0 (more.each k d l))))
+no_more limit t s same within_limit more =
+    absurd (omega (arith, within_limit, more.many, differ_le more.rows s more.differ (λ (k : ℕ) (d : SymbolRow) l. (same (get_or more.rows k d)).0 (more.each k d l))))
 
 -- ---- without a multivalued dependency
 pub functional_closed : (n : ℕ) (ds : List Dependency) (t : Tableau) → ((x y : Attributes) → Contains ds (mvd x y) → ⊥) → IsFunctionallyClosed ds t → IsClosed n ds t
@@ -168,11 +168,11 @@ length-scheme_rows : (n i : ℕ) (plan : List Attributes) → length (scheme_row
 length-scheme_rows n i [] = refl
 length-scheme_rows n i (scheme ∷ plan) = let e = length-scheme_rows n (suc i) plan in omega (arith, e)
 
-pub functional_few : (n : ℕ) (ds : List Dependency) (plan : List Attributes) (limit : ℕ) → ((x y : Attributes) → Contains ds (mvd x y) → ⊥) → length plan ≤ limit → RoundsExceed n ds plan limit → ⊥
-functional_few n ds plan limit none few exceed = exceeds exceed.round exceed.tableau exceed.in_rounds exceed.more
+pub functional_within_limit : (n : ℕ) (ds : List Dependency) (plan : List Attributes) (limit : ℕ) → ((x y : Attributes) → Contains ds (mvd x y) → ⊥) → length plan ≤ limit → RoundsExceed n ds plan limit → ⊥
+functional_within_limit n ds plan limit none within_limit exceed = exceeds exceed.round exceed.tableau exceed.in_rounds exceed.more
   where
     exceeds : (round : ℕ) (t : Tableau) → InRounds n ds plan round t → HasMoreThan limit t → ⊥
-    exceeds zero t same more = no_more limit t (plan_tableau n plan) (Same-sym (plan_tableau n plan) t same) (omega (arith, few, length-scheme_rows n 1 plan)) more
+    exceeds zero t same more = no_more limit t (plan_tableau n plan) (Same-sym (plan_tableau n plan) t same) (omega (arith, within_limit, length-scheme_rows n 1 plan)) more
     exceeds (suc round) t h more = h.4 (inr (functional_closed n ds h.1 none h.3.functionally_closed))
 
 -- ---- the next tableau is one

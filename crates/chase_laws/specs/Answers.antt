@@ -40,5 +40,5 @@ pub record IsClosedTableau (n : ℕ) (ds : List Dependency) (plan : List Attribu
   pub closes : ClosesFunctionallyTo ds last symbols
   pub reached : ReachesTableau n ds plan symbols
   pub closed : IsClosed n ds symbols
-  pub few : length symbols ≤ limit
+  pub within_limit : length symbols ≤ limit
   pub ascending : AllPairs RowBefore symbols

@@ -41,14 +41,14 @@ distinct_new (u ∷ r) t none =
     (neither_left (same_tuple u t) (contains_tuple r t) none)
 
 distinct_seen : (r : Relation) (t : Tuple) → contains_tuple r t ≡ true → distinct_tuples (r ++ t ∷ []) ≡ distinct_tuples r
-distinct_seen [] t some = absurd (true≢false (sym some))
-distinct_seen (u ∷ r) t some = elim (cases_Bool (contains_tuple r t)) [
+distinct_seen [] t not_empty = absurd (true≢false (sym not_empty))
+distinct_seen (u ∷ r) t not_empty = elim (cases_Bool (contains_tuple r t)) [
   | inl later ↦ ap (λ (l : Relation). u ∷ filter (differs_from u) l) (distinct_seen r t later)
   | inr none ↦
       ap (λ (l : Relation). u ∷ filter (differs_from u) l) (distinct_new r t none)
       ∙ ap (λ (l : Relation). u ∷ l) (filter-append (differs_from u) (distinct_tuples r) (t ∷ []))
       ∙ ap (λ (b : Bool). u ∷ (filter (differs_from u) (distinct_tuples r) ++ cond (not b) (t ∷ []) []))
-      (one_of (same_tuple u t) (contains_tuple r t) some none)
+      (one_of (same_tuple u t) (contains_tuple r t) not_empty none)
       ∙ ap (λ (l : Relation). u ∷ l) (append-nil (filter (differs_from u) (distinct_tuples r)))
 ]
 
@@ -102,8 +102,8 @@ lacks_value : (values : Relation) (value : ℕ → Tuple) (numbers : List ℕ) (
     → n < length values
     → ((i : ℕ) → i < n → number_at numbers i ≡ number_at numbers n → ⊥) → contains_tuple (take n values) (value n) ≡ false
 lacks_value values value numbers n classes l apart = elim (cases_Bool (contains_tuple (take n values) (value n))) [
-  | inl some ↦
-      let (i, t, within, is, same) = Any-from_list_any (λ u. same_tuple u (value n)) (take n values) some in
+  | inl not_empty ↦
+      let (i, t, within, is, same) = Any-from_list_any (λ u. same_tuple u (value n)) (take n values) not_empty in
       let front : i < n = omega (arith, within, length-take-le n values (omega (arith, l))) in
       let low : i < length values = omega (arith, front, l) in
       let equal : value i ≡ value n =

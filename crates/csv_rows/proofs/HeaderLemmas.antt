@@ -59,9 +59,9 @@ columns_all names before [] = refl
 columns_all names before (f ∷ fs) = columns_all names before fs
 
 -- an attribute that gets a column had none
-pub was_free : (column a : ℕ) (x : Attributes) (o : Option ℕ) → column_of column x o ≡ Ok a → x a ≡ false
-was_free column a x None e = cc
-was_free column a x (Some b) e = by (x b) refl e
+pub was_unused : (column a : ℕ) (x : Attributes) (o : Option ℕ) → column_of column x o ≡ Ok a → x a ≡ false
+was_unused column a x None e = cc
+was_unused column a x (Some b) e = by (x b) refl e
   where
     by : (t : Bool) → x b ≡ t → (if t then Err (refusal.DoubleColumn column) else Ok b) ≡ Ok a → x a ≡ false
     by true f g = cc
@@ -131,7 +131,7 @@ one_column names fields i n columns field x y a r h small count is e more =
     let given = column_at names fields i n columns field x (Ok a) count is e in
     record {
       same = more ∙ ap (λ (z : Attributes). union z (only a)) r.same ∙ sym (named_after columns a);
-      count = length-append columns (a ∷ []) ∙ ap (λ (m : ℕ). m + 1) r.count ∙ sym (count_below-union_only 128 x a small (was_free _ a x _ given)) ∙ sym (ap (λ (z : Attributes). count_below z 128) more);
+      count = length-append columns (a ∷ []) ∙ ap (λ (m : ℕ). m + 1) r.count ∙ sym (count_below-union_only 128 x a small (was_unused _ a x _ given)) ∙ sym (ap (λ (z : Attributes). count_below z 128) more);
       reads = r.reads ∙ columns_next names columns fields i a x h r.same given;
     }
 

@@ -350,7 +350,7 @@ old_first numbers firsts i old order l other = elim (cases_lt (length firsts) (n
   | inl more ↦
       let (j, before, at) = order i (length firsts) l more in
       absurd (omega (arith, old.each j before, at))
-  | inr few ↦ elim (cases_lt (number_at numbers i) (length firsts)) [
+  | inr within_limit ↦ elim (cases_lt (number_at numbers i) (length firsts)) [
     | inl less ↦ record {
       each = λ j m. elim (cases_lt j i) [
         | inl front ↦ old.each j front
@@ -365,7 +365,7 @@ old_first numbers firsts i old order l other = elim (cases_lt (length firsts) (n
             inl (omega (arith, ap (λ (k : ℕ). number_at firsts (number_at numbers k)) e, old.within (number_at numbers i) less, e))
       ];
     }
-    | inr equal ↦ absurd (other (omega (arith, few, equal)))
+    | inr equal ↦ absurd (other (omega (arith, within_limit, equal)))
   ]
 ]
 

@@ -39,8 +39,8 @@ use Rattle.attr_sets.proofs.AttributesLemmas.{same_at}
 
 -- ---- the records of the text
 back_same : (row : List (List ℕ)) → 0 < length row → read_back row ≡ row
-back_same [] some = absurd (omega (arith, some))
-back_same (x ∷ rest) some = refl
+back_same [] not_empty = absurd (omega (arith, not_empty))
+back_same (x ∷ rest) not_empty = refl
 
 nothing_left : next_record default_config st.StartRecord [] [] [] ≡ None
 unfolding next_record
@@ -48,12 +48,12 @@ nothing_left = refl
 
 rows_back : (rows : Relation) → All (λ row. 0 < length row) rows
     → records_from default_config (length (rows_only rows) + 1) st.StartRecord (rows_only rows) ≡ rows
-rows_back [] some = no_more st.StartRecord [] nothing_left
-rows_back (row ∷ rows) some =
+rows_back [] not_empty = no_more st.StartRecord [] nothing_left
+rows_back (row ∷ rows) not_empty =
     one_more st.StartRecord (row_text default_writer row ++ rows_only rows)
     (read_back row, st.StartRecord, rows_only rows) refl (read-write row (rows_only rows))
-    ∙ ap (λ (r : Tuple). r ∷ records_from default_config (length (rows_only rows) + 1) st.StartRecord (rows_only rows)) (back_same row (some 0 [] (omega arith)))
-    ∙ ap (λ (rest : Relation). row ∷ rest) (rows_back rows (λ k d h. some (suc k) d (omega (arith, h))))
+    ∙ ap (λ (r : Tuple). r ∷ records_from default_config (length (rows_only rows) + 1) st.StartRecord (rows_only rows)) (back_same row (not_empty 0 [] (omega arith)))
+    ∙ ap (λ (rest : Relation). row ∷ rest) (rows_back rows (λ k d h. not_empty (suc k) d (omega (arith, h))))
 
 -- a text that does not begin as a byte-order mark does is left as it is
 no_mark : (b : ℕ) (rest : List ℕ) → (b == 239) ≡ false → strip_bom (b ∷ rest) ≡ b ∷ rest
@@ -100,8 +100,8 @@ name_begins (c ∷ cs) proper = (c, cs, refl, letter_is c (second_of _ _ _ _ pro
 
 text_unmarked : (names : List (List ℕ)) (rows : Relation) → 0 < length names
     → All (λ name. IsTrue (is_bare_name name)) names → strip_bom (rows_text names rows) ≡ rows_text names rows
-text_unmarked [] rows some proper = absurd (omega (arith, some))
-text_unmarked (name ∷ names) rows some proper =
+text_unmarked [] rows not_empty proper = absurd (omega (arith, not_empty))
+text_unmarked (name ∷ names) rows not_empty proper =
     let (c, cs, is, other) = name_begins name (proper 0 [] (omega arith)) in
     let begins : Begins c (row_text default_writer (name ∷ names)) =
     subst (λ (n : List ℕ). Begins c (row_text default_writer (n ∷ names))) (sym is) (row_begins c cs names other) in
@@ -110,12 +110,12 @@ text_unmarked (name ∷ names) rows some proper =
 pub printed_records : (names : List (List ℕ)) (rows : Relation) → 0 < length names
     → All (λ name. IsTrue (is_bare_name name)) names → All (λ row. 0 < length row) rows
     → records_of (rows_text names rows) ≡ names ∷ rows
-printed_records names rows some proper wide =
-    ap (λ (t : List ℕ). records_from default_config (length t + 1) st.StartRecord t) (text_unmarked names rows some proper)
+printed_records names rows not_empty proper wide =
+    ap (λ (t : List ℕ). records_from default_config (length t + 1) st.StartRecord t) (text_unmarked names rows not_empty proper)
     ∙ rows_back (names ∷ rows) (first wide)
   where
     first : All (λ row. 0 < length row) rows → All (λ row. 0 < length row) (names ∷ rows)
-    first all zero d h = some
+    first all zero d h = not_empty
     first all (suc k) d h = all k d (omega (arith, h))
 
 -- ---- the columns of the header
@@ -169,10 +169,10 @@ own_columns_from before (name ∷ after) differ =
     let size : length (before ++ name ∷ []) ≡ suc m = length-append before (name ∷ []) ∙ omega arith in
     let none : All (λ b. same_name b name ≡ false) before = λ k d h. other_name before name after k d h differ in
     let lookup : attribute_named names name ≡ Some m = attribute_named-append before name after none in
-    let free : with_columns (range_with_len 0 m) m ≡ false = named_range m m ∙ grind (arith, nat_tests) in
+    let unused : with_columns (range_with_len 0 m) m ≡ false = named_range m m ∙ grind (arith, nat_tests) in
     let column : column_of (length (range_with_len 0 m) + 1) (with_columns (range_with_len 0 m))
     (attribute_named names name) ≡ Ok m =
-    own_column _ m _ _ lookup free in
+    own_column _ m _ _ lookup unused in
     let columns : range_with_len 0 m ++ m ∷ [] ≡ range_with_len 0 (length (before ++ name ∷ [])) =
     sym (range_more m) ∙ ap (range_with_len 0) (sym size) in
     let rest =
@@ -218,9 +218,9 @@ tuple_is n t size =
 row_is : (s : Schema) (row : ℕ) (t : Tuple) → length t ≡ width_of s → row ≤ MOST_ROWS
     → ((k : ℕ) → slice_get (types_of s) k ≡ Some Integer → IsIntegerText (value_at t k))
     → RowOf s (range_with_len 0 (width_of s)) row t (Ok t)
-row_is s row t size few typed =
+row_is s row t size within_limit typed =
     let n = width_of s in (
-      (size ∙ sym (length-range_with_len 0 n), few),
+      (size ∙ sym (length-range_with_len 0 n), within_limit),
       tuple_is n t size,
       λ k has.
           let small : k < n = grind (arith, nat_tests, sym (named_range n k) ∙ has.0) in
@@ -230,17 +230,17 @@ row_is s row t size few typed =
 pub printed_back : (s : Schema) (rows : Relation) → All (λ name. IsTrue (is_bare_name name)) (names_of s)
     → IsOver (width_of s) rows → TypedFor s rows → length rows ≤ MOST_ROWS
     → RowsOf s (rows_text (names_of s) rows) (Ok rows)
-printed_back s rows proper over typed few =
+printed_back s rows proper over typed within_limit =
     let n = width_of s in
     let names = names_of s in
     let columns = range_with_len 0 n in
-    let wide : All (λ row. 0 < length row) rows = λ k d h. omega (arith, over k d h, s.valid.some_names) in
+    let wide : All (λ row. 0 < length row) rows = λ k d h. omega (arith, over k d h, s.valid.names_not_empty) in
     let records : records_of (rows_text names rows) ≡ names ∷ rows =
-    printed_records names rows s.valid.some_names proper wide in
+    printed_records names rows s.valid.names_not_empty proper wide in
     let header : IsHeaderOf n names names (Ok columns) = (own_columns names s.valid.names_differ, all_named n) in
     let first : AreFirstRows s columns rows rows = record {
       within = omega arith;
       each =
-          λ i less. row_is s (i + 1) (slice_index_or rows i []) (over i [] less) (omega (arith, less, few)) (λ k integer. typed i [] less k integer);
+          λ i less. row_is s (i + 1) (slice_index_or rows i []) (over i [] less) (omega (arith, less, within_limit)) (λ k integer. typed i [] less k integer);
     } in
     subst (λ (rs : List (List (List ℕ))). TableOf s (IsHeaderOf n names) rs (Ok rows)) (sym records) (Ok columns, header, (first, refl))

@@ -59,7 +59,7 @@ no_header names old new fields b rs is takes left =
     let takes : TakesRecord false old new fields = subst (λ (t : Bool). TakesRecord t old new fields) is takes in
     subst (λ (l : List (List (List ℕ))). RefusesHeader names l refusal.NoHeader) (sym (takes rs left)) refl
 
--- no field of a header tells of a missing column
+-- no field of a header says of a missing column
 never_missing : (names : List (List ℕ)) (before : List ℕ) (fields : List (List ℕ)) (a : ℕ) → columns_from names before fields ≡ Err (refusal.MissingColumn a) → ⊥
 unfolding columns_from
 never_missing names before [] a h = cc
@@ -235,11 +235,11 @@ takes_one s columns fields values i p value column takes at is type fits =
 -- all values are taken
 pub takes_all : (s : Schema) (columns : List ℕ) (fields values : List (List ℕ)) (h : Header) (i row : ℕ) → IsHeader (width_of s) columns h → Takes s columns fields i values → i ≡ length h.order.items
     → length fields ≡ h.columns → row ≤ 100000 → RowOf s columns row fields (Ok values)
-takes_all s columns fields values h i row kept takes end even few =
+takes_all s columns fields values h i row kept takes end even within_limit =
     let ms = members_below (width_of s) (with_columns columns) in
     let size : length h.order.items ≡ length ms = ap length kept.order ∙ length-map ms (attribute_with_column columns) in
     let all : take i ms ≡ ms = take_all i ms (omega (arith, end, size)) in (
-      (even ∙ kept.count, few),
+      (even ∙ kept.count, within_limit),
       takes.so_far ∙ ap (map (value_of columns fields)) all,
       λ a has.
           let small : a < width_of s = omega (arith, slice_get_within (types_of s) a Integer has.1, s.typed.one_each) in
@@ -251,9 +251,9 @@ pub not_integer : (s : Schema) (columns : List ℕ) (fields values : List (List 
     → IsHeader (width_of s) columns h → Takes s columns fields i values → IsColumnOfAttribute (width_of s) columns i p → value ≡ slice_index_or fields p.column []
     → slice_get (types_of s) p.attribute ≡ Some column → (column ≡ Integer) × (IsIntegerText value → ⊥)
     → length fields ≡ h.columns → row ≤ 100000 → RowOf s columns row fields (Err (refusal.NotInteger row p.attribute))
-not_integer s columns fields values h i row p value column kept takes at is type breaks even few =
+not_integer s columns fields values h i row p value column kept takes at is type breaks even within_limit =
     let here : value ≡ value_of columns fields p.attribute = is ∙ ap (λ (j : ℕ). slice_index_or fields j []) at.column in (
-      (even ∙ kept.count, few),
+      (even ∙ kept.count, within_limit),
       refl,
       (at.has, type ∙ ap Some breaks.0),
       (λ t. breaks.1 (subst IsIntegerText (sym here) t)),

@@ -23,10 +23,10 @@ row_of scheme r t has = map-member (project_tuple scheme) r t (distinct_tuples-t
 
 pub key_holds : (n : ℕ) (ds : List Dependency) (scheme key : Attributes) (r : Relation) → IsSubset scheme (below n)
     → IsLegal n ds r → IsGreedyKey n ds scheme key → KeyHolds scheme (ordered_projection scheme r) key
-key_holds n ds scheme key r inside legal settled t u t_in u_in agree =
+key_holds n ds scheme key r inside legal greedy t u t_in u_in agree =
     let first = row_of scheme r t t_in in
     let second = row_of scheme r u u_in in
-    let superkey = (greedy_is_key n ds scheme key inside settled).superkey in
+    let superkey = (greedy_is_key n ds scheme key inside greedy).superkey in
     let whole : AgreeIn scheme scheme t u =
     superkey.obeyed r legal t u (distinct_tuples-to (projection scheme r) t t_in)
     (distinct_tuples-to (projection scheme r) u u_in) agree in

@@ -16,12 +16,12 @@ use Rattle.dep_model.specs.Schemas.{names_of, width_of, types_of, nullable_of}
 use Rattle.dep_model.specs.Projections.{members_below}
 use Rattle.dep_model.proofs.SchemeLemmas.{members_below-member, members_below-outside}
 use Rattle.schema_printer.specs.Printing.{members_from}
-use Rattle.sql_names.specs.Names.{separator, comma_list, quoted_name, name_list, has_some}
+use Rattle.sql_names.specs.Names.{separator, comma_list, quoted_name, name_list, is_not_empty}
 use Rattle.ddl_text.specs.declared.table.TableDesign.{TableDesign}
 use Rattle.ddl_text.specs.Ddl.{column_type, column_element, is_empty, key_element, key_elements, reference_element, reference_elements, elements, opening, element_lines, comment, table_text}
 use Rattle.std.specs.List.{flat_map}
-use Rattle.sql_names.proofs.ListLemmas.{append_two, some_pushed}
-use Rattle.sql_names.proofs.NameLemmas.{or_true, some_more, name_is}
+use Rattle.sql_names.proofs.ListLemmas.{append_two, not_empty_pushed}
+use Rattle.sql_names.proofs.NameLemmas.{or_true, not_empty_more, name_is}
 
 -- ---- the members of a set
 pub members_inside : (f : ℕ → List ℕ) (n : ℕ) (x : Attributes) → x n ≡ true
@@ -34,13 +34,13 @@ pub members_outside : (f : ℕ → List ℕ) (n : ℕ) (x : Attributes) → x n 
 members_outside f n x outside = rw add-one (ap (map f) (members_below-outside n x outside))
 
 -- ---- elements
-pub lines_append : (some : Bool) (xs ys : List (List ℕ))
-    → element_lines some (xs ++ ys) ≡ element_lines some xs ++ element_lines (some || has_some xs) ys
-lines_append some [] ys = ap (λ (b : Bool). element_lines b ys) (sym (or-false some))
-lines_append some (x ∷ xs) ys =
-    ap (λ (rest : List ℕ). opening some ++ x ++ rest) (lines_append true xs ys)
-    ∙ sym (append_assoc (opening some ++ x) (element_lines true xs) (element_lines true ys))
-    ∙ ap (λ (b : Bool). opening some ++ x ++ element_lines true xs ++ element_lines b ys) (sym (or_true some))
+pub lines_append : (any_before : Bool) (xs ys : List (List ℕ))
+    → element_lines any_before (xs ++ ys) ≡ element_lines any_before xs ++ element_lines (any_before || is_not_empty xs) ys
+lines_append any_before [] ys = ap (λ (b : Bool). element_lines b ys) (sym (or-false any_before))
+lines_append any_before (x ∷ xs) ys =
+    ap (λ (rest : List ℕ). opening any_before ++ x ++ rest) (lines_append true xs ys)
+    ∙ sym (append_assoc (opening any_before ++ x) (element_lines true xs) (element_lines true ys))
+    ∙ ap (λ (b : Bool). opening any_before ++ x ++ element_lines true xs ++ element_lines b ys) (sym (or_true any_before))
 
 -- ---- texts that grow
 -- the same, where the last part is added unless there is no memory
@@ -54,16 +54,16 @@ on_ok (Ok x) P Q f h = f h
 on_ok (Err e) P Q f h = tt
 
 -- an element more
-pub lines_more : (first some : Bool) (xs : List (List ℕ)) (x before text mid next : List ℕ)
-    → text ≡ before ++ element_lines first xs → some ≡ (first || has_some xs) → mid ≡ text ++ opening some
+pub lines_more : (first any_before : Bool) (xs : List (List ℕ)) (x before text mid next : List ℕ)
+    → text ≡ before ++ element_lines first xs → any_before ≡ (first || is_not_empty xs) → mid ≡ text ++ opening any_before
     → next ≡ mid ++ x
     → next ≡ before ++ element_lines first (xs ++ x ∷ [])
-lines_more first some xs x before text mid next so_far is_some opened added =
-    append_two before (element_lines first xs) (opening some ++ x) text next so_far
-    (append_two text (opening some) x mid next opened added)
+lines_more first any_before xs x before text mid next so_far is_some opened added =
+    append_two before (element_lines first xs) (opening any_before ++ x) text next so_far
+    (append_two text (opening any_before) x mid next opened added)
     ∙ ap (λ (b : Bool). before ++ (element_lines first xs ++ (opening b ++ x))) is_some
     ∙ ap (λ (t : List ℕ). before ++ (element_lines first xs ++ t))
-    (sym (append-nil (opening (first || has_some xs) ++ x)))
+    (sym (append-nil (opening (first || is_not_empty xs) ++ x)))
     ∙ ap (λ (t : List ℕ). before ++ t) (sym (lines_append first xs (x ∷ [])))
 
 -- ---- columns
@@ -89,35 +89,35 @@ pub empty_passes : (x : Attributes) → IsEmpty x → is_empty x ≡ true
 empty_passes x empty = is_subset-from x none (λ k member. absurd (true≢false (sym member ∙ empty k)))
 
 pub empty_fails : (x : AttrSet) → (IsEmpty (attributes x) → ⊥) → is_empty (attributes x) ≡ false
-empty_fails x some =
+empty_fails x not_empty =
     is_subset-not (attributes x) none (attributes_below x)
-    (λ within. some (λ k. false_from_ne_true (attributes x k) (λ member. true≢false (sym (within k member)))))
+    (λ within. not_empty (λ k. false_from_ne_true (attributes x k) (λ member. true≢false (sym (within k member)))))
 
 pub no_key : (s : Schema) (key : Attributes) → IsEmpty key → key_elements s key ≡ []
 no_key s key empty = ap (λ (b : Bool). if b then [] else key_element s key ∷ []) (empty_passes key empty)
 
 pub one_key : (s : Schema) (key : AttrSet) → (IsEmpty (attributes key) → ⊥)
     → key_elements s (attributes key) ≡ key_element s (attributes key) ∷ []
-one_key s key some = ap (λ (b : Bool). if b then [] else key_element s (attributes key) ∷ []) (empty_fails key some)
+one_key s key not_empty = ap (λ (b : Bool). if b then [] else key_element s (attributes key) ∷ []) (empty_fails key not_empty)
 
 -- the key as the first element or after others
-pub key_added : (s : Schema) (key : AttrSet) (some : Bool) (old opened t u new : List ℕ)
-    → (IsEmpty (attributes key) → ⊥) → opened ≡ old ++ opening some
+pub key_added : (s : Schema) (key : AttrSet) (any_before : Bool) (old opened t u new : List ℕ)
+    → (IsEmpty (attributes key) → ⊥) → opened ≡ old ++ opening any_before
     → t ≡ opened ++ codes "PRIMARY KEY (" → u ≡ t ++ name_list s (attributes key) → new ≡ u ++ codes ")"
-    → new ≡ old ++ element_lines some (key_elements s (attributes key))
+    → new ≡ old ++ element_lines any_before (key_elements s (attributes key))
 unfolding key_element
-key_added s key some old opened t u new not_empty is_opened first second last =
+key_added s key any_before old opened t u new not_empty is_opened first second last =
     let names = name_list s (attributes key) in
     let added = append_two opened (codes "PRIMARY KEY (" ++ names) (codes ")") u new
     (append_two opened (codes "PRIMARY KEY (") names t u first second) last in
-    lines_more some some [] (codes "PRIMARY KEY (" ++ names ++ codes ")") old old opened new (sym (append-nil old))
-    (sym (or-false some)) is_opened added
-    ∙ ap (λ (es : List (List ℕ)). old ++ element_lines some es) (sym (one_key s key not_empty))
+    lines_more any_before any_before [] (codes "PRIMARY KEY (" ++ names ++ codes ")") old old opened new (sym (append-nil old))
+    (sym (or-false any_before)) is_opened added
+    ∙ ap (λ (es : List (List ℕ)). old ++ element_lines any_before es) (sym (one_key s key not_empty))
 
-pub key_some : (s : Schema) (key : AttrSet) (some : Bool) → (IsEmpty (attributes key) → ⊥)
-    → true ≡ (some || has_some (key_elements s (attributes key)))
-key_some s key some not_empty = sym (ap (λ (es : List (List ℕ)). some || has_some es) (one_key s key not_empty)
-    ∙ or_true some)
+pub key_not_empty : (s : Schema) (key : AttrSet) (any_before : Bool) → (IsEmpty (attributes key) → ⊥)
+    → true ≡ (any_before || is_not_empty (key_elements s (attributes key)))
+key_not_empty s key any_before not_empty = sym (ap (λ (es : List (List ℕ)). any_before || is_not_empty es) (one_key s key not_empty)
+    ∙ or_true any_before)
 
 -- ---- references
 pub reference_added : {T E : Type 0} (r : Result T E) (s : Schema) (other : TableDesign) (old t u v w x y new : List ℕ)
@@ -158,36 +158,36 @@ references_next s tables refs i d lt =
     ∙ map-append (reference_at s tables) (take i refs) (get_or refs i d ∷ [])
 
 pub references_more : (s : Schema) (tables : List TableDesign) (refs : List ℕ) (i d : ℕ) (other : TableDesign)
-    (first some : Bool) (before text mid next : List ℕ) → i < length refs
+    (first any_before : Bool) (before text mid next : List ℕ) → i < length refs
     → get_or refs i d < length tables → other ≡ get_or tables (get_or refs i d) other
     → text ≡ before ++ element_lines first (reference_elements s tables (take i refs))
-    → some ≡ (first || has_some (reference_elements s tables (take i refs)))
-    → mid ≡ text ++ opening some → next ≡ mid ++ reference_element s other
+    → any_before ≡ (first || is_not_empty (reference_elements s tables (take i refs)))
+    → mid ≡ text ++ opening any_before → next ≡ mid ++ reference_element s other
     → next ≡ before ++ element_lines first (reference_elements s tables (take (i + 1) refs))
-references_more s tables refs i d other first some before text mid next lt within is so_far is_some opened added =
+references_more s tables refs i d other first any_before before text mid next lt within is so_far is_some opened added =
     let element = reference_is s tables (get_or refs i d) other within is in
-    lines_more first some (reference_elements s tables (take i refs)) (reference_at s tables (get_or refs i d))
+    lines_more first any_before (reference_elements s tables (take i refs)) (reference_at s tables (get_or refs i d))
     before text mid next so_far is_some opened
     (added ∙ ap (λ (e : List ℕ). mid ++ e) element)
     ∙ ap (λ (es : List (List ℕ)). before ++ element_lines first es) (sym (references_next s tables refs i d lt))
 
-pub references_some : (s : Schema) (tables : List TableDesign) (refs : List ℕ) (i d : ℕ) (first : Bool)
+pub references_not_empty : (s : Schema) (tables : List TableDesign) (refs : List ℕ) (i d : ℕ) (first : Bool)
     → i < length refs
-    → true ≡ (first || has_some (reference_elements s tables (take (i + 1) refs)))
-references_some s tables refs i d first lt =
-    some_more first (reference_elements s tables (take i refs)) (reference_at s tables (get_or refs i d))
-    ∙ ap (λ (es : List (List ℕ)). first || has_some es) (sym (references_next s tables refs i d lt))
+    → true ≡ (first || is_not_empty (reference_elements s tables (take (i + 1) refs)))
+references_not_empty s tables refs i d first lt =
+    not_empty_more first (reference_elements s tables (take i refs)) (reference_at s tables (get_or refs i d))
+    ∙ ap (λ (es : List (List ℕ)). first || is_not_empty es) (sym (references_next s tables refs i d lt))
 
 -- ---- tables
-some_append : (xs ys : List (List ℕ)) → has_some (xs ++ ys) ≡ (has_some xs || has_some ys)
+some_append : (xs ys : List (List ℕ)) → is_not_empty (xs ++ ys) ≡ (is_not_empty xs || is_not_empty ys)
 some_append [] ys = refl
 some_append (x ∷ xs) ys = refl
 
 -- the three kinds of elements, one after another
 pub elements_added : {T E : Type 0} (r : Result T E) (columns keys references : List (List ℕ)) (one two : Bool)
     (old t u new : List ℕ)
-    → t ≡ old ++ element_lines false columns → one ≡ has_some columns → u ≡ t ++ element_lines one keys
-    → two ≡ (one || has_some keys)
+    → t ≡ old ++ element_lines false columns → one ≡ is_not_empty columns → u ≡ t ++ element_lines one keys
+    → two ≡ (one || is_not_empty keys)
     → OnOk r (new ≡ u ++ element_lines two references)
     → OnOk r (new ≡ old ++ element_lines false (columns ++ keys ++ references))
 elements_added r columns keys references one two old t u new to_t is_one to_u is_two to_new =
@@ -195,20 +195,20 @@ elements_added r columns keys references one two old t u new to_t is_one to_u is
     append_two old (element_lines false columns) (element_lines one keys) t u to_t to_u
     ∙ ap (λ (b : Bool). old ++ (element_lines false columns ++ element_lines b keys)) is_one
     ∙ ap (λ (t : List ℕ). old ++ t) (sym (lines_append false columns keys)) in
-    let some : two ≡ has_some (columns ++ keys) = is_two ∙ ap (λ (b : Bool). b || has_some keys) is_one
+    let any_before : two ≡ is_not_empty (columns ++ keys) = is_two ∙ ap (λ (b : Bool). b || is_not_empty keys) is_one
     ∙ sym (some_append columns keys) in
     on_ok r (new ≡ u ++ element_lines two references) (new ≡ old ++ element_lines false (columns ++ keys ++ references))
     (λ e. append_two old (element_lines false (columns ++ keys)) (element_lines two references) u new keyed e
-    ∙ ap (λ (b : Bool). old ++ (element_lines false (columns ++ keys) ++ element_lines b references)) some
+    ∙ ap (λ (b : Bool). old ++ (element_lines false (columns ++ keys) ++ element_lines b references)) any_before
     ∙ ap (λ (t : List ℕ). old ++ t) (sym (lines_append false (columns ++ keys) references))) to_new
 
-pub comment_some : (key : Attributes) → IsEmpty key → comment key ≡ codes "-- at most one row\n"
+pub comment_not_empty : (key : Attributes) → IsEmpty key → comment key ≡ codes "-- at most one row\n"
 unfolding comment
-comment_some key empty = ap (λ (b : Bool). if b then codes "-- at most one row\n" else []) (empty_passes key empty)
+comment_not_empty key empty = ap (λ (b : Bool). if b then codes "-- at most one row\n" else []) (empty_passes key empty)
 
 pub comment_none : (key : AttrSet) → (IsEmpty (attributes key) → ⊥) → comment (attributes key) ≡ []
 unfolding comment
-comment_none key some = ap (λ (b : Bool). if b then codes "-- at most one row\n" else []) (empty_fails key some)
+comment_none key not_empty = ap (λ (b : Bool). if b then codes "-- at most one row\n" else []) (empty_fails key not_empty)
 
 pub table_added : {T E : Type 0} (r : Result T E) (s : Schema) (tables : List TableDesign) (table : TableDesign)
     (old t u v w x new : List ℕ)

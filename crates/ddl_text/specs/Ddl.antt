@@ -66,13 +66,13 @@ elements s tables table =
 
 -- what stands before an element on its line, after the end of the line before, if there is one
 abbrev pub opening : Bool → List ℕ
-opening some = if some then codes ",\n  " else codes "  "
+opening any_before = if any_before then codes ",\n  " else codes "  "
 
 -- elements, each on a line with two blanks before it, and with a comma after each that another follows;
 -- where others stand before them, from the comma after these on
 abbrev pub element_lines : Bool → List (List ℕ) → List ℕ
-element_lines some [] = []
-element_lines some (e ∷ es) = opening some ++ e ++ element_lines true es
+element_lines any_before [] = []
+element_lines any_before (e ∷ es) = opening any_before ++ e ++ element_lines true es
 
 -- what stands before a table: a comment where its key is empty
 unfoldable pub comment : Attributes → List ℕ

@@ -12,7 +12,7 @@ use Rattle.ddl_text.specs.declared.table.TableDesign.{TableDesign}
 
 -- a scheme refers to a table whose key is not empty and lies within it
 pub record RefersTo (scheme : Attributes) (table : TableDesign) : Type 0 where
-  pub some : IsEmpty (attributes table.key) → ⊥
+  pub not_empty : IsEmpty (attributes table.key) → ⊥
   pub within : IsSubset (attributes table.key) scheme
 
 -- exactly the positions of those earlier tables that a scheme refers to, ascending

@@ -3,7 +3,7 @@ ghost use Rattle.attr_sets.specs.Sets.{attributes};
 ghost use Rattle.dep_model.specs.Columns.{is_column_type};
 ghost use Rattle.dep_model.specs.Schemas.{width_of};
 ghost use Rattle.ddl_text.specs.Ddl.{column_element, column_elements, column_type, sql_type, element_lines};
-ghost use Rattle.sql_names.specs.Names.{has_some};
+ghost use Rattle.sql_names.specs.Names.{is_not_empty};
 
 use crate::elements::add_opening;
 use attr_sets::AttrSet;
@@ -11,7 +11,7 @@ use dep_model::{ColumnType, OutOfMemory, Schema};
 use schema_printer::{add, add_digit};
 use sql_names::add_quoted;
 
-// Adds the columns of a scheme as the first elements, and tells whether there are some.
+// Adds the columns of a scheme as the first elements, and says whether there are some.
 pub fn add_columns(
     text: &mut Vec<u8>,
     schema: &Schema,
@@ -19,18 +19,18 @@ pub fn add_columns(
 ) -> Result<bool, OutOfMemory>
     ensures added { OnOk result (text.new.items
         ≡ text.old.items ++ element_lines false (column_elements schema.now (attributes scheme))) }
-    ensures any_written { IfOk result (λ some. some
-        ≡ has_some (column_elements schema.now (attributes scheme))) }
+    ensures any_written { IfOk result (λ any_before. any_before
+        ≡ is_not_empty (column_elements schema.now (attributes scheme))) }
 {
-    let mut some = false;
+    let mut any_before = false;
     for attribute in 0..schema.width() {
         if scheme.contains(attribute) {
-            add_opening(text, some)?;
+            add_opening(text, any_before)?;
             add_column(text, schema, attribute)?;
-            some = true;
+            any_before = true;
         }
     }
-    Ok(some)
+    Ok(any_before)
 }
 
 // Adds the column of an attribute.

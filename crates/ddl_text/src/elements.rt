@@ -1,7 +1,7 @@
 ghost use Rattle.std.specs.Prelude.{◌≡◌, ◌<◌, ◌++◌, ◌||◌, false, length, All, IfOk, OnOk};
 ghost use Rattle.attr_sets.specs.Sets.{attributes};
 ghost use Rattle.ddl_text.specs.Ddl.{opening, elements, element_lines, key_elements};
-ghost use Rattle.sql_names.specs.Names.{has_some};
+ghost use Rattle.sql_names.specs.Names.{is_not_empty};
 
 use crate::TableDesign;
 use crate::columns::add_columns;
@@ -22,27 +22,27 @@ pub fn add_elements(
     ensures added { OnOk result (text.new.items
         ≡ text.old.items ++ element_lines false (elements schema.now tables.now table.now)) }
 {
-    let some = add_columns(text, schema, table.scheme)?;
-    let some = add_key(text, some, schema, table.key)?;
-    add_references(text, some, schema, tables, &table.refs)
+    let any_before = add_columns(text, schema, table.scheme)?;
+    let any_before = add_key(text, any_before, schema, table.key)?;
+    add_references(text, any_before, schema, tables, &table.refs)
 }
 
-// Adds the key of a table, if it is not empty, and tells whether there are some elements.
+// Adds the key of a table, if it is not empty, and says whether there are some elements.
 fn add_key(
     text: &mut Vec<u8>,
-    some: bool,
+    any_before: bool,
     schema: &Schema,
     key: AttrSet,
 ) -> Result<bool, OutOfMemory>
     ensures added { OnOk result (text.new.items
-        ≡ text.old.items ++ element_lines some (key_elements schema.now (attributes key))) }
+        ≡ text.old.items ++ element_lines any_before (key_elements schema.now (attributes key))) }
     ensures any_written { IfOk result (λ more. more
-        ≡ (some || has_some (key_elements schema.now (attributes key)))) }
+        ≡ (any_before || is_not_empty (key_elements schema.now (attributes key)))) }
 {
     if key.is_empty() {
-        return Ok(some);
+        return Ok(any_before);
     }
-    add_opening(text, some)?;
+    add_opening(text, any_before)?;
     add(text, b"PRIMARY KEY (")?;
     add_name_list(text, schema, key)?;
     add(text, b")")?;
@@ -50,10 +50,10 @@ fn add_key(
 }
 
 // Adds what stands before an element on its line, and ends the line before, if there is one.
-pub fn add_opening(text: &mut Vec<u8>, some: bool) -> Result<(), OutOfMemory>
-    ensures added { OnOk result (text.new.items ≡ text.old.items ++ opening some) }
+pub fn add_opening(text: &mut Vec<u8>, any_before: bool) -> Result<(), OutOfMemory>
+    ensures added { OnOk result (text.new.items ≡ text.old.items ++ opening any_before) }
 {
-    if some {
+    if any_before {
         add(text, b",\n")?;
     }
     add(text, b"  ")

@@ -10,20 +10,20 @@ use sql_names::{add_name_list, add_quoted};
 // Adds the references to the tables at these positions, in order, where other elements stand before or not.
 pub fn add_references(
     text: &mut Vec<u8>,
-    some: bool,
+    any_before: bool,
     schema: &Schema,
     tables: &[TableDesign],
     refs: &[u32],
 ) -> Result<(), OutOfMemory>
     requires refs { All (λ j. j < length tables.now) refs.now }
     ensures added { OnOk result (text.new.items
-        ≡ text.old.items ++ element_lines some (reference_elements schema.now tables.now refs.now)) }
+        ≡ text.old.items ++ element_lines any_before (reference_elements schema.now tables.now refs.now)) }
 {
-    let mut some = some;
+    let mut any_before = any_before;
     for j in refs {
-        add_opening(text, some)?;
+        add_opening(text, any_before)?;
         add_reference(text, schema, &tables[*j as usize])?;
-        some = true;
+        any_before = true;
     }
     Ok(())
 }

@@ -70,22 +70,22 @@ module _ (n : ℕ) (ds : List Dependency) (x c : Attributes) (inside : IsSubset 
   block_wider p block = record {
     universe = block.universe;
     outside = λ a m h. block.outside a m (closure_narrower a h);
-    some = block.some;
+    not_empty = block.not_empty;
     implied = λ r legal. mvd_narrower_obeyed (below n) x c p r inside (closed r legal) (block.implied r legal);
-    minimal = λ q within some implied. block.minimal q within some (λ r legal. mvd_wider_obeyed (below n) x c q r inside (closed r legal) (implied r legal));
+    minimal = λ q within not_empty implied. block.minimal q within not_empty (λ r legal. mvd_wider_obeyed (below n) x c q r inside (closed r legal) (implied r legal));
   }
 
   pub block_narrower : (p : Attributes) → IsBlock n ds x p → IsBlock n ds c p
   block_narrower p block = record {
     universe = block.universe;
     outside = λ a m h. block.outside a m (closure_wider a h);
-    some = block.some;
+    not_empty = block.not_empty;
     implied = λ r legal. mvd_wider_obeyed (below n) x c p r inside (closed r legal) (block.implied r legal);
-    minimal = λ q within some implied. block.minimal q within some (λ r legal. mvd_narrower_obeyed (below n) x c q r inside (closed r legal) (implied r legal));
+    minimal = λ q within not_empty implied. block.minimal q within not_empty (λ r legal. mvd_narrower_obeyed (below n) x c q r inside (closed r legal) (implied r legal));
   }
 
   trace_wider : (scheme : Attributes) (q : AttrSet) → IsTrace n ds scheme c (attributes q) → IsTrace n ds scheme x (attributes q)
-  trace_wider scheme q old = record { block = old.block; is_block = block_wider old.block old.is_block; trace = old.trace; some = old.some }
+  trace_wider scheme q old = record { block = old.block; is_block = block_wider old.block old.is_block; trace = old.trace; not_empty = old.not_empty }
 
   pub traces_wider : (scheme : Attributes) (found : Blocks) → AreTraces n ds scheme c found → AreTraces n ds scheme x found
   traces_wider scheme found old = record {
@@ -251,15 +251,15 @@ module _ (n : ℕ) (ds : List Dep) (scheme x : Attributes) (found : Blocks) (wit
   -- each trace is listed
   traces_all : (q : Attributes) → IsTrace n (dependencies_of ds) scheme x q → Any (λ p. attributes p ≡ q) (blocks_of found)
   traces_all q trace = ⊎_elim
-      (λ some.
-      let a = some.0 in
+      (λ not_empty.
+      let a = not_empty.0 in
       ⊎_elim
-      (λ closed. absurd (trace.is_block.outside a (grind (arith, same_at trace.trace a, some.2)) ((traces.closed a).0 closed).1))
+      (λ closed. absurd (trace.is_block.outside a (grind (arith, same_at trace.trace a, not_empty.2)) ((traces.closed a).0 closed).1))
       (λ one.
       let listed = All-contains (λ (p : AttrSet). IsTrace n (dependencies_of ds) scheme x (attributes p)) (blocks_of found) one.1 traces.each (one.0, one.2, one.3) in
-      (one.0, one.1, one.2, one.3, same_traces (attributes one.1) q listed trace (a, one.4, some.2)))
-      (traces.parts a (trace_in q trace a some.2)))
-      (λ none. absurd (trace.some none))
+      (one.0, one.1, one.2, one.3, same_traces (attributes one.1) q listed trace (a, one.4, not_empty.2)))
+      (traces.parts a (trace_in q trace a not_empty.2)))
+      (λ none. absurd (trace.not_empty none))
       (tell_empty n q (λ (k : ℕ) m. scheme_in k (trace_in q trace k m)))
 
   -- a trace is split by none, and neither is a determined attribute
@@ -293,11 +293,11 @@ module _ (n : ℕ) (ds : List Dep) (scheme x : Attributes) (found : Blocks) (wit
       let apart = block_disjoint n (dependencies_of ds) x trace.block trace.is_block in
       let made : IsBlockOn n (dependencies_of ds) scheme x (attributes q) = record {
         outside = λ k m. apart k (grind (arith, same_at trace.trace k, m));
-        some = trace.some;
+        not_empty = trace.not_empty;
         implied = (traces_decide (attributes q) (trace_in (attributes q) trace)).1 (trace_alone (attributes q) trace);
-        minimal = λ y inside some implied. ⊎_elim
+        minimal = λ y inside not_empty implied. ⊎_elim
             (λ shared. listed_inside q y shared.0 listed (trace_in (attributes q) trace) (inside shared.0 shared.2) shared.2 ((traces_decide y implied.within.1).0 implied))
-            (λ none. absurd (some none))
+            (λ none. absurd (not_empty none))
             (tell_empty n y (λ (k : ℕ) m. scheme_in k (implied.within.1 k m)));
       } in
       subst (λ (s : Attributes). IsBlockOn n (dependencies_of ds) scheme x s) one.4 made
@@ -308,11 +308,11 @@ module _ (n : ℕ) (ds : List Dep) (scheme x : Attributes) (found : Blocks) (wit
       let only_in : IsSubset (only a) scheme = λ (k : ℕ) e. grind (arith, nat_tests, e, ((traces.closed a).0 closed).0) in
       record {
         outside = λ k e. grind (arith, nat_tests, e, out);
-        some = λ none. true≢false (grind (arith, nat_tests, none a));
+        not_empty = λ none. true≢false (grind (arith, nat_tests, none a));
         implied = (traces_decide (only a) only_in).1 (closed_alone a closed);
-        minimal = λ y inside some implied k e. ⊎_elim
+        minimal = λ y inside not_empty implied k e. ⊎_elim
             (λ shared. grind (arith, nat_tests, e, inside shared.0 shared.2, shared.2))
-            (λ none. absurd (some none))
+            (λ none. absurd (not_empty none))
             (tell_empty n y (λ (j : ℕ) m. scheme_in j (implied.within.1 j m)));
       }
 
@@ -322,23 +322,23 @@ module _ (n : ℕ) (ds : List Dep) (scheme x : Attributes) (found : Blocks) (wit
       let p_in = part.implied.within.1 in
       let splits = (traces_decide p p_in).0 part.implied in
       ⊎_elim
-      (λ some.
-      let a = some.0 in
+      (λ not_empty.
+      let a = not_empty.0 in
       ⊎_elim
       (λ closed.
-      let out = part.outside a some.2 in
+      let out = part.outside a not_empty.2 in
       let alone = part_closed a closed out in
-      let inside : IsSubset (only a) p = λ (k : ℕ) e. grind (arith, nat_tests, e, some.2) in
-      inr (a, closed, out, same_from_within p (only a) (part.minimal (only a) inside alone.some alone.implied) inside))
+      let inside : IsSubset (only a) p = λ (k : ℕ) e. grind (arith, nat_tests, e, not_empty.2) in
+      inr (a, closed, out, same_from_within p (only a) (part.minimal (only a) inside alone.not_empty alone.implied) inside))
       (λ one.
       let q = one.1 in
       let listed : Contains (blocks_of found) q = (one.0, one.2, one.3) in
       let trace = All-contains (λ (s : AttrSet). IsTrace n (dependencies_of ds) scheme x (attributes s)) (blocks_of found) q traces.each listed in
-      let inside = listed_inside q p a listed (trace_in (attributes q) trace) one.4 some.2 splits in
-      let back = part.minimal (attributes q) inside trace.some ((traces_decide (attributes q) (trace_in (attributes q) trace)).1 (trace_alone (attributes q) trace)) in
+      let inside = listed_inside q p a listed (trace_in (attributes q) trace) one.4 not_empty.2 splits in
+      let back = part.minimal (attributes q) inside trace.not_empty ((traces_decide (attributes q) (trace_in (attributes q) trace)).1 (trace_alone (attributes q) trace)) in
       inl (one.0, q, one.2, one.3, same_from_within (attributes q) p inside back))
-      (traces.parts a (p_in a some.2)))
-      (λ none. absurd (part.some none))
+      (traces.parts a (p_in a not_empty.2)))
+      (λ none. absurd (part.not_empty none))
       (tell_empty n p (λ (k : ℕ) m. scheme_in k (p_in k m)))
 
   pub trace_basis-from : IsTraceBasis n (dependencies_of ds) scheme x found
@@ -369,18 +369,18 @@ module _ (n : ℕ) (ds : List Dep) (x : Attributes) (found : Blocks) (within : A
 
   blocks_listed : (p : Attributes) → IsBlock n (dependencies_of ds) x p → Any (λ q. attributes q ≡ p) (blocks_of found)
   blocks_listed p block = ⊎_elim
-      (λ some. ⊎_elim
-      (λ closed. absurd (block.outside some.0 some.2 ((traces.closed some.0).0 closed).1))
+      (λ not_empty. ⊎_elim
+      (λ closed. absurd (block.outside not_empty.0 not_empty.2 ((traces.closed not_empty.0).0 closed).1))
       (λ one. (
         one.0,
         one.1,
         one.2,
         one.3,
         let listed = trace_block one.1 (All-contains (λ (q : AttrSet). IsTrace n (dependencies_of ds) (below n) x (attributes q)) (blocks_of found) one.1 traces.each (one.0, one.2, one.3)) in
-            blocks_same n (dependencies_of ds) x (attributes one.1) p listed block (some.0, one.4, some.2),
+            blocks_same n (dependencies_of ds) x (attributes one.1) p listed block (not_empty.0, one.4, not_empty.2),
       ))
-      (traces.parts some.0 (block.universe some.0 some.2)))
-      (λ none. absurd (block.some none))
+      (traces.parts not_empty.0 (block.universe not_empty.0 not_empty.2)))
+      (λ none. absurd (block.not_empty none))
       (tell_empty n p block.universe)
 
   pub basis-from : IsBasis n (dependencies_of ds) x found

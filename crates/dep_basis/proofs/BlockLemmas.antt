@@ -51,7 +51,7 @@ block_whole n ds x p (fd v t) x_in within given block = λ apart a in_p. elim (c
 block_whole n ds x p (mvd v t) x_in within given block = λ apart.
     let inside = split_inside n ds x p v t x_in block.universe within.0 apart block.implied given in
     ⊎_elim
-    (λ some. inr (λ (k : ℕ) m. grind (arith, block.minimal (intersection p t) (λ (j : ℕ) h. grind (arith, h)) (λ none. absurd (true≢false (sym some.2 ∙ none some.0))) inside k m)))
+    (λ not_empty. inr (λ (k : ℕ) m. grind (arith, block.minimal (intersection p t) (λ (j : ℕ) h. grind (arith, h)) (λ none. absurd (true≢false (sym not_empty.2 ∙ none not_empty.0))) inside k m)))
     (λ none. inl (λ (k : ℕ) m. grind (arith, m, none k)))
     (tell_empty n (intersection p t) (λ (k : ℕ) m. block.universe k (grind (arith, m))))
 
@@ -82,12 +82,12 @@ pub candidate_block : (n : ℕ) (ds : List Dependency) (x w : Attributes) (a : �
 candidate_block n ds x w a x_in legal candidate member = record {
   universe = candidate.universe;
   outside = λ b in_w closed. outside_fd n ds x (only b) w legal x_in (λ (k : ℕ) m. grind (arith, nat_tests, m, closed.0)) candidate.outside (b, grind (arith, nat_tests), in_w) closed.1;
-  some = λ none. true≢false (sym member ∙ none a);
+  not_empty = λ none. true≢false (sym member ∙ none a);
   implied = candidate.implied;
-  minimal = λ q inside some implied.
+  minimal = λ q inside not_empty implied.
       ⊎_elim
       (λ found. outside_mvd n ds x q w legal x_in (λ (k : ℕ) m. candidate.universe k (inside k m)) candidate.universe candidate.outside (found.0, found.2, inside found.0 found.2) implied)
-      (λ none. absurd (some none))
+      (λ none. absurd (not_empty none))
       (tell_empty n q (λ (k : ℕ) m. candidate.universe k (inside k m)));
 }
 
@@ -101,7 +101,7 @@ block_disjoint n ds x p block a in_p = elim (cases_Bool (x a)) [
 pub blocks_same : (n : ℕ) (ds : List Dependency) (x p q : Attributes) → IsBlock n ds x p → IsBlock n ds x q → Intersects p q → p ≡ q
 blocks_same n ds x p q first second common =
     let shared : Implies n ds (mvd x (intersection p q)) = λ r legal. mvd_intersection_obeyed (below n) x p q r (first.implied r legal) (second.implied r legal) in
-    let some : IsEmpty (intersection p q) → ⊥ = λ none. true≢false (sym (grind (arith, common.1, common.2)) ∙ none common.0) in
+    let not_empty : IsEmpty (intersection p q) → ⊥ = λ none. true≢false (sym (grind (arith, common.1, common.2)) ∙ none common.0) in
     same_from_within p q
-    (λ (k : ℕ) m. grind (arith, first.minimal (intersection p q) (λ (j : ℕ) h. grind (arith, h)) some shared k m))
-    (λ (k : ℕ) m. grind (arith, second.minimal (intersection p q) (λ (j : ℕ) h. grind (arith, h)) some shared k m))
+    (λ (k : ℕ) m. grind (arith, first.minimal (intersection p q) (λ (j : ℕ) h. grind (arith, h)) not_empty shared k m))
+    (λ (k : ℕ) m. grind (arith, second.minimal (intersection p q) (λ (j : ℕ) h. grind (arith, h)) not_empty shared k m))

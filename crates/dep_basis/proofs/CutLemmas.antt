@@ -14,13 +14,13 @@ use Rattle.dep_basis.specs.declared.cutting.Cut.{Cut}
 pub cut_not_whole : (p : Attributes) (d : Dependency) → IsCutting p d → LeavesWhole p p d → ⊥
 cut_not_whole p (fd v t) cut whole =
     true≢false (sym cut.shares.2 ∙ whole cut.apart cut.shares.0 cut.shares.1)
-cut_not_whole p (mvd v t) cut whole = told (whole cut.apart) cut.leaves
+cut_not_whole p (mvd v t) cut whole = by_cases (whole cut.apart) cut.leaves
   where
-    told : ((k : ℕ) → p k ≡ true → t k ≡ false) ⊎ ((k : ℕ) → p k ≡ true → t k ≡ true)
+    by_cases : ((k : ℕ) → p k ≡ true → t k ≡ false) ⊎ ((k : ℕ) → p k ≡ true → t k ≡ true)
         → (false ≡ true) ⊎ ((k : ℕ) × (p k ≡ true) × (t k ≡ false)) → ⊥
-    told (inl apart) leaves = true≢false (sym cut.shares.2 ∙ apart cut.shares.0 cut.shares.1)
-    told (inr within) (inl is) = true≢false (sym is)
-    told (inr within) (inr (k, has, lacks)) = true≢false (sym (within k has) ∙ lacks)
+    by_cases (inl apart) leaves = true≢false (sym cut.shares.2 ∙ apart cut.shares.0 cut.shares.1)
+    by_cases (inr within) (inl is) = true≢false (sym is)
+    by_cases (inr within) (inr (k, has, lacks)) = true≢false (sym (within k has) ∙ lacks)
 
 -- the best of the cuts by the first dependencies
 pub record IsBestOf (deps : List Dep) (p : Attributes) (a upto : ℕ) (cut : Cut) : Type 0 where

@@ -115,7 +115,7 @@ module _ (n : ℕ) (ds : List Dependency) (scheme x left closed : Attributes) (q
         ]),
       );
       each = All-push (λ (s : AttrSet). IsTrace n ds scheme x (attributes s)) qs q before.each
-          (record { block = block; is_block = is_block; trace = trace; some = λ none. true≢false (sym (grind (arith, same_at trace i, member, before.left_in i least.member)) ∙ none i) });
+          (record { block = block; is_block = is_block; trace = trace; not_empty = λ none. true≢false (sym (grind (arith, same_at trace i, member, before.left_in i least.member)) ∙ none i) });
       parts = λ a m out. elim (cases_Bool (block a)) [
         | inl inside ↦ inr (Any-push (λ (s : AttrSet). attributes s a ≡ true) qs q (grind (arith, same_at trace a, inside, m)))
         | inr outside ↦ ⊎_elim inl (λ found. inr (Any-left (λ (s : AttrSet). attributes s a ≡ true) qs q found)) (before.parts a m (grind (arith, same_at rest_is a, outside, out)))
@@ -136,9 +136,9 @@ module _ (n : ℕ) (ds : List Dependency) (scheme x left closed : Attributes) (q
 pub found_all : (n : ℕ) (ds : List Dependency) (scheme x left : Attributes) (found : Blocks)
     → IsFound n ds scheme x left (attributes found.closed) (blocks_of found) → IsEmpty left → found.count ≤ MOST_BLOCKS → All (λ q. IsEmpty (attributes q)) (drop found.count found.blocks)
     → AreTraces n ds scheme x found
-found_all n ds scheme x left found all none few rest = record {
+found_all n ds scheme x left found all none within_limit rest = record {
   closed = λ a. ((λ m. let h = (all.closed_is a).0 m in (h.0, h.2)), (λ h. (all.closed_is a).1 (h.0, none a, h.1)));
   each = all.each;
   parts = λ a m. ⊎_elim (λ closed. inl ((all.closed_is a).1 (m, none a, closed))) inr (all.parts a m (none a));
-  listed = record { few = few; apart = all.apart; in_order = all.in_order; rest = rest };
+  listed = record { within_limit = within_limit; apart = all.apart; in_order = all.in_order; rest = rest };
 }

@@ -24,8 +24,8 @@ pub left_first : (x y left : Attributes) (t : Tree) → left ≡ difference y x 
 left_first x y left t is size = record {
   within = λ k m. grind (arith, same_at is k, m);
   apart = λ k m. grind (arith, same_at is k, m);
-  few_nodes = omega (arith, size.few_nodes, count_below-le MOST_ATTRIBUTES left);
-  few_levels = omega (arith, size.few_levels, count_below-le MOST_ATTRIBUTES left);
+  node_bound = omega (arith, size.node_bound, count_below-le MOST_ATTRIBUTES left);
+  level_bound = omega (arith, size.level_bound, count_below-le MOST_ATTRIBUTES left);
 }
 
 pub right_first : (x y left m : Attributes) → left ≡ difference y x → m ≡ intersection x y → m ≡ difference y left
@@ -44,8 +44,8 @@ left_next x y left rest part a t g u before low in_left in_part is size more =
     record {
       within = λ k m. before.within k (grind (arith, same_at is k, m));
       apart = λ k m. before.apart k (grind (arith, same_at is k, m));
-      few_nodes = omega (arith, fewer, more.few_nodes, size.few_nodes, before.few_nodes);
-      few_levels = grind (arith, fewer, more.few_levels, size.few_levels, before.few_levels, count_below-le MOST_ATTRIBUTES left);
+      node_bound = omega (arith, fewer, more.node_bound, size.node_bound, before.node_bound);
+      level_bound = grind (arith, fewer, more.level_bound, size.level_bound, before.level_bound, count_below-le MOST_ATTRIBUTES left);
     }
 
 -- ---- the block of an attribute lies within each implied right side that has it

@@ -38,8 +38,8 @@ lead_first s c k e t lt none out = record {
   out = out.out;
   earlier = λ j v w before here.
       let found = given_at (deps_of s) j (fd v w) here in
-      let few : k ≤ length (deps_of s) = omega (arith, lt) in
-      let in_all : j < length (take k (deps_of s)) = rw (length-take-le k (deps_of s) few) before in
+      let within_limit : k ≤ length (deps_of s) = omega (arith, lt) in
+      let in_all : j < length (take k (deps_of s)) = rw (length-take-le k (deps_of s) within_limit) before in
       let fact = none j found.0 in_all in
       IfFd_at (λ x y. IsSubset x c → IsSubset y c) found.0 v w (subst (IfFd (λ x y. IsSubset x c → IsSubset y c)) (get_or-take k (deps_of s) j found.0 before ∙ get_or_from_slice_get (deps_of s) j found.0 found.0 found.1) fact) found.2;
 }

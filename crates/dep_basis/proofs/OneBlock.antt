@@ -23,7 +23,7 @@ module _ (n : ℕ) (ds : List Dependency) (x p c : Attributes) (x_in : IsSubset 
   rest_closed : IsSubset (difference (below n) (union x p)) c
   rest_closed =
       ⊎_elim
-      (λ low. absurd (block.some (λ a. false_from_ne_true (p a) (λ m. true≢false (sym (low a m) ∙ block_beyond a m)))))
+      (λ low. absurd (block.not_empty (λ a. false_from_ne_true (p a) (λ m. true≢false (sym (low a m) ∙ block_beyond a m)))))
       (λ rest. rest)
       (two_tuples_mvd-to n c x p x_in block.universe (block.implied (two_tuples n c) closure.legal) closure.holds)
 

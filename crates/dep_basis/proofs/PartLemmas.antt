@@ -74,7 +74,7 @@ module _ (n : ℕ) (ds : List Dep) (scheme x beyond : Attributes) (scheme_in : I
       record {
         rhs = only a;
         implied = record { within = (x_in, a_in); obeyed = λ r legal. mvd_in-from scheme x (only a) r x_in a_in (replication_obeyed scheme x (only a) r (closed.2 r legal)) };
-        some = (a, grind (arith, same_at is a, closed.1), grind (arith, nat_tests));
+        not_empty = (a, grind (arith, same_at is a, closed.1), grind (arith, nat_tests));
         rest = elim (cases_eq two.one a) [
           | inl same ↦ (two.other, grind (arith, same_at is two.other, two.second), grind (arith, nat_tests, same_at is two.other, two.second, other_differs two a same))
           | inr differ ↦ (two.one, grind (arith, same_at is two.one, two.first), grind (arith, nat_tests, same_at is two.one, two.first, differ))
@@ -88,7 +88,7 @@ module _ (n : ℕ) (ds : List Dep) (scheme x beyond : Attributes) (scheme_in : I
       record {
         rhs = intersection w scheme;
         implied = record { within = (x_in, y_in); obeyed = λ r legal. mvd_in-from scheme x (intersection w scheme) r x_in y_in (mvd_on_scheme n scheme x w r scheme_in (split.2 r legal)) };
-        some = (in_w.0, grind (arith, same_at is in_w.0, in_w.1), grind (arith, same_at is in_w.0, in_w.1, in_w.2));
+        not_empty = (in_w.0, grind (arith, same_at is in_w.0, in_w.1), grind (arith, same_at is in_w.0, in_w.1, in_w.2));
         rest = (out.0, grind (arith, same_at is out.0, out.1), grind (arith, same_at is out.0, out.1, out.2));
       })
       parted
@@ -103,22 +103,22 @@ module _ (n : ℕ) (ds : List Dep) (scheme x beyond : Attributes) (scheme_in : I
       let y_in = two.implied.within.1 in
       let legal = whole_legal n ds w can.deps whole in
       split_broken n scheme x y w scheme_in x_in y_in can.outside (
-        (two.some.0, grind (arith, two.some.1, inside two.some.0, same_at is two.some.0), two.some.2),
+        (two.not_empty.0, grind (arith, two.not_empty.1, inside two.not_empty.0, same_at is two.not_empty.0), two.not_empty.2),
         (two.rest.0, grind (arith, two.rest.1, inside two.rest.0, same_at is two.rest.0), two.rest.2),
       )
       (mvd_in-to scheme x y (two_tuples n (outside_of n w)) x_in y_in (two.implied.obeyed (two_tuples n (outside_of n w)) legal))
 
   -- at most one attribute lies beyond x
   pub none_beyond : IsEmpty beyond → HasTwoParts n (dependencies_of ds) scheme x → ⊥
-  none_beyond none two = true≢false (sym two.some.1 ∙ sym (same_at is two.some.0) ∙ none two.some.0)
+  none_beyond none two = true≢false (sym two.not_empty.1 ∙ sym (same_at is two.not_empty.0) ∙ none two.not_empty.0)
 
   pub one_beyond : (i : ℕ) (rest : Attributes) → rest ≡ difference beyond (only i) → IsEmpty rest → HasTwoParts n (dependencies_of ds) scheme x → ⊥
   one_beyond i rest rest_is none two =
       let alone : (k : ℕ) → difference scheme x k ≡ true → k ≡ i = λ (k : ℕ) m. grind (arith, nat_tests, m, same_at is k, same_at rest_is k, none k) in
-      let k = two.some.0 in
+      let k = two.not_empty.0 in
       let j = two.rest.0 in
-      let same : k ≡ j = alone k two.some.1 ∙ sym (alone j two.rest.1) in
-      true≢false (sym (subst (λ (m : ℕ). two.rhs m ≡ true) same two.some.2) ∙ grind (arith, two.rest.2))
+      let same : k ≡ j = alone k two.not_empty.1 ∙ sym (alone j two.rest.1) in
+      true≢false (sym (subst (λ (m : ℕ). two.rhs m ≡ true) same two.not_empty.2) ∙ grind (arith, two.rest.2))
 
 -- ---- two parts that differ
 pub parts_two : (n : ℕ) (ds : List Dependency) (scheme x p q : Attributes) → IsSubset scheme (below n) → IsBlockOn n ds scheme x p → IsBlockOn n ds scheme x q → (IsSubset q p → ⊥) → HasTwoParts n ds scheme x
@@ -129,14 +129,14 @@ parts_two n ds scheme x p q scheme_in first second differ =
     (λ out. record {
       rhs = p;
       implied = first.implied;
-      some = some_of p p_in first.outside first.some;
+      not_empty = some_of p p_in first.outside first.not_empty;
       rest = (out.0, grind (arith, q_in out.0 out.2, second.outside out.0 out.2), grind (arith, q_in out.0 out.2, out.3));
     })
     (λ inside. absurd (differ inside))
     (tell_subset n q p (λ (k : ℕ) m. scheme_in k (q_in k m)))
   where
     some_of : (p : Attributes) → IsSubset p scheme → Disjoint p x → (IsEmpty p → ⊥) → Intersects (difference scheme x) p
-    some_of p p_in outside some = ⊎_elim
+    some_of p p_in outside not_empty = ⊎_elim
         (λ one. (one.0, grind (arith, p_in one.0 one.2, outside one.0 one.2), one.2))
-        (λ none. absurd (some none))
+        (λ none. absurd (not_empty none))
         (tell_empty n p (λ (k : ℕ) m. scheme_in k (p_in k m)))

@@ -22,7 +22,7 @@ use Rattle.dep_model.proofs.ListLemmas.{Any-left}
 use Rattle.dep_basis.specs.Refining.{LeavesWhole}
 use Rattle.dep_basis.specs.CutProofs.{IsCutting}
 use Rattle.dep_basis.specs.declared.pieces.Pieces.{Pieces}
-use Rattle.dep_basis.specs.Pieces.{sets_of, IsTold, ArePieces, CanRefine, IsRefined, IsPieceWith}
+use Rattle.dep_basis.specs.Pieces.{sets_of, IsDeterminedOrIn, ArePieces, CanRefine, IsRefined, IsPieceWith}
 use Rattle.dep_basis.proofs.RefiningLemmas.{replication_implied, split_inside, split_outside, moves}
 use Rattle.dep_basis.proofs.BlockLemmas.{whole_legal, candidate_block}
 use Rattle.dep_basis.proofs.BasisLemmas.{closure_wider, block_wider}
@@ -66,14 +66,14 @@ module _ (n : ℕ) (ds : List Dep) (x w v t : Attributes) (can : CanRefine n ds 
 pub given_implied_at : (n : ℕ) (ds : List Dep) (k : ℕ) (d : Dep) → k < length ds → Implies n (dependencies_of ds) (dependency_of (get_or ds k d))
 given_implied_at n ds k d lt r legal = legal-to n ds r legal k d lt
 
--- ---- what is told of each attribute
-told_kept : (n : ℕ) (ds : List Dependency) (x : Attributes) (before after : List AttrSet) (a : ℕ) → (Any (HasAttribute a) before → Any (HasAttribute a) after) → IsTold n ds x before a → IsTold n ds x after a
-told_kept n ds x before after a kept told = ⊎_elim (λ closed. inl closed) (λ one. inr (kept one)) told
+-- ---- what is said of each attribute
+in_block_kept : (n : ℕ) (ds : List Dependency) (x : Attributes) (before after : List AttrSet) (a : ℕ) → (Any (HasAttribute a) before → Any (HasAttribute a) after) → IsDeterminedOrIn n ds x before a → IsDeterminedOrIn n ds x after a
+in_block_kept n ds x before after a kept fact = ⊎_elim (λ closed. inl closed) (λ one. inr (kept one)) fact
 
 -- a piece that nothing cuts is a block
 pub block_refined : (ds : List Dep) (piece : AttrSet) (before after : Pieces) → length after.sets ≡ 128 → sets_of after ≡ sets_of before ++ piece ∷ [] → after.count ≡ before.count + 1
     → 0 < count_below (attributes piece) MOST_ATTRIBUTES → (IsEmpty (attributes piece) → ⊥) → All (LeavesWhole (attributes piece) (attributes piece)) (dependencies_of ds) → IsRefined ds (attributes piece) before after
-block_refined ds piece before after size sets count pos some whole = record {
+block_refined ds piece before after size sets count pos not_empty whole = record {
   size = size;
   room = omega (arith, count, pos);
   kept = λ a h. rw sets (Any-left (HasAttribute a) (sets_of before) piece h);
@@ -88,11 +88,11 @@ block_refined ds piece before after size sets count pos some whole = record {
         nothing = λ gone. absurd (true≢false (sym one.2 ∙ gone));
         closed = λ gone. absurd (true≢false (sym one.2 ∙ gone));
       }) one.2)
-      (λ none. absurd (some none))
+      (λ none. absurd (not_empty none))
       (tell_empty n w can.universe) in
       record {
         each = λ old. rw sets (All-push (λ (p : AttrSet). IsBlock n (dependencies_of ds) x (attributes p)) (sets_of before) piece old block);
-        told = λ a m. inr (rw sets (Any-push (HasAttribute a) (sets_of before) piece m));
+        exhaustive = λ a m. inr (rw sets (Any-push (HasAttribute a) (sets_of before) piece m));
       };
 }
 
@@ -107,9 +107,9 @@ fd_refined ds w v t rest before after is apart v_in given old = record {
       let inner = old.refined n x (outside_refined n ds x w v t can (v_in n can.deps) apart (replication_implied n (dependencies_of ds) v t (given n)) rest is) in
       record {
         each = inner.each;
-        told = λ a m. elim (cases_Bool (t a)) [
+        exhaustive = λ a m. elim (cases_Bool (t a)) [
           | inl in_t ↦ inl (moves n (dependencies_of ds) x w v t can.lhs can.universe (v_in n can.deps) a apart m in_t can.implied (given n))
-          | inr out ↦ inner.told a (grind (arith, same_at is a, m, out))
+          | inr out ↦ inner.exhaustive a (grind (arith, same_at is a, m, out))
         ];
       };
 }
@@ -132,9 +132,9 @@ mvd_refined ds w v t inside outside before middle after in_is out_is apart v_in 
       let other = second.refined n x (outside_refined n ds x w v t can (v_in n can.deps) apart (given n) outside out_is) in
       record {
         each = λ old. other.each (one.each old);
-        told = λ a m. elim (cases_Bool (t a)) [
-          | inl in_t ↦ told_kept n (dependencies_of ds) x (sets_of middle) (sets_of after) a (second.kept a) (one.told a (grind (arith, same_at in_is a, m, in_t)))
-          | inr out ↦ other.told a (grind (arith, same_at out_is a, m, out))
+        exhaustive = λ a m. elim (cases_Bool (t a)) [
+          | inl in_t ↦ in_block_kept n (dependencies_of ds) x (sets_of middle) (sets_of after) a (second.kept a) (one.exhaustive a (grind (arith, same_at in_is a, m, in_t)))
+          | inr out ↦ other.exhaustive a (grind (arith, same_at out_is a, m, out))
         ];
       };
 }
@@ -156,18 +156,18 @@ inside_fewer w v t rest low cutting is =
 -- c lies between x and its closure, and all outside it was refined
 pub all_refined : (n : ℕ) (ds : List Dep) (x c w : Attributes) (found none : Pieces) → IsSubset x c → Implies n (dependencies_of ds) (fd x c) → w ≡ difference (below n) c
     → CanRefine n ds c w → sets_of none ≡ [] → found.count ≤ 128 → IsRefined ds w none found → ArePieces n (dependencies_of ds) x found
-all_refined n ds x c w found none inside closed is can empty few done =
+all_refined n ds x c w found none inside closed is can empty within_limit done =
     let all = dependencies_of ds in
     let refined = done.refined n c can in
     let wider : (a : ℕ) → a < n → Implies n all (fd c (only a)) → Implies n all (fd x (only a)) = λ (a : ℕ) low h. (closure_wider n all x c inside closed a (low, h)).1 in
     record {
       size = done.size;
-      few = few;
+      within_limit = within_limit;
       each = All-weaker (λ (p : AttrSet). IsBlock n all c (attributes p)) (λ (p : AttrSet). IsBlock n all x (attributes p)) (λ (p : AttrSet) block. block_wider n all x c inside closed (attributes p) block) (sets_of found)
           (refined.each (rw empty (λ k d l. absurd (omega arith))));
-      told = λ a low. elim (cases_Bool (c a)) [
+      exhaustive = λ a low. elim (cases_Bool (c a)) [
         | inl in_c ↦ inl (wider a low (λ r legal. reflexivity_obeyed c (only a) r (λ (k : ℕ) h. grind (arith, nat_tests, h, in_c))))
-        | inr out ↦ ⊎_elim (λ h. inl (wider a low h)) (λ h. inr h) (refined.told a (grind (arith, same_at is a, lt-ltb a n low, out)))
+        | inr out ↦ ⊎_elim (λ h. inl (wider a low h)) (λ h. inr h) (refined.exhaustive a (grind (arith, same_at is a, lt-ltb a n low, out)))
       ];
     }
 
@@ -175,12 +175,12 @@ all_refined n ds x c w found none inside closed is can empty few done =
 module _ (n : ℕ) (ds : List Dependency) (x : Attributes) (found : Pieces) (pieces : ArePieces n ds x found) where
   pub piece_is : (a : ℕ) (p : AttrSet) → a < n → (IsEmpty (attributes p) → All (λ q. attributes q a ≡ false) (sets_of found)) → ((IsEmpty (attributes p) → ⊥) → Contains (sets_of found) p)
       → ((IsEmpty (attributes p) → ⊥) → attributes p a ≡ true) → IsPieceWith n ds x a (attributes p)
-  piece_is a p low none some member = record {
+  piece_is a p low none not_empty member = record {
     nothing = λ empty. ⊎_elim
         (λ h. h)
         (λ (j, q, lt, is, in_q). absurd (true≢false (sym in_q ∙ All-contains (λ (s : AttrSet). attributes s a ≡ false) (sets_of found) q (none empty) (j, lt, is))))
-        (pieces.told a low);
-    block = λ filled. All-contains (λ (s : AttrSet). IsBlock n ds x (attributes s)) (sets_of found) p pieces.each (some filled);
+        (pieces.exhaustive a low);
+    block = λ filled. All-contains (λ (s : AttrSet). IsBlock n ds x (attributes s)) (sets_of found) p pieces.each (not_empty filled);
     member = member;
   }
 
@@ -192,6 +192,6 @@ module _ (n : ℕ) (ds : List Dependency) (x : Attributes) (found : Pieces) (pie
         ⊎_elim
         (λ closed. (low, closed))
         (λ (j, q, lt, at, in_q). absurd (true≢false (sym in_q ∙ All-contains (λ (s : AttrSet). attributes s a ≡ false) (sets_of found) q h.1 (j, lt, at))))
-        (pieces.told a low)),
+        (pieces.exhaustive a low)),
     (λ closed. (is a).1 (lt-ltb a n closed.0, λ j d l. false_from_ne_true (attributes (get_or (sets_of found) j d) a) (λ in_q. (pieces.each j d l).outside a in_q closed))),
   )

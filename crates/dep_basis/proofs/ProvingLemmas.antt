@@ -18,8 +18,8 @@ given_first s x y k e lt none is = record {
   given = slice_get-map dependency_of (deps_of s) k ∙ ap (option_map dependency_of) (slice_get-get_or (deps_of s) k e lt) ∙ ap Some is;
   earlier = λ j before here.
       let found = given_at (deps_of s) j (mvd x y) here in
-      let few : k ≤ length (deps_of s) = omega (arith, lt) in
-      let in_all : j < length (take k (deps_of s)) = rw (length-take-le k (deps_of s) few) before in
+      let within_limit : k ≤ length (deps_of s) = omega (arith, lt) in
+      let in_all : j < length (take k (deps_of s)) = rw (length-take-le k (deps_of s) within_limit) before in
       none j found.0 in_all (ap dependency_of (get_or-take k (deps_of s) j found.0 before ∙ get_or_from_slice_get (deps_of s) j found.0 found.0 found.1) ∙ found.2);
 }
 

@@ -68,8 +68,8 @@ tell_cuts n all w (d ∷ ds) w_in within given =
     (tell_cut n w d w_in here)
 
 -- ---- each attribute is determined, or in a block
-abbrev IsTold : ℕ → List Dep → Attributes → ℕ → Type 0
-IsTold n ds x a = InClosure n (dependencies_of ds) x a ⊎ ((p : Attributes) × IsBlock n (dependencies_of ds) x p × (p a ≡ true))
+abbrev IsDeterminedOrIn : ℕ → List Dep → Attributes → ℕ → Type 0
+IsDeterminedOrIn n ds x a = InClosure n (dependencies_of ds) x a ⊎ ((p : Attributes) × IsBlock n (dependencies_of ds) x p × (p a ≡ true))
 
 all_implied : (n : ℕ) (ds : List Dep) → All (λ d. Implies n (dependencies_of ds) (dependency_of d)) ds
 all_implied n ds k d l r legal = legal-to n ds r legal k d l
@@ -77,10 +77,10 @@ all_implied n ds k d l r legal = legal-to n ds r legal k d l
 -- what is left once a dependency has cut
 next_piece : (n : ℕ) (ds : List Dep) (x : Attributes) (a : ℕ) (w : Attributes) (d : Dep) → n ≤ 128 → a < n → CanRefine n ds x w → w a ≡ true → CutsIt n (dependencies_of ds) w d
     → InClosure n (dependencies_of ds) x a ⊎ ((rest : Attributes) × CanRefine n ds x rest × (rest a ≡ true) × (count_below rest 128 < count_below w 128))
-next_piece n ds x a w (Fd lhs rhs) few low can member cuts =
+next_piece n ds x a w (Fd lhs rhs) within_limit low can member cuts =
     let v = attributes lhs in
     let t = attributes rhs in
-    let w_low : IsSubset w (below 128) = λ k m. grind (arith, nat_tests, can.universe k m, few) in
+    let w_low : IsSubset w (below 128) = λ k m. grind (arith, nat_tests, can.universe k m, within_limit) in
     elim (cases_Bool (t a)) [
       | inl in_t ↦ inl (low, moves n (dependencies_of ds) x w v t can.lhs can.universe cuts.within.0 a cuts.cutting.apart member in_t can.implied cuts.given)
       | inr out ↦ inr (
@@ -90,10 +90,10 @@ next_piece n ds x a w (Fd lhs rhs) few low can member cuts =
         outside_fewer w t (difference w t) (fd v t) w_low cuts.cutting refl refl,
       )
     ]
-next_piece n ds x a w (Mvd lhs rhs) few low can member cuts =
+next_piece n ds x a w (Mvd lhs rhs) within_limit low can member cuts =
     let v = attributes lhs in
     let t = attributes rhs in
-    let w_low : IsSubset w (below 128) = λ k m. grind (arith, nat_tests, can.universe k m, few) in
+    let w_low : IsSubset w (below 128) = λ k m. grind (arith, nat_tests, can.universe k m, within_limit) in
     elim (cases_Bool (t a)) [
       | inl in_t ↦ inr (
         intersection w t,
@@ -110,14 +110,14 @@ next_piece n ds x a w (Mvd lhs rhs) few low can member cuts =
     ]
 
 -- the part with a becomes smaller, until it is a block
-block_from : (n : ℕ) (ds : List Dep) (x : Attributes) (a : ℕ) → n ≤ 128 → a < n → (left : ℕ) (w : Attributes) → CanRefine n ds x w → w a ≡ true → count_below w 128 ≤ left → IsTold n ds x a
-block_from n ds x a few low zero w can member most = absurd (omega (arith, most, count_below-pos 128 w a (omega (arith, few, low)) member))
-block_from n ds x a few low (suc left) w can member most =
+block_from : (n : ℕ) (ds : List Dep) (x : Attributes) (a : ℕ) → n ≤ 128 → a < n → (left : ℕ) (w : Attributes) → CanRefine n ds x w → w a ≡ true → count_below w 128 ≤ left → IsDeterminedOrIn n ds x a
+block_from n ds x a within_limit low zero w can member most = absurd (omega (arith, most, count_below-pos 128 w a (omega (arith, within_limit, low)) member))
+block_from n ds x a within_limit low (suc left) w can member most =
     ⊎_elim
     (λ found. ⊎_elim
     (λ closed. inl closed)
-    (λ next. block_from n ds x a few low left next.0 next.1 next.2 (omega (arith, most, next.3)))
-    (next_piece n ds x a w found.0 few low can member found.1))
+    (λ next. block_from n ds x a within_limit low left next.0 next.1 next.2 (omega (arith, most, next.3)))
+    (next_piece n ds x a w found.0 within_limit low can member found.1))
     (λ whole. inr (
       w,
       candidate_block n (dependencies_of ds) x w a can.lhs (whole_legal n ds w can.deps (dependencies_all-from (LeavesWhole w w) ds whole))
@@ -132,13 +132,13 @@ block_from n ds x a few low (suc left) w can member most =
     ))
     (tell_cuts n (dependencies_of ds) w ds can.universe can.deps (all_implied n ds))
 
-pub block_at : (n : ℕ) (ds : List Dep) (x : Attributes) (a : ℕ) → n ≤ 128 → All (IsDepWithin (below n)) ds → IsSubset x (below n) → a < n → IsTold n ds x a
-block_at n ds x a few within x_in low = elim (cases_Bool (x a)) [
+pub block_at : (n : ℕ) (ds : List Dep) (x : Attributes) (a : ℕ) → n ≤ 128 → All (IsDepWithin (below n)) ds → IsSubset x (below n) → a < n → IsDeterminedOrIn n ds x a
+block_at n ds x a within_limit within x_in low = elim (cases_Bool (x a)) [
   | inl inside ↦ inl (low, λ r legal. reflexivity_obeyed x (only a) r (λ (k : ℕ) h. grind (arith, nat_tests, h, inside)))
   | inr out ↦
       let w = difference (below n) x in
       let can = first_refined n ds x w within x_in refl in
-      block_from n ds x a few low 128 w can (grind (arith, nat_tests, lt-ltb a n low, out)) (count_below-le 128 w)
+      block_from n ds x a within_limit low 128 w can (grind (arith, nat_tests, lt-ltb a n low, out)) (count_below-le 128 w)
 ]
 
 -- ---- an attribute in no given left side
@@ -157,7 +157,7 @@ difference_obeyed n x l q r x_in obeys t u t_in u_in agree =
       (λ (k : ℕ) m. v.3 k (grind (arith, m))),
     )
 
-module _ (n : ℕ) (ds : List Dep) (l x : Attributes) (few : n ≤ 128) (within : All (IsDepWithin (below n)) ds) (lefts : All (λ d. IsSubset (left_of (dependency_of d)) l) ds) (x_in : IsSubset x (below n)) where
+module _ (n : ℕ) (ds : List Dep) (l x : Attributes) (within_limit : n ≤ 128) (within : All (IsDepWithin (below n)) ds) (lefts : All (λ d. IsSubset (left_of (dependency_of d)) l) ds) (x_in : IsSubset x (below n)) where
   common_in : IsSubset (intersection x l) (below n)
   common_in k m = x_in k (grind (arith, m))
 
@@ -208,7 +208,7 @@ module _ (n : ℕ) (ds : List Dep) (l x : Attributes) (few : n ≤ 128) (within 
               let member : difference one.0 x a ≡ true = grind (arith, one.2, out) in
               absurd ((rest_block one.0 one.1 a member).outside a member h)
         ])
-        (block_at n ds (intersection x l) a few within common_in h.0)),
+        (block_at n ds (intersection x l) a within_limit within common_in h.0)),
     (λ h. ⊎_elim
         (λ (here : (a < n) × (x a ≡ true)). (here.0, λ r legal. reflexivity_obeyed x (only a) r (λ (k : ℕ) e. grind (arith, nat_tests, e, here.1))))
         (λ closed. wider a closed)
@@ -218,19 +218,19 @@ module _ (n : ℕ) (ds : List Dep) (l x : Attributes) (few : n ≤ 128) (within 
   pub blocks_rest : (p : Attributes) → IsBlock n (dependencies_of ds) x p ↔ ((q : Attributes) × IsBlock n (dependencies_of ds) (intersection x l) q × (p ≡ difference q x) × (IsEmpty p → ⊥))
   blocks_rest p = (
     (λ block. ⊎_elim
-        (λ some.
-        let a = some.0 in
-        let out : x a ≡ false = block_disjoint n (dependencies_of ds) x p block a some.2 in
+        (λ not_empty.
+        let a = not_empty.0 in
+        let out : x a ≡ false = block_disjoint n (dependencies_of ds) x p block a not_empty.2 in
         ⊎_elim
-        (λ closed. absurd (block.outside a some.2 (wider a closed)))
+        (λ closed. absurd (block.outside a not_empty.2 (wider a closed)))
         (λ (one : (q : Attributes) × IsBlock n (dependencies_of ds) (intersection x l) q × (q a ≡ true)).
         let member : difference one.0 x a ≡ true = grind (arith, one.2, out) in
-        (one.0, one.1, blocks_same n (dependencies_of ds) x p (difference one.0 x) block (rest_block one.0 one.1 a member) (a, some.2, member), block.some))
-        (block_at n ds (intersection x l) a few within common_in some.1))
-        (λ nothing. absurd (block.some nothing))
+        (one.0, one.1, blocks_same n (dependencies_of ds) x p (difference one.0 x) block (rest_block one.0 one.1 a member) (a, not_empty.2, member), block.not_empty))
+        (block_at n ds (intersection x l) a within_limit within common_in not_empty.1))
+        (λ nothing. absurd (block.not_empty nothing))
         (tell_empty n p block.universe)),
     (λ h. ⊎_elim
-        (λ some. subst (λ (w : Attributes). IsBlock n (dependencies_of ds) x w) (sym h.2) (rest_block h.0 h.1 some.0 (sym (same_at h.2 some.0) ∙ some.2)))
+        (λ not_empty. subst (λ (w : Attributes). IsBlock n (dependencies_of ds) x w) (sym h.2) (rest_block h.0 h.1 not_empty.0 (sym (same_at h.2 not_empty.0) ∙ not_empty.2)))
         (λ nothing. absurd (h.3 nothing))
         (tell_empty n p (λ (k : ℕ) m. h.1.universe k (grind (arith, same_at h.2 k, m))))),
   )

@@ -38,8 +38,8 @@ count_below-falls w rest k low inside member out = count_below-lt MOST_ATTRIBUTE
 module _ (s : Schema) (x : Attributes) (a : ℕ) (w rest : Attributes) (d : Dependency) (t g u : Tree) (part : IsPartProof s x a w t) (cutting : IsCutting w d)
     (low : IsSubset w (below MOST_ATTRIBUTES)) (x_in : IsSubset x (universe_of s)) (within : IsWithin (universe_of s) d) (given : Implies (width_of s) (theory_of s) d)
     (size : HasSize g 2 2) (more : IsLittleMore t g u) where
-  few_levels : count_below rest MOST_ATTRIBUTES < count_below w MOST_ATTRIBUTES → depth u + 5 * count_below rest MOST_ATTRIBUTES ≤ 5 * MOST_ATTRIBUTES + 2
-  few_levels fewer = grind (arith, fewer, more.few_levels, size.few_levels, part.few_levels, count_below-le MOST_ATTRIBUTES w)
+  level_bound : count_below rest MOST_ATTRIBUTES < count_below w MOST_ATTRIBUTES → depth u + 5 * count_below rest MOST_ATTRIBUTES ≤ 5 * MOST_ATTRIBUTES + 2
+  level_bound fewer = grind (arith, fewer, more.level_bound, size.level_bound, part.level_bound, count_below-le MOST_ATTRIBUTES w)
 
   pub next_outside : right_of d a ≡ false → rest ≡ difference w (right_of d) → Proves s u (mvd x (difference w (right_of d))) → IsPartProof s x a rest u × (count_below rest MOST_ATTRIBUTES < count_below w MOST_ATTRIBUTES)
   next_outside without is proves =
@@ -48,8 +48,8 @@ module _ (s : Schema) (x : Attributes) (a : ℕ) (w rest : Attributes) (d : Depe
           candidate = candidate_outside (width_of s) (theory_of s) x w (left_of d) (right_of d) rest a x_in within.0 without cutting.apart (implied_as_mvd (width_of s) (theory_of s) d given) is part.candidate;
           member = grind (arith, same_at is a, part.member, without);
           proves = mvd_restated s u x (difference w (right_of d)) x rest refl (sym is) proves;
-          few_nodes = omega (arith, fewer, more.few_nodes, size.few_nodes, part.few_nodes);
-          few_levels = few_levels fewer;
+          node_bound = omega (arith, fewer, more.node_bound, size.node_bound, part.node_bound);
+          level_bound = level_bound fewer;
         },
         fewer,
       )
@@ -64,8 +64,8 @@ module _ (s : Schema) (x : Attributes) (a : ℕ) (w rest : Attributes) (d : Depe
           candidate = candidate_inside (width_of s) (theory_of s) x w (left_of d) (right_of d) rest a x_in within.0 with cutting.apart (implied_as_mvd (width_of s) (theory_of s) d given) is part.candidate;
           member = grind (arith, same_at is a, part.member, with);
           proves = mvd_restated s u x (intersection w (right_of d)) x rest refl (sym is) proves;
-          few_nodes = omega (arith, fewer, more.few_nodes, size.few_nodes, part.few_nodes);
-          few_levels = few_levels fewer;
+          node_bound = omega (arith, fewer, more.node_bound, size.node_bound, part.node_bound);
+          level_bound = level_bound fewer;
         },
         fewer,
       )
@@ -92,7 +92,7 @@ given_implied s k dep is r legal =
 -- ---- the derivation that a cut gives
 next_part : (s : Schema) (a : ℕ) (from w : PartProof) → w.lhs ≡ from.lhs
     → IsPartProof s (attributes from.lhs) a (attributes w.part) (tree_of w.deriv.value) × (count_below (attributes w.part) MOST_ATTRIBUTES < count_below (attributes from.part) MOST_ATTRIBUTES) → IsNextPart s a from w
-next_part s a from w same h = record { same_lhs = same; shown = h.0; smaller = h.1 }
+next_part s a from w same h = record { same_lhs = same; proof = h.0; smaller = h.1 }
 
 pub next_part_outside : (s : Schema) (a k : ℕ) (dep : Dep) (from w : PartProof) (g : Tree) → CanCut s a k dep from → w.lhs ≡ from.lhs → HasSize g 2 2
     → IsLittleMore (tree_of from.deriv.value) g (tree_of w.deriv.value) → right_of (dependency_of dep) a ≡ false
@@ -101,7 +101,7 @@ pub next_part_outside : (s : Schema) (a k : ℕ) (dep : Dep) (from w : PartProof
 next_part_outside s a k dep from w g cut same size more without is proves =
     next_part s a from w same
     (next_outside s (attributes from.lhs) a (attributes from.part) (attributes w.part) (dependency_of dep) (tree_of from.deriv.value) g (tree_of w.deriv.value)
-    cut.shown cut.cutting (attributes_below from.part) cut.lhs (given_within s k dep cut.given) (given_implied s k dep cut.given) size more without is proves)
+    cut.proof cut.cutting (attributes_below from.part) cut.lhs (given_within s k dep cut.given) (given_implied s k dep cut.given) size more without is proves)
 
 pub next_part_inside : (s : Schema) (a k : ℕ) (dep : Dep) (from w : PartProof) (g : Tree) → CanCut s a k dep from → w.lhs ≡ from.lhs → HasSize g 2 2
     → IsLittleMore (tree_of from.deriv.value) g (tree_of w.deriv.value) → right_of (dependency_of dep) a ≡ true → is_fd (dependency_of dep) ≡ false
@@ -110,14 +110,14 @@ pub next_part_inside : (s : Schema) (a k : ℕ) (dep : Dep) (from w : PartProof)
 next_part_inside s a k dep from w g cut same size more with multivalued is proves =
     next_part s a from w same
     (next_inside s (attributes from.lhs) a (attributes from.part) (attributes w.part) (dependency_of dep) (tree_of from.deriv.value) g (tree_of w.deriv.value)
-    cut.shown cut.cutting (attributes_below from.part) cut.lhs (given_within s k dep cut.given) (given_implied s k dep cut.given) size more with multivalued is proves)
+    cut.proof cut.cutting (attributes_below from.part) cut.lhs (given_within s k dep cut.given) (given_implied s k dep cut.given) size more with multivalued is proves)
 
 -- ---- sizes
 pub size_grows : (t : Tree) (n m p q : ℕ) → n ≤ p → m ≤ q → HasSize t n m → HasSize t p q
-size_grows t n m p q more_nodes more_levels size = record { few_nodes = omega (arith, size.few_nodes); few_levels = omega (arith, size.few_levels) }
+size_grows t n m p q more_nodes more_levels size = record { node_bound = omega (arith, size.node_bound); level_bound = omega (arith, size.level_bound) }
 
 pub part_size : (s : Schema) (x : Attributes) (a : ℕ) (w : Attributes) (t : Tree) → IsPartProof s x a w t → HasSize t (8 * MOST_ATTRIBUTES + 2) (5 * MOST_ATTRIBUTES + 2)
-part_size s x a w t part = record { few_nodes = omega (arith, part.few_nodes); few_levels = omega (arith, part.few_levels) }
+part_size s x a w t part = record { node_bound = omega (arith, part.node_bound); level_bound = omega (arith, part.level_bound) }
 
 -- two facts of the value of an outcome
 pub IfOk_both : {A E : Type 0} {P Q R : A → Type 0} (r : Result A E) → IfOk r P → IfOk r Q → ((x : A) → P x → Q x → R x) → IfOk r R
@@ -130,8 +130,8 @@ part_first s x a w t low out is proves size = record {
   candidate = candidate_first (width_of s) (theory_of s) x w a low out is;
   member = same_at is a ∙ grind (arith, nat_tests, low, out);
   proves = mvd_restated s t x (difference (universe_of s) x) x w refl (sym is) proves;
-  few_nodes = omega (arith, size.few_nodes, count_below-le MOST_ATTRIBUTES w);
-  few_levels = omega (arith, size.few_levels, count_below-le MOST_ATTRIBUTES w);
+  node_bound = omega (arith, size.node_bound, count_below-le MOST_ATTRIBUTES w);
+  level_bound = omega (arith, size.level_bound, count_below-le MOST_ATTRIBUTES w);
 }
 
 pub part_last : (s : Schema) (x : Attributes) (a : ℕ) (w : Attributes) (t : Tree) → IsSubset x (universe_of s) → IsPartProof s x a w t → All (LeavesWhole w w) (theory_of s) → IsBlock (width_of s) (theory_of s) x w

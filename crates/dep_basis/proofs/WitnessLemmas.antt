@@ -36,7 +36,7 @@ zero_integer : IsIntegerText zero_text
 zero_integer = inl refl
 
 one_integer : IsIntegerText one_text
-one_integer = inr (inl (record { some = omega arith; first = λ (e : ◌≡◌ {A = ℕ} 49 48). absurd (omega arith); digits = refl; value = lit≤ tt }))
+one_integer = inr (inl (record { not_empty = omega arith; first = λ (e : ◌≡◌ {A = ℕ} 49 48). absurd (omega arith); digits = refl; value = lit≤ tt }))
 
 digit_integer : (b : Bool) → IsIntegerText (cond b zero_text one_text)
 digit_integer true = zero_integer

@@ -58,8 +58,8 @@ IsBetterCut a p d number best result =
 
 -- a tree has at most this many nodes and levels
 pub record HasSize (t : Tree) (most_nodes most_levels : ℕ) : Type 0 where
-  pub few_nodes : nodes t ≤ most_nodes
-  pub few_levels : depth t ≤ most_levels
+  pub node_bound : nodes t ≤ most_nodes
+  pub level_bound : depth t ≤ most_levels
 
 -- a tree proves that x multidetermines a part with attribute a in it, and is small beside what was
 -- cut off: eight nodes and five levels for each attribute
@@ -67,8 +67,8 @@ pub record IsPartProof (s : Schema) (x : Attributes) (a : ℕ) (w : Attributes) 
   pub candidate : IsCandidate (width_of s) (theory_of s) x a w
   pub member : w a ≡ true
   pub proves : Proves s t (mvd x w)
-  pub few_nodes : nodes t + 8 * count_below w MOST_ATTRIBUTES ≤ 8 * MOST_ATTRIBUTES + 2
-  pub few_levels : depth t + 5 * count_below w MOST_ATTRIBUTES ≤ 5 * MOST_ATTRIBUTES + 2
+  pub node_bound : nodes t + 8 * count_below w MOST_ATTRIBUTES ≤ 8 * MOST_ATTRIBUTES + 2
+  pub level_bound : depth t + 5 * count_below w MOST_ATTRIBUTES ≤ 5 * MOST_ATTRIBUTES + 2
 
 -- a tree proves that x determines attribute a
 pub record IsClosedProof (s : Schema) (x : Attributes) (a : ℕ) (t : Tree) : Type 0 where
@@ -81,22 +81,22 @@ pub record CanCut (s : Schema) (a k : ℕ) (dep : Dep) (from : PartProof) : Type
   pub cutting : IsCutting (attributes from.part) (dependency_of dep)
   pub lhs : IsSubset (attributes from.lhs) (universe_of s)
   pub attribute : a < MOST_ATTRIBUTES
-  pub shown : IsPartProof s (attributes from.lhs) a (attributes from.part) (tree_of from.deriv.value)
+  pub proof : IsPartProof s (attributes from.lhs) a (attributes from.part) (tree_of from.deriv.value)
 
 -- a derivation for a smaller part
 pub record IsNextPart (s : Schema) (a : ℕ) (from w : PartProof) : Type 0 where
   pub same_lhs : w.lhs ≡ from.lhs
-  pub shown : IsPartProof s (attributes from.lhs) a (attributes w.part) (tree_of w.deriv.value)
+  pub proof : IsPartProof s (attributes from.lhs) a (attributes w.part) (tree_of w.deriv.value)
   pub smaller : count_below (attributes w.part) MOST_ATTRIBUTES < count_below (attributes from.part) MOST_ATTRIBUTES
 
 -- what is left of a part with attribute a in it, where one dependency cuts it
-abbrev pub IsCutShown : Schema → ℕ → PartProof → Shown → Type 0
-IsCutShown s a from (Closed b) = IsClosedProof s (attributes from.lhs) a (tree_of b.value)
-IsCutShown s a from (Part w) = IsNextPart s a from w
+abbrev pub IsCutPart : Schema → ℕ → PartProof → Shown → Type 0
+IsCutPart s a from (Closed b) = IsClosedProof s (attributes from.lhs) a (tree_of b.value)
+IsCutPart s a from (Part w) = IsNextPart s a from w
 
--- what is shown of attribute a at last: that it is determined, or that its block is multidetermined
-abbrev pub IsShown : Schema → Attributes → ℕ → Shown → Type 0
-IsShown s x a (Closed b) = IsClosedProof s x a (tree_of b.value)
-IsShown s x a (Part w) =
+-- what is proved of attribute a at last: that it is determined, or that its block is multidetermined
+abbrev pub IsProofOfAttribute : Schema → Attributes → ℕ → Shown → Type 0
+IsProofOfAttribute s x a (Closed b) = IsClosedProof s x a (tree_of b.value)
+IsProofOfAttribute s x a (Part w) =
     IsPartProof s x a (attributes w.part) (tree_of w.deriv.value)
     × IsBlock (width_of s) (theory_of s) x (attributes w.part)

@@ -30,6 +30,6 @@ pub record IsSetProof (s : Schema) (x : Attributes) (a : ℕ) (w : PartProof) : 
 pub record IsLeft (x y left : Attributes) (t : Tree) : Type 0 where
   pub within : IsSubset left y
   pub apart : Disjoint left x
-  pub few_nodes : nodes t + (8 * MOST_ATTRIBUTES + 14) * count_below left MOST_ATTRIBUTES
+  pub node_bound : nodes t + (8 * MOST_ATTRIBUTES + 14) * count_below left MOST_ATTRIBUTES
       ≤ (8 * MOST_ATTRIBUTES + 14) * MOST_ATTRIBUTES + 1
-  pub few_levels : depth t + 5 * count_below left MOST_ATTRIBUTES ≤ 10 * MOST_ATTRIBUTES + 8
+  pub level_bound : depth t + 5 * count_below left MOST_ATTRIBUTES ≤ 10 * MOST_ATTRIBUTES + 8

@@ -10,7 +10,7 @@ use Rattle.dep_model.specs.OnSchemes.{ImpliedOn}
 pub record HasTwoParts (n : ℕ) (ds : List Dependency) (scheme x : Attributes) : Type 0 where
   pub rhs : Attributes
   pub implied : ImpliedOn n ds scheme (mvd x rhs)
-  pub some : Intersects (difference scheme x) rhs
+  pub not_empty : Intersects (difference scheme x) rhs
   pub rest : Intersects (difference scheme x) (difference scheme rhs)
 
 -- x determines an attribute of a set, or multidetermines some of the set and not all of it

@@ -18,15 +18,15 @@ abbrev pub sets_of : Pieces → List AttrSet
 sets_of found = take found.count found.sets
 
 -- attribute a is determined, or in one of the sets
-abbrev pub IsTold : ℕ → List Dependency → Attributes → List AttrSet → ℕ → Type 0
-IsTold n ds x ps a = Implies n ds (fd x (only a)) ⊎ Any (λ p. attributes p a ≡ true) ps
+abbrev pub IsDeterminedOrIn : ℕ → List Dependency → Attributes → List AttrSet → ℕ → Type 0
+IsDeterminedOrIn n ds x ps a = Implies n ds (fd x (only a)) ⊎ Any (λ p. attributes p a ≡ true) ps
 
 -- blocks of x, in which each attribute is that x does not determine
 pub record ArePieces (n : ℕ) (ds : List Dependency) (x : Attributes) (found : Pieces) : Type 0 where
   pub size : length found.sets ≡ MOST_BLOCKS
-  pub few : found.count ≤ MOST_BLOCKS
+  pub within_limit : found.count ≤ MOST_BLOCKS
   pub each : All (λ p. IsBlock n ds x (attributes p)) (sets_of found)
-  pub told : (a : ℕ) → a < n → IsTold n ds x (sets_of found) a
+  pub exhaustive : (a : ℕ) → a < n → IsDeterminedOrIn n ds x (sets_of found) a
 
 -- a set outside x that x multidetermines, over dependencies within the universe
 pub record CanRefine (n : ℕ) (ds : List Dep) (x w : Attributes) : Type 0 where
@@ -45,7 +45,7 @@ pub record HasRoom (w : Attributes) (found : Pieces) : Type 0 where
 pub record AreRefined (n : ℕ) (ds : List Dependency) (x w : Attributes) (before after : List AttrSet)
     : Type 0 where
   pub each : All (λ p. IsBlock n ds x (attributes p)) before → All (λ p. IsBlock n ds x (attributes p)) after
-  pub told : (a : ℕ) → w a ≡ true → IsTold n ds x after a
+  pub exhaustive : (a : ℕ) → w a ≡ true → IsDeterminedOrIn n ds x after a
 
 -- the blocks of a piece were added
 pub record IsRefined (ds : List Dep) (w : Attributes) (before after : Pieces) : Type 0 where

@@ -14,7 +14,7 @@ pub record IsTrace (n : ℕ) (ds : List Dependency) (scheme x q : Attributes) : 
   pub block : Attributes
   pub is_block : IsBlock n ds x block
   pub trace : q ≡ intersection block scheme
-  pub some : IsEmpty q → ⊥
+  pub not_empty : IsEmpty q → ⊥
 
 -- the first member of p is smaller than that of q
 abbrev pub BeginsBefore : Attributes → Attributes → Type 0
@@ -26,7 +26,7 @@ blocks_of found = take found.count found.blocks
 
 -- the blocks that count are apart and in the order of their least members, and nothing stands after them
 pub record AreListed (found : Blocks) : Type 0 where
-  pub few : found.count ≤ MOST_BLOCKS
+  pub within_limit : found.count ≤ MOST_BLOCKS
   pub apart : AllPairs (λ p q. Disjoint (attributes p) (attributes q)) (blocks_of found)
   pub in_order : AllPairs (λ p q. BeginsBefore (attributes p) (attributes q)) (blocks_of found)
   pub rest : All (λ q. IsEmpty (attributes q)) (drop found.count found.blocks)

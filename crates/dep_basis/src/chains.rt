@@ -46,9 +46,9 @@ pub fn functional_chain(
     ensures proves { IfOk result
         (λ found. IfSome found
         (λ b. Proves schema.now (tree_of b.value) (fd (attributes lhs) (attributes rhs)))) }
-    ensures few_nodes { IfOk result (λ found. IfSome found (λ b. nodes
+    ensures node_bound { IfOk result (λ found. IfSome found (λ b. nodes
         (tree_of b.value) ≤ 3 * MOST_ATTRIBUTES + 3)) }
-    ensures few_levels { IfOk result (λ found. IfSome found (λ b. depth
+    ensures level_bound { IfOk result (λ found. IfSome found (λ b. depth
         (tree_of b.value) ≤ MOST_ATTRIBUTES + 3)) }
 {
     let mut closed = lhs;

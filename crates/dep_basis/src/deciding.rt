@@ -103,7 +103,7 @@ fn block_split(deps: &[Dep], width: u8, lhs: AttrSet, rhs: AttrSet) -> Option<At
         IsBreakingBlock width (dependencies_of deps.now) (mvd (attributes lhs) (attributes rhs)) (attributes p)) }
 {
     let found = basis_by(deps, width, lhs);
-    first_meeting(
+    first_intersecting(
         &found.blocks[..found.count as usize],
         rhs,
         AttrSet::full(width).difference(rhs),
@@ -111,7 +111,7 @@ fn block_split(deps: &[Dep], width: u8, lhs: AttrSet, rhs: AttrSet) -> Option<At
 }
 
 // The first block that intersects two sets.
-fn first_meeting(blocks: &[AttrSet], one: AttrSet, other: AttrSet) -> Option<AttrSet>
+fn first_intersecting(blocks: &[AttrSet], one: AttrSet, other: AttrSet) -> Option<AttrSet>
     ensures none { IsNone result
         ↔ All (λ p. Intersects (attributes p) (attributes one)
         × Intersects (attributes p) (attributes other) → ⊥) blocks.now }

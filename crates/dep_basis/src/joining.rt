@@ -80,7 +80,7 @@ fn show_closed(
     requires attribute { attribute < width_of schema.now }
     requires outside { attributes lhs attribute ≡ false }
     requires implied { ImpliedBy schema.now (fd (attributes lhs) (only attribute)) }
-    ensures shown { IfOk result (λ b. IsClosedProof schema.now (attributes lhs) attribute
+    ensures proof { IfOk result (λ b. IsClosedProof schema.now (attributes lhs) attribute
         (tree_of b.value)) }
 {
     match show_attribute(alloc, schema, lhs, attribute)? {
@@ -100,7 +100,7 @@ fn show_set(
     requires lhs { IsSubset (attributes lhs) (universe_of schema.now) }
     requires attribute { attribute < width_of schema.now }
     requires outside { attributes lhs attribute ≡ false }
-    ensures shown { IfOk result (IsSetProof schema.now (attributes lhs) attribute) }
+    ensures proof { IfOk result (IsSetProof schema.now (attributes lhs) attribute) }
 {
     match show_attribute(alloc, schema, lhs, attribute)? {
         Shown::Closed(deriv) => Ok(PartProof {

@@ -5,7 +5,7 @@ ghost use Rattle.dep_model.specs.Dependencies.{is_fd, right_of};
 ghost use Rattle.dep_model.specs.Deps.{dependency_of};
 ghost use Rattle.dep_model.specs.Schemas.{width_of, universe_of};
 ghost use Rattle.derivation.specs.Derivs.{tree_of};
-ghost use Rattle.dep_basis.specs.CutProofs.{CanCut, IsNextPart, IsClosedProof, IsCutShown, IsShown};
+ghost use Rattle.dep_basis.specs.CutProofs.{CanCut, IsNextPart, IsClosedProof, IsCutPart, IsProofOfAttribute};
 
 use crate::cutting::best_cut;
 use crate::makers::{coalesce_with_given, complementation, given_fd, given_mvd};
@@ -32,7 +32,7 @@ pub enum Shown {
 }
 
 // What is left of a part with an attribute, where a given dependency cuts it.
-fn cut_shown(
+fn cut_part(
     alloc: Global,
     schema: &Schema,
     k: u16,
@@ -41,7 +41,7 @@ fn cut_shown(
     attribute: u8,
 ) -> Result<Shown, OutOfMemory>
     requires cut { CanCut schema.now attribute k dep from }
-    ensures shown { IfOk result (IsCutShown schema.now attribute from) }
+    ensures proof { IfOk result (IsCutPart schema.now attribute from) }
 {
     let (_, rhs) = sides(dep);
     if !rhs.contains(attribute) {
@@ -66,7 +66,7 @@ fn cut_outside(
 ) -> Result<PartProof, OutOfMemory>
     requires cut { CanCut schema.now attribute k dep from }
     requires without { right_of (dependency_of dep) attribute ≡ false }
-    ensures shown { IfOk result (IsNextPart schema.now attribute from) }
+    ensures proof { IfOk result (IsNextPart schema.now attribute from) }
 {
     let (_, rhs) = sides(dep);
     let PartProof { lhs, part, deriv } = from;
@@ -93,7 +93,7 @@ fn cut_inside(
     requires cut { CanCut schema.now attribute k dep from }
     requires with { right_of (dependency_of dep) attribute ≡ true }
     requires multivalued { is_fd (dependency_of dep) ≡ false }
-    ensures shown { IfOk result (IsNextPart schema.now attribute from) }
+    ensures proof { IfOk result (IsNextPart schema.now attribute from) }
 {
     let (_, rhs) = sides(dep);
     let PartProof { lhs, part, deriv } = from;
@@ -120,14 +120,14 @@ fn cut_closed(
 ) -> Result<Box<Deriv>, OutOfMemory>
     requires cut { CanCut schema.now attribute k (Dep.Fd lhs rhs) from }
     requires with { attributes rhs attribute ≡ true }
-    ensures shown { IfOk result (λ b.
+    ensures proof { IfOk result (λ b.
         IsClosedProof schema.now (attributes from.lhs) attribute (tree_of b.value)) }
 {
     let given = given_fd(alloc, schema, k, lhs, rhs)?;
     coalesce_with_given(alloc, schema, from.deriv, given, rhs, attribute)
 }
 
-// What is shown of an attribute outside the left side.
+// What is proved of an attribute outside the left side.
 pub fn show_attribute(
     alloc: Global,
     schema: &Schema,
@@ -137,7 +137,7 @@ pub fn show_attribute(
     requires lhs { IsSubset (attributes lhs) (universe_of schema.now) }
     requires attribute { attribute < width_of schema.now }
     requires outside { attributes lhs attribute ≡ false }
-    ensures shown { IfOk result (IsShown schema.now (attributes lhs) attribute) }
+    ensures proof { IfOk result (IsProofOfAttribute schema.now (attributes lhs) attribute) }
 {
     let deps = schema.deps();
     let mut from = PartProof {
@@ -146,7 +146,7 @@ pub fn show_attribute(
         deriv: complementation(alloc, schema, lhs)?,
     };
     while let Some(k) = best_cut(deps, from.part, attribute) {
-        match cut_shown(alloc, schema, k as u16, deps[k], from, attribute)? {
+        match cut_part(alloc, schema, k as u16, deps[k], from, attribute)? {
             Shown::Closed(deriv) => return Ok(Shown::Closed(deriv)),
             Shown::Part(rest) => from = rest,
         }

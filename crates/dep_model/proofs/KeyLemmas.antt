@@ -53,31 +53,31 @@ tried_outside scheme k m outside j h = elim (cases_eq j m) [
 
 -- it is a superkey at each step, down to the key itself
 tried_superkey : (n : ℕ) (ds : List Dependency) (scheme k : Attributes) → IsGreedyKey n ds scheme k → IsSubset scheme (below n) → (m left : ℕ) → m + left ≡ n → IsSuperkey n ds scheme (tried_from scheme k m)
-tried_superkey n ds scheme k settled low m zero e =
-    superkey_more n ds scheme scheme (tried_from scheme k m) (λ (j : ℕ) h. grind (arith, nat_tests, low j h)) (λ (j : ℕ) h. grind (arith, nat_tests, settled.within j)) (scheme_superkey n ds scheme)
-tried_superkey n ds scheme k settled low m (suc left) e =
-    let later = tried_superkey n ds scheme k settled low (m + 1) left (omega arith) in
-    let within : IsSubset (tried_from scheme k m) scheme = λ (j : ℕ) h. grind (arith, nat_tests, settled.within j) in
+tried_superkey n ds scheme k greedy low m zero e =
+    superkey_more n ds scheme scheme (tried_from scheme k m) (λ (j : ℕ) h. grind (arith, nat_tests, low j h)) (λ (j : ℕ) h. grind (arith, nat_tests, greedy.within j)) (scheme_superkey n ds scheme)
+tried_superkey n ds scheme k greedy low m (suc left) e =
+    let later = tried_superkey n ds scheme k greedy low (m + 1) left (omega arith) in
+    let within : IsSubset (tried_from scheme k m) scheme = λ (j : ℕ) h. grind (arith, nat_tests, greedy.within j) in
     elim (cases_Bool (k m)) [
       | inl kept ↦ superkey_more n ds scheme (tried_from scheme k (m + 1)) (tried_from scheme k m) (tried_kept scheme k m kept) within later
       | inr left_out ↦ elim (cases_Bool (scheme m)) [
-        | inl member ↦ superkey_more n ds scheme (left_without scheme k m) (tried_from scheme k m) (λ (j : ℕ) h. grind (arith, nat_tests)) within ((settled.left_out m member).0 left_out)
+        | inl member ↦ superkey_more n ds scheme (left_without scheme k m) (tried_from scheme k m) (λ (j : ℕ) h. grind (arith, nat_tests)) within ((greedy.left_out m member).0 left_out)
         | inr outside ↦ superkey_more n ds scheme (tried_from scheme k (m + 1)) (tried_from scheme k m) (tried_outside scheme k m outside) within later
       ]
     ]
 
 pub greedy_is_key : (n : ℕ) (ds : List Dependency) (scheme k : Attributes) → IsSubset scheme (below n) → IsGreedyKey n ds scheme k → IsKey n ds scheme k
-greedy_is_key n ds scheme k low settled = record {
-  superkey = superkey_more n ds scheme (tried_from scheme k 0) k (λ (j : ℕ) h. grind (arith, nat_tests)) settled.within (tried_superkey n ds scheme k settled low 0 n (omega arith));
+greedy_is_key n ds scheme k low greedy = record {
+  superkey = superkey_more n ds scheme (tried_from scheme k 0) k (λ (j : ℕ) h. grind (arith, nat_tests)) greedy.within (tried_superkey n ds scheme k greedy low 0 n (omega arith));
   minimal = λ j inside superkey a in_k. elim (cases_Bool (j a)) [
     | inl in_j ↦ in_j
     | inr out ↦
         let beside : IsSubset j (left_without scheme k a) = λ (i : ℕ) m. elim (cases_eq i a) [
           | inl same ↦ absurd (true≢false (sym m ∙ ap j same ∙ out))
-          | inr other ↦ grind (arith, nat_tests, inside i m, settled.within i (inside i m))
+          | inr other ↦ grind (arith, nat_tests, inside i m, greedy.within i (inside i m))
         ] in
-        let more = superkey_more n ds scheme j (left_without scheme k a) beside (λ (i : ℕ) h. grind (arith, nat_tests, settled.within i)) superkey in
-        absurd (true≢false (sym in_k ∙ (settled.left_out a (settled.within a in_k)).1 more))
+        let more = superkey_more n ds scheme j (left_without scheme k a) beside (λ (i : ℕ) h. grind (arith, nat_tests, greedy.within i)) superkey in
+        absurd (true≢false (sym in_k ∙ (greedy.left_out a (greedy.within a in_k)).1 more))
   ];
 }
 

@@ -51,7 +51,7 @@ decimal_integer v fits = elim (cases_eq v 0) [
       let first : 48 < get_or (decimal v) 0 0 = first_decimal v (omega (arith, other)) wide in
       let value : digits_value 10 (decimal v) ≡ v = digits_value-decimal decimal_numeral_model v wide in
       inr (inl (record {
-        some = decimal_nonempty v wide;
+        not_empty = decimal_nonempty v wide;
         first = λ (e : get_or (decimal v) 0 0 ≡ 48). absurd (omega (arith, e, first));
         digits = digits_decimal decimal_numeral_model v wide;
         value = omega (arith, value, fits);

@@ -6,7 +6,7 @@ use Rattle.std.specs.Str.Parse.{digits_value}
 
 -- one digit from 1 to 9 and then any digits, of a value of at most this
 pub record IsNumeral (most : ℕ) (bytes : List ℕ) : Type 0 where
-  pub some : 0 < length bytes
+  pub not_empty : 0 < length bytes
   pub first : slice_index bytes 0 ≢ 48
   pub digits : IsTrue (list_all is_ascii_digit bytes)
   pub value : digits_value 10 bytes ≤ most

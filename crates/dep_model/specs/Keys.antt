@@ -38,13 +38,13 @@ InClosure n ds x a = (a < n) × Implies n ds (fd x (only a))
 pub record IsBlock (n : ℕ) (ds : List Dependency) (x p : Attributes) : Type 0 where
   pub universe : IsSubset p (below n)
   pub outside : (a : ℕ) → p a ≡ true → InClosure n ds x a → ⊥
-  pub some : IsEmpty p → ⊥
+  pub not_empty : IsEmpty p → ⊥
   pub implied : Implies n ds (mvd x p)
   pub minimal : (q : Attributes) → IsSubset q p → (IsEmpty q → ⊥) → Implies n ds (mvd x q) → IsSubset p q
 
 -- a block (or part) of x on a scheme: a minimal non-empty set outside x that x multidetermines on the scheme
 pub record IsBlockOn (n : ℕ) (ds : List Dependency) (scheme x p : Attributes) : Type 0 where
   pub outside : Disjoint p x
-  pub some : IsEmpty p → ⊥
+  pub not_empty : IsEmpty p → ⊥
   pub implied : ImpliedOn n ds scheme (mvd x p)
   pub minimal : (q : Attributes) → IsSubset q p → (IsEmpty q → ⊥) → ImpliedOn n ds scheme (mvd x q) → IsSubset p q

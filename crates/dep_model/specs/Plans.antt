@@ -8,7 +8,7 @@ use Rattle.dep_model.specs.Projections.{Covers}
 -- a plan for n attributes: schemes with attributes of the universe, that together have all of them
 pub record IsPlan (n : ℕ) (plan : List Attributes) : Type 0 where
   pub within : All (λ scheme. IsSubset scheme (below n)) plan
-  pub some : All (λ scheme. IsEmpty scheme → ⊥) plan
+  pub not_empty : All (λ scheme. IsEmpty scheme → ⊥) plan
   pub covers : Covers n plan
 
 -- a list of `AttrSet`, as one of sets of attributes

@@ -15,10 +15,10 @@ use Rattle.dep_model.specs.Deps.{IsDepWithin}
 
 -- names, dependencies and their lines form a schema
 pub record IsSchema (names : List (List ℕ)) (deps : List Dep) (lines : List ℕ) : Type 0 where
-  pub some_names : 0 < length names
-  pub few_names : length names ≤ MOST_ATTRIBUTES
+  pub names_not_empty : 0 < length names
+  pub names_within_limit : length names ≤ MOST_ATTRIBUTES
   pub names_differ : AllPairs (λ a b. same_name a b ≡ false) names
-  pub few_deps : length deps ≤ MOST_DEPENDENCIES
+  pub deps_within_limit : length deps ≤ MOST_DEPENDENCIES
   pub deps_within : All (IsDepWithin (below (length names))) deps
   pub one_line_each : length lines ≡ length deps
 

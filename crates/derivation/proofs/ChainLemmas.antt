@@ -150,31 +150,31 @@ chain_proves s x y t x_in chain =
 -- ---- how large it is
 record IsOfSteps (x : Attributes) (m : ℕ) (a : Stage) : Type 0 where
   nodes_are : nodes a.tree ≡ 3 * m + 1
-  few_levels : depth a.tree ≤ m + 2
+  level_bound : depth a.tree ≤ m + 2
   each_more : m + count_below x MOST_ATTRIBUTES ≤ count_below a.closed MOST_ATTRIBUTES
 
 reached_size : (s : Schema) (x y : Attributes) (m : ℕ) (a : Stage) → Reaches s x y m a → IsOfSteps x m a
-reached_size s x y zero a reached = subst (IsOfSteps x zero) (sym reached) (record { nodes_are = refl; few_levels = omega arith; each_more = omega arith })
+reached_size s x y zero a reached = subst (IsOfSteps x zero) (sym reached) (record { nodes_are = refl; level_bound = omega arith; each_more = omega arith })
 reached_size s x y (suc m) a reached =
     let b = reached.0 in
     let k = reached.1 in
     let t = reached.2 in
     let first = reached.5 in
     let before = reached_size s x y m b reached.3 in
-    let t_in : IsSubset t (below MOST_ATTRIBUTES) = λ j h. grind (arith, nat_tests, (given_within s k first.lhs t first.given).1 j h, s.valid.few_names) in
+    let t_in : IsSubset t (below MOST_ATTRIBUTES) = λ j h. grind (arith, nat_tests, (given_within s k first.lhs t first.given).1 j h, s.valid.names_within_limit) in
     let more : count_below b.closed MOST_ATTRIBUTES < count_below (union b.closed t) MOST_ATTRIBUTES = elim (tell_subset MOST_ATTRIBUTES t b.closed t_in) [
       | inl new ↦ count_below-lt MOST_ATTRIBUTES b.closed (union b.closed t) new.0 (λ j h. grind (arith, h)) new.1 new.3 (grind (arith, new.2))
       | inr all ↦ absurd (first.out.beyond all)
     ] in
     subst (IsOfSteps x (suc m)) (sym reached.6) (record {
       nodes_are = omega (arith, before.nodes_are);
-      few_levels = omega (arith, before.few_levels);
+      level_bound = omega (arith, before.level_bound);
       each_more = omega (arith, before.each_more, more);
     })
 
 pub chain_small : (s : Schema) (x y : Attributes) (t : Tree) → IsFunctionalChain s x y t → (nodes t ≤ 3 * MOST_ATTRIBUTES + 3) × (depth t ≤ MOST_ATTRIBUTES + 3)
 chain_small s x y t chain =
     let size = reached_size s x y chain.steps chain.last chain.reached in
-    let few : chain.steps ≤ MOST_ATTRIBUTES = omega (arith, size.each_more, count_below-le MOST_ATTRIBUTES chain.last.closed) in
+    let within_limit : chain.steps ≤ MOST_ATTRIBUTES = omega (arith, size.each_more, count_below-le MOST_ATTRIBUTES chain.last.closed) in
     let P : Tree → Type 0 = λ u. (nodes u ≤ 3 * MOST_ATTRIBUTES + 3) × (depth u ≤ MOST_ATTRIBUTES + 3) in
-    subst P (sym chain.whole) (omega (arith, size.nodes_are, few), omega (arith, size.few_levels, few))
+    subst P (sym chain.whole) (omega (arith, size.nodes_are, within_limit), omega (arith, size.level_bound, within_limit))

@@ -8,7 +8,7 @@ use Rattle.dep_model.specs.Schemas.{universe_of}
 use Rattle.derivation.specs.Trees.{reflexivity, mreflexivity, augmentation, complementation, maugmentation, transitivity, mtransitivity, coalescence, Tree, leaf, step, pair}
 use Rattle.derivation.specs.Conclusions.{Proves}
 
--- ---- the same sets, told otherwise
+-- ---- the same sets, said otherwise
 pub fd_restated : (s : Schema) (t : Tree) (x y v w : Attributes) → x ≡ v → y ≡ w → Proves s t (fd x y) → Proves s t (fd v w)
 fd_restated s t x y v w left right proves =
     let e : fd x y ≡ fd v w = ap (λ (p : Attributes). fd p y) left ∙ ap (λ (p : Attributes). fd v p) right in

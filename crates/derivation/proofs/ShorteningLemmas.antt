@@ -73,9 +73,9 @@ least_direct s t result direct least =
     (λ (same : v ≡ r) u below again.
     let is_t : v ≡ t = same ∙ whole in
     let low : IsBelow u t = subst (λ (w : Tree). IsBelow u w) is_t below in
-    let few = least.least u d (inr low) (subst (λ (w : Tree). Proves s w d) is_t proves) again in
+    let within_limit = least.least u d (inr low) (subst (λ (w : Tree). Proves s w d) is_t proves) again in
     let equal : nodes r ≡ nodes t = ap nodes whole in
-    absurd (omega (arith, few, below-fewer u t low)))
+    absurd (omega (arith, within_limit, below-fewer u t low)))
     (λ below. direct v (subst (λ (w : Tree). IsBelow v w) whole below) v (inl refl) d proves)
     inside)
     (λ below. direct r below)
@@ -177,8 +177,8 @@ shortened_step s rule whole t from result is old least =
     rw is (record {
       same = λ d proves. least.same d (proves.0, old.same proves.0 proves.1, proves.2);
       only = least.only;
-      few_nodes = omega (arith, part-nodes r made least.part, old.few_nodes);
-      few_levels = omega (arith, part-depth r made least.part, old.few_levels);
+      node_bound = omega (arith, part-nodes r made least.part, old.node_bound);
+      level_bound = omega (arith, part-depth r made least.part, old.level_bound);
       direct = least_direct s made result (below_step_direct s rule (tree_of from.deriv.value) old.direct) least;
     })
 
@@ -190,8 +190,8 @@ shortened_pair s rule whole t w first second result is left right least =
     rw is (record {
       same = λ d proves. least.same d (proves.0, proves.1, left.same proves.0 proves.2, right.same proves.1 proves.3, proves.4);
       only = least.only;
-      few_nodes = omega (arith, part-nodes r made least.part, left.few_nodes, right.few_nodes);
-      few_levels = grind (arith, part-depth r made least.part, left.few_levels, right.few_levels);
+      node_bound = omega (arith, part-nodes r made least.part, left.node_bound, right.node_bound);
+      level_bound = grind (arith, part-depth r made least.part, left.level_bound, right.level_bound);
       direct = least_direct s made result (below_pair_direct s rule (tree_of first.deriv.value) (tree_of second.deriv.value) left.direct right.direct) least;
     })
 

@@ -74,18 +74,18 @@ restrict_below-within n x k m = grind (arith, m)
 -- a test of two sets, as a fact of the sets that are cut
 is_within-restrict_below : (n : ℕ) (x y : Attributes) → n ≤ MOST_ATTRIBUTES → is_subset x y ≡ true → IsSubset (restrict_below n x) (restrict_below n y)
 unfolding restrict_below
-is_within-restrict_below n x y few passes k m =
+is_within-restrict_below n x y within_limit passes k m =
     let low : k < n = grind (arith, nat_tests, m) in
     grind (arith, nat_tests, m, all_below-true MOST_ATTRIBUTES (λ j. not (x j) || y j) passes k (omega arith))
 
 is_same-restrict_below : (n : ℕ) (x y : Attributes) → n ≤ MOST_ATTRIBUTES → is_same x y ≡ true → SameBelow n x y
-is_same-restrict_below n x y few passes k low =
+is_same-restrict_below n x y within_limit passes k low =
     let both = and_parts (is_subset x y) (is_subset y x) passes in
     grind (arith, all_below-true MOST_ATTRIBUTES (λ j. not (x j) || y j) both.0 k (omega arith), all_below-true MOST_ATTRIBUTES (λ j. not (y j) || x j) both.1 k (omega arith))
 
 is_apart-restrict_below : (n : ℕ) (x y : Attributes) → n ≤ MOST_ATTRIBUTES → is_disjoint x y ≡ true → Disjoint (restrict_below n x) (restrict_below n y)
 unfolding restrict_below
-is_apart-restrict_below n x y few passes k m =
+is_apart-restrict_below n x y within_limit passes k m =
     let low : k < n = grind (arith, nat_tests, m) in
     grind (arith, nat_tests, m, all_below-true MOST_ATTRIBUTES (λ j. not (x j && y j)) passes k (omega arith))
 
@@ -105,22 +105,22 @@ leaf_sound s r legal (given k) d h =
 leaf_sound s r legal (reflexivity x y) d h =
     let n = width_of s in
     let passed = cond-ok (is_subset x (universe_of s) && is_subset y x) NotWithin (fd x y) d h in
-    let inside = is_within-restrict_below n y x s.valid.few_names (and_parts (is_subset x (universe_of s)) (is_subset y x) passed.0).1 in
+    let inside = is_within-restrict_below n y x s.valid.names_within_limit (and_parts (is_subset x (universe_of s)) (is_subset y x) passed.0).1 in
     let P : Dependency → Type 0 = λ e. Obeys n e r in
     subst P passed.1 (fd_same n (restrict_below n x) (restrict_below n y) x y r legal.over (restrict_below-back n x) (restrict_below-back n y) (reflexivity_obeyed (restrict_below n x) (restrict_below n y) r inside))
 leaf_sound s r legal (mreflexivity x y) d h =
     let n = width_of s in
     let passed = cond-ok (is_subset x (universe_of s) && is_subset y x) NotWithin (mvd x y) d h in
-    let inside = is_within-restrict_below n y x s.valid.few_names (and_parts (is_subset x (universe_of s)) (is_subset y x) passed.0).1 in
+    let inside = is_within-restrict_below n y x s.valid.names_within_limit (and_parts (is_subset x (universe_of s)) (is_subset y x) passed.0).1 in
     let P : Dependency → Type 0 = λ e. Obeys n e r in
     subst P passed.1 (mvd_below n (restrict_below n x) (restrict_below n y) x y r legal.over (restrict_below-back n x) (restrict_below-back n y) (mreflexivity_obeyed (below n) (restrict_below n x) (restrict_below n y) r inside))
 
 maugmentation_sound : (n : ℕ) (r : Relation) (x y w z : Attributes) → n ≤ MOST_ATTRIBUTES → IsOver n r → is_subset z w ≡ true → ObeysMvd (below n) x y r → ObeysMvd (below n) (union x w) (union y z) r
-maugmentation_sound n r x y w z few over narrow obeys =
+maugmentation_sound n r x y w z within_limit over narrow obeys =
     mvd_below n (union x (restrict_below n w)) (union y (restrict_below n z)) (union x w) (union y z) r over
     (λ k low. ap (λ b. x k || b) (restrict_below-back n w k low))
     (λ k low. ap (λ b. y k || b) (restrict_below-back n z k low))
-    (maugmentation_obeyed (below n) x y (restrict_below n w) (restrict_below n z) r (is_within-restrict_below n z w few narrow) (restrict_below-within n w) obeys)
+    (maugmentation_obeyed (below n) x y (restrict_below n w) (restrict_below n z) r (is_within-restrict_below n z w within_limit narrow) (restrict_below-within n w) obeys)
 
 step_sound : (s : Schema) (r : Relation) → LegalFor s r → (rule : Step) (x d : Dependency) → Obeys (width_of s) x r → step_conclusion s rule x ≡ Ok d → Obeys (width_of s) d r
 step_sound s r legal (augmentation z) (fd x y) d obeys h =
@@ -135,27 +135,27 @@ step_sound s r legal (maugmentation w z) (fd x y) d obeys h = cc
 step_sound s r legal (maugmentation w z) (mvd x y) d obeys h =
     let passed = cond-ok (is_subset w (universe_of s) && is_subset z w) NotWithin (mvd (union x w) (union y z)) d h in
     let P : Dependency → Type 0 = λ e. Obeys (width_of s) e r in
-    subst P passed.1 (maugmentation_sound (width_of s) r x y w z s.valid.few_names legal.over (and_parts (is_subset w (universe_of s)) (is_subset z w) passed.0).1 obeys)
+    subst P passed.1 (maugmentation_sound (width_of s) r x y w z s.valid.names_within_limit legal.over (and_parts (is_subset w (universe_of s)) (is_subset z w) passed.0).1 obeys)
 step_sound s r legal replication (fd x y) d obeys h =
     let P : Dependency → Type 0 = λ e. Obeys (width_of s) e r in
     subst P (the_ok (mvd x y) d h) (replication_obeyed (universe_of s) x y r obeys)
 step_sound s r legal replication (mvd x y) d obeys h = cc
 
 transitivity_sound : (n : ℕ) (r : Relation) (x y v z : Attributes) → n ≤ MOST_ATTRIBUTES → IsOver n r → is_same y v ≡ true → ObeysFd x y r → ObeysFd v z r → ObeysFd x z r
-transitivity_sound n r x y v z few over middle first second =
-    transitivity_obeyed x y z r first (fd_same n v z y z r over (λ k low. sym (is_same-restrict_below n y v few middle k low)) (SameBelow-refl n z) second)
+transitivity_sound n r x y v z within_limit over middle first second =
+    transitivity_obeyed x y z r first (fd_same n v z y z r over (λ k low. sym (is_same-restrict_below n y v within_limit middle k low)) (SameBelow-refl n z) second)
 
 mtransitivity_sound : (n : ℕ) (r : Relation) (x y v z : Attributes) → n ≤ MOST_ATTRIBUTES → IsOver n r → is_same y v ≡ true → ObeysMvd (below n) x y r → ObeysMvd (below n) v z r → ObeysMvd (below n) x (difference z y) r
-mtransitivity_sound n r x y v z few over middle first second =
+mtransitivity_sound n r x y v z within_limit over middle first second =
     mvd_below n (restrict_below n x) (difference (restrict_below n z) y) x (difference z y) r over (restrict_below-back n x) (λ k low. ap (λ b. b && not (y k)) (restrict_below-back n z k low))
     (mtransitivity_obeyed (below n) (restrict_below n x) y (restrict_below n z) r (restrict_below-within n x) (restrict_below-within n z)
     (mvd_below n x y (restrict_below n x) y r over (restrict_below-same n x) (SameBelow-refl n y) first)
-    (mvd_below n v z y (restrict_below n z) r over (λ k low. sym (is_same-restrict_below n y v few middle k low)) (restrict_below-same n z) second))
+    (mvd_below n v z y (restrict_below n z) r over (λ k low. sym (is_same-restrict_below n y v within_limit middle k low)) (restrict_below-same n z) second))
 
 coalescence_sound : (n : ℕ) (r : Relation) (x y z w : Attributes) → n ≤ MOST_ATTRIBUTES → IsOver n r → is_subset w y ≡ true → is_disjoint z y ≡ true → ObeysMvd (below n) x y r → ObeysFd z w r → ObeysFd x w r
-coalescence_sound n r x y z w few over inside apart first second =
+coalescence_sound n r x y z w within_limit over inside apart first second =
     fd_same n x (restrict_below n w) x w r over (SameBelow-refl n x) (restrict_below-back n w)
-    (coalescence_obeyed (below n) x (restrict_below n y) (restrict_below n z) (restrict_below n w) r (restrict_below-within n z) (is_within-restrict_below n w y few inside) (is_apart-restrict_below n z y few apart)
+    (coalescence_obeyed (below n) x (restrict_below n y) (restrict_below n z) (restrict_below n w) r (restrict_below-within n z) (is_within-restrict_below n w y within_limit inside) (is_apart-restrict_below n z y within_limit apart)
     (mvd_below n x y x (restrict_below n y) r over (SameBelow-refl n x) (restrict_below-same n y) first)
     (fd_same n z w (restrict_below n z) (restrict_below n w) r over (restrict_below-same n z) (restrict_below-same n w) second))
 
@@ -163,19 +163,19 @@ pair_sound : (s : Schema) (r : Relation) → LegalFor s r → (rule : Pair) (x y
 pair_sound s r legal transitivity (fd x y) (fd v z) d first second h =
     let passed = cond-ok (is_same y v) MiddleDiffers (fd x z) d h in
     let P : Dependency → Type 0 = λ e. Obeys (width_of s) e r in
-    subst P passed.1 (transitivity_sound (width_of s) r x y v z s.valid.few_names legal.over passed.0 first second)
+    subst P passed.1 (transitivity_sound (width_of s) r x y v z s.valid.names_within_limit legal.over passed.0 first second)
 pair_sound s r legal transitivity (fd x y) (mvd v z) d first second h = cc
 pair_sound s r legal transitivity (mvd x y) e d first second h = cc
 pair_sound s r legal mtransitivity (mvd x y) (mvd v z) d first second h =
     let passed = cond-ok (is_same y v) MiddleDiffers (mvd x (difference z y)) d h in
     let P : Dependency → Type 0 = λ e. Obeys (width_of s) e r in
-    subst P passed.1 (mtransitivity_sound (width_of s) r x y v z s.valid.few_names legal.over passed.0 first second)
+    subst P passed.1 (mtransitivity_sound (width_of s) r x y v z s.valid.names_within_limit legal.over passed.0 first second)
 pair_sound s r legal mtransitivity (mvd x y) (fd v z) d first second h = cc
 pair_sound s r legal mtransitivity (fd x y) e d first second h = cc
 pair_sound s r legal coalescence (mvd x y) (fd z w) d first second h =
     let passed = cond-ok_two (is_subset w y) (is_disjoint z y) NotDisjoint NotWithin (fd x w) d h in
     let P : Dependency → Type 0 = λ e. Obeys (width_of s) e r in
-    subst P passed.2 (coalescence_sound (width_of s) r x y z w s.valid.few_names legal.over passed.0 passed.1 first second)
+    subst P passed.2 (coalescence_sound (width_of s) r x y z w s.valid.names_within_limit legal.over passed.0 passed.1 first second)
 pair_sound s r legal coalescence (mvd x y) (mvd z w) d first second h = cc
 pair_sound s r legal coalescence (fd x y) e d first second h = cc
 

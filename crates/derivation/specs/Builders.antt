@@ -6,5 +6,5 @@ use Rattle.derivation.specs.Trees.{Tree, nodes, depth}
 -- a tree has at most six nodes more than two others together, and at most five levels more than the
 -- deeper one
 pub record IsLittleMore (t u grown : Tree) : Type 0 where
-  pub few_nodes : nodes grown ≤ nodes t + nodes u + 6
-  pub few_levels : depth grown ≤ max (depth t) (depth u) + 5
+  pub node_bound : nodes grown ≤ nodes t + nodes u + 6
+  pub level_bound : depth grown ≤ max (depth t) (depth u) + 5

@@ -50,6 +50,6 @@ pub record IsLeastPart (s : Schema) (t : Tree) (result : Concluded) : Type 0 whe
 pub record IsShortened (s : Schema) (t : Tree) (result : Concluded) : Type 0 where
   pub same : (d : Dependency) → Proves s t d → Proves s (tree_of result.deriv.value) d
   pub only : ConcludesOnly s (tree_of result.deriv.value) result.dep
-  pub few_nodes : nodes (tree_of result.deriv.value) ≤ nodes t
-  pub few_levels : depth (tree_of result.deriv.value) ≤ depth t
+  pub node_bound : nodes (tree_of result.deriv.value) ≤ nodes t
+  pub level_bound : depth (tree_of result.deriv.value) ≤ depth t
   pub direct : IsDirect s (tree_of result.deriv.value)

@@ -36,8 +36,8 @@ pub fn shorten(schema: &Schema, deriv: Box<Deriv>) -> Box<Deriv>
     requires fits_u32 { nodes (tree_of deriv.value) < 2 ^ 32 }
     ensures same { (d : Dependency) → Proves schema.now (tree_of deriv.value) d
         → Proves schema.now (tree_of result.value) d }
-    ensures few_nodes { nodes (tree_of result.value) ≤ nodes (tree_of deriv.value) }
-    ensures few_levels { depth (tree_of result.value) ≤ depth (tree_of deriv.value) }
+    ensures node_bound { nodes (tree_of result.value) ≤ nodes (tree_of deriv.value) }
+    ensures level_bound { depth (tree_of result.value) ≤ depth (tree_of deriv.value) }
     ensures direct { IsDirect schema.now (tree_of result.value) }
     ensures least { (t : Tree) (d : Dependency) → IsIn t (tree_of deriv.value)
         → Proves schema.now (tree_of deriv.value) d → Proves schema.now t d

@@ -86,9 +86,9 @@ failures_all ends i text whole so_far =
 plain_outcome_without_failure : (destinations : DestinationsInCall) (response : ResponseValue) (ending : OutcomeValue) (tables : Option (List TableValue))
     → MatchOption tables ((destinations.new ≡ destinations.old) × (ending ≡ outcome_of_response response)) (λ ts. WritesTables destinations response ts ending) → NoneFails destinations → (ending ≡ outcome_of_response response) × HaveTables destinations tables
 plain_outcome_without_failure destinations response ending None (same, is) calm = (is, same)
-plain_outcome_without_failure destinations response ending (Some ts) feeds calm =
-    let all = all_done destinations ts feeds.ends feeds.written feeds.memory calm in
-    (feeds.reports ∙ ap (λ (b : Bool). if b then outcome_of_response response else record { status = DestinationFailed; text = failures_text 1 feeds.ends }) all.0, all.1)
+plain_outcome_without_failure destinations response ending (Some ts) written_tables calm =
+    let all = all_done destinations ts written_tables.ends written_tables.written written_tables.memory calm in
+    (written_tables.reports ∙ ap (λ (b : Bool). if b then outcome_of_response response else record { status = DestinationFailed; text = failures_text 1 written_tables.ends }) all.0, all.1)
 
 yes_or_failed : (response : ResponseValue) (b : Bool) (text : List ℕ) → response.status ≡ Yes
     → ((if b then outcome_of_response response else record { status = DestinationFailed; text = text }).status ≡ Yes) ⊎ ((if b then outcome_of_response response else record { status = DestinationFailed; text = text }).status ≡ DestinationFailed)
@@ -112,9 +112,9 @@ not_written status is (inr (inr other)) = cc
 tables_only_with_yes : (destinations : DestinationsInCall) (response : ResponseValue) (ending : OutcomeValue) (tables : Option (List TableValue))
     → MatchOption tables ((destinations.new ≡ destinations.old) × (ending ≡ outcome_of_response response)) (λ ts. WritesTables destinations response ts ending) → IsNoOrStops ending.status → destinations.new ≡ destinations.old
 tables_only_with_yes destinations response ending None (same, is) other = same
-tables_only_with_yes destinations response ending (Some ts) feeds other =
-    let status : ending.status ≡ (reported_outcome response feeds.ends).status = ap (λ (e : OutcomeValue). e.status) feeds.reports in
-    absurd (not_those ending.status (subst (λ (s : Status). (s ≡ Yes) ⊎ (s ≡ DestinationFailed)) (sym status) (yes_or_failed response (list_all is_done feeds.ends) (failures_text 1 feeds.ends) feeds.yes)) other)
+tables_only_with_yes destinations response ending (Some ts) written_tables other =
+    let status : ending.status ≡ (reported_outcome response written_tables.ends).status = ap (λ (e : OutcomeValue). e.status) written_tables.reports in
+    absurd (not_those ending.status (subst (λ (s : Status). (s ≡ Yes) ⊎ (s ≡ DestinationFailed)) (sym status) (yes_or_failed response (list_all is_done written_tables.ends) (failures_text 1 written_tables.ends) written_tables.yes)) other)
 
 -- ---- the top call
 -- an answer that is allowed, delivered
@@ -122,7 +122,7 @@ pub desk_delivered : (words : List (List ℕ)) (source : FileSourceInCall) (sink
     → Answers (reading_in_call source) words response
     → ((files : Files) → source.files ≡ Some files → (ErrorCountIncreased source.before source.after → ⊥) → Answers (known_files files) words response)
     → Delivered sink destinations response result → source.files_after ≡ source.files → source.before ≤ source.after → Desk words source sink destinations result
-desk_delivered words source sink destinations response result seen_so told_so delivered files reads = record {
+desk_delivered words source sink destinations response result seen_so known_so delivered files reads = record {
   response = λ status is. ended status (delivered.ends status is);
   complete = λ files are calm calm_sink calm_destinations status is. whole files are calm calm_sink calm_destinations status (delivered.ends status is);
   stay = λ status is other. stays status other (delivered.ends status is);
@@ -143,7 +143,7 @@ desk_delivered words source sink destinations response result seen_so told_so de
     whole files are calm calm_sink calm_destinations status (inl (ending, comes, same, written, fine)) =
         let end = plain_outcome_without_failure destinations response ending response.tables comes calm_destinations in (
           response,
-          told_so files are calm,
+          known_so files are calm,
           same ∙ ap (λ (e : OutcomeValue). e.status) end.0,
           written ∙ ap (λ (e : OutcomeValue). append_known sink.old e.text) end.0,
           end.1,

@@ -1,4 +1,4 @@
--- Schemes that were told with their keys, one after the other.
+-- Schemes that were listed with their keys, one after the other.
 use Rattle.std.proofs.Common.{◌≡◌, ◌<◌, ◌+◌, ℕ, List, [], ◌∷◌, ◌++◌, length, map, take, get_or, refl, sym, ap, ◌∙◌}
 use Rattle.std.proofs.lemmas.Grind.{flat_map-append}
 use Rattle.std.proofs.lemmas.List.{append-nil, map-append, take_more}
@@ -23,8 +23,8 @@ pub record Told (s : Schema) (schemes : List AttrSet) (text : List ℕ) : Type 0
   pub is : text ≡ flat_map (keyed_text (printed_names_of s)) listed
   pub passed : All (λ scheme. IsListed s (attributes scheme)) schemes
 
-pub told_nothing : (s : Schema) (text : List ℕ) → text ≡ [] → Told s [] text
-told_nothing s text none = record {
+pub keys_of_none : (s : Schema) (text : List ℕ) → text ≡ [] → Told s [] text
+keys_of_none s text none = record {
   listed = [];
   schemes_are = refl;
   keys = All-nil (HasKeys s);
@@ -32,10 +32,10 @@ told_nothing s text none = record {
   passed = All-nil (λ scheme. IsListed s (attributes scheme));
 }
 
-pub told_more : (s : Schema) (schemes : List AttrSet) (i : ℕ) (d : AttrSet) (keys : List AttrSet) (text more : List ℕ)
+pub keys_of_next : (s : Schema) (schemes : List AttrSet) (i : ℕ) (d : AttrSet) (keys : List AttrSet) (text more : List ℕ)
     → Told s (take i schemes) text → i < length schemes → HasKeys s (keyed_scheme (get_or schemes i d) keys)
     → more ≡ text ++ keyed_text (printed_names_of s) (keyed_scheme (get_or schemes i d) keys) → Told s (take (i + 1) schemes) more
-told_more s schemes i d keys text more before low has added =
+keys_of_next s schemes i d keys text more before low has added =
     let next = keyed_scheme (get_or schemes i d) keys in
     record {
       listed = before.listed ++ next ∷ [];

@@ -28,4 +28,4 @@ losses_within n ds plan k (e ∷ rest) losses (inr (loss, more, at, number, is, 
     within_at loss more first others (suc j) d low = others j d (omega (arith, low))
 
 pub split_first : (losses : List Loss) (d : Loss) → 0 < length losses → losses ≡ get_or losses 0 d ∷ drop 1 losses
-split_first losses d some = at_drop_more (λ (l : List Loss). l) losses 0 d some
+split_first losses d not_empty = at_drop_more (λ (l : List Loss). l) losses 0 d not_empty

@@ -29,18 +29,18 @@ attribute_named-absent p names i d none low = fails_before_first p names i d (gr
 names_apart : (names : List (List ℕ)) → IsColumnHeader names → (i j : ℕ) (d : List ℕ) → i < j → j < length names → same_name (get_or names i d) (get_or names j d) ≡ false
 names_apart names header i j d before within =
     let at = get_or names j [] in
-    let few : length (take j names) ≡ j = length-take-le j names (omega (arith, within)) in
+    let within_limit : length (take j names) ≡ j = length-take-le j names (omega (arith, within)) in
     let apart : same_name (get_or (take j names) i d) at ≡ false =
-    attribute_named-absent (λ name. same_name name at) (take j names) i d (header.named j within).1 (omega (arith, few, before)) in
+    attribute_named-absent (λ name. same_name name at) (take j names) i d (header.named j within).1 (omega (arith, within_limit, before)) in
     subst (λ (b : List ℕ). same_name (get_or names i d) b ≡ false) (get_or_default names j [] d within)
     (subst (λ (a : List ℕ). same_name a at ≡ false) (get_or-take j names i d before) apart)
 
 pub headed_schema : (names : List (List ℕ)) (deps : List Dep) (lines : List ℕ) → IsColumnHeader names → 0 < length names → deps ≡ [] → lines ≡ [] → IsSchema names deps lines
-headed_schema names deps lines header some none empty = record {
-  some_names = some;
-  few_names = omega (arith, header.few);
+headed_schema names deps lines header not_empty none empty = record {
+  names_not_empty = not_empty;
+  names_within_limit = omega (arith, header.within_limit);
   names_differ = names_apart names header;
-  few_deps = rw none (omega arith);
+  deps_within_limit = rw none (omega arith);
   deps_within = rw none (λ k d l. absurd (omega arith));
   one_line_each = ap length empty ∙ sym (ap length none);
 }

@@ -16,9 +16,9 @@ pub differences_differ : (schema other : Schema) (of_schema of_other : List ℕ)
     → AreDifferences schema other of_schema → AreDifferences other schema of_other
     → (of_schema ≡ []) ↔ IsImpliedBy other schema → (of_other ≡ []) ↔ IsImpliedBy schema other
     → ((of_schema ≡ []) × (of_other ≡ []) → ⊥) → Differ schema other of_schema of_other
-differences_differ schema other of_schema of_other names there back none_there none_back some = record {
+differences_differ schema other of_schema of_other names there back none_there none_back not_empty = record {
   there = there;
   back = back;
-  implied = λ implied again. some (none_there.1 implied, none_back.1 again);
-  legal = λ same. some (none_there.1 (implied_there schema other names same), none_back.1 (implied_back schema other names same));
+  implied = λ implied again. not_empty (none_there.1 implied, none_back.1 again);
+  legal = λ same. not_empty (none_there.1 (implied_there schema other names same), none_back.1 (implied_back schema other names same));
 }

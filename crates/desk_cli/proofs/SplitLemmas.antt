@@ -11,8 +11,8 @@ use Rattle.split_forms.proofs.WalkLemmas.{reached_plan}
 
 pub stuck_within : (n : ℕ) (ds : List Dependency) (form : Form) (limit : ℕ) (scheme : Attributes) → 0 < n → (form ≡ Third → ⊥)
     → IsTooWideAt n ds form limit scheme → IsSubset scheme (below n)
-stuck_within n ds form limit scheme some other wide =
-    let plan = reached_plan n ds form wide.schemes some other wide.reached in
+stuck_within n ds form limit scheme not_empty other wide =
+    let plan = reached_plan n ds form wide.schemes not_empty other wide.reached in
     let at : Contains wide.schemes scheme = subst (λ (l : List Attributes). Contains l scheme) (sym wide.stuck.list)
     (Contains-append_right wide.stuck.earlier (scheme ∷ wide.stuck.later) scheme (0, omega arith, refl)) in
     All-contains (λ (x : Attributes). IsSubset x (below n)) wide.schemes scheme plan.within at

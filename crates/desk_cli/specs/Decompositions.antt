@@ -77,7 +77,7 @@ pub record IsWideSplit (schema : Schema) (plan : List AttrSet) : Type 0 where
   pub split : IsWidePlan (width_of schema) (theory_of schema) plan
   pub lossless : IsLossless (width_of schema) (theory_of schema) (schemes_of plan)
   pub bcnf : All (IsBcnf (width_of schema) (theory_of schema)) (schemes_of plan)
-  pub few : length plan ≤ width_of schema
+  pub within_limit : length plan ≤ width_of schema
 
 -- yes, with such a plan
 abbrev pub SplitsWide : Schema → Allowed

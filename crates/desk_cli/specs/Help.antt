@@ -1,4 +1,4 @@
--- What the program tells of itself: for `help` and `version`.
+-- What the program says of itself: for `help` and `version`.
 use Rattle.std.specs.Prelude.{ℕ, List, ◌++◌, codes}
 use Rattle.desk_texts.specs.Texts.{line}
 

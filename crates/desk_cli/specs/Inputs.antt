@@ -60,12 +60,12 @@ WithSchema r name = With (SchemaStops r name) (IsSchemaFile r name)
 -- ---- goals
 -- a goal is refused so
 pub record IsRefusedGoal (schema : Schema) (goal : List ℕ) (refusal : SchemaRefusal) : Type 0 where
-  pub few : length goal ≤ MOST_GOAL_BYTES
+  pub within_limit : length goal ≤ MOST_GOAL_BYTES
   pub refused : RefusesGoal (names_of schema) goal refusal
 
 -- a goal means this dependency
 pub record IsGoal (schema : Schema) (goal : List ℕ) (dep : Dependency) : Type 0 where
-  pub few : length goal ≤ MOST_GOAL_BYTES
+  pub within_limit : length goal ≤ MOST_GOAL_BYTES
   pub means : MeansGoal (names_of schema) goal dep
 
 -- how the reading of a goal ends a command
@@ -82,12 +82,12 @@ WithGoal schema goal = With (GoalStops schema goal) (IsGoal schema goal)
 -- ---- sets
 -- a set is refused so
 pub record IsRefusedSet (schema : Schema) (set : List ℕ) (refusal : SchemaRefusal) : Type 0 where
-  pub few : length set ≤ MOST_SET_BYTES
+  pub within_limit : length set ≤ MOST_SET_BYTES
   pub refused : RefusesSet (names_of schema) set refusal
 
 -- a text means this set of attributes
 pub record IsSetText (schema : Schema) (set : List ℕ) (x : Attributes) : Type 0 where
-  pub few : length set ≤ MOST_SET_BYTES
+  pub within_limit : length set ≤ MOST_SET_BYTES
   pub means : MeansSet (names_of schema) set x
 
 -- how the reading of a set ends a command

@@ -29,14 +29,14 @@ loss_text schema loss =
     ++ codes ": " ++ dep_text (printed_names_of schema) (slice_get (deps_of schema) loss.dep) ++ codes " is lost")
 
 -- the two tuples that show a loss
-abbrev pub shown_text : Schema → Loss → List ℕ
-shown_text schema loss =
+abbrev pub two_tuples_text : Schema → Loss → List ℕ
+two_tuples_text schema loss =
     line (codes "shown by")
     ++ rows_text (names_of schema) (two_tuples (width_of schema) (attributes loss.agreement))
 
 -- each dependency that is lost, and two tuples that show the first
 abbrev pub losses_text : Schema → Loss → List Loss → List ℕ
-losses_text schema first more = flat_map (loss_text schema) (first ∷ more) ++ shown_text schema first
+losses_text schema first more = flat_map (loss_text schema) (first ∷ more) ++ two_tuples_text schema first
 
 -- ---- answers
 -- yes exactly where a plan keeps the functional dependencies; else no, with those that it loses

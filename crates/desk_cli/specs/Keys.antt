@@ -62,7 +62,7 @@ keyed_text names keyed = set_line (codes "scheme ") names keyed.scheme ++ keys_t
 pub record HasKeys (schema : Schema) (keyed : KeyedScheme) : Type 0 where
   pub narrow : IsWideScheme keyed.scheme → ⊥
   pub keys : AreAllKeys (width_of schema) (theory_of schema) keyed.scheme keyed.keys
-  pub few : length keyed.keys ≤ MOST_KEYS
+  pub within_limit : length keyed.keys ≤ MOST_KEYS
 
 -- the keys of a scheme are listed
 abbrev pub IsListed : Schema → Attributes → Type 0

@@ -70,7 +70,7 @@ failures_text number (end ∷ ends) = end_text number end ++ failures_text (numb
 abbrev pub outcome_of_response : ResponseValue → OutcomeValue
 outcome_of_response response = record { status = response.status; text = response.text }
 
--- what is told after destinations ended so, none out of memory: the answer, where all are done, and
+-- What is answered after destinations ended so, none out of memory: the answer, where all are done, and
 -- else those that failed
 abbrev pub reported_outcome : ResponseValue → List WriteOutcome → OutcomeValue
 reported_outcome response ends = if list_all is_done ends then outcome_of_response response

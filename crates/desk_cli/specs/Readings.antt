@@ -37,7 +37,7 @@ IsTooLong r name limit = TookMore r limit × IsLonger (files_in r) name limit
 abbrev pub IsContent : Reading → List ℕ → ℕ → List ℕ → Type 0
 IsContent r name limit bytes = IsHeld (files_in r) name bytes × (length bytes ≤ limit)
 
--- a reading tells what a file source shows from one state to a later one
+-- a reading says what a file source shows from one state to a later one
 pub record Shows {S : Type 0} (files : S → Option Files) (faults taken : S → ℕ) (old new : S)
     (r : Reading) : Type 0 where
   pub same : files_in r ≡ files old

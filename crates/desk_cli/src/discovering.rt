@@ -99,7 +99,7 @@ fn headed_refusal_exit(alloc: Global, name: &[u8], refusal: DiscoverRefusal) -> 
     EarlyExit::with_text(Status::Refused, headed_refusal_line(alloc, name, refusal))
 }
 
-// The line that tells a refusal.
+// The line that words a refusal.
 fn headed_refusal_line(
     alloc: Global,
     name: &[u8],

@@ -54,7 +54,7 @@ pub fn deliver_tables<T: Destination>(
     }
 }
 
-// Hands these tables to the destinations, and then tells this text, or which destinations failed.
+// Hands these tables to the destinations, and then answers this text, or which destinations failed.
 //
 // All memory but that of the destinations is taken before the first call of a destination.
 fn hand_over<T: Destination>(
@@ -80,7 +80,7 @@ fn hand_over<T: Destination>(
     Ok(end)
 }
 
-// What is told after destinations ended so. The text of a failure is written into the room.
+// What is answered after destinations ended so. The text of a failure is written into the room.
 fn report(text: Vec<u8>, room: Vec<u8>, ends: &[WriteOutcome]) -> Result<Outcome, OutOfMemory>
     requires empty { room.items ≡ [] }
     requires has_room { length ends.now * LINE ≤ vec_capacity room }

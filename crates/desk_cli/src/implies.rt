@@ -58,7 +58,7 @@ fn certificate_response(
     deriv: &Deriv,
 ) -> Result<Response, OutOfMemory>
     requires proof { IsProof schema.now (tree_of deriv.now) }
-    requires few_lines { nodes (tree_of deriv.now) ≤ MOST_NODES }
+    requires lines_within_limit { nodes (tree_of deriv.now) ≤ MOST_NODES }
     requires within_limit { depth (tree_of deriv.now) ≤ MOST_LEVELS }
     ensures response { IfOk result
         (λ response. Says Status.Yes (yes_text

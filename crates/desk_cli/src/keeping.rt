@@ -4,7 +4,7 @@ ghost use Rattle.attr_sets.specs.Attributes.{IsSubset};
 ghost use Rattle.attr_sets.specs.Sets.{attributes};
 ghost use Rattle.dep_model.specs.Plans.{schemes_of};
 ghost use Rattle.dep_model.specs.Schemas.{universe_of};
-ghost use Rattle.desk_cli.specs.Keeping.{ChecksKeeping, JudgesKeeping, kept_text, loss_text, losses_text, shown_text};
+ghost use Rattle.desk_cli.specs.Keeping.{ChecksKeeping, JudgesKeeping, kept_text, loss_text, losses_text, two_tuples_text};
 ghost use Rattle.desk_cli.specs.Readings.{Reading, Shows};
 ghost use Rattle.desk_cli.specs.Responses.{response_value, RespondsAs};
 
@@ -75,13 +75,13 @@ fn losses_lines(
 ) -> Result<Vec<u8>, OutOfMemory>
     requires within { IsSubset (attributes first.agreement) (universe_of schema.now) }
     ensures text { IfOk result
-        (λ text. text.items ≡ flat_map (loss_text schema.now) losses.now ++ shown_text schema.now first) }
+        (λ text. text.items ≡ flat_map (loss_text schema.now) losses.now ++ two_tuples_text schema.now first) }
 {
     let mut text = Vec::new(alloc);
     for loss in losses {
         add(&mut text, &loss_line(alloc, schema, *loss)?)?;
     }
-    add(&mut text, &shown_lines(alloc, schema, first)?)?;
+    add(&mut text, &two_tuples_lines(alloc, schema, first)?)?;
     Ok(text)
 }
 
@@ -100,9 +100,9 @@ fn loss_line(alloc: Global, schema: &Schema, loss: Loss) -> Result<Vec<u8>, OutO
 }
 
 // The two tuples that show a loss.
-fn shown_lines(alloc: Global, schema: &Schema, loss: Loss) -> Result<Vec<u8>, OutOfMemory>
+fn two_tuples_lines(alloc: Global, schema: &Schema, loss: Loss) -> Result<Vec<u8>, OutOfMemory>
     requires within { IsSubset (attributes loss.agreement) (universe_of schema.now) }
-    ensures text { IfOk result (λ text. text.items ≡ shown_text schema.now loss) }
+    ensures text { IfOk result (λ text. text.items ≡ two_tuples_text schema.now loss) }
 {
     let pair = witness(alloc, schema, loss.agreement)?;
     let rows = Rows::of(alloc, &pair)?;

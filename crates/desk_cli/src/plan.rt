@@ -68,7 +68,7 @@ fn plan_refusal_exit(alloc: Global, schema: &Schema, name: &[u8], refusal: PlanR
     )
 }
 
-// The line that tells a refusal of a plan.
+// The line that words a refusal of a plan.
 fn plan_refusal_line(
     alloc: Global,
     schema: &Schema,

@@ -10,7 +10,7 @@ use desk_texts::put_pair;
 use schema_printer::{add, add_number};
 use std::alloc::Global;
 
-/// The line that tells a refusal of rows.
+/// The line that words a refusal of rows.
 pub fn row_refusal_line(
     alloc: Global,
     schema: &Schema,

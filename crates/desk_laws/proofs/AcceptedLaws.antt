@@ -45,11 +45,11 @@ record SaidYes (files : Files) (schema goal text : List ℕ) : Type 0 where
   of : Schema
   bytes : List ℕ
   has : bytes_of_file files schema ≡ Some bytes
-  few_bytes : length bytes ≤ MOST_TEXT_BYTES
+  bytes_within_limit : length bytes ≤ MOST_TEXT_BYTES
   means : MeansSchema bytes (declarations_of of)
   bare : naming_of of ≡ Bare
   dep : Dependency
-  few_goal : length goal ≤ MOST_GOAL_BYTES
+  goal_within_limit : length goal ≤ MOST_GOAL_BYTES
   means_goal : MeansGoal (names_of of) goal dep
   proof : Deriv
   is_proof : IsProofOf of dep (tree_of proof)
@@ -63,25 +63,25 @@ yes_there files schema goal response says_yes (inl exit) = absurd (schema_says (
 yes_there files schema goal response says_yes (inr (of, file, rest)) = after_goal rest
   where
     decided : (dep : Dependency) → length goal ≤ MOST_GOAL_BYTES → MeansGoal (names_of of) goal dep → Decided of dep response → SaidYes files schema goal response.text
-    decided dep few_goal means_goal (inl (implied, found)) = record {
+    decided dep goal_within_limit means_goal (inl (implied, found)) = record {
       of = of;
       bytes = file.bytes;
       has = file.content.0;
-      few_bytes = file.content.1;
+      bytes_within_limit = file.content.1;
       means = file.means;
       bare = file.bare;
       dep = dep;
-      few_goal = few_goal;
+      goal_within_limit = goal_within_limit;
       means_goal = means_goal;
       proof = found.0;
       is_proof = found.1;
       printed = ap (λ (a : ResponseValue). a.text) found.3;
     }
-    decided dep few_goal means_goal (inr (broken, found)) = absurd (no_says response says_yes (ap (λ (a : ResponseValue). a.status) found.2))
+    decided dep goal_within_limit means_goal (inr (broken, found)) = absurd (no_says response says_yes (ap (λ (a : ResponseValue). a.status) found.2))
 
     after_goal : WithGoal of goal (Decided of) response → SaidYes files schema goal response.text
     after_goal (inl exit) = absurd (goal_says of goal response says_yes exit)
-    after_goal (inr (dep, is, rest)) = decided dep is.few is.means rest
+    after_goal (inr (dep, is, rest)) = decided dep is.within_limit is.means rest
 
 -- ---- the second answer
 -- two schemas that one text means are alike
@@ -100,12 +100,12 @@ one_goal names goal d e first second =
 printed_within : (files : Files) (schema goal text : List ℕ) (r : Schema) → (said : SaidYes files schema goal text) → AreAlike said.of r → SpellsWithin r text (tree_of said.proof)
 printed_within files schema goal text r said alike =
     let t = tree_of said.proof in
-    let printed = answered_spells said.of said.proof said.dep said.bare (declared_are_names said.bytes (declarations_of said.of) said.means) said.is_proof.proves said.is_proof.size.few_nodes in
+    let printed = answered_spells said.of said.proof said.dep said.bare (declared_are_names said.bytes (declarations_of said.of) said.means) said.is_proof.proves said.is_proof.size.node_bound in
     let moved = spells_alike said.of r (yes_text ++ canonical_certificate said.of t) t alike printed.0 in
     let within : SpellsWithin r (yes_text ++ canonical_certificate said.of t) t = record {
       spells = moved.0;
-      lines_fit = omega (arith, moved.1, printed.1, said.is_proof.size.few_nodes);
-      levels_fit = said.is_proof.size.few_levels;
+      lines_fit = omega (arith, moved.1, printed.1, said.is_proof.size.node_bound);
+      levels_fit = said.is_proof.size.level_bound;
     } in
     subst (λ (bytes : List ℕ). SpellsWithin r bytes t) (sym said.printed) within
 
@@ -125,16 +125,16 @@ goal_yes files schema goal text r response said alike go = after go
     proves d other = subst (Proves r (tree_of said.proof)) (one_goal (names_of r) goal said.dep d means other) (proves_alike said.of r (tree_of said.proof) said.dep alike said.is_proof.proves)
 
     after : WithGoal r goal (Checked r (tree_of said.proof)) response → response.status ≡ Yes
-    after (inl exit) = absurd (goal_goes r goal said.dep response said.few_goal means exit)
+    after (inl exit) = absurd (goal_goes r goal said.dep response said.goal_within_limit means exit)
     after (inr (d, is, rest)) = checked_yes r (tree_of said.proof) d response (proves d is.means) rest
 
 -- what was printed is read from a file, as the tree that was found
 proof_yes : (files after : Files) (schema goal file text : List ℕ) (r : Schema) (response : ResponseValue) → (said : SaidYes files schema goal text) → AreAlike said.of r
     → bytes_of_file after file ≡ Some text → length text ≤ MOST_PROOF_BYTES
     → WithProof (known_files after) r file (λ t. WithGoal r goal (Checked r t)) response → response.status ≡ Yes
-proof_yes files after schema goal file text r response said alike kept few (inl exit) =
-    absurd (proof_goes after r file text (tree_of said.proof) response kept few (printed_within files schema goal text r said alike) exit)
-proof_yes files after schema goal file text r response said alike kept few (inr (t, is, go)) =
+proof_yes files after schema goal file text r response said alike kept within_limit (inl exit) =
+    absurd (proof_goes after r file text (tree_of said.proof) response kept within_limit (printed_within files schema goal text r said alike) exit)
+proof_yes files after schema goal file text r response said alike kept within_limit (inr (t, is, go)) =
     let spelled : SpellsWithin r text t = subst (λ (b : List ℕ). SpellsWithin r b t) (one_content after file is.bytes text is.content.0 kept) is.spells in
     let same : t ≡ tree_of said.proof = one_tree r text t (tree_of said.proof) spelled.spells (printed_within files schema goal text r said alike).spells in
     goal_yes files schema goal text r response said alike (subst (λ (u : Tree). WithGoal r goal (Checked r u) response) same go)
@@ -142,11 +142,11 @@ proof_yes files after schema goal file text r response said alike kept few (inr 
 schema_yes : (files after : Files) (schema goal file text : List ℕ) (response : ResponseValue) → (said : SaidYes files schema goal text)
     → bytes_of_file after schema ≡ Some said.bytes → bytes_of_file after file ≡ Some text → length text ≤ MOST_PROOF_BYTES
     → WithSchema (known_files after) schema (λ r. WithProof (known_files after) r file (λ t. WithGoal r goal (Checked r t))) response → response.status ≡ Yes
-schema_yes files after schema goal file text response said same kept few (inl exit) =
-    absurd (schema_goes after schema said.bytes (declarations_of said.of) response same said.few_bytes said.means exit)
-schema_yes files after schema goal file text response said same kept few (inr (r, is, go)) =
+schema_yes files after schema goal file text response said same kept within_limit (inl exit) =
+    absurd (schema_goes after schema said.bytes (declarations_of said.of) response same said.bytes_within_limit said.means exit)
+schema_yes files after schema goal file text response said same kept within_limit (inr (r, is, go)) =
     let moved : MeansSchema said.bytes (declarations_of r) = subst (λ (b : List ℕ). MeansSchema b (declarations_of r)) (one_content after schema is.bytes said.bytes is.content.0 same) is.means in
-    proof_yes files after schema goal file text r response said (one_schema said.bytes said.of r said.means moved) kept few go
+    proof_yes files after schema goal file text r response said (one_schema said.bytes said.of r said.means moved) kept within_limit go
 
 implies_answers : (files : Files) (schema goal : List ℕ) (response : ResponseValue) → Answers (known_files files) (codes "implies" ∷ schema ∷ goal ∷ []) response → WithSchema (known_files files) schema (λ s. WithGoal s goal (Decided s)) response
 unfolding form_of form_over_schema schema_and Performs Does
@@ -161,6 +161,6 @@ check_answers files schema goal file response answered = answered
 pub printed_accepted : (before after : Files) (schema goal file : List ℕ) (printed : ResponseValue) → Answers (known_files before) (codes "implies" ∷ schema ∷ goal ∷ []) printed → printed.status ≡ Yes
     → bytes_of_file after schema ≡ bytes_of_file before schema → bytes_of_file after file ≡ Some printed.text → length printed.text ≤ MOST_PROOF_BYTES
     → (response : ResponseValue) → Answers (known_files after) (codes "check" ∷ codes "proof" ∷ schema ∷ file ∷ goal ∷ []) response → response.status ≡ Yes
-printed_accepted before after schema goal file printed answered says_yes same kept few response again =
+printed_accepted before after schema goal file printed answered says_yes same kept within_limit response again =
     let said = yes_there before schema goal printed says_yes (implies_answers before schema goal printed answered) in
-    schema_yes before after schema goal file printed.text response said (same ∙ said.has) kept few (check_answers after schema goal file response again)
+    schema_yes before after schema goal file printed.text response said (same ∙ said.has) kept within_limit (check_answers after schema goal file response again)

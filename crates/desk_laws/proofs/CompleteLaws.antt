@@ -62,7 +62,7 @@ pub calls_end : (words : List (List ℕ)) (files : Files) (source : FileSourceIn
     → Desk words source sink destinations result → FailsNowhere files source sink destinations → IsAnswered files words
     → (status : Status) → result ≡ Ok status → IsYesOrNo status
 calls_end words files source sink destinations result desk nowhere answered status is =
-    let delivers = desk.complete files nowhere.holds nowhere.reads nowhere.writes nowhere.feeds status is in
+    let delivers = desk.complete files nowhere.holds nowhere.reads nowhere.writes nowhere.writes_tables status is in
     subst IsYesOrNo (sym delivers.2) (answered delivers.0 delivers.1)
 
 -- ---- schemas that one text means
@@ -97,7 +97,7 @@ after_goal : (s r : Schema) (goal : List ℕ) (dep : Dependency) (rest : Depende
     → ((d : Dependency) → rest d response → IsYesOrNo response.status) → WithGoal r goal rest response
     → IsYesOrNo response.status
 after_goal s r goal dep rest response same is go (inl exit) =
-    absurd (goal_goes r goal dep response is.few (subst (λ (names : List (List ℕ)). MeansGoal names goal dep) (names_same s r same) is.means) exit)
+    absurd (goal_goes r goal dep response is.within_limit (subst (λ (names : List (List ℕ)). MeansGoal names goal dep) (names_same s r same) is.means) exit)
 after_goal s r goal dep rest response same is go (inr (d, found, more)) = go d more
 
 Decided-yes_or_no : (r : Schema) (d : Dependency) (response : ResponseValue) → Decided r d response → IsYesOrNo response.status
@@ -244,7 +244,7 @@ judges_join : (r : Schema) (plan : List Attributes) (response : ResponseValue) �
     → IsYesOrNo response.status
 judges_join r plan response small (inl (inl (fits, lossy, found))) = inr (ap (λ (a : ResponseValue). a.status) found.2)
 judges_join r plan response small (inl (inr (large, says))) = absurd (small large)
-judges_join r plan response small (inr (shown, says)) = inl (ap (λ (a : ResponseValue). a.status) says)
+judges_join r plan response small (inr (lossless, says)) = inl (ap (λ (a : ResponseValue). a.status) says)
 
 pub small_same : (s r : Schema) (p plan : List Attributes) → AreSame s r → p ≡ plan → (IsTooLarge s plan → ⊥) → IsTooLarge r p
     → ⊥
@@ -294,15 +294,15 @@ narrow_same : (s r : Schema) → AreSame s r → (IsTooWide s → ⊥) → IsToo
 narrow_same s r same narrow wide =
     narrow (subst (λ (d : Declarations). Any (λ e. is_fd e ≡ false) d.deps × (WIDEST_SEARCHED < length d.names)) (sym same) wide)
 
-few_same : (s r : Schema) → AreSame s r → (HasManyKeys s → ⊥) → HasManyKeys r → ⊥
-few_same s r same few many =
-    few (subst (λ (d : Declarations). (found : List AttrSet) × AreManyKeys (length d.names) d.deps (below (length d.names)) found) (sym same) many)
+not_many_same : (s r : Schema) → AreSame s r → (HasManyKeys s → ⊥) → HasManyKeys r → ⊥
+not_many_same s r same within_limit many =
+    within_limit (subst (λ (d : Declarations). (found : List AttrSet) × AreManyKeys (length d.names) d.deps (below (length d.names)) found) (sym same) many)
 
 lists_keys : (r : Schema) (response : ResponseValue) → (IsTooWide r → ⊥) → (HasManyKeys r → ⊥) → ListsKeys r response
     → IsYesOrNo response.status
-lists_keys r response narrow few (inl found) = inl (ap (λ (a : ResponseValue). a.status) found.4)
-lists_keys r response narrow few (inr (inl (wide, says))) = absurd (narrow wide)
-lists_keys r response narrow few (inr (inr (fits, many, says))) = absurd (few many)
+lists_keys r response narrow within_limit (inl found) = inl (ap (λ (a : ResponseValue). a.status) found.4)
+lists_keys r response narrow within_limit (inr (inl (wide, says))) = absurd (narrow wide)
+lists_keys r response narrow within_limit (inr (inr (fits, many, says))) = absurd (within_limit many)
 
 keys_asks : (files : Files) (name : List ℕ) (response : ResponseValue) → Answers (known_files files) (codes "keys" ∷ name ∷ []) response
     → WithSchema (known_files files) name ListsKeys response
@@ -312,9 +312,9 @@ keys_asks files name response answered = answered
 pub keys_answered : (files : Files) (name : List ℕ) (schema : Schema) → IsSchemaFile (known_files files) name schema
     → (IsTooWide schema → ⊥) → (HasManyKeys schema → ⊥)
     → IsAnswered files (codes "keys" ∷ name ∷ [])
-keys_answered files name schema file narrow few response answered =
+keys_answered files name schema file narrow within_limit response answered =
     after_schema files name schema ListsKeys response file
-    (λ r same found. lists_keys r response (narrow_same schema r same narrow) (few_same schema r same few) found) (keys_asks files name response answered)
+    (λ r same found. lists_keys r response (narrow_same schema r same narrow) (not_many_same schema r same within_limit) found) (keys_asks files name response answered)
 
 -- ---- no schema
 pub help_answered : (files : Files) → IsAnswered files (codes "help" ∷ [])

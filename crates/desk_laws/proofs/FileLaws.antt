@@ -24,7 +24,7 @@ use Rattle.desk_cli.specs.declared.rejoining.TheConstants.{MOST_JOINED_ROWS}
 use Rattle.desk_cli.specs.declared.rows.TheConstants.{MOST_CSV_BYTES}
 use Rattle.desk_cli.specs.ResponseValues.{ResponseValue, Allowed}
 use Rattle.desk_cli.specs.Discoveries.{IsHeadedFile, WithHeaded, FindsRules, Discovers}
-use Rattle.desk_words.specs.Forms.{form_of, form_over_schema, schema_and_few, word_alone, are_few}
+use Rattle.desk_words.specs.Forms.{form_of, form_over_schema, schema_and_several, word_alone, are_one_to_64}
 use Rattle.desk_cli.specs.Inputs.{WithSchema, IsSchemaFile}
 use Rattle.desk_cli.specs.Performs.{Answers, Performs, Does}
 use Rattle.desk_cli.specs.Readings.{known_files}
@@ -166,28 +166,28 @@ joins_tables n r tables response width covers small (inl (rows, is, says)) = inl
 joins_tables n r tables response width covers small (inr (NotCovered a, first, says)) =
     absurd (first.uncovered (covers a (omega (arith, width, first.within))))
 joins_tables n r tables response width covers small (inr (TooManyRows k, large, says)) =
-    let few = subst (λ (m : ℕ). IsWithinLimit m MOST_JOINED_ROWS tables) (sym width) small in
-    absurd (over_and_under _ MOST_JOINED_ROWS (few k large.1.positive large.1.among) large.1.beyond)
+    let within_limit = subst (λ (m : ℕ). IsWithinLimit m MOST_JOINED_ROWS tables) (sym width) small in
+    absurd (over_and_under _ MOST_JOINED_ROWS (within_limit k large.1.positive large.1.among) large.1.beyond)
   where
     over_and_under : (m most : ℕ) → m ≤ most → most < m → ⊥
-    over_and_under m most few many = omega (arith, few, many)
+    over_and_under m most within_limit many = omega (arith, within_limit, many)
 
-rejoin_asks : (files : Files) (name : List ℕ) (names : List (List ℕ)) (response : ResponseValue) → are_few names ≡ true
+rejoin_asks : (files : Files) (name : List ℕ) (names : List (List ℕ)) (response : ResponseValue) → are_one_to_64 names ≡ true
     → Answers (known_files files) (codes "rejoin" ∷ name ∷ names) response
     → WithSchema (known_files files) name (λ r. Rejoins (known_files files) r names) response
-unfolding form_of form_over_schema schema_and_few Performs Does
-rejoin_asks files name names response few answered = (rw few at answered)
+unfolding form_of form_over_schema schema_and_several Performs Does
+rejoin_asks files name names response within_limit answered = (rw within_limit at answered)
 
 pub rejoin_answered : (files : Files) (name : List ℕ) (names : List (List ℕ)) (schema : Schema) (parts : List PartialRows)
-    → IsSchemaFile (known_files files) name schema → are_few names ≡ true → ArePartFiles (known_files files) schema names parts
+    → IsSchemaFile (known_files files) name schema → are_one_to_64 names ≡ true → ArePartFiles (known_files files) schema names parts
     → Covers (width_of schema) (plan_of_tables (tables_of parts))
     → IsWithinLimit (width_of schema) MOST_JOINED_ROWS (tables_of parts)
     → IsAnswered files (codes "rejoin" ∷ name ∷ names)
-rejoin_answered files name names schema parts file few are covers small response answered =
+rejoin_answered files name names schema parts file within_limit are covers small response answered =
     after_schema files name schema (λ r. Rejoins (known_files files) r names) response file
     (λ r same more. after_parts files schema r names parts (λ qs. JoinsTables r (tables_of qs)) response same are
     (λ qs is found. joins_tables (width_of schema) r (tables_of qs) response
     (ap (λ (ns : List (List ℕ)). length ns) (sym (names_same schema r same)))
     (subst (λ (ts : List PartialRelation). Covers (width_of schema) (plan_of_tables ts)) is covers)
     (subst (λ (ts : List PartialRelation). IsWithinLimit (width_of schema) MOST_JOINED_ROWS ts) is small) found) more)
-    (rejoin_asks files name names response few answered)
+    (rejoin_asks files name names response within_limit answered)

@@ -29,7 +29,7 @@ use Rattle.std.proofs.lemmas.List.Elements.{All-contains, Contains-append_right}
 
 -- ---- sets
 set_goes : (s : Schema) (set : List ℕ) (x : Attributes) (response : ResponseValue) → IsSetText s set x → SetStops s set response → ⊥
-set_goes s set x response is (inl exit) = let long = exit.0 in omega (arith, is.few, long)
+set_goes s set x response is (inl exit) = let long = exit.0 in omega (arith, is.within_limit, long)
 set_goes s set x response is (inr exit) =
     let read : read_set (names_of s) set ≡ Ok x = (set-law (names_of s) set x).1 is.means in
     let refused : read_set (names_of s) set ≡ Err exit.0 = (set-refusal-law (names_of s) set exit.0).1 exit.1.refused in cc
@@ -40,7 +40,7 @@ after_set : (s r : Schema) (set : List ℕ) (x : Attributes) (rest : Attributes 
     → IsYesOrNo response.status
 after_set s r set x rest response same is go (inl exit) =
     absurd (set_goes r set x response
-    (record { few = is.few; means = subst (λ (names : List (List ℕ)). MeansSet names set x) (names_same s r same) is.means }) exit)
+    (record { within_limit = is.within_limit; means = subst (λ (names : List (List ℕ)). MeansSet names set x) (names_same s r same) is.means }) exit)
 after_set s r set x rest response same is go (inr (y, found, more)) = go y more
 
 basis_asks : (files : Files) (name set : List ℕ) (response : ResponseValue)
@@ -67,13 +67,13 @@ in_plan plan earlier later scheme list =
 
 answer_agrees : (s r : Schema) (p plan : List Attributes) (response : ResponseValue) → AreSame s r → p ≡ plan
     → All (λ scheme. IsWideScheme scheme → ⊥) plan → All (HasFewKeys s) plan → TellsKeys r p response → IsYesOrNo response.status
-answer_agrees s r p plan response same is narrow few (inl (listed, schemes, keys, says)) = inl (ap (λ (a : ResponseValue). a.status) says)
-answer_agrees s r p plan response same is narrow few (inr (scheme, first, inl (wide, says))) =
+answer_agrees s r p plan response same is narrow within_limit (inl (listed, schemes, keys, says)) = inl (ap (λ (a : ResponseValue). a.status) says)
+answer_agrees s r p plan response same is narrow within_limit (inr (scheme, first, inl (wide, says))) =
     let at = in_plan plan first.earlier first.later scheme (sym is ∙ first.list) in
     absurd (All-contains (λ (x : Attributes). IsWideScheme x → ⊥) plan scheme narrow at wide)
-answer_agrees s r p plan response same is narrow few (inr (scheme, first, inr (fits, more))) =
+answer_agrees s r p plan response same is narrow within_limit (inr (scheme, first, inr (fits, more))) =
     let at = in_plan plan first.earlier first.later scheme (sym is ∙ first.list) in
-    absurd (All-contains (HasFewKeys s) plan scheme few at more.0
+    absurd (All-contains (HasFewKeys s) plan scheme within_limit at more.0
     (subst (λ (d : Declarations). AreManyKeys (length d.names) d.deps scheme more.0) (sym same) more.1))
 
 keys_asks : (files : Files) (name file : List ℕ) (response : ResponseValue)
@@ -87,10 +87,10 @@ pub keys_of_plan_answered : (files : Files) (name file : List ℕ) (schema : Sch
     → All (λ scheme. IsWideScheme scheme → ⊥) plan
     → All (λ scheme. (found : List AttrSet) → AreManyKeys (width_of schema) (theory_of schema) scheme found → ⊥) plan
     → IsAnswered files (codes "keys" ∷ name ∷ file ∷ [])
-keys_of_plan_answered files name file schema plan held_schema held_plan narrow few response answered =
+keys_of_plan_answered files name file schema plan held_schema held_plan narrow within_limit response answered =
     after_schema files name schema (λ r. WithPlan (known_files files) r file (TellsKeys r)) response held_schema
     (λ r same more. after_plan files schema r file plan (TellsKeys r) response same held_plan
-    (λ p is found. answer_agrees schema r p plan response same is narrow few found) more)
+    (λ p is found. answer_agrees schema r p plan response same is narrow within_limit found) more)
     (keys_asks files name file response answered)
 
 -- ---- two schemas

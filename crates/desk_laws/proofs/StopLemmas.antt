@@ -55,30 +55,30 @@ one_content files name first second here there = let same : Some first ≡ Some 
 
 pub file_goes : (files : Files) (name bytes : List ℕ) (limit : ℕ) (response : ResponseValue) → bytes_of_file files name ≡ Some bytes → length bytes ≤ limit
     → FileStops (known_files files) name limit response → ⊥
-file_goes files name bytes limit response has few (inl (inl fails, said)) = absurd fails
-file_goes files name bytes limit response has few (inl (inr none, said)) = cc
-file_goes files name bytes limit response has few (inr exit) =
+file_goes files name bytes limit response has within_limit (inl (inl fails, said)) = absurd fails
+file_goes files name bytes limit response has within_limit (inl (inr none, said)) = cc
+file_goes files name bytes limit response has within_limit (inr exit) =
     let of : Option (List ℕ) → Type 0 = λ o. IsSomeAnd o (λ bytes. limit < length bytes) in
-    let long : limit < length bytes = subst of has exit.0.1 in omega (arith, few, long)
+    let long : limit < length bytes = subst of has exit.0.1 in omega (arith, within_limit, long)
 
 pub schema_goes : (files : Files) (name bytes : List ℕ) (d : Declarations) (response : ResponseValue) → bytes_of_file files name ≡ Some bytes → length bytes ≤ MOST_TEXT_BYTES → MeansSchema bytes d
     → SchemaStops (known_files files) name response → ⊥
-schema_goes files name bytes d response has few means (inl exit) = file_goes files name bytes MOST_TEXT_BYTES response has few exit
-schema_goes files name bytes d response has few means (inr exit) =
+schema_goes files name bytes d response has within_limit means (inl exit) = file_goes files name bytes MOST_TEXT_BYTES response has within_limit exit
+schema_goes files name bytes d response has within_limit means (inr exit) =
     let text = exit.1.bytes in
     let read : read_text text ≡ Ok d = (schema-law text d).1 (subst (λ (b : List ℕ). MeansSchema b d) (one_content files name bytes text has exit.1.content.0) means) in
     let refused : read_text text ≡ Err exit.0 = (schema-refusal-law text exit.0).1 exit.1.refused in cc
 
 pub proof_goes : (files : Files) (s : Schema) (name bytes : List ℕ) (t : Tree) (response : ResponseValue) → bytes_of_file files name ≡ Some bytes → length bytes ≤ MOST_PROOF_BYTES → SpellsWithin s bytes t
     → ProofStops (known_files files) s name response → ⊥
-proof_goes files s name bytes t response has few spells (inl exit) = file_goes files name bytes MOST_PROOF_BYTES response has few exit
-proof_goes files s name bytes t response has few spells (inr exit) =
+proof_goes files s name bytes t response has within_limit spells (inl exit) = file_goes files name bytes MOST_PROOF_BYTES response has within_limit exit
+proof_goes files s name bytes t response has within_limit spells (inr exit) =
     let text = exit.1.bytes in
     let read : read_proof s text ≡ Ok t = spelled_back s text t (subst (λ (b : List ℕ). SpellsWithin s b t) (one_content files name bytes text has exit.1.content.0) spells) in
     let refused : read_proof s text ≡ Err exit.0 = refused_back s text exit.0 exit.1.refused in cc
 
 pub goal_goes : (s : Schema) (goal : List ℕ) (d : Dependency) (response : ResponseValue) → length goal ≤ MOST_GOAL_BYTES → MeansGoal (names_of s) goal d → GoalStops s goal response → ⊥
-goal_goes s goal d response few means (inl exit) = let long = exit.0 in omega (arith, few, long)
-goal_goes s goal d response few means (inr exit) =
+goal_goes s goal d response within_limit means (inl exit) = let long = exit.0 in omega (arith, within_limit, long)
+goal_goes s goal d response within_limit means (inr exit) =
     let read : read_goal (names_of s) goal ≡ Ok d = (goal-law (names_of s) goal d).1 means in
     let refused : read_goal (names_of s) goal ≡ Err exit.0 = (goal-refusal-law (names_of s) goal exit.0).1 exit.1.refused in cc

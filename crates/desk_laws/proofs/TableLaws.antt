@@ -49,7 +49,7 @@ split_goes : (s r : Schema) (form : Form) (response : ResponseValue) → AreSame
 split_goes s r form response same can (inl (scheme, wide, says)) =
     can.narrow scheme (subst (λ (d : Declarations). IsTooWideAt (length d.names) d.deps form MOST_SPLIT_SCHEMES scheme) (sym same) wide)
 split_goes s r form response same can (inr (many, says)) =
-    can.few (subst (λ (d : Declarations). HasTooManySchemes (length d.names) d.deps form MOST_SPLIT_SCHEMES) (sym same) many)
+    can.within_limit (subst (λ (d : Declarations). HasTooManySchemes (length d.names) d.deps form MOST_SPLIT_SCHEMES) (sym same) many)
 
 pub after_form : (s r : Schema) (form : Form) (rest : List AttrSet → Allowed) (response : ResponseValue) → AreSame s r → HasPlanInForm s form
     → ((plan : List AttrSet) → rest plan response → IsYesOrNo response.status) → WithPlanInForm r form rest response → IsYesOrNo response.status
@@ -64,7 +64,7 @@ pub after_loss : (s r : Schema) (p plan : List Attributes) (rest : Allowed) (res
     → (rest response → IsYesOrNo response.status) → WithoutLoss r p rest response → IsYesOrNo response.status
 after_loss s r p plan rest response same is small go (inl (inl (fits, lossy, found))) = inr (ap (λ (a : ResponseValue). a.status) found.2)
 after_loss s r p plan rest response same is small go (inl (inr (large, says))) = absurd (small_same s r p plan same is small large)
-after_loss s r p plan rest response same is small go (inr (shown, more)) = go more
+after_loss s r p plan rest response same is small go (inr (lossless, more)) = go more
 
 after_legal : (r : Schema) (rows : Relation) (rest : Allowed) (response : ResponseValue)
     → (rest response → IsYesOrNo response.status) → WithLegal r rows rest response → IsYesOrNo response.status
@@ -103,27 +103,27 @@ Exhibits-yes_or_no s r response same functional narrow (inr (inr (wide, says))) 
 -- ---- small universes
 -- over at most 13 attributes splitting meets no limit
 small_split : (n : ℕ) (ds : List Dependency) (form : Form) → 0 < n → n ≤ 13 → (form ≡ Third → ⊥) → HasTooManySchemes n ds form MOST_SPLIT_SCHEMES → ⊥
-small_split n ds form some few other many =
-    let short : MOST_SPLIT_SCHEMES < 2 ^ (n - 1) = too_many_short n ds form some other MOST_SPLIT_SCHEMES many in
-    let bound : n - 1 ≤ 12 = omega (arith, few) in
+small_split n ds form not_empty within_limit other many =
+    let short : MOST_SPLIT_SCHEMES < 2 ^ (n - 1) = too_many_short n ds form not_empty other MOST_SPLIT_SCHEMES many in
+    let bound : n - 1 ≤ 12 = omega (arith, within_limit) in
     let grown : 2 ^ (n - 1) ≤ 2 ^ 12 = pow-le-pow_right (omega arith) bound in
     omega (arith, short, grown)
 
 small_narrow : (n : ℕ) (ds : List Dependency) (form : Form) (scheme : Attributes) → 0 < n → n ≤ 13 → (form ≡ Third → ⊥)
     → IsTooWideAt n ds form MOST_SPLIT_SCHEMES scheme → ⊥
-small_narrow n ds form scheme some few other wide =
-    let within : IsSubset scheme (below n) = stuck_within n ds form MOST_SPLIT_SCHEMES scheme some other wide in
-    let low : count_below scheme MOST_ATTRIBUTES ≡ count_below scheme n = count_below-low MOST_ATTRIBUTES n scheme within (omega (arith, few)) in
-    omega (arith, few, low, count_below-le n scheme, wide.stuck.stuck.wide)
+small_narrow n ds form scheme not_empty within_limit other wide =
+    let within : IsSubset scheme (below n) = stuck_within n ds form MOST_SPLIT_SCHEMES scheme not_empty other wide in
+    let low : count_below scheme MOST_ATTRIBUTES ≡ count_below scheme n = count_below-low MOST_ATTRIBUTES n scheme within (omega (arith, within_limit)) in
+    omega (arith, within_limit, low, count_below-le n scheme, wide.stuck.stuck.wide)
 
 third_is_not : (form : Form) → (form ≡ Bcnf) ⊎ (form ≡ Fourth) → form ≡ Third → ⊥
 third_is_not form (inl is) e = cc
 third_is_not form (inr is) e = cc
 
 pub small_is_splittable : (s : Schema) (form : Form) → width_of s ≤ 13 → (form ≡ Bcnf) ⊎ (form ≡ Fourth) → IsSplittable s form
-small_is_splittable s form few which = record {
-  narrow = λ scheme wide. small_narrow (width_of s) (theory_of s) form scheme s.valid.some_names few (third_is_not form which) wide;
-  few = λ many. small_split (width_of s) (theory_of s) form s.valid.some_names few (third_is_not form which) many;
+small_is_splittable s form within_limit which = record {
+  narrow = λ scheme wide. small_narrow (width_of s) (theory_of s) form scheme s.valid.names_not_empty within_limit (third_is_not form which) wide;
+  within_limit = λ many. small_split (width_of s) (theory_of s) form s.valid.names_not_empty within_limit (third_is_not form which) many;
 }
 
 -- ---- commands
@@ -279,6 +279,6 @@ sample_asks files word response is answered = (rw is at answered)
 pub sample_answered : (files : Files) (word : List ℕ) → is_count word ≡ true → IsAnswered files (codes "sample" ∷ word ∷ [])
 sample_answered files word is response answered =
     let (schema, of_sample, found) = sample_asks files word response is answered in
-    let few : width_of schema ≤ 13 = omega (arith, ap length of_sample.names) in
-    after_form schema schema Fourth (λ plan. MigratesRows schema (schemes_of plan) (sample_relation (number_of word))) response refl (small_is_splittable schema Fourth few (inr refl))
+    let within_limit : width_of schema ≤ 13 = omega (arith, ap length of_sample.names) in
+    after_form schema schema Fourth (λ plan. MigratesRows schema (schemes_of plan) (sample_relation (number_of word))) response refl (small_is_splittable schema Fourth within_limit (inr refl))
     (λ plan gives. MigratesRows-yes_or_no schema (schemes_of plan) (sample_relation (number_of word)) response gives) found

@@ -33,13 +33,13 @@ pub record FailsNowhere (files : Files) (source : FileSourceInCall) (sink : Sink
   pub holds : source.files ≡ Some files
   pub reads : ErrorCountIncreased source.before source.after → ⊥
   pub writes : ErrorCountIncreased sink.before sink.after → ⊥
-  pub feeds : NoneFails destinations
+  pub writes_tables : NoneFails destinations
 
 -- splitting a schema comes to no scheme that is too wide, and to no more schemes than are allowed
 pub record IsSplittable (schema : Schema) (form : Form) : Type 0 where
   pub narrow : (scheme : Attributes)
       → IsTooWideAt (width_of schema) (theory_of schema) form MOST_SPLIT_SCHEMES scheme → ⊥
-  pub few : HasTooManySchemes (width_of schema) (theory_of schema) form MOST_SPLIT_SCHEMES → ⊥
+  pub within_limit : HasTooManySchemes (width_of schema) (theory_of schema) form MOST_SPLIT_SCHEMES → ⊥
 
 -- a plan in a normal form is found within the limits; for third normal form there are none
 abbrev pub HasPlanInForm : Schema → Form → Type 0

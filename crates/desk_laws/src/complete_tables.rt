@@ -18,7 +18,7 @@ ghost use Rattle.table_join.specs.Tables.{tables_of, plan_of_tables};
 ghost use Rattle.desk_outside.specs.Files.{Files};
 ghost use Rattle.desk_cli.specs.declared.rejoining.TheConstants.{MOST_JOINED_ROWS};
 ghost use Rattle.desk_cli.specs.Discoveries.{IsHeadedFile};
-ghost use Rattle.desk_words.specs.Forms.{are_few};
+ghost use Rattle.desk_words.specs.Forms.{are_one_to_64};
 ghost use Rattle.desk_cli.specs.Inputs.{IsSchemaFile};
 ghost use Rattle.desk_cli.specs.Joins.{IsTooLarge};
 ghost use Rattle.desk_words.specs.Numbers.{is_count};
@@ -117,7 +117,7 @@ pub fn discover_is_answered()
 pub fn rejoin_is_answered()
     ensures law { (files : Files) (name : List ℕ) (names : List (List ℕ)) (schema : Schema)
         (parts : List PartialRows)
-        → IsSchemaFile (known_files files) name schema → are_few names ≡ true
+        → IsSchemaFile (known_files files) name schema → are_one_to_64 names ≡ true
         → ArePartFiles (known_files files) schema names parts
         → Covers (width_of schema) (plan_of_tables (tables_of parts))
         → IsWithinLimit (width_of schema) MOST_JOINED_ROWS (tables_of parts)

@@ -15,7 +15,7 @@ use proof_grammar::{ProofRefusal, ProofRefusalKind};
 use schema_printer::{add, add_number, print_dep};
 use std::alloc::Global;
 
-/// The line that tells a refusal of a certificate.
+/// The line that words a refusal of a certificate.
 pub fn proof_refusal_line(
     alloc: Global,
     schema: &Schema,

@@ -7,7 +7,7 @@ use schema_grammar::SchemaRefusal;
 use schema_printer::{add, add_number};
 use std::alloc::Global;
 
-/// The line that tells a refusal of a text: the kind of text, its name, the place and the reason.
+/// The line that words a refusal of a text: the kind of text, its name, the place and the reason.
 pub fn refusal_line(
     alloc: Global,
     group: &[u8],

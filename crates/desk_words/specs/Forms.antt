@@ -97,13 +97,13 @@ two_schemas task (schema ∷ other ∷ []) = Some (over_schema schema (task sche
 two_schemas task _ = None
 
 -- from one word to the most files
-abbrev pub are_few : List (List ℕ) → Bool
-are_few words = nat_lt 0 (length words) && nat_le (length words) MOST_FILES
+abbrev pub are_one_to_64 : List (List ℕ) → Bool
+are_one_to_64 words = nat_lt 0 (length words) && nat_le (length words) MOST_FILES
 
 -- a schema, and from one word to the most files more
-unfoldable pub schema_and_few : (List (List ℕ) → Task) → List (List ℕ) → Option CommandForm
-schema_and_few task [] = None
-schema_and_few task (schema ∷ words) = if are_few words then Some (over_schema schema (task words)) else None
+unfoldable pub schema_and_several : (List (List ℕ) → Task) → List (List ℕ) → Option CommandForm
+schema_and_several task [] = None
+schema_and_several task (schema ∷ words) = if are_one_to_64 words then Some (over_schema schema (task words)) else None
 
 -- one word
 unfoldable pub word_alone : (List ℕ → CommandForm) → List (List ℕ) → Option CommandForm
@@ -212,7 +212,7 @@ form_over_schema verb rest =
     else if bytes_eq verb (codes "exhibit") then schema_alone exhibit rest
     else if bytes_eq verb (codes "ddl") then after_ddl rest
     else if bytes_eq verb (codes "migrate") then after_migrate rest
-    else if bytes_eq verb (codes "rejoin") then schema_and_few rejoin rest
+    else if bytes_eq verb (codes "rejoin") then schema_and_several rejoin rest
     else if bytes_eq verb (codes "sql") then after_sql rest
     else if bytes_eq verb (codes "draw") then after_draw rest
     else None

@@ -9,7 +9,7 @@ ghost use Rattle.sample_rows.specs.declared.rows.TheConstants.{MOST_PERSONS};
 #[derive(Clone, Copy, Debug)]
 pub struct Persons {
     pub number: u32,
-    pub ghost few: { number ≤ MOST_PERSONS },
+    pub ghost within_limit: { number ≤ MOST_PERSONS },
 }
 
 /// A number of one to five digits, from 1 to `MOST_PERSONS`.

@@ -222,9 +222,9 @@ pub fn of_migrate_plan(words: &[Argument]) -> Option<Command<'_>>
 }
 
 /// A schema and from one to `MOST_FILES` files.
-#[tactic(auto, unfolding(crate::specs::Forms::schema_and_few))]
+#[tactic(auto, unfolding(crate::specs::Forms::schema_and_several))]
 pub fn of_rejoin(words: &[Argument]) -> Option<Command<'_>>
-    ensures form { option_map command_form result ≡ forms.schema_and_few forms.rejoin words.now }
+    ensures form { option_map command_form result ≡ forms.schema_and_several forms.rejoin words.now }
 {
     let [schema, files @ ..] = words else {
         return None;

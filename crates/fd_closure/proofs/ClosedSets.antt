@@ -45,7 +45,7 @@ tell_functionally_closed n c (d ∷ ds) within =
     (λ out. inl (d, Contains-head d ds, out))
     (λ stays. ⊎_elim
     (λ found. inl (found.0, Contains-later d ds found.0 found.1, found.2))
-    (λ settled. inr (All-cons (λ (e : Dependency). IsSubset (left_of e) c → IsSubset (right_of e) c) d ds stays settled))
+    (λ is_closed. inr (All-cons (λ (e : Dependency). IsSubset (left_of e) c → IsSubset (right_of e) c) d ds stays is_closed))
     (tell_functionally_closed n c ds (All-tail (IsWithin (below n)) d ds within)))
     (tell_lead n c d (All-head (IsWithin (below n)) d ds within))
 
@@ -84,7 +84,7 @@ functionally_closed_from : (n : ℕ) (ds : List Dependency) (x : Attributes) →
 functionally_closed_from n ds x within functional zero c most between =
     ⊎_elim
     (λ found. absurd (omega (arith, most, count_below-added n c found.0 (All-contains (IsWithin (below n)) ds found.0 within found.1) found.2, count_below-le n (union c (right_of found.0)))))
-    (λ settled. (c, between, settled))
+    (λ is_closed. (c, between, is_closed))
     (tell_functionally_closed n c ds within)
 functionally_closed_from n ds x within functional (suc left) c most between =
     ⊎_elim
@@ -94,7 +94,7 @@ functionally_closed_from n ds x within functional (suc left) c most between =
     functionally_closed_from n ds x within functional left (union c (right_of found.0))
     (omega (arith, most, count_below-added n c found.0 inside found.2))
     (IsBetween-union n ds x c found.0 inside is found.1 found.2 between))
-    (λ settled. (c, between, settled))
+    (λ is_closed. (c, between, is_closed))
     (tell_functionally_closed n c ds within)
 
 -- ---- the two tuples of a functionally closed set are legal
@@ -103,9 +103,9 @@ functionally_closed_obeyed n c (fd x y) is within stays = two_tuples_fd-from n c
 functionally_closed_obeyed n c (mvd x y) is within stays = absurd (true≢false (sym is))
 
 functionally_closed_two_legal : (n : ℕ) (ds : List Dependency) (c : Attributes) → All (IsWithin (below n)) ds → All (λ d. is_fd d ≡ true) ds → IsFunctionallyClosed ds c → IsLegal n ds (two_tuples n c)
-functionally_closed_two_legal n ds c within functional settled = record {
+functionally_closed_two_legal n ds c within functional is_closed = record {
   over = two_tuples-over n c;
-  obeys = λ k d l. functionally_closed_obeyed n c _ (functional k d l) (within k d l) (settled k d l);
+  obeys = λ k d l. functionally_closed_obeyed n c _ (functional k d l) (within k d l) (is_closed k d l);
 }
 
 -- ---- the closure
@@ -155,9 +155,9 @@ closed-to n ds c within same closed k d l inside a member =
 
 -- and where none does, it is closed
 pub closed-from : (n : ℕ) (ds : List Dependency) (c : Attributes) → All (IsWithin (below n)) ds → functional_part ds ≡ ds → IsSubset c (below n) → IsFunctionallyClosed ds c → IsClosed n ds c
-closed-from n ds c within same c_in settled a h =
+closed-from n ds c within same c_in is_closed a h =
     two_tuples_fd-to n c c (only a) c_in (λ (k : ℕ) e. grind (arith, nat_tests, e, lt-ltb a n h.0))
-    (h.1 (two_tuples n c) (functionally_closed_two_legal n ds c within (all_functional ds same) settled)) (λ (k : ℕ) m. m) a (grind (arith, nat_tests))
+    (h.1 (two_tuples n c) (functionally_closed_two_legal n ds c within (all_functional ds same) is_closed)) (λ (k : ℕ) m. m) a (grind (arith, nat_tests))
 
 -- a dependency leads out of a set that determines the universe and is not all of it
 pub lead_from_superkey : (n : ℕ) (ds : List Dependency) (c : Attributes) (k : ℕ) → All (IsWithin (below n)) ds → functional_part ds ≡ ds → IsSubset c (below n) → Implies n ds (fd c (below n))
@@ -165,5 +165,5 @@ pub lead_from_superkey : (n : ℕ) (ds : List Dependency) (c : Attributes) (k : 
 lead_from_superkey n ds c k within same c_in superkey low out =
     ⊎_elim
     (λ found. found)
-    (λ settled. absurd (true≢false (sym (closed-from n ds c within same c_in settled k (low, fd_each-to n ds c (below n) superkey k (lt-ltb k n low))) ∙ out)))
+    (λ is_closed. absurd (true≢false (sym (closed-from n ds c within same c_in is_closed k (low, fd_each-to n ds c (below n) superkey k (lt-ltb k n low))) ∙ out)))
     (tell_functionally_closed n c ds within)

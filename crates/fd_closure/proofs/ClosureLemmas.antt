@@ -30,21 +30,21 @@ fd_each-from n ds x y each r legal t u t_in u_in agree k m =
 
 -- ---- a functionally closed set
 functionally_closed_at : (n : ℕ) (c : Attributes) (d : Dep) → IsDepWithin (below n) d → IfFd (λ x y. IsSubset x c → IsSubset y c) d → IfFd (λ x y. ObeysFd x y (two_tuples n c)) d
-functionally_closed_at n c (Fd lhs rhs) within settled = two_tuples_fd-from n c (attributes lhs) (attributes rhs) within.0 within.1 settled
-functionally_closed_at n c (Mvd lhs rhs) within settled = tt
+functionally_closed_at n c (Fd lhs rhs) within is_closed = two_tuples_fd-from n c (attributes lhs) (attributes rhs) within.0 within.1 is_closed
+functionally_closed_at n c (Mvd lhs rhs) within is_closed = tt
 
 -- the two tuples that agree exactly on it obey the functional dependencies
 pub functionally_closed_legal : (n : ℕ) (ds : List Dep) (c : Attributes) → All (IsDepWithin (below n)) ds → IsFunctionallyClosed (functional_part (dependencies_of ds)) c → IsLegal n (functional_part (dependencies_of ds)) (two_tuples n c)
-functionally_closed_legal n ds c within settled =
-    let each = functional_all-to (λ (d : Dependency). IsSubset (left_of d) c → IsSubset (right_of d) c) ds settled in
+functionally_closed_legal n ds c within is_closed =
+    let each = functional_all-to (λ (d : Dependency). IsSubset (left_of d) c → IsSubset (right_of d) c) ds is_closed in
     functional_legal-from n ds (two_tuples n c) (two_tuples-over n c)
     (λ (k : ℕ) (d : Dep) l. functionally_closed_at n c _ (within k d l) (each k d l))
 
 -- so what follows from a part of it lies within
 pub functionally_closed_holds : (n : ℕ) (ds : List Dep) (x y c : Attributes) → All (IsDepWithin (below n)) ds → IsSubset x (below n) → IsSubset y (below n)
     → IsFunctionallyClosed (functional_part (dependencies_of ds)) c → IsSubset x c → Implies n (functional_part (dependencies_of ds)) (fd x y) → IsSubset y c
-functionally_closed_holds n ds x y c within x_in y_in settled grows implied =
-    two_tuples_fd-to n c x y x_in y_in (implied (two_tuples n c) (functionally_closed_legal n ds c within settled)) grows
+functionally_closed_holds n ds x y c within x_in y_in is_closed grows implied =
+    two_tuples_fd-to n c x y x_in y_in (implied (two_tuples n c) (functionally_closed_legal n ds c within is_closed)) grows
 
 -- ---- what a closure decides
 -- a set of implied attributes, and implication by it

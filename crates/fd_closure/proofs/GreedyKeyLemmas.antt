@@ -80,5 +80,5 @@ module _ (n : ℕ) (ds : List Dependency) (scheme : Attributes) where
   }
 
   -- all were tried
-  pub tried_settled : (key : Attributes) → IsTriedFrom n ds scheme 0 key → IsGreedyKey n ds scheme key
-  tried_settled key all = record { within = all.within; left_out = λ a member. all.tried a (omega arith) member }
+  pub tried_greedy : (key : Attributes) → IsTriedFrom n ds scheme 0 key → IsGreedyKey n ds scheme key
+  tried_greedy key all = record { within = all.within; left_out = λ a member. all.tried a (omega arith) member }

@@ -135,7 +135,7 @@ fn close_from(
         if wanted.is_subset(near) {
             return near;
         }
-        // what no count told: members with an empty left side, and in the end none
+        // what no count said: members with an empty left side, and in the end none
         let more = with_right_sides_on(on, deps, near);
         if more == near {
             return near;
@@ -167,7 +167,7 @@ fn spread_by_counts(
         if wanted.is_subset(closed) {
             return closed;
         }
-        let more = add_told_members(index.members_with(attribute), counts, on, deps, closed);
+        let more = add_ready_members(index.members_with(attribute), counts, on, deps, closed);
         untried = untried.without(attribute).union(more.difference(closed));
         closed = more;
     }
@@ -183,7 +183,7 @@ fn miss_all(counts: &mut [Count]) {
 
 // The set with the right sides of those of some members, each of which has found one more attribute,
 // that are on and miss none now.
-fn add_told_members(
+fn add_ready_members(
     members: &[usize],
     counts: &mut [Count],
     on: &[bool],

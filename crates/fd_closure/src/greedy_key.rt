@@ -12,7 +12,7 @@ use dep_model::Dep;
 /// The key of a scheme, by the functional dependencies of a list, that is left where each attribute,
 /// from the last to the first, is left out if the rest still determines the scheme.
 pub fn functional_key(deps: &[Dep], scheme: AttrSet) -> AttrSet
-    ensures settled { (n : ℕ) → All (IsDepWithin (below n)) deps.now
+    ensures greedy { (n : ℕ) → All (IsDepWithin (below n)) deps.now
         → IsSubset (attributes scheme) (below n)
         → IsGreedyKey n (functional_part (dependencies_of deps.now)) (attributes scheme)
         (attributes result) }

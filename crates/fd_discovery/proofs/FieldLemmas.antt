@@ -48,7 +48,7 @@ first_some (suc n) s xs first more h = by (next_record default_config s [] [] xs
     by (Some p) f g = let is : p.0 ≡ first = cc in
         subst (λ (l : List (List ℕ)). 0 < length l) is (some_field xs s [] [] p f)
 
-pub header_some : (text : List ℕ) (header : List (List ℕ)) (rows : List (List (List ℕ)))
+pub header_not_empty : (text : List ℕ) (header : List (List ℕ)) (rows : List (List (List ℕ)))
     → records_of text ≡ header ∷ rows → 0 < length header
-header_some text header rows h = first_some (length (strip_bom text) + 1) st.StartRecord
+header_not_empty text header rows h = first_some (length (strip_bom text) + 1) st.StartRecord
     (strip_bom text) header rows h

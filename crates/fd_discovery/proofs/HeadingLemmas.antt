@@ -111,19 +111,19 @@ module _ (n : ℕ) (rs : List (List (List ℕ))) (old new : Reader (Bor (List �
 
   pub uneven_row : (count : ℕ) → count ≡ length rows → length rows ≤ MOST_HEADED_ROWS → length fields ≢ n
       → RefusesRows n rs (refusal.UnevenRow (count + 1))
-  uneven_row count same few other = record {
+  uneven_row count same in_limit other = record {
     at = length rows;
     number = ap (λ (m : ℕ). m + 1) same;
     within = within;
-    within_limit = few;
+    within_limit = in_limit;
     before = even_before;
     other = λ e. other (ap length (sym here) ∙ e);
   }
 
   pub one_too_many : length rows ≤ MOST_HEADED_ROWS → MOST_HEADED_ROWS ≤ length rows → length fields ≡ n
       → RefusesRows n rs refusal.TooManyRows
-  one_too_many few many fits =
-      let last : length rows ≡ MOST_HEADED_ROWS = omega (arith, few, many) in
+  one_too_many in_limit many fits =
+      let last : length rows ≡ MOST_HEADED_ROWS = omega (arith, in_limit, many) in
       record {
         many = omega (arith, within, many);
         even = λ i l. elim (cases_lt i (length rows)) [
@@ -153,9 +153,9 @@ pub headed_of : (rs : List (List (List ℕ))) (reader : Reader (Bor (List ℕ)))
     → (read : ReadsNames rs reader (names_under h))
     → n ≡ length (names_under h) → rows_under h ≡ read.records → IsOver n (rows_under h)
     → length (rows_under h) ≤ MOST_HEADED_ROWS → IsHeaded rs h
-headed_of rs reader h n read count rows even few = record {
+headed_of rs reader h n read count rows even in_limit = record {
   all = read.all ∙ ap (λ (l : List (List (List ℕ))). names_under h ∷ l) (sym rows);
   header = read.header;
   even = subst (λ (m : ℕ). IsOver m (rows_under h)) count even;
-  within_limit = few;
+  within_limit = in_limit;
 }

@@ -217,15 +217,15 @@ pub found_same_set : (n : ℕ) (r : Relation) (x y : Attributes) (b : ℕ) (ds :
     → AreFound n r x b ds → AreFound n r y b ds
 found_same_set n r x y b ds same found = subst (λ (v : Attributes). AreFound n r v b ds) same found
 
--- a set with members from `free` on, one attribute more below them, and the attributes below that
-module _ (n free i : ℕ) (set : Attributes) (set_in : IsSubset set (below n)) (above : (k : ℕ) → set k ≡ true → free ≤ k)
-    (free_in : free ≤ n) (i_in : i < free) (larger : Attributes) (is : larger ≡ union set (only i)) where
+-- a set with members from `bound` on, one attribute more below them, and the attributes below that
+module _ (n bound i : ℕ) (set : Attributes) (set_in : IsSubset set (below n)) (above : (k : ℕ) → set k ≡ true → bound ≤ k)
+    (bound_in : bound ≤ n) (i_in : i < bound) (larger : Attributes) (is : larger ≡ union set (only i)) where
   pub larger_in : IsSubset larger (below n)
   larger_in k m = elim (cases_Bool (set k)) [
     | inl member ↦ set_in k member
     | inr out ↦
         let at : k ≡ i = eqb-true k i (sym (ap (λ (b : Bool). b || (k == i)) out) ∙ sym (same_at is k) ∙ m) in
-        grind (arith, nat_tests, at, i_in, free_in)
+        grind (arith, nat_tests, at, i_in, bound_in)
   ]
 
   pub larger_above : (k : ℕ) → larger k ≡ true → i ≤ k
@@ -241,7 +241,7 @@ module _ (n free i : ℕ) (set : Attributes) (set_in : IsSubset set (below n)) (
     | inl member ↦ set_in k member
     | inr out ↦
         let low : k < i = ltb-true k i (sym (ap (λ (b : Bool). b || nat_lt k i) out) ∙ m) in
-        grind (arith, nat_tests, low, i_in, free_in)
+        grind (arith, nat_tests, low, i_in, bound_in)
   ]
 
   -- the set with all attributes below i is followed by the set with i
@@ -258,7 +258,7 @@ module _ (n free i : ℕ) (set : Attributes) (set_in : IsSubset set (below n)) (
       least : IsFirstFrom (difference (below n) (union set (below i))) 0 i
       least = record {
         from_on = omega arith;
-        member = (let out : set i ≡ false = lacks i (omega arith) in grind (arith, nat_tests, out, i_in, free_in));
+        member = (let out : set i ≡ false = lacks i (omega arith) in grind (arith, nat_tests, out, i_in, bound_in));
         least = λ k from l. grind (arith, nat_tests, l);
       }
 
@@ -280,7 +280,7 @@ module _ (n free i : ℕ) (set : Attributes) (set_in : IsSubset set (below n)) (
     | inl member ↦ set_in k member
     | inr out ↦
         let low : k < i + 1 = ltb-true k (i + 1) (sym (ap (λ (b : Bool). b || nat_lt k (i + 1)) out) ∙ m) in
-        grind (arith, nat_tests, low, i_in, free_in)
+        grind (arith, nat_tests, low, i_in, bound_in)
   ]
 
   larger_up : IsUpTo larger (union set (below (i + 1)))

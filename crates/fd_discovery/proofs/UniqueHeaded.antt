@@ -65,12 +65,12 @@ field_same header e f p q = elim (cases_lt p.at q.at) [
 -- ---- headers
 header_same : (header : List (List ℕ)) (e f : DiscoverRefusal) → RefusesColumnHeader header e → RefusesColumnHeader header f → e ≡ f
 header_same header e f (inl p) (inl q) = p.0 ∙ sym q.0
-header_same header e f (inl p) (inr q) = absurd (at_most_not_beyond (length header) WIDEST_HEADED q.few p.1)
-header_same header e f (inr p) (inl q) = absurd (at_most_not_beyond (length header) WIDEST_HEADED p.few q.1)
+header_same header e f (inl p) (inr q) = absurd (at_most_not_beyond (length header) WIDEST_HEADED q.within_limit p.1)
+header_same header e f (inr p) (inl q) = absurd (at_most_not_beyond (length header) WIDEST_HEADED p.within_limit q.1)
 header_same header e f (inr p) (inr q) = field_same header e f p q
 
 header_not_refused : (header : List (List ℕ)) (e : DiscoverRefusal) → IsColumnHeader header → RefusesColumnHeader header e → ⊥
-header_not_refused header e is (inl p) = at_most_not_beyond (length header) WIDEST_HEADED is.few p.1
+header_not_refused header e is (inl p) = at_most_not_beyond (length header) WIDEST_HEADED is.within_limit p.1
 header_not_refused header e is (inr p) =
     named_not_refused (take p.at header) (field_at header p.at) (p.at + 1) e (is.named p.at p.within) p.refused
 
@@ -113,11 +113,11 @@ under_same n rows e f p q = by (seen_rows n rows e p) (seen_rows n rows f q)
 
 rows_not_refused : (n : ℕ) (rows : Relation) (e : DiscoverRefusal) → IsOver n rows → length rows ≤ MOST_HEADED_ROWS
     → RefusesRows n rows e → ⊥
-rows_not_refused n rows e over few p = by (seen_rows n rows e p)
+rows_not_refused n rows e over in_limit p = by (seen_rows n rows e p)
   where
     by : SeenRows n rows e → ⊥
     by (inl (row, is, uneven)) = uneven.other (over uneven.at [] uneven.within)
-    by (inr (is, many)) = at_most_not_beyond (length rows) MOST_HEADED_ROWS few many.many
+    by (inr (is, many)) = at_most_not_beyond (length rows) MOST_HEADED_ROWS in_limit many.many
 
 -- ---- records
 pub refused_same : (records : List (List (List ℕ))) (e f : DiscoverRefusal) → IsRefusedDiscovery records e
@@ -130,8 +130,8 @@ refused_same (header ∷ rows) e f (inr p) (inr q) = under_same (length header) 
 
 not_refused : (names : List (List ℕ)) (rows : Relation) (e : DiscoverRefusal) → IsColumnHeader names
     → IsOver (length names) rows → length rows ≤ MOST_HEADED_ROWS → IsRefusedDiscovery (names ∷ rows) e → ⊥
-not_refused names rows e header even few (inl p) = header_not_refused names e header p
-not_refused names rows e header even few (inr p) = rows_not_refused (length names) rows e even few p.1
+not_refused names rows e header even in_limit (inl p) = header_not_refused names e header p
+not_refused names rows e header even in_limit (inr p) = rows_not_refused (length names) rows e even in_limit p.1
 
 pub never_both : (records : List (List (List ℕ))) (h : Headed) (e : DiscoverRefusal) → IsHeaded records h
     → IsRefusedDiscovery records e → ⊥

@@ -37,12 +37,12 @@ NameColumns header n = (i : ℕ) → i < n → NamesColumn (take i header) (fiel
 
 -- a header: different names of few columns
 pub record IsColumnHeader (header : List (List ℕ)) : Type 0 where
-  pub few : length header ≤ WIDEST_HEADED
+  pub within_limit : length header ≤ WIDEST_HEADED
   pub named : NameColumns header (length header)
 
 -- the first field that does not name its column is refused so
 pub record RefusesField (header : List (List ℕ)) (e : DiscoverRefusal) : Type 0 where
-  pub few : length header ≤ WIDEST_HEADED
+  pub within_limit : length header ≤ WIDEST_HEADED
   pub at : ℕ
   pub within : at < length header
   pub before : NameColumns header at

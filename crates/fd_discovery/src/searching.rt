@@ -13,28 +13,28 @@ use attr_sets::{AttrSet, MOST_ATTRIBUTES};
 use dep_model::{Dep, OutOfMemory, sides};
 use std::alloc::Global;
 
-// Adds the minimal dependencies of the sets that have further members below `free`, from the first such
-// set to the last. The members of `set` stand from `free` on. A set from which every attribute is given
+// Adds the minimal dependencies of the sets that have further members below `bound`, from the first such
+// set to the last. The members of `set` stand from `bound` on. A set from which every attribute is given
 // ends the search above it: then every attribute is given from each larger set too.
 pub fn search_above(
     alloc: Global,
     table: &CodeColumns,
     leaders: &[u32],
     set: AttrSet,
-    free: u8,
+    bound: u8,
     found: &mut Vec<Dep>,
 ) -> Result<(), OutOfMemory>
     requires width { table.now.width ≤ MOST_ATTRIBUTES }
-    requires at_most_width { free ≤ table.now.width }
+    requires at_most_width { bound ≤ table.now.width }
     requires set { IsSubset (attributes set) (below table.now.width) }
-    requires above { (k : ℕ) → attributes set k ≡ true → free ≤ k }
+    requires above { (k : ℕ) → attributes set k ≡ true → bound ≤ k }
     requires rows { (r : Relation) × AreLed r table.now (attributes set) leaders.now }
     ensures found { (r : Relation) → AreLed r table.now (attributes set) leaders.now
         → AreFoundUpTo table.now.width r (attributes set) found.old.items
         → IfOk result (λ _.
-        AreFoundUpTo table.now.width r (union (attributes set) (below free)) found.new.items) }
+        AreFoundUpTo table.now.width r (union (attributes set) (below bound)) found.new.items) }
 {
-    for attribute in 0..free {
+    for attribute in 0..bound {
         let larger = set.with(attribute);
         let wanted = attributes_not_given(found, larger, table.width);
         if !wanted.is_empty() {

@@ -41,29 +41,29 @@ exchanged_superkey n ds scheme x y k given x_in superkey =
     transitivity_obeyed made k scheme r gives_key (fd_on-to n ds scheme k scheme superkey r legal))
 
 -- no key
-pub some_none : (n : ℕ) (ds : List Dependency) (scheme : Attributes) → AreSomeKeys n ds scheme []
-some_none n ds scheme = record {
+pub keys_none : (n : ℕ) (ds : List Dependency) (scheme : Attributes) → AreSomeKeys n ds scheme []
+keys_none n ds scheme = record {
   each = λ k d l. absurd (omega (arith, l));
   differ = λ i j d before l. absurd (omega (arith, l));
-  few = omega arith;
+  within_limit = omega arith;
   numbers = λ k d l. absurd (omega (arith, l));
 }
 
 -- one more key
-pub some_more : (n : ℕ) (ds : List Dependency) (scheme set : Attributes) (found : List AttrSet) (k : AttrSet) → AreSomeKeys n ds scheme found → length found ≤ MOST_KEYS
+pub keys_more : (n : ℕ) (ds : List Dependency) (scheme set : Attributes) (found : List AttrSet) (k : AttrSet) → AreSomeKeys n ds scheme found → length found ≤ MOST_KEYS
     → IsKey n ds scheme (attributes k) → IsSubset (attributes k) set → (HoldsAny found set → ⊥) → k.0 < 2 ^ MOST_ATTRIBUTES → AreSomeKeys n ds scheme (found ++ k ∷ [])
-some_more n ds scheme set found k some few key inside none number = record {
-  each = All-push (λ (j : AttrSet). IsKey n ds scheme (attributes j)) found k some.each key;
-  differ = all_pairs_push (λ (i j : AttrSet). attributes i ≡ attributes j → ⊥) found k some.differ
+keys_more n ds scheme set found k not_empty within_limit key inside none number = record {
+  each = All-push (λ (j : AttrSet). IsKey n ds scheme (attributes j)) found k not_empty.each key;
+  differ = all_pairs_push (λ (i j : AttrSet). attributes i ≡ attributes j → ⊥) found k not_empty.differ
       (λ i d l same. none (i, get_or found i d, l, get_or_default found i (get_or found i d) d l, λ p m. inside p (sym (same_at same p) ∙ m)));
-  few = omega (arith, length_push found k, few);
-  numbers = All-push (λ (j : AttrSet). j.0 < 2 ^ MOST_ATTRIBUTES) found k some.numbers number;
+  within_limit = omega (arith, length_push found k, within_limit);
+  numbers = All-push (λ (j : AttrSet). j.0 < 2 ^ MOST_ATTRIBUTES) found k not_empty.numbers number;
 }
 
 -- the greedy key of a superkey is a key
 pub greedy_found : (n : ℕ) (ds : List Dependency) (scheme s k : Attributes) → IsSubset scheme (below n) → functional_part ds ≡ ds → IsSuperkey n ds scheme s → IsGreedyKey n (functional_part ds) s k → IsKey n ds scheme k
-greedy_found n ds scheme s k low functional superkey settled =
-    let by_all : IsGreedyKey n ds s k = subst (λ (es : List Dependency). IsGreedyKey n es s k) functional settled in
+greedy_found n ds scheme s k low functional superkey greedy =
+    let by_all : IsGreedyKey n ds s k = subst (λ (es : List Dependency). IsGreedyKey n es s k) functional greedy in
     key_of_superkey n ds scheme s k superkey (greedy_is_key n ds s k (λ i m. low i (superkey.within.0 i m)) by_all)
 
 -- ---- with each dependency
@@ -73,24 +73,24 @@ dependencies_of-Contains deps i first e lt at = Contains-map dependency_of deps 
 
 -- none has been tried
 pub exchanged_none : (deps : List Dep) (found : List AttrSet) (k : Attributes) → IsExchangedUnlessMany (dependencies_of (take 0 deps)) found k
-exchanged_none deps found k few i d l = absurd (omega (arith, l))
+exchanged_none deps found k within_limit i d l = absurd (omega (arith, l))
 
 -- one more
 pub exchanged_more : (deps : List Dep) (i : ℕ) (first e : Dep) (old found : List AttrSet) (k : Attributes) → i < length deps → get_or deps i first ≡ e → take (length old) found ≡ old
     → IsExchangedUnlessMany (dependencies_of (take i deps)) old k → HoldsAnyUnlessMany found (exchanged_key (dependency_of e) k) → IsExchangedUnlessMany (dependencies_of (take (i + 1) deps)) found k
-exchanged_more deps i first e old found k lt at grows before held few =
+exchanged_more deps i first e old found k lt at grows before held within_limit =
     let P : Dependency → Type 0 = λ (d : Dependency). HoldsAny found (exchanged_key d k) in
     let longer : length old ≤ length found = grows_longer old found grows in
-    let earlier : All P (dependencies_of (take i deps)) = λ j d l. Any-grows (λ (s : AttrSet). IsSubset (attributes s) (exchanged_key (get_or (dependencies_of (take i deps)) j d) k)) old found grows (before (omega (arith, longer, few)) j d l) in
+    let earlier : All P (dependencies_of (take i deps)) = λ j d l. Any-grows (λ (s : AttrSet). IsSubset (attributes s) (exchanged_key (get_or (dependencies_of (take i deps)) j d) k)) old found grows (before (omega (arith, longer, within_limit)) j d l) in
     let more : dependencies_of (take (i + 1) deps) ≡ dependencies_of (take i deps) ++ dependency_of e ∷ [] =
     map_more dependency_of deps i first lt ∙ ap (λ (d : Dep). dependencies_of (take i deps) ++ dependency_of d ∷ []) at in
-    subst (λ (ds : List Dependency). All P ds) (sym more) (All-push P (dependencies_of (take i deps)) (dependency_of e) earlier (held few))
+    subst (λ (ds : List Dependency). All P ds) (sym more) (All-push P (dependencies_of (take i deps)) (dependency_of e) earlier (held within_limit))
 
 -- a key that was tried stays so where more are found
 pub exchanged_grows : (ds : List Dependency) (old found : List AttrSet) (k : Attributes) → take (length old) found ≡ old → IsExchangedUnlessMany ds old k → IsExchangedUnlessMany ds found k
-exchanged_grows ds old found k grows before few =
+exchanged_grows ds old found k grows before within_limit =
     let longer : length old ≤ length found = grows_longer old found grows in
-    λ j d l. Any-grows (λ (s : AttrSet). IsSubset (attributes s) (exchanged_key (get_or ds j d) k)) old found grows (before (omega (arith, longer, few)) j d l)
+    λ j d l. Any-grows (λ (s : AttrSet). IsSubset (attributes s) (exchanged_key (get_or ds j d) k)) old found grows (before (omega (arith, longer, within_limit)) j d l)
 
 -- each key before a position was tried, and so was that at it
 pub tried_more : (ds : List Dependency) (old found : List AttrSet) (tried j : ℕ) (key : AttrSet) → j ≡ tried + 1 → tried < length old → key ≡ get_or old tried key → take (length old) found ≡ old
@@ -112,18 +112,18 @@ tell_multivalued : (ds : List Dependency) → Any (λ (d : Dependency). is_fd d 
 tell_multivalued [] = inr refl
 tell_multivalued (fd x y ∷ ds) =
     ⊎_elim
-    (λ some. inl (suc some.0, some.1, omega (arith, some.2), some.3, some.4))
+    (λ not_empty. inl (suc not_empty.0, not_empty.1, omega (arith, not_empty.2), not_empty.3, not_empty.4))
     (λ same. inr (ap (λ (es : List Dependency). fd x y ∷ es) same))
     (tell_multivalued ds)
 tell_multivalued (mvd x y ∷ ds) = inl (0, mvd x y, omega arith, refl, refl)
 
 -- where one is given, not all are functional
 pub some_multivalued : (ds : List Dependency) → (functional_part ds ≡ ds → ⊥) → Any (λ (d : Dependency). is_fd d ≡ false) ds
-some_multivalued ds other = ⊎_elim (λ some. some) (λ same. absurd (other same)) (tell_multivalued ds)
+some_multivalued ds other = ⊎_elim (λ not_empty. not_empty) (λ same. absurd (other same)) (tell_multivalued ds)
 
 pub none_multivalued : (ds : List Dependency) → functional_part ds ≡ ds → Any (λ (d : Dependency). is_fd d ≡ false) ds → ⊥
-none_multivalued ds same some =
-    true≢false (sym (all_functional ds same some.0 some.1 some.2) ∙ ap is_fd some.3 ∙ some.4)
+none_multivalued ds same not_empty =
+    true≢false (sym (all_functional ds same not_empty.0 not_empty.1 not_empty.2) ∙ ap is_fd not_empty.3 ∙ not_empty.4)
 
 -- ---- the keys in their order
 -- sorted keys ascend
@@ -143,8 +143,8 @@ sorted_ascend found differ fit sorted i j d before l =
 -- the law over lists of sets of attributes
 exchanged_all : (n : ℕ) (ds : List Dependency) (found : List AttrSet) → All (IsWithin (below n)) ds → functional_part ds ≡ ds → 0 < length found → All (λ (k : AttrSet). IsKey n ds (below n) (attributes k)) found
     → ((i : ℕ) (d : AttrSet) → i < length found → IsExchangedBy ds found (attributes (get_or found i d))) → (k : Attributes) → IsKey n ds (below n) k → Any (λ (j : AttrSet). attributes j ≡ k) found
-exchanged_all n ds found within functional some each exchange k key =
-    let held = all_keys n ds (map attributes found) within functional (get_or (map attributes found) 0 (below n)) (Contains-get_or (map attributes found) 0 (below n) (omega (arith, some, length-map found attributes)))
+exchanged_all n ds found within functional not_empty each exchange k key =
+    let held = all_keys n ds (map attributes found) within functional (get_or (map attributes found) 0 (below n)) (Contains-get_or (map attributes found) 0 (below n) (omega (arith, not_empty, length-map found attributes)))
     (All-map (IsKey n ds (below n)) attributes found each) all_exchanged k key in
     let at = map-member attributes found held.1 (held.0, held.2, held.3) in
     (at.1.0, at.0, at.1.1, at.1.2, subst (λ (v : Attributes). v ≡ k) (sym at.2) held.4)
@@ -164,13 +164,13 @@ sorted_keys n ds scheme found sorted keys all moved in_order =
     record {
       each = All-permutation (λ (k : AttrSet). IsKey n ds scheme (attributes k)) found sorted moved keys.each;
       ascending = sorted_ascend sorted differ (All-permutation (λ (k : AttrSet). k.0 < 2 ^ MOST_ATTRIBUTES) found sorted moved keys.numbers) in_order;
-      few = omega (arith, long, keys.few);
-      all = λ few k key. Any-permutation (λ (j : AttrSet). attributes j ≡ k) found sorted moved (all (omega (arith, long, few)) k key);
+      within_limit = omega (arith, long, keys.within_limit);
+      all = λ within_limit k key. Any-permutation (λ (j : AttrSet). attributes j ≡ k) found sorted moved (all (omega (arith, long, within_limit)) k key);
     }
 
 -- the same, once all were tried
 pub sorted_found : (n : ℕ) (ds : List Dependency) (found sorted : List AttrSet) → All (IsWithin (below n)) ds → functional_part ds ≡ ds → 0 < length found → AreSomeKeys n ds (below n) found
     → (length found ≤ MOST_KEYS → (i : ℕ) (d : AttrSet) → i < length found → IsExchangedBy ds found (attributes (get_or found i d)))
     → IsPermutation found sorted → IsSorted (λ (j k : AttrSet). nat_cmp j.0 k.0) sorted → AreFoundKeys n ds (below n) sorted
-sorted_found n ds found sorted within functional some keys exchange =
-    sorted_keys n ds (below n) found sorted keys (λ few k key. exchanged_all n ds found within functional some keys.each (exchange few) k key)
+sorted_found n ds found sorted within functional not_empty keys exchange =
+    sorted_keys n ds (below n) found sorted keys (λ within_limit k key. exchanged_all n ds found within functional not_empty keys.each (exchange within_limit) k key)

@@ -37,9 +37,9 @@ in_every_key_in_superkey n ds scheme x a in_every_key superkey = true_from_ne_fa
     ]
 
 -- the attributes before i with a property are in a set, and so is i
-pub told_more : (P : ℕ → Type 0) (told more : Attributes) (i : ℕ) → ((a : ℕ) → (told a ≡ true) ↔ ((a < i) × P a)) → more ≡ union told (only i) → P i
+pub member_added : (P : ℕ → Type 0) (so_far more : Attributes) (i : ℕ) → ((a : ℕ) → (so_far a ≡ true) ↔ ((a < i) × P a)) → more ≡ union so_far (only i) → P i
     → (a : ℕ) → (more a ≡ true) ↔ ((a < i + 1) × P a)
-told_more P told more i before is here a = elim (cases_eq a i) [
+member_added P so_far more i before is here a = elim (cases_eq a i) [
   | inl same ↦ ((λ _. (omega (arith, same), subst P (sym same) here)), (λ _. grind (arith, nat_tests, same_at is a, same)))
   | inr other ↦ (
     (λ m. let old = (before a).0 (grind (arith, nat_tests, same_at is a, m, other)) in (omega (arith, old.0), old.1)),
@@ -47,8 +47,8 @@ told_more P told more i before is here a = elim (cases_eq a i) [
   )
 ]
 
-pub told_no_more : (P : ℕ → Type 0) (told : Attributes) (i : ℕ) → ((a : ℕ) → (told a ≡ true) ↔ ((a < i) × P a)) → (P i → ⊥) → (a : ℕ) → (told a ≡ true) ↔ ((a < i + 1) × P a)
-told_no_more P told i before none a = (
+pub member_left_out : (P : ℕ → Type 0) (so_far : Attributes) (i : ℕ) → ((a : ℕ) → (so_far a ≡ true) ↔ ((a < i) × P a)) → (P i → ⊥) → (a : ℕ) → (so_far a ≡ true) ↔ ((a < i + 1) × P a)
+member_left_out P so_far i before none a = (
   (λ m. let old = (before a).0 m in (omega (arith, old.0), old.1)),
   (λ h. elim (cases_eq a i) [
     | inl same ↦ absurd (none (subst P same h.1))
@@ -57,7 +57,7 @@ told_no_more P told i before none a = (
 )
 
 -- ---- in no key
-module _ (n : ℕ) (ds : List Dep) (few : n ≤ MOST_ATTRIBUTES) (within : All (IsDepWithin (below n)) ds) where
+module _ (n : ℕ) (ds : List Dep) (within_limit : n ≤ MOST_ATTRIBUTES) (within : All (IsDepWithin (below n)) ds) where
   -- what a set determines beyond itself, it determines without attributes that are in no left side
   determined_beyond : (l x rest : Attributes) (a : ℕ) → All (λ d. IsSubset (left_of (dependency_of d)) l) ds → IsSubset x (below n) → IsSubset (intersection x l) rest → x a ≡ false → a < n
       → Implies n (dependencies_of ds) (fd x (only a)) → Implies n (dependencies_of ds) (fd rest (only a))
@@ -65,7 +65,7 @@ module _ (n : ℕ) (ds : List Dep) (few : n ≤ MOST_ATTRIBUTES) (within : All (
       ⊎_elim
       (λ (here : (a < n) × (x a ≡ true)). absurd (true≢false (sym here.1 ∙ out)))
       (λ closed r legal. fd_weaker_obeyed (intersection x l) (only a) rest (only a) r inside (λ k m. m) (closed.1 r legal))
-      ((closure_rest n ds l x few within lefts x_in a).0 (low, implied))
+      ((closure_rest n ds l x within_limit within lefts x_in a).0 (low, implied))
 
   module _ (scheme : Attributes) (low : IsSubset scheme (below n)) where
     -- an attribute in no left side is in none of those within the rest
@@ -125,8 +125,8 @@ module _ (n : ℕ) (ds : List Dep) (few : n ≤ MOST_ATTRIBUTES) (within : All (
             let implied : Implies n (dependencies_of ds) (fd (intersection scheme used) (only a)) =
             determined_beyond used others (intersection scheme used) a used_lefts (λ j h. low j (grind (arith, h))) (λ j h. grind (arith, h)) (grind (arith, nat_tests)) (ltb-true a n (low a member))
             (fd_each-to n (dependencies_of ds) others scheme (fd_on-to n (dependencies_of ds) scheme others scheme in_no_key.others) a member) in
-            let told = (closed a).1 (ltb-true a n (low a member), implied) in
-            grind (arith, same_at is a, told, unused)),
+            let so_far = (closed a).1 (ltb-true a n (low a member), implied) in
+            grind (arith, same_at is a, so_far, unused)),
       );
     }
       where
@@ -188,6 +188,6 @@ module _ (n : ℕ) (ds : List Dep) (few : n ≤ MOST_ATTRIBUTES) (within : All (
       found_of_rest found keys = record {
         each = λ i d l. key_of_superkey n (dependencies_of ds) scheme rest (attributes (get_or found i d)) rest_superkey (keys.each i d l);
         ascending = keys.ascending;
-        few = keys.few;
+        within_limit = keys.within_limit;
         all = λ most k key. keys.all most k (key_of_rest k key);
       }

@@ -20,31 +20,31 @@ use Rattle.key_listing.proofs.ListLemmas.{Any-grows, grows_longer}
 module _ (n : ℕ) (ds : List Dependency) (scheme least most : Attributes) (most_in : IsSubset most scheme) (found : List AttrSet) where
   -- there are more than are listed
   pub between_many : MOST_KEYS < length found → HasKeysBetween n ds scheme least most found
-  between_many many few = absurd (omega (arith, many, few))
+  between_many many within_limit = absurd (omega (arith, many, within_limit))
 
   -- the larger set is no superkey: no key lies within it
   pub between_none : (IsSuperkey n ds scheme most → ⊥) → HasKeysBetween n ds scheme least most found
-  between_none none few k key from to = absurd (none (superkey_more n ds scheme k most to most_in key.superkey))
+  between_none none within_limit k key from to = absurd (none (superkey_more n ds scheme k most to most_in key.superkey))
 
   -- the smaller set has all of a found key: no other has that
   pub between_one : (j : AttrSet) → AreSomeKeys n ds scheme found → Contains found j → IsEmpty (difference (attributes j) least) → HasKeysBetween n ds scheme least most found
-  between_one j some member rest few k key from to =
+  between_one j not_empty member rest within_limit k key from to =
       let inside : IsSubset (attributes j) k = λ a m. ⊎_elim
       (λ (in_least : least a ≡ true). from a in_least)
       (λ (out : least a ≡ false). absurd (true≢false (sym (grind (arith, m, out)) ∙ rest a)))
       (cases_Bool (least a)) in
-      let j_key : IsKey n ds scheme (attributes j) = All-contains (λ (i : AttrSet). IsKey n ds scheme (attributes i)) found j some.each member in
+      let j_key : IsKey n ds scheme (attributes j) = All-contains (λ (i : AttrSet). IsKey n ds scheme (attributes i)) found j not_empty.each member in
       (member.0, j, member.1, member.2, same_from_within (attributes j) k inside (key.minimal (attributes j) inside j_key.superkey))
 
 -- those without an attribute and those with it are all
 pub between_both : (n : ℕ) (ds : List Dependency) (scheme least most without with_it : Attributes) (a : ℕ) (first found : List AttrSet) → without ≡ difference most (only a) → with_it ≡ union least (only a)
     → take (length first) found ≡ first → HasKeysBetween n ds scheme least without first → HasKeysBetween n ds scheme with_it most found → HasKeysBetween n ds scheme least most found
-between_both n ds scheme least most without with_it a first found is_without is_with grows had_without had_with few k key from to =
+between_both n ds scheme least most without with_it a first found is_without is_with grows had_without had_with within_limit k key from to =
     ⊎_elim
-    (λ (inside : k a ≡ true). had_with few k key (holds inside) to)
+    (λ (inside : k a ≡ true). had_with within_limit k key (holds inside) to)
     (λ (out : k a ≡ false).
     let longer : length first ≤ length found = grows_longer first found grows in
-    Any-grows (λ (j : AttrSet). attributes j ≡ k) first found grows (had_without (omega (arith, longer, few)) k key from (lacks out)))
+    Any-grows (λ (j : AttrSet). attributes j ≡ k) first found grows (had_without (omega (arith, longer, within_limit)) k key from (lacks out)))
     (cases_Bool (k a))
   where
     holds : k a ≡ true → IsSubset with_it k

@@ -25,7 +25,7 @@ pub record AreManyKeys (n : ℕ) (ds : List Dependency) (scheme : Attributes) (f
 pub record AreSomeKeys (n : ℕ) (ds : List Dependency) (scheme : Attributes) (found : List AttrSet) : Type 0 where
   pub each : All (λ k. IsKey n ds scheme (attributes k)) found
   pub differ : AllPairs (λ j k. attributes j ≡ attributes k → ⊥) found
-  pub few : length found ≤ MOST_KEYS + 1
+  pub within_limit : length found ≤ MOST_KEYS + 1
   -- each is the number of a set
   pub numbers : All (λ k. k.0 < 2 ^ MOST_ATTRIBUTES) found
 
@@ -41,7 +41,7 @@ HoldsAnyUnlessMany found x = length found ≤ MOST_KEYS → HoldsAny found x
 pub record AreFoundKeys (n : ℕ) (ds : List Dependency) (scheme : Attributes) (found : List AttrSet) : Type 0 where
   pub each : All (λ k. IsKey n ds scheme (attributes k)) found
   pub ascending : AllPairs (λ j k. IsBefore (attributes j) (attributes k)) found
-  pub few : length found ≤ MOST_KEYS + 1
+  pub within_limit : length found ≤ MOST_KEYS + 1
   pub all : length found ≤ MOST_KEYS → (k : Attributes) → IsKey n ds scheme k → Any (λ j. attributes j ≡ k) found
 
 -- what a dependency makes of a key: its left side, and the key without its right side

@@ -52,7 +52,7 @@ fn keys_with(
 
 // Adds the keys of a scheme that lie between two sets, until all have been had, or one more than are
 // listed. Where some key lies within the larger set, each other one lacks an attribute of it. So they are
-// told apart by an attribute of that key beyond the smaller set: first those without it, then those with it.
+// distinguished by an attribute of that key beyond the smaller set: first those without it, then those with it.
 fn add_keys(
     schema: &Schema,
     scheme: AttrSet,

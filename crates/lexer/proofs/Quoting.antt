@@ -115,9 +115,9 @@ closing_here text e single =
 
 pub closing_other : (text : List ℕ) → 0 < length text → is_quote text ≡ false → closing_quote text ≡ further 1 (closing_quote (drop 1 text))
 unfolding closing_quote
-closing_other [] some e = absurd (omega arith)
-closing_other (b ∷ []) some e = let other : (b == 34) ≡ false = grind (arith, nat_tests) in rw other refl
-closing_other (b ∷ c ∷ bs) some e = let other : (b == 34) ≡ false = grind (arith, nat_tests) in rw other refl
+closing_other [] not_empty e = absurd (omega arith)
+closing_other (b ∷ []) not_empty e = let other : (b == 34) ≡ false = grind (arith, nat_tests) in rw other refl
+closing_other (b ∷ c ∷ bs) not_empty e = let other : (b == 34) ≡ false = grind (arith, nat_tests) in rw other refl
 
 pass : (text rest : List ℕ) (end step : ℕ) → step ≤ length rest → closing_quote rest ≡ further step (closing_quote (drop step rest))
     → IsPassed text end rest → IsPassed text (end + step) (drop step rest)
@@ -134,8 +134,8 @@ pass_doubled text rest after end step passed e is back =
 
 pub pass_other : (text rest after : List ℕ) (end step : ℕ) → IsPassed text end rest → 0 < length rest → is_quote rest ≡ false → step ≡ 1 → after ≡ drop step rest
     → IsPassed text (end + step) after
-pass_other text rest after end step passed some e is back =
-    rw back (pass text rest end step (omega arith) (rw is (closing_other rest some e)) passed)
+pass_other text rest after end step passed not_empty e is back =
+    rw back (pass text rest end step (omega arith) (rw is (closing_other rest not_empty e)) passed)
 
 pub passed_all : (text rest : List ℕ) (end : ℕ) → IsPassed text end rest → length rest ≡ 0 → None ≡ closing_quote text
 unfolding closing_quote
@@ -156,9 +156,9 @@ undoubled_two text e =
 
 pub undoubled_one : (text : List ℕ) → 0 < length text → is_doubled text ≡ false → undoubled text ≡ get_or text 0 0 ∷ undoubled (drop 1 text)
 unfolding undoubled
-undoubled_one [] some e = absurd (omega arith)
-undoubled_one (b ∷ []) some e = refl
-undoubled_one (b ∷ c ∷ bs) some e = let other : (b == 34 && c == 34) ≡ false = grind (arith, nat_tests) in rw other refl
+undoubled_one [] not_empty e = absurd (omega arith)
+undoubled_one (b ∷ []) not_empty e = refl
+undoubled_one (b ∷ c ∷ bs) not_empty e = let other : (b == 34 && c == 34) ≡ false = grind (arith, nat_tests) in rw other refl
 
 spell : (text bytes rest : List ℕ) (count step : ℕ) → undoubled rest ≡ get_or rest 0 0 ∷ undoubled (drop step rest) → count < MOST_NAME_BYTES
     → IsSpelled text bytes count rest → IsSpelled text (slice_set bytes count (get_or rest 0 0)) (count + 1) (drop step rest)
@@ -181,14 +181,14 @@ spell_two text bytes rest after count step spelled room e is back =
 pub spell_one : (text bytes rest after : List ℕ) (count step : ℕ) → IsSpelled text bytes count rest → count < MOST_NAME_BYTES
     → 0 < length rest → is_doubled rest ≡ false → step ≡ 1 → after ≡ drop step rest
     → IsSpelled text (slice_set bytes count (get_or rest 0 0)) (count + 1) after
-spell_one text bytes rest after count step spelled room some e is back =
-    rw back (spell text bytes rest count step (rw is (undoubled_one rest some e)) room spelled)
+spell_one text bytes rest after count step spelled room not_empty e is back =
+    rw back (spell text bytes rest count step (rw is (undoubled_one rest not_empty e)) room spelled)
 
 some_more : (rest : List ℕ) → 0 < length rest → 0 < length (undoubled rest)
 unfolding undoubled
-some_more [] some = absurd (omega arith)
-some_more (b ∷ []) some = omega arith
-some_more (b ∷ c ∷ bs) some = more (b == 34 && c == 34)
+some_more [] not_empty = absurd (omega arith)
+some_more (b ∷ []) not_empty = omega arith
+some_more (b ∷ c ∷ bs) not_empty = more (b == 34 && c == 34)
   where
     more : (q : Bool) → 0 < length (cond q (34 ∷ undoubled bs) (b ∷ undoubled (c ∷ bs)))
     more true = omega arith
@@ -197,8 +197,8 @@ some_more (b ∷ c ∷ bs) some = more (b == 34 && c == 34)
 -- no name has so many bytes
 pub too_long : (text bytes rest : List ℕ) (count : ℕ) → IsSpelled text bytes count rest → count ≡ MOST_NAME_BYTES → 0 < length rest
     → is_name (undoubled text) ≡ true → ⊥
-too_long text bytes rest count spelled full some name =
-    let more = some_more rest some in
+too_long text bytes rest count spelled full not_empty name =
+    let more = some_more rest not_empty in
     let size : length (undoubled text) ≡ count + length (undoubled rest) =
     ap length spelled.same ∙ length-append (take count bytes) (undoubled rest)
     ∙ ap (λ n. n + length (undoubled rest)) (length-take-le count bytes (omega (arith, spelled.whole, spelled.within))) in

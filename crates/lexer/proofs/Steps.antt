@@ -27,7 +27,7 @@ pub record IsReached (m : Mode) (start : ℕ) (text : List ℕ) (column : ℕ) (
 
 -- so many bytes lie at the front of the text
 pub record LiesIn (text : List ℕ) (n : ℕ) : Type 0 where
-  pub some : 0 < n
+  pub not_empty : 0 < n
   pub within : n ≤ length text
 
 -- a token lies at the front of the text; the bytes of a word form one
@@ -56,7 +56,7 @@ FitsPiece-cond m text false x y here there = there refl
 run_lies : (text : List ℕ) → 0 < run_length text → LiesIn text (length (take (run_length text) text))
 run_lies text h =
     let same : length (take (run_length text) text) ≡ run_length text = length-prefix_len is_name_byte text in
-    let within = prefix_len-le-length is_name_byte text in record { some = omega arith; within = omega arith }
+    let within = prefix_len-le-length is_name_byte text in record { not_empty = omega arith; within = omega arith }
 
 abbrev number_piece : List ℕ → Piece
 number_piece text = piece.Token (token.Number (number_of (take (run_length text) text))) (length (take (run_length text) text))
@@ -74,25 +74,25 @@ run_fits m text h =
     (λ _. FitsPiece-cond m text (m.numbers && is_number (take (run_length text) text)) (number_piece text) _ (λ _. number_fits text lies) (λ _. lies))
 
 starts_lies : (text needle : List ℕ) → starts_with nat_eq text needle ≡ true → 0 < length needle → LiesIn text (length needle)
-starts_lies text needle e some =
-    let whole : text ≡ _ = (starts_is Decides-eqb text needle _ refl).0 e in record { some = some; within = omega (arith, simp length-append at (ap length whole)) }
+starts_lies text needle e not_empty =
+    let whole : text ≡ _ = (starts_is Decides-eqb text needle _ refl).0 e in record { not_empty = not_empty; within = omega (arith, simp length-append at (ap length whole)) }
 
 mark_fits : (text : List ℕ) (k : TokenKind) (n : ℕ) → LiesIn text n → (k ≡ token.Identifier → ⊥) → (k ≡ token.Quoted → ⊥) → FitsToken text k n
 mark_fits text k n lies other unquoted = record { lies = lies; a_word = λ word. absurd (other word); unquoted = unquoted }
 
 arrow_fits : (text needle : List ℕ) (k : TokenKind) → starts_with nat_eq text needle ≡ true → 0 < length needle → (k ≡ token.Identifier → ⊥) → (k ≡ token.Quoted → ⊥)
     → FitsToken text k (length needle)
-arrow_fits text needle k starts some other unquoted = mark_fits text k (length needle) (starts_lies text needle starts some) other unquoted
+arrow_fits text needle k starts not_empty other unquoted = mark_fits text k (length needle) (starts_lies text needle starts not_empty) other unquoted
 
 byte_lies : (b : ℕ) (bs : List ℕ) → LiesIn (b ∷ bs) 1
-byte_lies b bs = record { some = lit< tt; within = omega arith }
+byte_lies b bs = record { not_empty = lit< tt; within = omega arith }
 
 -- what begins with a quote
 closed_fits : (m : Mode) → m.quotes ≡ true → (text : List ℕ) (o : Option ℕ) → 0 < length text → closing_quote (drop 1 text) ≡ o → FitsPiece m text (closed_piece text o)
-closed_fits m taken text None h e = record { some = h; within = omega arith }
+closed_fits m taken text None h e = record { not_empty = h; within = omega arith }
 closed_fits m taken text (Some n) h e =
     let below = closing_below (drop 1 text) n e in
-    let lies : LiesIn text (n + 2) = record { some = omega arith; within = omega (arith, below, length-drop 1 text) } in
+    let lies : LiesIn text (n + 2) = record { not_empty = omega arith; within = omega (arith, below, length-drop 1 text) } in
     FitsPiece-cond m text (is_name (undoubled (take n (drop 1 text)))) _ _ (λ name. record { lies = lies; a_name = name; taken = taken }) (λ _. lies)
 
 quoted_fits : (m : Mode) → m.quotes ≡ true → (text : List ℕ) → 0 < length text → FitsPiece m text (quoted_piece text)
@@ -145,7 +145,7 @@ unfolding tokens_after
 at_token m column [] k n h e = absurd (omega arith)
 at_token m column (b ∷ bs) k zero h e =
     let lies : FitsPiece m (b ∷ bs) (piece.Token k zero) = subst (FitsPiece m (b ∷ bs)) (sym e) (front_fits m (b ∷ bs) h) in
-    let some : 0 < 0 = lies.lies.some in absurd (omega arith)
+    let not_empty : 0 < 0 = lies.lies.not_empty in absurd (omega arith)
 at_token m column (b ∷ bs) k (suc n) h e =
     let one : suc n - 1 ≡ n = omega arith in
     let after : tokens_after m n (column + 1) bs ≡ tokens_after m 0 (column + suc n) (drop n bs) = lexed_after m (suc n) column (b ∷ bs) in
@@ -157,7 +157,7 @@ unfolding tokens_after
 at_quoted m column [] name n h e = absurd (omega arith)
 at_quoted m column (b ∷ bs) name zero h e =
     let fits : FitsPiece m (b ∷ bs) (piece.Quoted name zero) = subst (FitsPiece m (b ∷ bs)) (sym e) (front_fits m (b ∷ bs) h) in
-    let some : 0 < 0 = fits.lies.some in absurd (omega arith)
+    let not_empty : 0 < 0 = fits.lies.not_empty in absurd (omega arith)
 at_quoted m column (b ∷ bs) name (suc n) h e =
     let one : suc n - 1 ≡ n = omega arith in
     let after : tokens_after m n (column + 1) bs ≡ tokens_after m 0 (column + suc n) (drop n bs) = lexed_after m (suc n) column (b ∷ bs) in
@@ -195,21 +195,21 @@ flaw_lies_in m text why n h e = subst (FitsPiece m text) (sym e) (front_fits m t
 pub token_leads : (m : Mode) (start : ℕ) (text : List ℕ) (column : ℕ) (rest : List ℕ) (k : TokenKind) (n : ℕ) (word after : List ℕ)
     → IsReached m start text column rest → 0 < length rest → piece.Token k n ≡ front_piece m rest → word ≡ take n rest → after ≡ drop n rest
     → Leads m (record { kind = k; column = column; length = n }) word after (tokens_after m 0 start text)
-token_leads m start text column rest k n word after reached some e is_word_here is_after_it =
-    let lies = lies_in m rest k n some e in
+token_leads m start text column rest k n word after reached not_empty e is_word_here is_after_it =
+    let lies = lies_in m rest k n not_empty e in
     record {
-      all_tokens = rw (is_word_here, is_after_it) (reached.same ∙ at_token m column rest k n some e);
-      is_a_word = λ word. rw is_word_here (is_a_word m rest k n some e word);
-      is_a_name = λ quoted. absurd (not_quoted m rest k n some e quoted);
+      all_tokens = rw (is_word_here, is_after_it) (reached.same ∙ at_token m column rest k n not_empty e);
+      is_a_word = λ word. rw is_word_here (is_a_word m rest k n not_empty e word);
+      is_a_name = λ quoted. absurd (not_quoted m rest k n not_empty e quoted);
     }
 
 pub quoted_leads : (m : Mode) (start : ℕ) (text : List ℕ) (column : ℕ) (rest name : List ℕ) (n : ℕ) (after : List ℕ)
     → IsReached m start text column rest → 0 < length rest → piece.Quoted name n ≡ front_piece m rest → after ≡ drop n rest
     → Leads m (record { kind = token.Quoted; column = column; length = n }) name after (tokens_after m 0 start text)
-quoted_leads m start text column rest name n after reached some e is_after_it = record {
-  all_tokens = rw is_after_it (reached.same ∙ at_quoted m column rest name n some e);
+quoted_leads m start text column rest name n after reached not_empty e is_after_it = record {
+  all_tokens = rw is_after_it (reached.same ∙ at_quoted m column rest name n not_empty e);
   is_a_word = λ word. cc;
-  is_a_name = λ _. (name_test name).0 (quoted_at m rest name n some e).a_name;
+  is_a_name = λ _. (name_test name).0 (quoted_at m rest name n not_empty e).a_name;
 }
 
 pub token_after : (m : Mode) (start : ℕ) (text : List ℕ) (column : ℕ) (rest : List ℕ) (k : TokenKind) (n : ℕ) (after : List ℕ)
@@ -218,5 +218,5 @@ pub token_after : (m : Mode) (start : ℕ) (text : List ℕ) (column : ℕ) (res
 token_after m start text column rest k n after reached lies size = record {
   from_on = reached.from_on;
   fits = omega (arith, reached.fits);
-  shorter = omega (arith, reached.fits, reached.from_on, lies.some);
+  shorter = omega (arith, reached.fits, reached.from_on, lies.not_empty);
 }

@@ -45,12 +45,12 @@ intersection_scheme scheme l whole x x_in is = fun_ext (λ k. grind (arith, same
 -- ---- by all dependencies
 pub added_by_all : (n : ℕ) (ds : List Dep) (scheme l whole : Attributes) → n ≤ 128 → All (IsDepWithin (below n)) ds → IsSubset scheme (below n)
     → All (λ d. IsSubset (left_of (dependency_of d)) l) ds → whole ≡ intersection l scheme → AddOnlyThemselves n (dependencies_of ds) scheme whole
-added_by_all n ds scheme l whole few within low lefts is x a x_in h out =
+added_by_all n ds scheme l whole within_limit within low lefts is x a x_in h out =
     let there : InClosure n (dependencies_of ds) (intersection x l) a =
     ⊎_elim
     (λ inside. absurd (true≢false (sym inside.1 ∙ out)))
     (λ closed. closed)
-    ((closure_rest n ds l x few within lefts (λ k m. low k (x_in k m)) a).0 h) in
+    ((closure_rest n ds l x within_limit within lefts (λ k m. low k (x_in k m)) a).0 h) in
     subst (λ (v : Attributes). InClosure n (dependencies_of ds) v a) (intersection_scheme scheme l whole x x_in is) there
 
 -- ---- by functional dependencies
@@ -81,14 +81,14 @@ module _ (n : ℕ) (ds : List Dependency) (scheme reach l x : Attributes) (withi
           h.1 r legal t u t_in u_in (λ (k : ℕ) m. ((closure.exact k).0 m).1 r legal t u t_in u_in agree k (grind (arith, nat_tests))),
     )
 
-    c_settled : IsFunctionallyClosed ds c
-    c_settled = closed-to n ds c within same c_closed
+    c_is_closed : IsFunctionallyClosed ds c
+    c_is_closed = closed-to n ds c within same c_closed
 
-    both_settled : IsFunctionallyClosed ds (union x c)
-    both_settled k d short inside =
+    both_closed : IsFunctionallyClosed ds (union x c)
+    both_closed k d short inside =
         let left = left_of (get_or ds k d) in
         let in_l : IsSubset left l = lefts k d short (λ j m. in_reach j (inside j m)) in
-        let right = c_settled k d short (λ j m. in_closure j (in_l j m) (inside j m)) in
+        let right = c_is_closed k d short (λ j m. in_closure j (in_l j m) (inside j m)) in
         λ j m. grind (arith, right j m)
 
   closure_kept : (a : ℕ) → InClosure n ds x a → x a ≡ false → InClosure n ds (intersection x l) a
@@ -99,7 +99,7 @@ module _ (n : ℕ) (ds : List Dependency) (scheme reach l x : Attributes) (withi
         | inl in_x ↦ low k (x_in k in_x)
         | inr in_c ↦ lt-ltb k n ((found.1.exact k).0 in_c).0
       ] in
-      let member : union x c a ≡ true = closed-from n ds (union x c) within same both_low (both_settled c found.1) a (closure_more n ds x (union x c) a (λ k m. grind (arith, m)) h) in
+      let member : union x c a ≡ true = closed-from n ds (union x c) within same both_low (both_closed c found.1) a (closure_more n ds x (union x c) a (λ k m. grind (arith, m)) h) in
       (found.1.exact a).0 (grind (arith, member, out))
 
 pub added_functional : (n : ℕ) (ds : List Dependency) (scheme reach l whole : Attributes) → All (IsWithin (below n)) ds → functional_part ds ≡ ds → IsSubset scheme (below n)

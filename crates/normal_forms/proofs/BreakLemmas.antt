@@ -52,7 +52,7 @@ bcnf_two n ds scheme x low b =
     record {
       rhs = only a;
       implied = replicated_on n ds scheme x (only a) on;
-      some = (a, grind (arith, a_in, out), grind (arith, nat_tests));
+      not_empty = (a, grind (arith, a_in, out), grind (arith, nat_tests));
       rest = (more.0, grind (arith, more.1, more.2), grind (arith, more.1, more.3));
     }
 
@@ -75,19 +75,19 @@ module _ (n : ℕ) (ds : List Dependency) (scheme x : Attributes) (low : IsSubse
 
   pub some_determined : (a : ℕ) × DeterminesBeyond n ds scheme x a
   some_determined =
-      let a = two.some.0 in
+      let a = two.not_empty.0 in
       let b = two.rest.0 in
       elim (cases_Bool (c a)) [
-        | inl in_c ↦ (a, closed_at a two.some.1 in_c)
+        | inl in_c ↦ (a, closed_at a two.not_empty.1 in_c)
         | inr a_out ↦ elim (cases_Bool (c b)) [
           | inl in_c ↦ (b, closed_at b two.rest.1 in_c)
           | inr b_out ↦
               let y = two.rhs in
               let y_in = two.implied.within.1 in
-              let a_low = low a (grind (arith, two.some.1)) in
+              let a_low = low a (grind (arith, two.not_empty.1)) in
               let b_low = low b (grind (arith, two.rest.1)) in
               let split : IsSplitBy scheme y (intersection (outside_of n c) scheme) = (
-                (a, grind (arith, two.some.1, a_out, a_low), two.some.2),
+                (a, grind (arith, two.not_empty.1, a_out, a_low), two.not_empty.2),
                 (b, grind (arith, two.rest.1, b_out, b_low), two.rest.2),
               ) in
               let obeyed = mvd_in-to scheme x y (two_tuples n c) x_in y_in (two.implied.obeyed (two_tuples n c) closure.legal) in
@@ -124,19 +124,19 @@ bcnf_enough n ds scheme whole low added x b =
 
 pub fourth_enough : (n : ℕ) (ds : List Dep) (scheme l whole : Attributes) → n ≤ 128 → All (IsDepWithin (below n)) ds → IsSubset scheme (below n)
     → All (λ d. IsSubset (left_of (dependency_of d)) l) ds → whole ≡ intersection l scheme → IsEnough n (dependencies_of ds) Fourth scheme whole
-fourth_enough n ds scheme l whole few within low lefts is x b =
+fourth_enough n ds scheme l whole within_limit within low lefts is x b =
     let x_in = b.1.implied.within.0 in
     let same : intersection x l ≡ intersection x whole = fun_ext (λ k. grind (arith, same_at is k, x_in k)) in (
       no_superkey_less n (dependencies_of ds) scheme whole x x_in b.0,
       subst (λ (v : Attributes). HasTwoParts n (dependencies_of ds) scheme v) same
-          (two_parts_less n ds scheme l x few within low x_in lefts b.1),
+          (two_parts_less n ds scheme l x within_limit within low x_in lefts b.1),
     )
 
 pub all_enough : (n : ℕ) (ds : List Dep) (form : Form) (scheme l whole : Attributes) → (form ≡ Third → ⊥) → n ≤ 128 → All (IsDepWithin (below n)) ds → IsSubset scheme (below n)
     → All (λ d. IsSubset (left_of (dependency_of d)) l) ds → whole ≡ intersection l scheme → IsEnough n (dependencies_of ds) form scheme whole
-all_enough n ds Third scheme l whole other few within low lefts is = λ x b. absurd (other refl)
-all_enough n ds Bcnf scheme l whole other few within low lefts is = bcnf_enough n (dependencies_of ds) scheme whole low (added_by_all n ds scheme l whole few within low lefts is)
-all_enough n ds Fourth scheme l whole other few within low lefts is = fourth_enough n ds scheme l whole few within low lefts is
+all_enough n ds Third scheme l whole other within_limit within low lefts is = λ x b. absurd (other refl)
+all_enough n ds Bcnf scheme l whole other within_limit within low lefts is = bcnf_enough n (dependencies_of ds) scheme whole low (added_by_all n ds scheme l whole within_limit within low lefts is)
+all_enough n ds Fourth scheme l whole other within_limit within low lefts is = fourth_enough n ds scheme l whole within_limit within low lefts is
 
 pub functional_enough : (n : ℕ) (ds : List Dependency) (form : Form) (scheme whole : Attributes) → (form ≡ Third → ⊥) → All (IsWithin (below n)) ds → functional_part ds ≡ ds → IsSubset scheme (below n)
     → AddOnlyThemselves n ds scheme whole → IsEnough n ds form scheme whole
@@ -150,21 +150,21 @@ functional_enough n ds Fourth scheme whole other within same low added x b =
 pub bcnf_violated : (n : ℕ) (ds : List Dependency) (scheme x y : Attributes) → Breaks n ds Bcnf scheme x → ((a : ℕ) → (y a ≡ true) ↔ DeterminesBeyond n ds scheme x a) → ViolatesBcnf n ds scheme x y
 bcnf_violated n ds scheme x y b right = record {
   no_superkey = b.0;
-  some = λ nothing. true≢false (sym ((right b.1.0).1 b.1.1) ∙ nothing b.1.0);
+  not_empty = λ nothing. true≢false (sym ((right b.1.0).1 b.1.1) ∙ nothing b.1.0);
   right = right;
 }
 
 pub fourth_violated : (n : ℕ) (ds : List Dep) (scheme x y : Attributes) → n ≤ 128 → All (IsDepWithin (below n)) ds → IsSubset scheme (below n) → Breaks n (dependencies_of ds) Fourth scheme x
     → IsBlockOn n (dependencies_of ds) scheme x y → ((a : ℕ) → IsFirstFrom (difference scheme x) 0 a → y a ≡ true) → ViolatesFourth n (dependencies_of ds) scheme x y
-fourth_violated n ds scheme x y few within low b part first =
-    let other = other_part n ds scheme x within low b.1.implied.within.0 few y part b.1 in
+fourth_violated n ds scheme x y within_limit within low b part first =
+    let other = other_part n ds scheme x within low b.1.implied.within.0 within_limit y part b.1 in
     record { no_superkey = b.0; part = part; first = first; other = other.0; other_part = other.1; differ = other.2 }
 
--- ---- what the code tells
+-- ---- what the code says
 -- a test that is turned round
 pub IsTrue-not : (r : Bool) (W B : Type 0) → IsTrue r ↔ W → (W → B → ⊥) → ((W → ⊥) → B) → IsTrue (not r) ↔ B
-IsTrue-not true W B tells never makes = ((λ e. absurd (false≢true e)), (λ b. absurd (never (tells.0 refl) b)))
-IsTrue-not false W B tells never makes = ((λ _. makes (λ w. false≢true (tells.1 w))), (λ _. refl))
+IsTrue-not true W B says never makes = ((λ e. absurd (false≢true e)), (λ b. absurd (never (says.0 refl) b)))
+IsTrue-not false W B says never makes = ((λ _. makes (λ w. false≢true (says.1 w))), (λ _. refl))
 
 -- a scheme lies within what a superkey determines
 pub superkey_closed : (n : ℕ) (ds : List Dependency) (scheme x c : Attributes) → IsSubset scheme (below n) → ((a : ℕ) → (c a ≡ true) ↔ InClosure n ds x a) → IsSuperkey n ds scheme x → IsSubset scheme c
@@ -177,18 +177,18 @@ closed_superkey n ds scheme x c x_in exact all =
 
 -- of the scheme, the closed set of x has more than x, and not all
 module _ (n : ℕ) (ds : List Dependency) (scheme x c : Attributes) (low : IsSubset scheme (below n)) (x_in : IsSubset x scheme) (exact : (a : ℕ) → (c a ≡ true) ↔ InClosure n ds x a) where
-  pub told_whole : IsSubset scheme c → Breaks n ds Bcnf scheme x → ⊥
-  told_whole all b = b.0 (closed_superkey n ds scheme x c x_in exact all)
+  pub whole_breaks_not : IsSubset scheme c → Breaks n ds Bcnf scheme x → ⊥
+  whole_breaks_not all b = b.0 (closed_superkey n ds scheme x c x_in exact all)
 
-  pub told_itself : (found : Attributes) → found ≡ intersection c scheme → IsSubset found x → Breaks n ds Bcnf scheme x → ⊥
-  told_itself found is all b =
+  pub itself_breaks_not : (found : Attributes) → found ≡ intersection c scheme → IsSubset found x → Breaks n ds Bcnf scheme x → ⊥
+  itself_breaks_not found is all b =
       let a = b.1.0 in
       let a_in = beyond_in n ds scheme x a b.1.1.0 in
       let closed = (exact a).1 (ltb-true a n (low a a_in), fd_on-to n ds scheme x (only a) b.1.1.0) in
       true≢false (sym (all a (same_at is a ∙ grind (arith, a_in, closed))) ∙ b.1.1.1)
 
-  pub told_some : (found : Attributes) → found ≡ intersection c scheme → (IsSubset scheme c → ⊥) → (IsSubset found x → ⊥) → Breaks n ds Bcnf scheme x
-  told_some found is not_whole not_itself = (
+  pub part_breaks : (found : Attributes) → found ≡ intersection c scheme → (IsSubset scheme c → ⊥) → (IsSubset found x → ⊥) → Breaks n ds Bcnf scheme x
+  part_breaks found is not_whole not_itself = (
     (λ superkey. not_whole (superkey_closed n ds scheme x c low exact superkey)),
     ⊎_elim
         (λ one.
@@ -212,9 +212,9 @@ functional_breaks n ds Bcnf scheme x other within same low = ((λ b. b), (λ b. 
 functional_breaks n ds Fourth scheme x other within same low = ((λ b. (b.0, bcnf_two n ds scheme x low b)), fourth_is_bcnf n ds scheme x within same low)
 
 -- what x determines beyond itself is what its closed set has of the scheme beyond it
-pub right_told : (n : ℕ) (ds : List Dependency) (scheme x c found y : Attributes) → IsSubset scheme (below n) → IsSubset x scheme → ((a : ℕ) → (c a ≡ true) ↔ InClosure n ds x a)
+pub right_side_at : (n : ℕ) (ds : List Dependency) (scheme x c found y : Attributes) → IsSubset scheme (below n) → IsSubset x scheme → ((a : ℕ) → (c a ≡ true) ↔ InClosure n ds x a)
     → found ≡ intersection c scheme → y ≡ difference found x → (a : ℕ) → (y a ≡ true) ↔ DeterminesBeyond n ds scheme x a
-right_told n ds scheme x c found y low x_in exact found_is y_is a = (
+right_side_at n ds scheme x c found y low x_in exact found_is y_is a = (
   (λ m.
       let both : difference found x a ≡ true = sym (same_at y_is a) ∙ m in
       (only_on n ds scheme x a x_in (grind (arith, both, same_at found_is a)) ((exact a).0 (grind (arith, both, same_at found_is a))), grind (arith, both))),

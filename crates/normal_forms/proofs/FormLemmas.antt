@@ -34,7 +34,7 @@ two_parts_from : (n : ℕ) (ds : List Dependency) (scheme x y : Attributes) → 
 two_parts_from n ds scheme x y low on not_within not_whole = record {
   rhs = y;
   implied = on;
-  some = ⊎_elim
+  not_empty = ⊎_elim
       (λ one. (one.0, grind (arith, on.within.1 one.0 one.2, one.3), one.2))
       (λ inside. absurd (not_within inside))
       (tell_subset n y x (λ k m. low k (on.within.1 k m)));

@@ -53,13 +53,13 @@ module _ (n : ℕ) (ds : List Dep) (scheme x : Attributes) (within : All (IsDepW
   pub part_of_block : (p : Attributes) (a : ℕ) → IsBlock n (dependencies_of ds) x p → scheme a ≡ true → p a ≡ true → IsBlockOn n (dependencies_of ds) scheme x (intersection p scheme)
   part_of_block p a block a_in a_p = record {
     outside = λ k m. block_disjoint n (dependencies_of ds) x p block k (grind (arith, m));
-    some = λ nothing. true≢false (sym (grind (arith, a_in, a_p)) ∙ nothing a);
+    not_empty = λ nothing. true≢false (sym (grind (arith, a_in, a_p)) ∙ nothing a);
     implied = mvd_cut n (dependencies_of ds) scheme x p low x_in block.implied;
-    minimal = λ q inside some on k m. elim (cases_Bool (q k)) [
+    minimal = λ q inside not_empty on k m. elim (cases_Bool (q k)) [
       | inl in_q ↦ in_q
       | inr out ↦ ⊎_elim
           (λ one. absurd (split_block q p one.0 k on block (on.within.1 one.0 one.2) (grind (arith, inside one.0 one.2)) one.2 (grind (arith, m)) (grind (arith, m)) out))
-          (λ nothing. absurd (some nothing))
+          (λ nothing. absurd (not_empty nothing))
           (tell_empty n q (λ (j : ℕ) h. low j (on.within.1 j h)))
     ];
   }
@@ -68,34 +68,34 @@ module _ (n : ℕ) (ds : List Dep) (scheme x : Attributes) (within : All (IsDepW
   pub part_of_one : (a : ℕ) → InClosure n (dependencies_of ds) x a → scheme a ≡ true → x a ≡ false → IsBlockOn n (dependencies_of ds) scheme x (only a)
   part_of_one a closed a_in out = record {
     outside = λ k e. grind (arith, nat_tests, e, out);
-    some = λ nothing. true≢false (grind (arith, nat_tests, nothing a));
+    not_empty = λ nothing. true≢false (grind (arith, nat_tests, nothing a));
     implied = replicated_on n (dependencies_of ds) scheme x (only a) (only_on n (dependencies_of ds) scheme x a x_in a_in closed);
-    minimal = λ q inside some on k e. ⊎_elim
+    minimal = λ q inside not_empty on k e. ⊎_elim
         (λ one. grind (arith, nat_tests, e, inside one.0 one.2, one.2))
-        (λ nothing. absurd (some nothing))
+        (λ nothing. absurd (not_empty nothing))
         (tell_empty n q (λ (j : ℕ) h. low j (on.within.1 j h)));
   }
 
   -- each attribute beyond x is in a part
   pub part_at : n ≤ 128 → (a : ℕ) → scheme a ≡ true → x a ≡ false → (p : Attributes) × IsBlockOn n (dependencies_of ds) scheme x p × (p a ≡ true)
-  part_at few a a_in out =
+  part_at within_limit a a_in out =
       ⊎_elim
       (λ closed. (only a, part_of_one a closed a_in out, grind (arith, nat_tests)))
       (λ (one : (p : Attributes) × IsBlock n (dependencies_of ds) x p × (p a ≡ true)). (intersection one.0 scheme, part_of_block one.0 a one.1 a_in one.2, grind (arith, a_in, one.2)))
-      (block_at n ds x a few within x_low (ltb-true a n (low a a_in)))
+      (block_at n ds x a within_limit within x_low (ltb-true a n (low a a_in)))
 
   -- where x has two parts, an attribute beyond it is in another part than this one
   pub other_part : n ≤ 128 → (y : Attributes) → IsBlockOn n (dependencies_of ds) scheme x y → HasTwoParts n (dependencies_of ds) scheme x
       → (p : Attributes) × IsBlockOn n (dependencies_of ds) scheme x p × (p ≡ y → ⊥)
-  other_part few y part two =
-      let a = two.some.0 in
+  other_part within_limit y part two =
+      let a = two.not_empty.0 in
       let b = two.rest.0 in
       elim (cases_Bool (y a)) [
-        | inr out ↦ other_at a (grind (arith, two.some.1)) (grind (arith, two.some.1)) out
+        | inr out ↦ other_at a (grind (arith, two.not_empty.1)) (grind (arith, two.not_empty.1)) out
         | inl a_y ↦ elim (cases_Bool (y b)) [
           | inr out ↦ other_at b (grind (arith, two.rest.1)) (grind (arith, two.rest.1)) out
           | inl b_y ↦
-              let inside = part.minimal (intersection y two.rhs) (λ (k : ℕ) m. grind (arith, m)) (λ nothing. true≢false (sym (grind (arith, a_y, two.some.2)) ∙ nothing a))
+              let inside = part.minimal (intersection y two.rhs) (λ (k : ℕ) m. grind (arith, m)) (λ nothing. true≢false (sym (grind (arith, a_y, two.not_empty.2)) ∙ nothing a))
               (intersection_on n (dependencies_of ds) scheme x y two.rhs part.implied two.implied) b b_y in
               absurd (true≢false (grind (arith, inside, two.rest.2)))
         ]
@@ -103,40 +103,40 @@ module _ (n : ℕ) (ds : List Dep) (scheme x : Attributes) (within : All (IsDepW
     where
       other_at : (k : ℕ) → scheme k ≡ true → x k ≡ false → y k ≡ false → (p : Attributes) × IsBlockOn n (dependencies_of ds) scheme x p × (p ≡ y → ⊥)
       other_at k k_in out not_y =
-          let p = part_at few k k_in out in
+          let p = part_at within_limit k k_in out in
           (p.0, p.1, λ same. true≢false (sym p.2 ∙ same_at same k ∙ not_y))
 
 -- ---- what x has of the given left sides
 -- it has two parts where x has
 pub two_parts_less : (n : ℕ) (ds : List Dep) (scheme l x : Attributes) → n ≤ 128 → All (IsDepWithin (below n)) ds → IsSubset scheme (below n) → IsSubset x scheme
     → All (λ d. IsSubset (left_of (dependency_of d)) l) ds → HasTwoParts n (dependencies_of ds) scheme x → HasTwoParts n (dependencies_of ds) scheme (intersection x l)
-two_parts_less n ds scheme l x few within low x_in lefts two =
+two_parts_less n ds scheme l x within_limit within low x_in lefts two =
     ⊎_elim
     (λ closed. record {
       rhs = only a;
       implied = replicated_on n (dependencies_of ds) scheme v (only a) (only_on n (dependencies_of ds) scheme v a v_in a_in closed);
-      some = (a, grind (arith, two.some.1), grind (arith, nat_tests));
+      not_empty = (a, grind (arith, two.not_empty.1), grind (arith, nat_tests));
       rest = (b, grind (arith, two.rest.1), grind (arith, nat_tests, two.rest.1, b_differs));
     })
     (λ (one : (q : Attributes) × IsBlock n (dependencies_of ds) v q × (q a ≡ true)). elim (cases_Bool (one.0 b)) [
       | inr out ↦ record {
         rhs = intersection one.0 scheme;
         implied = mvd_cut n (dependencies_of ds) scheme v one.0 low v_in one.1.implied;
-        some = (a, grind (arith, two.some.1), grind (arith, a_in, one.2));
+        not_empty = (a, grind (arith, two.not_empty.1), grind (arith, a_in, one.2));
         rest = (b, grind (arith, two.rest.1), grind (arith, two.rest.1, out));
       }
       | inl both ↦
-          let a_rest : difference one.0 x a ≡ true = grind (arith, one.2, two.some.1) in
-          let block = rest_block n ds l x few within lefts x_low one.0 one.1 a a_rest in
-          absurd (split_block n ds scheme x within low x_in two.rhs (difference one.0 x) a b two.implied block a_in a_rest two.some.2 b_in (grind (arith, both, two.rest.1)) b_out)
+          let a_rest : difference one.0 x a ≡ true = grind (arith, one.2, two.not_empty.1) in
+          let block = rest_block n ds l x within_limit within lefts x_low one.0 one.1 a a_rest in
+          absurd (split_block n ds scheme x within low x_in two.rhs (difference one.0 x) a b two.implied block a_in a_rest two.not_empty.2 b_in (grind (arith, both, two.rest.1)) b_out)
     ])
-    (block_at n ds v a few within v_low (ltb-true a n (low a a_in)))
+    (block_at n ds v a within_limit within v_low (ltb-true a n (low a a_in)))
   where
     v : Attributes
     v = intersection x l
 
     a : ℕ
-    a = two.some.0
+    a = two.not_empty.0
 
     b : ℕ
     b = two.rest.0
@@ -151,7 +151,7 @@ two_parts_less n ds scheme l x few within low x_in lefts two =
     v_low k m = low k (v_in k m)
 
     a_in : scheme a ≡ true
-    a_in = grind (arith, two.some.1)
+    a_in = grind (arith, two.not_empty.1)
 
     b_in : scheme b ≡ true
     b_in = grind (arith, two.rest.1)
@@ -160,4 +160,4 @@ two_parts_less n ds scheme l x few within low x_in lefts two =
     b_out = grind (arith, two.rest.2)
 
     b_differs : b ≡ a → ⊥
-    b_differs same = true≢false (sym (subst (λ (k : ℕ). two.rhs k ≡ true) (sym same) two.some.2) ∙ b_out)
+    b_differs same = true≢false (sym (subst (λ (k : ℕ). two.rhs k ≡ true) (sym same) two.not_empty.2) ∙ b_out)

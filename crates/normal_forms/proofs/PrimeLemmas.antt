@@ -16,12 +16,12 @@ use Rattle.normal_forms.proofs.AddedLemmas.{closure_more}
 
 -- ---- a key of a set that an attribute turned into a superkey
 module _ (n : ℕ) (ds : List Dependency) (scheme x w k : Attributes) (a : ℕ) (low : IsSubset scheme (below n)) (x_in : IsSubset x scheme) (turned : BecomesSuperkeyBy n ds scheme x a) (is : w ≡ union x (only a))
-    (settled : IsGreedyKey n ds w k) where
+    (greedy : IsGreedyKey n ds w k) where
   superkey : IsSuperkey n ds scheme w
   superkey = subst (λ (v : Attributes). IsSuperkey n ds scheme v) (sym is) turned.0
 
   pub turned_key : IsKey n ds scheme k
-  turned_key = key_of_superkey n ds scheme w k superkey (greedy_is_key n ds w k (λ j m. low j (superkey.within.0 j m)) settled)
+  turned_key = key_of_superkey n ds scheme w k superkey (greedy_is_key n ds w k (λ j m. low j (superkey.within.0 j m)) greedy)
 
   pub turned_member : k a ≡ true
   turned_member = true_from_ne_false (k a) (λ out. turned.1 (superkey_more n ds scheme k x (without_a out) x_in turned_key.superkey))
@@ -29,55 +29,55 @@ module _ (n : ℕ) (ds : List Dependency) (scheme x w k : Attributes) (a : ℕ) 
       without_a : k a ≡ false → IsSubset k x
       without_a out j m = elim (cases_eq j a) [
         | inl same ↦ absurd (true≢false (sym m ∙ ap k same ∙ out))
-        | inr other ↦ grind (arith, nat_tests, same_at is j, settled.within j m)
+        | inr other ↦ grind (arith, nat_tests, same_at is j, greedy.within j m)
       ]
 
 -- ---- no set is turned
 -- what x has of a set, with the rest
 abbrev with_rest : Attributes → Attributes → Attributes → Attributes
-with_rest x free rest = union (intersection x free) rest
+with_rest x others rest = union (intersection x others) rest
 
 -- what is left without an attribute
-pub without_in : (free whole : Attributes) (a : ℕ) → free ≡ difference whole (only a) → IsSubset free whole
-without_in free whole a is k m = grind (arith, same_at is k, m)
+pub without_in : (others whole : Attributes) (a : ℕ) → others ≡ difference whole (only a) → IsSubset others whole
+without_in others whole a is k m = grind (arith, same_at is k, m)
 
-module _ (n : ℕ) (ds : List Dependency) (scheme whole free rest : Attributes) (a : ℕ) (low : IsSubset scheme (below n)) (added : AddOnlyThemselves n ds scheme whole)
-    (free_is : free ≡ difference whole (only a)) (rest_is : rest ≡ difference (difference scheme whole) (only a)) where
+module _ (n : ℕ) (ds : List Dependency) (scheme whole others rest : Attributes) (a : ℕ) (low : IsSubset scheme (below n)) (added : AddOnlyThemselves n ds scheme whole)
+    (others_is : others ≡ difference whole (only a)) (rest_is : rest ≡ difference (difference scheme whole) (only a)) where
   -- the set beside the attribute
-  pub beside_in : (y : Attributes) → IsSubset whole scheme → IsSubset y free → IsSubset (union y rest) scheme
+  pub beside_in : (y : Attributes) → IsSubset whole scheme → IsSubset y others → IsSubset (union y rest) scheme
   beside_in y whole_in y_in k m = elim (or_cases (y k) (rest k) m) [
-    | inl in_y ↦ whole_in k (grind (arith, same_at free_is k, y_in k in_y))
+    | inl in_y ↦ whole_in k (grind (arith, same_at others_is k, y_in k in_y))
     | inr in_rest ↦ grind (arith, same_at rest_is k, in_rest)
   ]
 
   module _ (x : Attributes) (x_in : IsSubset x scheme) where
-    beside_more : IsSubset (union x (only a)) (union (with_rest x free rest) (only a))
+    beside_more : IsSubset (union x (only a)) (union (with_rest x others rest) (only a))
     beside_more j m = elim (cases_eq j a) [
       | inl same ↦ grind (arith, nat_tests, same)
-      | inr other ↦ grind (arith, nat_tests, m, other, same_at free_is j, same_at rest_is j, x_in j)
+      | inr other ↦ grind (arith, nat_tests, m, other, same_at others_is j, same_at rest_is j, x_in j)
     ]
 
     -- it determines the attribute only where x does
-    beside_closed : IsSubset (with_rest x free rest) scheme → InClosure n ds (with_rest x free rest) a → InClosure n ds x a
+    beside_closed : IsSubset (with_rest x others rest) scheme → InClosure n ds (with_rest x others rest) a → InClosure n ds x a
     beside_closed inside closed =
-        let out : with_rest x free rest a ≡ false = grind (arith, nat_tests, same_at free_is a, same_at rest_is a) in
-        closure_more n ds (intersection (with_rest x free rest) whole) x a (λ k m. grind (arith, m, same_at free_is k, same_at rest_is k)) (added (with_rest x free rest) a inside closed out)
+        let out : with_rest x others rest a ≡ false = grind (arith, nat_tests, same_at others_is a, same_at rest_is a) in
+        closure_more n ds (intersection (with_rest x others rest) whole) x a (λ k m. grind (arith, m, same_at others_is k, same_at rest_is k)) (added (with_rest x others rest) a inside closed out)
 
-  pub not_prime : IsSubset whole scheme → ((y : Attributes) → IsSubset y free → BecomesSuperkeyBy n ds scheme (union y rest) a → ⊥) → IsPrime n ds scheme a → ⊥
+  pub not_prime : IsSubset whole scheme → ((y : Attributes) → IsSubset y others → BecomesSuperkeyBy n ds scheme (union y rest) a → ⊥) → IsPrime n ds scheme a → ⊥
   not_prime whole_in none prime =
       let found = prime-to n ds scheme a prime in
       let x = found.0 in
       let k = found.1 in
       let x_in = found.2 in
       let key = found.4 in
-      let s = with_rest x free rest in
-      let s_in : IsSubset s scheme = beside_in (intersection x free) whole_in (λ j m. grind (arith, m)) in
+      let s = with_rest x others rest in
+      let s_in : IsSubset s scheme = beside_in (intersection x others) whole_in (λ j m. grind (arith, m)) in
       let a_in : scheme a ≡ true = prime.1.superkey.within.0 a prime.2 in
       let one_in : IsSubset (only a) scheme = λ (j : ℕ) m. grind (arith, nat_tests, m, a_in) in
       let both_in = λ (v : Attributes) (v_in : IsSubset v scheme) (j : ℕ) (m : union v (only a) j ≡ true). ⊎_elim (v_in j) (one_in j) (or_cases (v j) (only a j) m) in
       let with_x : IsSuperkey n ds scheme (union x (only a)) = superkey_more n ds scheme k (union x (only a)) found.5 (both_in x x_in) key.superkey in
       let with_s : IsSuperkey n ds scheme (union s (only a)) = superkey_more n ds scheme (union x (only a)) (union s (only a)) (beside_more x x_in) (both_in s s_in) with_x in
-      none (intersection x free) (λ j m. grind (arith, m)) (
+      none (intersection x others) (λ j m. grind (arith, m)) (
         with_s,
         (λ superkey.
             let closed : InClosure n ds s a = (ltb-true a n (low a a_in), λ r legal. fd_weaker_obeyed s scheme s (only a) r (λ (j : ℕ) m. m) one_in (fd_on-to n ds scheme s scheme superkey r legal)) in
@@ -98,8 +98,8 @@ primes_more n ds scheme x k y is primes key a m = elim (or_cases (x a) (k a) (sy
 -- what is still asked becomes less
 pub candidates_less : (asked known more left : Attributes) (a : ℕ) → a < MOST_ATTRIBUTES → left ≡ difference asked known → left a ≡ true → IsSubset known more → more a ≡ true
     → count_below (difference asked more) MOST_ATTRIBUTES < count_below (difference asked known) MOST_ATTRIBUTES
-candidates_less asked known more left a few is member grows now =
+candidates_less asked known more left a within_limit is member grows now =
     count_below-lt MOST_ATTRIBUTES (difference asked more) (difference asked known) a (λ k m. elim (cases_Bool (known k)) [
       | inl before ↦ absurd (true≢false (sym (grows k before) ∙ grind (arith, m)))
       | inr out ↦ grind (arith, m, out)
-    ]) few (grind (arith, now)) (sym (same_at is a) ∙ member)
+    ]) within_limit (grind (arith, now)) (sym (same_at is a) ∙ member)

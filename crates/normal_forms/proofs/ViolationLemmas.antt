@@ -24,7 +24,7 @@ use Rattle.normal_forms.specs.Cuts.{IsCut}
 -- ---- attributes
 -- a set that is not empty has a member
 pub nonempty-member : (n : ℕ) (y : Attributes) → IsSubset y (below n) → (IsEmpty y → ⊥) → (k : ℕ) × (y k ≡ true)
-nonempty-member n y low some = ⊎_elim (λ one. (one.0, one.2)) (λ nothing. absurd (some nothing)) (tell_empty n y low)
+nonempty-member n y low not_empty = ⊎_elim (λ one. (one.0, one.2)) (λ nothing. absurd (not_empty nothing)) (tell_empty n y low)
 
 -- what a dependency names lies within its scheme
 pub beyond_in : (n : ℕ) (ds : List Dependency) (scheme x : Attributes) (a : ℕ) → ImpliedOn n ds scheme (fd x (only a)) → scheme a ≡ true
@@ -66,7 +66,7 @@ module _ (n : ℕ) (ds : List Dependency) (scheme x y : Attributes) (low : IsSub
   bcnf_in k m = beyond_in n ds scheme x k ((v.right k).0 m).0
 
   pub bcnf_attribute : (a : ℕ) × (y a ≡ true)
-  bcnf_attribute = nonempty-member n y (λ k m. low k (bcnf_in k m)) v.some
+  bcnf_attribute = nonempty-member n y (λ k m. low k (bcnf_in k m)) v.not_empty
 
   pub bcnf_left_in : IsSubset x scheme
   bcnf_left_in = ((v.right bcnf_attribute.0).0 bcnf_attribute.1).0.within.0
@@ -81,14 +81,14 @@ module _ (n : ℕ) (ds : List Dependency) (scheme x y : Attributes) (low : IsSub
       record {
         implied = replicated_on n ds scheme x y (fd_on-from n ds scheme x y bcnf_left_in bcnf_in bcnf_implied);
         apart = λ k m. ((v.right k).0 m).1;
-        some = (a, bcnf_in a bcnf_attribute.1, bcnf_attribute.1);
+        not_empty = (a, bcnf_in a bcnf_attribute.1, bcnf_attribute.1);
         rest = (more.0, more.1, grind (arith, more.1, more.2, more.3));
       }
 
 -- ---- fourth form
 -- a part has an attribute beyond its left side
 pub part_attribute : (n : ℕ) (ds : List Dependency) (scheme x p : Attributes) → IsSubset scheme (below n) → IsBlockOn n ds scheme x p → (k : ℕ) × (p k ≡ true)
-part_attribute n ds scheme x p low part = nonempty-member n p (λ k m. low k (part.implied.within.1 k m)) part.some
+part_attribute n ds scheme x p low part = nonempty-member n p (λ k m. low k (part.implied.within.1 k m)) part.not_empty
 
 module _ (n : ℕ) (ds : List Dependency) (scheme x y : Attributes) (low : IsSubset scheme (below n)) (v : ViolatesFourth n ds scheme x y) where
   -- an attribute of the other part is not in the first
@@ -108,7 +108,7 @@ module _ (n : ℕ) (ds : List Dependency) (scheme x y : Attributes) (low : IsSub
       record {
         implied = v.part.implied;
         apart = v.part.outside;
-        some = (a.0, v.part.implied.within.1 a.0 a.1, a.1);
+        not_empty = (a.0, v.part.implied.within.1 a.0 a.1, a.1);
         rest = (k.0, inside, grind (arith, inside, k.2, v.other_part.outside k.0 k.1));
       }
 
@@ -119,7 +119,7 @@ violation_cut n ds Fourth scheme x y low other v = fourth_cut n ds scheme x y lo
 
 -- ---- none is in the form
 cut_not_within : (n : ℕ) (ds : List Dependency) (scheme x y : Attributes) → IsCut n ds scheme x y → IsSubset y x → ⊥
-cut_not_within n ds scheme x y cut inside = true≢false (sym (inside cut.some.0 cut.some.2) ∙ cut.apart cut.some.0 cut.some.2)
+cut_not_within n ds scheme x y cut inside = true≢false (sym (inside cut.not_empty.0 cut.not_empty.2) ∙ cut.apart cut.not_empty.0 cut.not_empty.2)
 
 cut_not_whole : (n : ℕ) (ds : List Dependency) (scheme x y : Attributes) → IsCut n ds scheme x y → union x y ≡ scheme → ⊥
 cut_not_whole n ds scheme x y cut same = true≢false (sym (same_at same cut.rest.0 ∙ cut.rest.1) ∙ grind (arith, cut.rest.2))

@@ -1,4 +1,4 @@
--- Which violation of a form is told of a scheme: for `violation`, `visible_violation`, `check form`
+-- Which violation of a form is named of a scheme: for `violation`, `visible_violation`, `check form`
 -- (`desk_cli/NormalForms`) and split_forms.
 use Rattle.std.specs.Prelude.{◌≡◌, ℕ, ◌<◌, List, Some, All, take, slice_get}
 use Rattle.attr_sets.specs.Attributes.{Attributes, IsSubset, IsBefore, count_below}

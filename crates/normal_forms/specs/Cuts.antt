@@ -10,5 +10,5 @@ use Rattle.dep_model.specs.OnSchemes.{ImpliedOn}
 pub record IsCut (n : ℕ) (ds : List Dependency) (scheme x y : Attributes) : Type 0 where
   pub implied : ImpliedOn n ds scheme (mvd x y)
   pub apart : Disjoint y x
-  pub some : Intersects scheme y
+  pub not_empty : Intersects scheme y
   pub rest : Intersects scheme (difference scheme (union x y))

@@ -1,4 +1,4 @@
--- Prime attributes as they are told one after the other: for the test of third form. `Desk` does
+-- Prime attributes as they are found one after the other: for the test of third form. `Desk` does
 -- not cite it.
 use Rattle.std.specs.Prelude.{◌≡◌, ℕ, ◌<◌, true, List}
 use Rattle.attr_sets.specs.Attributes.{Attributes, only, union, IsSubset}
@@ -17,7 +17,7 @@ BecomesSuperkeyBy n ds scheme x a =
 abbrev pub ArePrime : ℕ → List Dependency → Attributes → Attributes → Type 0
 ArePrime n ds scheme x = (a : ℕ) → x a ≡ true → IsPrime n ds scheme a
 
--- what is told of some attributes: that they are prime, as are these and those that were known
+-- what is known of some attributes: that they are prime, as are these and those that were known
 -- before; or which is the least that is not
 abbrev pub IsPrimeOrNot : ℕ → List Dependency → Attributes → Attributes → Attributes → Sifted → Type 0
 IsPrimeOrNot n ds scheme primes asked (Prime known) =

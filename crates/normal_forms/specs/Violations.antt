@@ -1,4 +1,4 @@
--- What violates a normal form on a scheme, with the right side that is told: for `Chosen` and the
+-- What violates a normal form on a scheme, with the right side that is named: for `Chosen` and the
 -- laws of normal_forms.
 use Rattle.std.specs.Prelude.{◌≡◌, ℕ, ◌<◌, ◌↔◌, false, true, List}
 use Rattle.attr_sets.specs.Attributes.{Attributes, only, difference, IsEmpty, IsFirstFrom}
@@ -27,7 +27,7 @@ pub record ViolatesThird (n : ℕ) (ds : List Dependency) (scheme x y : Attribut
 -- x is no superkey and determines attributes beyond it; y has all of them
 pub record ViolatesBcnf (n : ℕ) (ds : List Dependency) (scheme x y : Attributes) : Type 0 where
   pub no_superkey : IsSuperkey n ds scheme x → ⊥
-  pub some : IsEmpty y → ⊥
+  pub not_empty : IsEmpty y → ⊥
   pub right : (a : ℕ) → (y a ≡ true) ↔ DeterminesBeyond n ds scheme x a
 
 -- x is no superkey and has two parts or more; y is the one with the first attribute outside x

@@ -15,7 +15,7 @@ use fd_closure::closure;
 
 // Whether a left side violates Boyce-Codd or fourth form. Where all dependencies are functional
 // both are violated by a left side that determines some of the rest and not all. Else a left side
-// with one part alone is told first, which most often is all that is asked.
+// with one part alone is named first, which most often is all that is asked.
 pub fn breaks(schema: &Schema, scheme: AttrSet, form: Form, functional: bool, lhs: AttrSet) -> bool
     requires scheme { IsSubset (attributes scheme) (universe_of schema.now) }
     requires lhs { IsSubset (attributes lhs) (attributes scheme) }

@@ -67,14 +67,14 @@ fn key_with(schema: &Schema, scheme: AttrSet, whole: AttrSet, attribute: u8) -> 
     ensures member { IfSome result (λ key. attributes key attribute ≡ true) }
 {
     let rest = scheme.difference(whole).without(attribute);
-    let free = whole.without(attribute);
+    let others = whole.without(attribute);
     let mut next = Some(AttrSet::empty());
     while let Some(set) = next {
         let before = set.union(rest);
         if becomes_superkey_by(schema, scheme, before, attribute) {
             return Some(functional_key(schema.deps(), before.with(attribute)));
         }
-        next = set.next_subset(free);
+        next = set.next_subset(others);
     }
     None
 }

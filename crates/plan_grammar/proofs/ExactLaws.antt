@@ -104,7 +104,7 @@ one_meaning names (line ∷ lines) xs ys (inr first) (inr second) =
 attribute_fine : (names : List (List ℕ)) (first : Bool) (m : Mark) (n : DiagnosticKind) → IsAttribute format.Plain names m → WordDiagnostic names first m n → ⊥
 attribute_fine names first m n is h =
     ⊎_elim
-    (λ word. ⊎_elim (λ three. true≢false (sym three.1 ∙ is.free)) (λ five. unknown (sym five.1 ∙ is.known)) word.1)
+    (λ word. ⊎_elim (λ three. true≢false (sym three.1 ∙ is.not_reserved)) (λ five. unknown (sym five.1 ∙ is.known)) word.1)
     (λ rest. ⊎_elim (λ ten. true≢false (sym is.word ∙ ap is_word_token ten.1)) (λ six. true≢false (sym is.word ∙ six.0)) rest)
     h
   where
@@ -112,8 +112,8 @@ attribute_fine names first m n is h =
     unknown e = cc
 
 words_fine : (names : List (List ℕ)) (first : Bool) (ms : List Mark) → All (IsAttribute format.Plain names) ms → (first ≡ true → 0 < length ms) → (p : ℕ) (n : DiagnosticKind) → WordsDiagnostic names first ms None p n → ⊥
-words_fine names first [] each some p n h = ⊎_elim (λ ended. omega (arith, some ended.1)) (λ flaw. no_flaw n flaw) h.1
-words_fine names first (m ∷ ms) each some p n h =
+words_fine names first [] each not_empty p n h = ⊎_elim (λ ended. omega (arith, not_empty ended.1)) (λ flaw. no_flaw n flaw) h.1
+words_fine names first (m ∷ ms) each not_empty p n h =
     later_fine (WordsDiagnostic names first (m ∷ ms) None) (λ k g. attribute_fine names first m k (All-head (IsAttribute format.Plain names) m ms each) g)
     (λ q k g. words_fine names false ms (All-tail (IsAttribute format.Plain names) m ms each) (λ never. absurd (false≢true never)) q k g) p n h
 
@@ -122,27 +122,27 @@ scheme_fine names earlier ms x is room =
     subst (λ (ns : List Mark). IsFine names earlier ns None) (sym is.whole)
     (later_fine (SchemeLineDiagnostic names earlier (is.head ∷ is.words) None)
     (λ n h. ⊎_elim (λ other. true≢false (sym is.scheme ∙ other.0)) (λ many. omega (arith, many.1, room)) h)
-    (words_fine names true is.words is.each (λ _. is.some)))
+    (words_fine names true is.words is.each (λ _. is.not_empty)))
 
 pub never_both : (names : List (List ℕ)) (number earlier : ℕ) (lines : List (List ℕ)) (xs : List Attributes) (e : PlanRefusal) → MeansSchemeLines names lines xs → earlier + length xs ≤ MOST_SCHEMES
     → RefusesSchemeLines names number earlier lines e → ⊥
-never_both names number earlier [] xs e means few refused = refused
-never_both names number earlier (line ∷ lines) xs e (inl blank) few (inl first) =
+never_both names number earlier [] xs e means within_limit refused = refused
+never_both names number earlier (line ∷ lines) xs e (inl blank) within_limit (inl first) =
     no_flaw (plan_diagnostic_kind e) (subst (λ (l : Lexed). SchemeLineDiagnostic names earlier l.marks l.stop first.position (plan_diagnostic_kind e)) blank.0 first.diagnostic).1
-never_both names number earlier (line ∷ lines) xs e (inl blank) few (inr later) =
+never_both names number earlier (line ∷ lines) xs e (inl blank) within_limit (inr later) =
     let same : earlier + scheme_count (lex mode.plain line).marks ≡ earlier = ap (λ (l : Lexed). earlier + scheme_count l.marks) blank.0 ∙ zero_more earlier in
-    never_both names (number + 1) earlier lines xs e blank.1 few (subst (λ (n : ℕ). RefusesSchemeLines names (number + 1) n lines e) same later.1)
+    never_both names (number + 1) earlier lines xs e blank.1 within_limit (subst (λ (n : ℕ). RefusesSchemeLines names (number + 1) n lines e) same later.1)
   where
     zero_more : (n : ℕ) → n + 0 ≡ n
     zero_more n = omega arith
-never_both names number earlier (line ∷ lines) xs e (inr adds) few (inl first) =
+never_both names number earlier (line ∷ lines) xs e (inr adds) within_limit (inl first) =
     let count : length xs ≡ suc (length adds.1) = ap (λ (zs : List Attributes). length zs) adds.4 in
-    scheme_fine names earlier adds.2.marks adds.0 adds.2.scheme (omega (arith, few, count)) first.position (plan_diagnostic_kind e)
+    scheme_fine names earlier adds.2.marks adds.0 adds.2.scheme (omega (arith, within_limit, count)) first.position (plan_diagnostic_kind e)
     (subst (λ (l : Lexed). SchemeLineDiagnostic names earlier l.marks l.stop first.position (plan_diagnostic_kind e)) adds.2.tokens first.diagnostic)
-never_both names number earlier (line ∷ lines) xs e (inr adds) few (inr later) =
+never_both names number earlier (line ∷ lines) xs e (inr adds) within_limit (inr later) =
     let count : length xs ≡ suc (length adds.1) = ap (λ (zs : List Attributes). length zs) adds.4 in
     let one : scheme_count (lex mode.plain line).marks ≡ 1 = ap (λ (l : Lexed). scheme_count l.marks) adds.2.tokens ∙ ap (λ (ms : List Mark). scheme_count ms) adds.2.scheme.whole in
-    never_both names (number + 1) (earlier + scheme_count (lex mode.plain line).marks) lines adds.1 e adds.3 (omega (arith, few, count, one)) later.1
+    never_both names (number + 1) (earlier + scheme_count (lex mode.plain line).marks) lines adds.1 e adds.3 (omega (arith, within_limit, count, one)) later.1
 
 -- ---- plans
 Covers-none_left_out : (n : ℕ) (schemes : List Attributes) (a : ℕ) → Covers n schemes → IsFirstFrom (uncovered_attributes n schemes) 0 a → ⊥

@@ -62,10 +62,10 @@ head_least earlier m low n other most reserved h =
     h
 
 other_six : (earlier : ℕ) (m : Mark) → is_scheme m.kind m.word ≡ false → (is_reserved_token format.Plain m.kind m.word ≡ true → ⊥) → IsOther earlier m (kind.Expected what.Scheme)
-other_six earlier m other free = record {
+other_six earlier m other not_reserved = record {
   diagnostic = inl (other, inr refl);
   carries = refl;
-  least = λ n h. head_least earlier m expected n other (omega arith) (λ reserved. absurd (free reserved)) h;
+  least = λ n h. head_least earlier m expected n other (omega arith) (λ reserved. absurd (not_reserved reserved)) h;
 }
 
 other_word : (earlier : ℕ) (m : Mark) (b : Bool) → is_reserved_token format.Plain m.kind m.word ≡ b → is_scheme m.kind m.word ≡ false
@@ -75,7 +75,7 @@ other_word earlier m true reserved other = record {
   carries = tt;
   least = λ n h. head_least earlier m reserved_name n other (omega arith) (λ _. omega arith) h;
 }
-other_word earlier m false free other = other_six earlier m other (λ reserved. true≢false (sym reserved ∙ free))
+other_word earlier m false not_reserved other = other_six earlier m other (λ reserved. true≢false (sym reserved ∙ not_reserved))
 
 -- the first token of a scheme line for which there is room
 head_fine : (earlier : ℕ) (m : Mark) (n : DiagnosticKind) → is_scheme m.kind m.word ≡ true → earlier < MOST_SCHEMES → FirstTokenDiagnostic earlier m n → ⊥
@@ -91,7 +91,7 @@ scheme_read names line schemes m ms stop (Ok x) is room fit = record {
   ended = fit.ended;
   adds = inr (record {
     x = x;
-    scheme = record { head = m; words = ms; whole = refl; scheme = is; some = fit.some refl; each = fit.each; members = fit.members };
+    scheme = record { head = m; words = ms; whole = refl; scheme = is; not_empty = fit.not_empty refl; each = fit.each; members = fit.members };
     one = refl;
     added = refl;
     room = room;
@@ -109,13 +109,13 @@ head_fit : (names : List (List ℕ)) (line : ℕ) (schemes : List Attributes) (m
 head_fit names line schemes m ms stop true true is many =
     first_here (SchemeLineDiagnostic names (length schemes) (m ∷ ms) stop) (SpansPosition line (span_at line 1 (m ∷ ms) stop) scheme_wanted) (plan.TooManySchemes line)
     (inr (is, leb-true MOST_SCHEMES (length schemes) many, refl)) refl (λ n h. head_many (length schemes) m n is h)
-head_fit names line schemes m ms stop true false is few =
-    scheme_read names line schemes m ms stop (read_words names line true none ms stop) is (leb-false MOST_SCHEMES (length schemes) few)
+head_fit names line schemes m ms stop true false is within_limit =
+    scheme_read names line schemes m ms stop (read_words names line true none ms stop) is (leb-false MOST_SCHEMES (length schemes) within_limit)
     (words_fit names line true none (m.column + m.length) ms stop)
-head_fit names line schemes m ms stop false l other few =
-    let told = other_word (length schemes) m (is_reserved_token format.Plain m.kind m.word) refl other in
+head_fit names line schemes m ms stop false l other within_limit =
+    let fact = other_word (length schemes) m (is_reserved_token format.Plain m.kind m.word) refl other in
     first_here (SchemeLineDiagnostic names (length schemes) (m ∷ ms) stop) (SpansPosition line (span_at line 1 (m ∷ ms) stop) scheme_wanted)
-    (plan.Text (refusal line m.column m.length (no_scheme m.kind m.word))) told.diagnostic (refl, told.carries) told.least
+    (plan.Text (refusal line m.column m.length (no_scheme m.kind m.word))) fact.diagnostic (refl, fact.carries) fact.least
 
 pub line_fits : (names : List (List ℕ)) (line : ℕ) (schemes : List Attributes) (ms : List Mark) (stop : Option LexError)
     → LineFits names line schemes ms stop (read_scheme_line names line schemes ms stop)
@@ -133,7 +133,7 @@ pub record AreRead (names : List (List ℕ)) (schemes : List Attributes) (lines 
   pub others : List Attributes
   pub means : MeansSchemeLines names lines others
   pub added : whole ≡ schemes ++ others
-  pub few : length schemes ≤ MOST_SCHEMES → length whole ≤ MOST_SCHEMES
+  pub within_limit : length schemes ≤ MOST_SCHEMES → length whole ≤ MOST_SCHEMES
 
 abbrev pub LinesFit : List (List ℕ) → ℕ → List Attributes → List (List ℕ) → Result (List Attributes) PlanRefusal → Type 0
 LinesFit names number schemes lines (Ok whole) = AreRead names schemes lines whole
@@ -147,13 +147,13 @@ lines_after names number schemes line lines more (Ok whole) read fit =
       others = fit.others;
       means = inl (has_tokens (lex mode.plain line) [] blank.0 read.ended, fit.means);
       added = fit.added ∙ ap (λ (xs : List Attributes). xs ++ fit.others) blank.1;
-      few = λ few. fit.few (subst (λ (xs : List Attributes). length xs ≤ MOST_SCHEMES) (sym blank.1) few);
+      within_limit = λ within_limit. fit.within_limit (subst (λ (xs : List Attributes). length xs ≤ MOST_SCHEMES) (sym blank.1) within_limit);
     })
     (λ adds. record {
       others = adds.x ∷ fit.others;
       means = inr (adds.x, fit.others, record { marks = (lex mode.plain line).marks; tokens = has_tokens (lex mode.plain line) (lex mode.plain line).marks refl read.ended; scheme = adds.scheme }, fit.means, refl);
       added = fit.added ∙ ap (λ (xs : List Attributes). xs ++ fit.others) adds.added ∙ append_assoc schemes (adds.x ∷ []) fit.others;
-      few = λ few. fit.few (subst (λ (xs : List Attributes). length xs ≤ MOST_SCHEMES) (sym adds.added) (omega (arith, length_push schemes adds.x, adds.room)));
+      within_limit = λ within_limit. fit.within_limit (subst (λ (xs : List Attributes). length xs ≤ MOST_SCHEMES) (sym adds.added) (omega (arith, length_push schemes adds.x, adds.room)));
     })
     read.adds
 lines_after names number schemes line lines more (Err e) read fit =
@@ -177,7 +177,7 @@ lines_join names number schemes line lines (Err e) later fit = inl fit
 
 pub lines_fit : (names : List (List ℕ)) (number : ℕ) (schemes : List Attributes) (lines : List (List ℕ)) → LinesFit names number schemes lines (read_scheme_lines names number schemes lines)
 unfolding read_scheme_lines
-lines_fit names number schemes [] = record { others = []; means = refl; added = sym (append-nil schemes); few = λ few. few }
+lines_fit names number schemes [] = record { others = []; means = refl; added = sym (append-nil schemes); within_limit = λ within_limit. within_limit }
 lines_fit names number schemes (line ∷ lines) =
     lines_join names number schemes line lines (read_scheme_line names number schemes (lex mode.plain line).marks (lex mode.plain line).stop)
     (λ more. lines_fit names (number + 1) more lines) (line_fits names number schemes (lex mode.plain line).marks (lex mode.plain line).stop)
@@ -186,7 +186,7 @@ lines_fit names number schemes (line ∷ lines) =
 pub read_means : (names : List (List ℕ)) (lines : List (List ℕ)) (whole : List Attributes) → read_scheme_lines names 1 [] lines ≡ Ok whole → MeansSchemeLines names lines whole × (length whole ≤ MOST_SCHEMES)
 read_means names lines whole is =
     let fit : AreRead names [] lines whole = subst (λ (r : Result (List Attributes) PlanRefusal). LinesFit names 1 [] lines r) is (lines_fit names 1 [] lines) in
-    (subst (λ (xs : List Attributes). MeansSchemeLines names lines xs) (sym fit.added) fit.means, fit.few (omega arith))
+    (subst (λ (xs : List Attributes). MeansSchemeLines names lines xs) (sym fit.added) fit.means, fit.within_limit (omega arith))
 
 pub refused_refuses : (names : List (List ℕ)) (lines : List (List ℕ)) (e : PlanRefusal) → read_scheme_lines names 1 [] lines ≡ Err e → RefusesSchemeLines names 1 0 lines e
 refused_refuses names lines e is = subst (λ (r : Result (List Attributes) PlanRefusal). LinesFit names 1 [] lines r) is (lines_fit names 1 [] lines)

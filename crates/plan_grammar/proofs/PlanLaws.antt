@@ -15,16 +15,16 @@ use Rattle.plan_grammar.specs.Meanings.{IsSchemeLine, MeansSchemeLines}
 line_within : (names : List (List ℕ)) (ms : List Mark) (x : Attributes) → IsSchemeLine names ms x → IsSubset x (below (length names))
 line_within names ms x is k member = named_within names is.words k (sym (ap (λ (y : Attributes). y k) is.members) ∙ member)
 
-named_some : (names : List (List ℕ)) (words : List Mark) → 0 < length words → All (IsAttribute format.Plain names) words → IsEmpty (attributes_of_words names words) → ⊥
-named_some names [] some each empty = omega (arith, some)
-named_some names (m ∷ ms) some each empty =
+named_not_empty : (names : List (List ℕ)) (words : List Mark) → 0 < length words → All (IsAttribute format.Plain names) words → IsEmpty (attributes_of_words names words) → ⊥
+named_not_empty names [] not_empty each empty = omega (arith, not_empty)
+named_not_empty names (m ∷ ms) not_empty each empty =
     let first : IsAttribute format.Plain names m = All-head (IsAttribute format.Plain names) m ms each in
     let a = first.index in
     let here : is_at (attribute_named names m.word) a ≡ true = ap (λ (o : Option ℕ). is_at o a) first.known ∙ eq-eqb a a refl in
     false≢true (sym (empty a) ∙ or_left (is_at (attribute_named names m.word) a) (list_any (λ w. is_at (attribute_named names w.word) a) ms) here)
 
-line_some : (names : List (List ℕ)) (ms : List Mark) (x : Attributes) → IsSchemeLine names ms x → IsEmpty x → ⊥
-line_some names ms x is empty = named_some names is.words is.some is.each (λ k. sym (ap (λ (y : Attributes). y k) is.members) ∙ empty k)
+line_not_empty : (names : List (List ℕ)) (ms : List Mark) (x : Attributes) → IsSchemeLine names ms x → IsEmpty x → ⊥
+line_not_empty names ms x is empty = named_not_empty names is.words is.not_empty is.each (λ k. sym (ap (λ (y : Attributes). y k) is.members) ∙ empty k)
 
 pub lines_within : (names : List (List ℕ)) (lines : List (List ℕ)) (schemes : List Attributes) → MeansSchemeLines names lines schemes → All (λ x. IsSubset x (below (length names))) schemes
 lines_within names [] schemes is = subst (λ (xs : List Attributes). All (λ x. IsSubset x (below (length names))) xs) (sym is) (All-nil (λ (x : Attributes). IsSubset x (below (length names))))
@@ -35,11 +35,11 @@ lines_within names (line ∷ lines) schemes is =
     (All-cons (λ (x : Attributes). IsSubset x (below (length names))) adds.0 adds.1 (line_within names adds.2.marks adds.0 adds.2.scheme) (lines_within names lines adds.1 adds.3)))
     is
 
-pub lines_some : (names : List (List ℕ)) (lines : List (List ℕ)) (schemes : List Attributes) → MeansSchemeLines names lines schemes → All (λ x. IsEmpty x → ⊥) schemes
-lines_some names [] schemes is = subst (λ (xs : List Attributes). All (λ x. IsEmpty x → ⊥) xs) (sym is) (All-nil (λ (x : Attributes). IsEmpty x → ⊥))
-lines_some names (line ∷ lines) schemes is =
+pub lines_not_empty : (names : List (List ℕ)) (lines : List (List ℕ)) (schemes : List Attributes) → MeansSchemeLines names lines schemes → All (λ x. IsEmpty x → ⊥) schemes
+lines_not_empty names [] schemes is = subst (λ (xs : List Attributes). All (λ x. IsEmpty x → ⊥) xs) (sym is) (All-nil (λ (x : Attributes). IsEmpty x → ⊥))
+lines_not_empty names (line ∷ lines) schemes is =
     ⊎_elim
-    (λ blank. lines_some names lines schemes blank.1)
+    (λ blank. lines_not_empty names lines schemes blank.1)
     (λ adds. subst (λ (xs : List Attributes). All (λ x. IsEmpty x → ⊥) xs) (sym adds.4)
-    (All-cons (λ (x : Attributes). IsEmpty x → ⊥) adds.0 adds.1 (line_some names adds.2.marks adds.0 adds.2.scheme) (lines_some names lines adds.1 adds.3)))
+    (All-cons (λ (x : Attributes). IsEmpty x → ⊥) adds.0 adds.1 (line_not_empty names adds.2.marks adds.0 adds.2.scheme) (lines_not_empty names lines adds.1 adds.3)))
     is

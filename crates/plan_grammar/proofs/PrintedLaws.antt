@@ -23,15 +23,15 @@ use Rattle.plans.specs.Printing.{scheme_text, plan_text}
 
 -- the words of a set with attributes are a side for it
 side_named : (names words : List (List ℕ)) (x : Attributes) → (IsEmpty x → ⊥) → IsSide format.Plain names (side_marks 8 words) x → IsNamedSide format.Plain names (word_marks 7 words) x
-side_named names [] x some side =
+side_named names [] x not_empty side =
     ⊎_elim
-    (λ empty. absurd (some (λ k. ap (λ (y : Attributes). y k) empty.nothing)))
+    (λ empty. absurd (not_empty (λ k. ap (λ (y : Attributes). y k) empty.nothing)))
     (λ named. absurd (no_word (All-head (IsAttribute format.Plain names) (record { kind = token.Empty; column = 8; length = 2; word = 40 ∷ 41 ∷ [] }) [] named.each)))
     side
   where
     no_word : IsAttribute format.Plain names (record { kind = token.Empty; column = 8; length = 2; word = 40 ∷ 41 ∷ [] }) → ⊥
     no_word is = let wrong : false ≡ true = is.word in cc
-side_named names (word ∷ words) x some side =
+side_named names (word ∷ words) x not_empty side =
     ⊎_elim
     (λ empty. absurd (no_empty empty.mark empty.alone empty.is_empty))
     (λ named. named)
@@ -45,9 +45,9 @@ side_named names (word ∷ words) x some side =
 
 scheme_means : (names : List (List ℕ)) (x : Attributes) → AreNames format.Plain names → IsSubset x (below (length names)) → (IsEmpty x → ⊥) → MeansScheme names (scheme_text names x) x
 unfolding is_scheme
-scheme_means names x are within some =
+scheme_means names x are within not_empty =
     let words = members_from x 0 names in
-    let side = side_named names words x some (printed_side format.Plain names x 8 are within) in
+    let side = side_named names words x not_empty (printed_side format.Plain names x 8 are within) in
     record {
       marks = record { kind = token.Identifier; column = 1; length = length (codes "scheme"); word = codes "scheme" } ∷ word_marks 7 words;
       tokens = word_line (codes "scheme") words refl (printed_names format.Plain names x are);
@@ -56,7 +56,7 @@ scheme_means names x are within some =
         words = word_marks 7 words;
         whole = refl;
         scheme = refl;
-        some = side.some;
+        not_empty = side.not_empty;
         each = side.each;
         members = side.members;
       };
@@ -64,13 +64,13 @@ scheme_means names x are within some =
 
 lines_mean : (names : List (List ℕ)) (schemes : List Attributes) → AreNames format.Plain names → All (λ x. IsSubset x (below (length names))) schemes → All (λ x. IsEmpty x → ⊥) schemes
     → MeansSchemeLines names (map (scheme_text names) schemes ++ [] ∷ []) schemes
-lines_mean names [] are within some = inl (nothing_left mode.plain 1, refl)
-lines_mean names (x ∷ schemes) are within some =
+lines_mean names [] are within not_empty = inl (nothing_left mode.plain 1, refl)
+lines_mean names (x ∷ schemes) are within not_empty =
     inr (
       x,
       schemes,
-      scheme_means names x are (All-head (λ (y : Attributes). IsSubset y (below (length names))) x schemes within) (All-head (λ (y : Attributes). IsEmpty y → ⊥) x schemes some),
-      lines_mean names schemes are (All-tail (λ (y : Attributes). IsSubset y (below (length names))) x schemes within) (All-tail (λ (y : Attributes). IsEmpty y → ⊥) x schemes some),
+      scheme_means names x are (All-head (λ (y : Attributes). IsSubset y (below (length names))) x schemes within) (All-head (λ (y : Attributes). IsEmpty y → ⊥) x schemes not_empty),
+      lines_mean names schemes are (All-tail (λ (y : Attributes). IsSubset y (below (length names))) x schemes within) (All-tail (λ (y : Attributes). IsEmpty y → ⊥) x schemes not_empty),
       refl,
     )
 
@@ -84,10 +84,10 @@ no_mark names [] = refl
 no_mark names (x ∷ schemes) = refl
 
 pub printed_plan_means : (names : List (List ℕ)) (schemes : List Attributes) → AreNames format.Plain names → IsPlan (length names) schemes → length schemes ≤ MOST_SCHEMES → MeansPlan names (plan_text names schemes) schemes
-printed_plan_means names schemes are plan few = record {
+printed_plan_means names schemes are plan within_limit = record {
   lines = subst (λ (lines : List (List ℕ)). MeansSchemeLines names lines schemes)
       (sym (ap (λ (text : List ℕ). line_texts text) (no_mark names schemes) ∙ lines_cut (map (scheme_text names) schemes) (each_bytes names schemes are)))
-      (lines_mean names schemes are plan.within plan.some);
-  schemes_fit = few;
+      (lines_mean names schemes are plan.within plan.not_empty);
+  schemes_fit = within_limit;
   covers = plan.covers;
 }

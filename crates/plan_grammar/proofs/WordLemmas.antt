@@ -45,7 +45,7 @@ no_empty k other same = true≢false (sym (ap is_empty same) ∙ other)
 module _ (names : List (List ℕ)) (line after : ℕ) (m : Mark) (ms : List Mark) (stop : Option LexError) where
   pub record IsNamed (a : ℕ) : Type 0 where
     pub word : is_word_token m.kind ≡ true
-    pub free : is_reserved_token format.Plain m.kind m.word ≡ false
+    pub not_reserved : is_reserved_token format.Plain m.kind m.word ≡ false
     pub lookup : attribute_named names m.word ≡ Some a
 
   abbrev pub TokenFits : Bool → Result ℕ PlanRefusal → Type 0
@@ -55,7 +55,7 @@ module _ (names : List (List ℕ)) (line after : ℕ) (m : Mark) (ms : List Mark
 
   word_fits : (first : Bool) → is_word_token m.kind ≡ true → TokenFits first (of_text (at line m.column m.length (look_up format.Plain names m.kind m.word)))
   unfolding look_up
-  word_fits first is = told (is_reserved_token format.Plain m.kind m.word) (attribute_named names m.word) refl refl
+  word_fits first is = by_cases (is_reserved_token format.Plain m.kind m.word) (attribute_named names m.word) refl refl
     where
       small : (first : Bool) (low n : DiagnosticKind) → number_of low ≤ number_of unknown_name
           → (n ≡ reserved_name → number_of low ≤ number_of reserved_name ⊎ (is_reserved_token format.Plain m.kind m.word ≡ false))
@@ -63,17 +63,17 @@ module _ (names : List (List ℕ)) (line after : ℕ) (m : Mark) (ms : List Mark
       small first low n most other h =
           ⊎_elim
           (λ word. ⊎_elim
-          (λ three. ⊎_elim (λ le. omega (arith, le, ap number_of three.0)) (λ free. absurd (true≢false (sym three.1 ∙ free))) (other three.0))
+          (λ three. ⊎_elim (λ le. omega (arith, le, ap number_of three.0)) (λ not_reserved. absurd (true≢false (sym three.1 ∙ not_reserved))) (other three.0))
           (λ five. omega (arith, most, ap number_of five.0))
           word.1)
           (λ rest. ⊎_elim (λ ten. omega (arith, most, ap number_of ten.2)) (λ six. omega (arith, most, ap number_of six.2)) rest)
           h
 
-      told : (b : Bool) (o : Option ℕ) → is_reserved_token format.Plain m.kind m.word ≡ b → attribute_named names m.word ≡ o
+      by_cases : (b : Bool) (o : Option ℕ) → is_reserved_token format.Plain m.kind m.word ≡ b → attribute_named names m.word ≡ o
           → TokenFits first (of_text (at line m.column m.length (cond b (Err kind.ReservedName) (known_attribute o))))
-      told true o reserved lookup = (inl (is, inl (refl, reserved)), (refl, tt), λ n h. small first reserved_name n (omega arith) (λ three. inl (omega arith)) h)
-      told false None free lookup = (inl (is, inr (refl, lookup)), (refl, tt), λ n h. small first unknown_name n (omega arith) (λ three. inr free) h)
-      told false (Some a) free lookup = record { word = is; free = free; lookup = lookup }
+      by_cases true o reserved lookup = (inl (is, inl (refl, reserved)), (refl, tt), λ n h. small first reserved_name n (omega arith) (λ three. inl (omega arith)) h)
+      by_cases false None not_reserved lookup = (inl (is, inr (refl, lookup)), (refl, tt), λ n h. small first unknown_name n (omega arith) (λ three. inr not_reserved) h)
+      by_cases false (Some a) not_reserved lookup = record { word = is; not_reserved = not_reserved; lookup = lookup }
 
   empty_fits : m.kind ≡ token.Empty → TokenFits true (Err (plan.EmptyScheme line))
   empty_fits is = (
@@ -114,7 +114,7 @@ module _ (names : List (List ℕ)) (line after : ℕ) (m : Mark) (ms : List Mark
 pub record AreWords (names : List (List ℕ)) (first : Bool) (x : Attributes) (ms : List Mark) (stop : Option LexError) (y : Attributes) : Type 0 where
   pub each : All (IsAttribute format.Plain names) ms
   pub ended : stop ≡ None
-  pub some : first ≡ true → 0 < length ms
+  pub not_empty : first ≡ true → 0 < length ms
   pub members : y ≡ union x (attributes_of_words names ms)
   pub fine : (p : ℕ) (n : DiagnosticKind) → WordsDiagnostic names first ms stop p n → ⊥
 
@@ -126,7 +126,7 @@ named_fine : (names : List (List ℕ)) (line after : ℕ) (first : Bool) (m : Ma
 named_fine names line after first m ms stop a n is h =
     ⊎_elim
     (λ word. ⊎_elim
-    (λ three. true≢false (sym three.1 ∙ is.free))
+    (λ three. true≢false (sym three.1 ∙ is.not_reserved))
     (λ five. unknown (sym five.1 ∙ is.lookup))
     word.1)
     (λ rest. ⊎_elim (λ ten. true≢false (sym is.word ∙ ap is_word_token ten.1)) (λ six. true≢false (sym is.word ∙ six.0)) rest)
@@ -139,9 +139,9 @@ named_fine names line after first m ms stop a n is h =
 words_after : (names : List (List ℕ)) (line after : ℕ) (first : Bool) (x : Attributes) (m : Mark) (ms : List Mark) (stop : Option LexError) (a : ℕ) (r : Result Attributes PlanRefusal)
     → IsNamed names line after m ms stop a → WordsFit names line false (union x (only a)) (m.column + m.length) ms stop r → WordsFit names line first x after (m ∷ ms) stop r
 words_after names line after first x m ms stop a (Ok y) is fit = record {
-  each = All-cons (IsAttribute format.Plain names) m ms (record { word = is.word; free = is.free; index = a; known = is.lookup }) fit.each;
+  each = All-cons (IsAttribute format.Plain names) m ms (record { word = is.word; not_reserved = is.not_reserved; index = a; known = is.lookup }) fit.each;
   ended = fit.ended;
-  some = λ _. omega arith;
+  not_empty = λ _. omega arith;
   members = fit.members ∙ union-only x (attributes_of_words names ms) a ∙ ap (λ (z : Attributes). union x z) (sym (attributes_of_words-cons names m ms a is.lookup));
   fine = later_fine (WordsDiagnostic names first (m ∷ ms) stop) (λ n h. named_fine names line after first m ms stop a n is h) fit.fine;
 }
@@ -178,7 +178,7 @@ words_fit names line true x after [] None =
 words_fit names line false x after [] None = record {
   each = All-nil (IsAttribute format.Plain names);
   ended = refl;
-  some = λ first. absurd (false≢true first);
+  not_empty = λ first. absurd (false≢true first);
   members = sym (union-none x (attributes_of_words names []) refl);
   fine = λ p n h. ⊎_elim (λ ended. false≢true ended.1) (λ flaw. no_flaw n flaw) h.1;
 }

@@ -30,7 +30,7 @@ pub record IsSchemeLine (names : List (List ℕ)) (ms : List Mark) (x : Attribut
   pub words : List Mark
   pub whole : ms ≡ head ∷ words
   pub scheme : is_scheme head.kind head.word ≡ true
-  pub some : 0 < length words
+  pub not_empty : 0 < length words
   pub each : All (IsAttribute format.Plain names) words
   pub members : x ≡ attributes_of_words names words
 

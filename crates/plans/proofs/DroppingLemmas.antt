@@ -47,7 +47,7 @@ Contains-insert_cases before later x y has =
 pub schemes_dropped : (n : ℕ) (before later : List AttrSet) (x : AttrSet) → list_any (lies_within x) (before ++ later) ≡ true → AreSchemes n (before ++ x ∷ later) → AreSchemes n (before ++ later)
 schemes_dropped n before later x held are = record {
   within = All-sublist (λ (s : AttrSet). IsSubset (attributes s) (below n)) (before ++ x ∷ later) (before ++ later) (Contains-insert before later x) are.within;
-  some = All-sublist (λ (s : AttrSet). IsEmpty (attributes s) → ⊥) (before ++ x ∷ later) (before ++ later) (Contains-insert before later x) are.some;
+  not_empty = All-sublist (λ (s : AttrSet). IsEmpty (attributes s) → ⊥) (before ++ x ∷ later) (before ++ later) (Contains-insert before later x) are.not_empty;
   covers = λ k low.
       let found = any_some (λ s. attributes s k) (before ++ x ∷ later) (are.covers k low) in
       let holder = any_some (lies_within x) (before ++ later) held in

@@ -38,9 +38,9 @@ contained_held before x later spare =
     (or_cases (list_any (lies_within x) before) (list_any (lies_properly_within x) later) spare)
 
 pub IsTriedTo-dropped : (whole items : List AttrSet) (i : ℕ) (x : AttrSet) → i < length items → IsTriedTo whole items i → is_contained (take i items) (slice_index_or items i x) (drop (i + 1) items) ≡ true → IsTriedTo whole (take i items ++ drop (suc i) items) i
-IsTriedTo-dropped whole items i x lt before told =
+IsTriedTo-dropped whole items i x lt before fact =
     let next : i + 1 ≡ suc i = omega arith in
-    let spare = subst (λ (k : ℕ). is_contained (take i items) (slice_index_or items i x) (drop k items) ≡ true) next told in
+    let spare = subst (λ (k : ℕ). is_contained (take i items) (slice_index_or items i x) (drop k items) ≡ true) next fact in
     let y = slice_index_or items i x in
     let seam : length (take i items) ≡ i = length-take-le i items (omega (arith, lt)) in
     let firsts : take i (take i items ++ drop (suc i) items) ≡ take i items = subst (λ (k : ℕ). take k (take i items ++ drop (suc i) items) ≡ take i items) seam (take-append_seam (take i items) (drop (suc i) items)) in
@@ -56,9 +56,9 @@ IsTriedTo-dropped whole items i x lt before told =
     }
 
 pub IsTriedTo-kept : (whole items : List AttrSet) (i : ℕ) (x : AttrSet) → i < length items → IsTriedTo whole items i → is_contained (take i items) (slice_index_or items i x) (drop (i + 1) items) ≡ false → IsTriedTo whole items (i + 1)
-IsTriedTo-kept whole items i x lt before told =
+IsTriedTo-kept whole items i x lt before fact =
     let next : i + 1 ≡ suc i = omega arith in
-    let stays = subst (λ (k : ℕ). is_contained (take i items) (slice_index_or items i x) (drop k items) ≡ false) next told in
+    let stays = subst (λ (k : ℕ). is_contained (take i items) (slice_index_or items i x) (drop k items) ≡ false) next fact in
     let y = slice_index_or items i x in
     let done = before.tried.0 in
     let old = subst (λ (rest : List AttrSet). AreTried whole done (take i items) rest) (drop-cons items i x lt) before.tried.1 in

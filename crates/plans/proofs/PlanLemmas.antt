@@ -24,13 +24,13 @@ schemes_any k (s ∷ schemes) = ap (λ b. attributes s k || b) (schemes_any k sc
 pub schemes_are_plan : (n : ℕ) (schemes : List AttrSet) → AreSchemes n schemes → IsPlan n (schemes_of schemes)
 schemes_are_plan n schemes are = record {
   within = All-map (λ (scheme : Attributes). IsSubset scheme (below n)) attributes schemes are.within;
-  some = All-map (λ (scheme : Attributes). IsEmpty scheme → ⊥) attributes schemes are.some;
+  not_empty = All-map (λ (scheme : Attributes). IsEmpty scheme → ⊥) attributes schemes are.not_empty;
   covers = λ k low. Any-from_list_any (λ (scheme : Attributes). scheme k) (schemes_of schemes) (schemes_any k schemes ∙ are.covers k low);
 }
 
 pub plan_are_schemes : (n : ℕ) (schemes : List AttrSet) → IsPlan n (schemes_of schemes) → AreSchemes n schemes
 plan_are_schemes n schemes plan = record {
   within = schemes_all-from (λ (scheme : Attributes). IsSubset scheme (below n)) schemes plan.within;
-  some = schemes_all-from (λ (scheme : Attributes). IsEmpty scheme → ⊥) schemes plan.some;
+  not_empty = schemes_all-from (λ (scheme : Attributes). IsEmpty scheme → ⊥) schemes plan.not_empty;
   covers = λ k low. sym (schemes_any k schemes) ∙ list_any-from_Any (λ (scheme : Attributes). scheme k) (schemes_of schemes) (plan.covers k low);
 }

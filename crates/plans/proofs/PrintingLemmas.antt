@@ -42,23 +42,23 @@ members_from-nil x (name ∷ names) k none j low =
     later zero low other rest = let same : k + 0 ≡ k = omega arith in ap x same ∙ other
     later (suc j) low other rest = let same : k + suc j ≡ k + 1 + j = omega arith in ap x same ∙ rest j (omega (arith, low))
 
-some_words : (names : List (List ℕ)) (x : Attributes) → IsSubset x (below (length names)) → (IsEmpty x → ⊥) → members_from x 0 names ≡ [] → ⊥
-some_words names x within some none =
+words_not_empty : (names : List (List ℕ)) (x : Attributes) → IsSubset x (below (length names)) → (IsEmpty x → ⊥) → members_from x 0 names ≡ [] → ⊥
+words_not_empty names x within not_empty none =
     ⊎_elim
     (λ found.
     let same : 0 + found.0 ≡ found.0 = omega arith in
     true≢false (sym found.2 ∙ ap x (sym same) ∙ members_from-nil x names 0 none found.0 found.1))
-    (λ empty. some empty)
+    (λ empty. not_empty empty)
     (tell_empty (length names) x within)
 
 -- the line of a scheme, as it is put together
 pub scheme_line : (names : List (List ℕ)) (x : Attributes) → IsSubset x (below (length names)) → (IsEmpty x → ⊥) → codes "scheme " ++ set_text names x ≡ scheme_text names x
 unfolding set_text
-scheme_line names x within some = told (members_from x 0 names) refl
+scheme_line names x within not_empty = by_cases (members_from x 0 names) refl
   where
-    told : (words : List (List ℕ)) → members_from x 0 names ≡ words → codes "scheme " ++ side_text words ≡ codes "scheme" ++ words_text words
-    told [] none = absurd (some_words names x within some none)
-    told (word ∷ words) is = refl
+    by_cases : (words : List (List ℕ)) → members_from x 0 names ≡ words → codes "scheme " ++ side_text words ≡ codes "scheme" ++ words_text words
+    by_cases [] none = absurd (words_not_empty names x within not_empty none)
+    by_cases (word ∷ words) is = refl
 
 -- a line is added part by part
 pub line_added : {T E : Type 0} (r : Result T E) (old head words line new mid end : List ℕ) → mid ≡ (old ++ head) ++ words → head ++ words ≡ line → OnOk r (new ≡ mid ++ end) → OnOk r (new ≡ old ++ (line ++ end))

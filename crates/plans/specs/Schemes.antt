@@ -9,5 +9,5 @@ use Rattle.attr_sets.specs.declared.set.AttrSet.{AttrSet}
 -- test in place of a position in the list, so that it is a fact without cases
 pub record AreSchemes (n : ℕ) (schemes : List AttrSet) : Type 0 where
   pub within : All (λ (scheme : AttrSet). IsSubset (attributes scheme) (below n)) schemes
-  pub some : All (λ (scheme : AttrSet). IsEmpty (attributes scheme) → ⊥) schemes
+  pub not_empty : All (λ (scheme : AttrSet). IsEmpty (attributes scheme) → ⊥) schemes
   pub covers : (k : ℕ) → k < n → list_any (λ scheme. attributes scheme k) schemes ≡ true

@@ -23,7 +23,7 @@ pub inside_of : (plan : List Attributes) (scheme x y : Attributes) → Contains 
     → IsInside plan x y
 inside_of plan scheme x y at within = (at.0, scheme, at.1, at.2, within)
 
--- a part determines what is told of it
+-- a part determines what is known of it
 pub inside_implied : (n : ℕ) (ds : List Dependency) (scheme part closed : Attributes) → IsInsideOf n ds scheme part closed
     → Implies n (functional_part ds) (fd part closed)
 inside_implied n ds scheme part closed known =
@@ -73,14 +73,14 @@ added_closes_functionally n ds scheme c part closed result known covers is_resul
 pub functionally_closed_inside : (n : ℕ) (ds : List Dependency) (plan : List Attributes) (c : Attributes)
     → All (λ scheme. IsSubset scheme (below n)) plan
     → All (λ scheme. IsFunctionallyClosedIn n ds scheme c c) plan → ObeysInside n ds plan (two_tuples n c)
-functionally_closed_inside n ds plan c universe settled = record {
+functionally_closed_inside n ds plan c universe is_closed = record {
   over = two_tuples-over n c;
   obeys = λ x y at implied.
       let scheme = get_or plan at.0 at.1 in
       let within : IsSubset (union x y) scheme = subst (IsSubset (union x y)) (sym at.3) at.4 in
       two_tuples_fd-from n c x y (λ (k : ℕ) m. universe at.0 at.1 at.2 k (within k (grind (arith, m))))
       (λ (k : ℕ) m. universe at.0 at.1 at.2 k (within k (grind (arith, m))))
-      (λ inside. settled at.0 at.1 at.2 x y within implied inside);
+      (λ inside. is_closed at.0 at.1 at.2 x y within implied inside);
 }
 
 -- ---- exactly
@@ -118,15 +118,15 @@ pub shows_lost : (n : ℕ) (ds : List Dependency) (plan : List Attributes) (x y 
     → AgreesOnLoss n ds plan x y c
 shows_lost n ds plan x y c x_in y_in inside closure beyond = record {
   closure = closure;
-  shows = shown n ds plan x y c x_in y_in inside closure beyond;
+  shows = two_tuples_show n ds plan x y c x_in y_in inside closure beyond;
 }
   where
-    shown : (n : ℕ) (ds : List Dependency) (plan : List Attributes) (x y c : Attributes) → IsSubset x (below n)
+    two_tuples_show : (n : ℕ) (ds : List Dependency) (plan : List Attributes) (x y c : Attributes) → IsSubset x (below n)
         → IsSubset y (below n)
         → ObeysInside n ds plan (two_tuples n c) → ((a : ℕ) → (c a ≡ true) ↔ InKeptClosure n ds plan x a)
         → (IsSubset y c → ⊥)
         → ShowsLost n ds plan x y (two_tuples n c)
-    shown n ds plan x y c x_in y_in inside closure beyond = record {
+    two_tuples_show n ds plan x y c x_in y_in inside closure beyond = record {
       inside = inside;
       breaks = λ obeys. beyond (two_tuples_fd-to n c x y x_in y_in obeys
           (λ (k : ℕ) m. (closure k).1 (

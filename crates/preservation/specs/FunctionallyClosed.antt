@@ -21,6 +21,6 @@ pub record IsKeptClosure (n : ℕ) (ds : List Dependency) (plan : List Attribute
   pub closure : (a : ℕ) → (c a ≡ true) ↔ InKeptClosure n ds plan x a
   pub inside : ObeysInside n ds plan (two_tuples n c)
 
--- what is told of a left side is all that follows from it
+-- what is known of a left side is all that follows from it
 abbrev pub TellsKeptClosure : ℕ → List Dependency → List Attributes → Closed → Type 0
-TellsKeptClosure n ds plan told = IsKeptClosure n ds plan (attributes told.from) (attributes told.closed)
+TellsKeptClosure n ds plan kept = IsKeptClosure n ds plan (attributes kept.from) (attributes kept.closed)

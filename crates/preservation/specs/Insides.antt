@@ -19,7 +19,7 @@ pub record IsInsideOf (n : ℕ) (ds : List Dependency) (scheme part closed : Att
   pub within : IsSubset part scheme
   pub closure : (a : ℕ) → (closed a ≡ true) ↔ ((scheme a ≡ true) × InClosure n (functional_part ds) part a)
 
--- what is told of a scheme is so
+-- what is known of a scheme is so
 abbrev pub IsKnown : ℕ → List Dependency → Inside → Type 0
 IsKnown n ds inside = IsInsideOf n ds (attributes inside.scheme) (attributes inside.part) (attributes inside.closed)
 

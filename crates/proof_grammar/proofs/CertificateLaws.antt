@@ -48,11 +48,11 @@ TextFits s text (Ok t) = SpellsWithin s text t
 TextFits s text (Err e) = IsRefusedCertificate s text e
 
 -- all lines are read
-end_fits : (s : Schema) (text : List ℕ) (fresh : Bool) (lines : List Line) (trees : List Tree) (book : CheckerStateValue)
+end_fits : (s : Schema) (text : List ℕ) (fresh : Bool) (lines : List Line) (trees : List Tree) (state : CheckerStateValue)
     (last : ℕ) (r : Result Tree LineDiagnostic) → last ≡ length (line_texts (without_mark text))
-    → HasReadLines s text (line_texts (without_mark text)) fresh lines trees book
-    → Finishes (λ n. uses n lines) trees last book.lines r → read_proof s text ≡ r → TextFits s text r
-end_fits s text fresh lines trees book last (Ok t) count afterwards done is =
+    → HasReadLines s text (line_texts (without_mark text)) fresh lines trees state
+    → Finishes (λ n. uses n lines) trees last state.lines r → read_proof s text ≡ r → TextFits s text r
+end_fits s text fresh lines trees state last (Ok t) count afterwards done is =
     let size = nodes_size s [] lines trees afterwards.read.nodes in
     let whole = length_push done.before t in
     record {
@@ -68,7 +68,7 @@ end_fits s text fresh lines trees book last (Ok t) count afterwards done is =
       lines_fit = afterwards.read.lines_fit;
       levels_fit = (read_proof_checked s text t is).levels_fit;
     }
-end_fits s text fresh lines trees book last (Err e) count afterwards (inl none) is =
+end_fits s text fresh lines trees state last (Err e) count afterwards (inl none) is =
     let size = nodes_size s [] lines trees afterwards.read.nodes in
     inr (record {
       lines = lines;
@@ -81,7 +81,7 @@ end_fits s text fresh lines trees book last (Err e) count afterwards (inl none) 
         is = ap (λ (c : LineDiagnostic). c.diagnostic) none.1;
       });
     })
-end_fits s text fresh lines trees book last (Err e) count afterwards (inr first) is =
+end_fits s text fresh lines trees state last (Err e) count afterwards (inr first) is =
     let size = nodes_size s [] lines trees afterwards.read.nodes in
     let position = afterwards.positions first.at (omega (arith, first.inside, afterwards.size)) in
     inr (record {
@@ -91,7 +91,7 @@ end_fits s text fresh lines trees book last (Err e) count afterwards (inr first)
       read = afterwards.read;
       why = inr (record {
         number = first.at + 1;
-        some = omega arith;
+        not_empty = omega arith;
         not_last = omega (arith, first.inside, size);
         unused = first.unused;
         first = λ n low high. first.earlier n low (omega (arith, high));
@@ -107,42 +107,42 @@ end_fits s text fresh lines trees book last (Err e) count afterwards (inr first)
 -- what is read of the lines after some others
 abbrev FitsOn : Schema → List ℕ → ℕ → List (List ℕ) → Type 0
 FitsOn s text number texts =
-    (before : List (List ℕ)) (fresh : Bool) (lines : List Line) (trees : List Tree) (book : CheckerStateValue)
+    (before : List (List ℕ)) (fresh : Bool) (lines : List Line) (trees : List Tree) (state : CheckerStateValue)
     → line_texts (without_mark text) ≡ before ++ texts → number ≡ length before + 1
-    → HasReadLines s text before fresh lines trees book
-    → read_proof s text ≡ read_certificate_lines s fresh number book texts
-    → TextFits s text (read_certificate_lines s fresh number book texts)
+    → HasReadLines s text before fresh lines trees state
+    → read_proof s text ≡ read_certificate_lines s fresh number state texts
+    → TextFits s text (read_certificate_lines s fresh number state texts)
 
 line_fits : (k : LineKind) (s : Schema) (text : List ℕ) (number : ℕ) (here : List ℕ) (texts before : List (List ℕ))
-    (fresh : Bool) (lines : List Line) (trees : List Tree) (book : CheckerStateValue)
+    (fresh : Bool) (lines : List Line) (trees : List Tree) (state : CheckerStateValue)
     → line_texts (without_mark text) ≡ before ++ here ∷ texts → number ≡ length before + 1
-    → HasReadLines s text before fresh lines trees book → Counts k fresh here → FitsOn s text (number + 1) texts
-    → read_proof s text ≡ read_from s number texts (read_as k s fresh number book here)
-    → TextFits s text (read_from s number texts (read_as k s fresh number book here))
-line_fits Blank s text number here texts before fresh lines trees book cut count afterwards counts on is =
-    on (before ++ here ∷ []) fresh lines trees book (cut ∙ sym (append_assoc before (here ∷ []) texts))
+    → HasReadLines s text before fresh lines trees state → Counts k fresh here → FitsOn s text (number + 1) texts
+    → read_proof s text ≡ read_from s number texts (read_as k s fresh number state here)
+    → TextFits s text (read_from s number texts (read_as k s fresh number state here))
+line_fits Blank s text number here texts before fresh lines trees state cut count afterwards counts on is =
+    on (before ++ here ∷ []) fresh lines trees state (cut ∙ sym (append_assoc before (here ∷ []) texts))
     (omega (arith, count, length-append before (here ∷ [])))
-    (line_passed_over s text before fresh fresh lines trees book here afterwards counts) is
-line_fits Opening s text number here texts before fresh lines trees book cut count afterwards counts on is =
-    on (before ++ here ∷ []) false lines trees book (cut ∙ sym (append_assoc before (here ∷ []) texts))
+    (line_passed_over s text before fresh fresh lines trees state here afterwards counts) is
+line_fits Opening s text number here texts before fresh lines trees state cut count afterwards counts on is =
+    on (before ++ here ∷ []) false lines trees state (cut ∙ sym (append_assoc before (here ∷ []) texts))
     (omega (arith, count, length-append before (here ∷ [])))
-    (line_passed_over s text before fresh false lines trees book here afterwards counts) is
-line_fits Certificate s text number here texts before fresh lines trees book cut count afterwards counts on is =
-    told (certificate_line (names_of s) (rest_from number 1 (lex mode.numbered here))) refl is
+    (line_passed_over s text before fresh false lines trees state here afterwards counts) is
+line_fits Certificate s text number here texts before fresh lines trees state cut count afterwards counts on is =
+    by_cases (certificate_line (names_of s) (rest_from number 1 (lex mode.numbered here))) refl is
   where
     stands : StandsAt text before here number
     stands = record {
       after = texts;
       cut = cut;
       number = count;
-      counts = counts_here s text before fresh lines trees book here afterwards counts;
+      counts = counts_here s text before fresh lines trees state here afterwards counts;
     }
 
-    told : (r : Result Line SchemaRefusal)
+    by_cases : (r : Result Line SchemaRefusal)
         → certificate_line (names_of s) (rest_from number 1 (lex mode.numbered here)) ≡ r
-        → read_proof s text ≡ read_from s number texts (in_line r >>= λ l. without_more_yes (enter_line s number book l))
-        → TextFits s text (read_from s number texts (in_line r >>= λ l. without_more_yes (enter_line s number book l)))
-    told (Err refusal) grammar is = inl (record {
+        → read_proof s text ≡ read_from s number texts (in_line r >>= λ l. without_more_yes (enter_line s number state l))
+        → TextFits s text (read_from s number texts (in_line r >>= λ l. without_more_yes (enter_line s number state l)))
+    by_cases (Err refusal) grammar is = inl (record {
       before = before;
       here = here;
       stands = stands;
@@ -156,13 +156,13 @@ line_fits Certificate s text number here texts before fresh lines trees book cut
         is = refl;
       });
     })
-    told (Ok l) grammar is = by_line (enter_line s number book l) refl
-        (enters s number lines trees book l afterwards.follows (line_of_attributes s here l means)) is
+    by_cases (Ok l) grammar is = by_line (enter_line s number state l) refl
+        (enters s number lines trees state l afterwards.follows (line_of_attributes s here l means)) is
       where
         means : MeansLine (names_of s) here l
         means = line_there (names_of s) number here l grammar
 
-        by_line : (r : Result CheckerStateValue Diagnostic) → enter_line s number book l ≡ r → Enters s lines trees l r
+        by_line : (r : Result CheckerStateValue Diagnostic) → enter_line s number state l ≡ r → Enters s lines trees l r
             → read_proof s text ≡ read_from s number texts (without_more_yes r)
             → TextFits s text (read_from s number texts (without_more_yes r))
         by_line (Err c) enter first is = inl (record {
@@ -178,20 +178,20 @@ line_fits Certificate s text number here texts before fresh lines trees book cut
         by_line (Ok next) enter enters is =
             on (before ++ here ∷ []) false (lines ++ l ∷ []) (trees ++ enters.0 ∷ []) next
             (cut ∙ sym (append_assoc before (here ∷ []) texts)) (omega (arith, count, length-append before (here ∷ [])))
-            (one_more s text before fresh lines trees book here number l enters.0 next afterwards counts stands means
+            (one_more s text before fresh lines trees state here number l enters.0 next afterwards counts stands means
             enter enters.1) is
 
 all_lines_fit : (s : Schema) (text : List ℕ) (number : ℕ) (texts : List (List ℕ)) → FitsOn s text number texts
 unfolding read_certificate_lines read_one
-all_lines_fit s text number [] before fresh lines trees book cut count afterwards is =
+all_lines_fit s text number [] before fresh lines trees state cut count afterwards is =
     let whole : line_texts (without_mark text) ≡ before = cut ∙ append-nil before in
-    end_fits s text fresh lines trees book (number - 1) (finished_certificate (number - 1) book)
+    end_fits s text fresh lines trees state (number - 1) (finished_certificate (number - 1) state)
     (omega (arith, count, ap length whole))
-    (subst (λ (ls : List (List ℕ)). HasReadLines s text ls fresh lines trees book) (sym whole) afterwards)
-    (finishes s (λ n. uses n lines) trees book.unused (number - 1) book.lines afterwards.follows.slots
+    (subst (λ (ls : List (List ℕ)). HasReadLines s text ls fresh lines trees state) (sym whole) afterwards)
+    (finishes s (λ n. uses n lines) trees state.unused (number - 1) state.lines afterwards.follows.slots
     afterwards.follows.fresh) is
-all_lines_fit s text number (here ∷ texts) before fresh lines trees book cut count afterwards is =
-    line_fits (line_kind fresh (lex mode.numbered here)) s text number here texts before fresh lines trees book cut
+all_lines_fit s text number (here ∷ texts) before fresh lines trees state cut count afterwards is =
+    line_fits (line_kind fresh (lex mode.numbered here)) s text number here texts before fresh lines trees state cut
     count afterwards (kind_counts fresh here _ refl) (all_lines_fit s text (number + 1) texts) is
 
 pub text_fits : (s : Schema) (text : List ℕ) → TextFits s text (read_proof s text)
@@ -207,8 +207,8 @@ spelled_there s text t h = subst (TextFits s text) h (text_fits s text)
 -- a text whose lines are read is read as they are finished
 pub end_back : (s : Schema) (text : List ℕ) (lines : List Line) (trees : List Tree) (r : Result Tree LineDiagnostic)
     → MeanLines (names_of s) (certificate_lines text) lines → AreRead s lines trees
-    → ((fresh : Bool) (book : CheckerStateValue) → HasReadLines s text (line_texts (without_mark text)) fresh lines trees book
-    → Finishes (λ n. uses n lines) trees (length (line_texts (without_mark text)) + 1 - 1) book.lines r)
+    → ((fresh : Bool) (state : CheckerStateValue) → HasReadLines s text (line_texts (without_mark text)) fresh lines trees state
+    → Finishes (λ n. uses n lines) trees (length (line_texts (without_mark text)) + 1 - 1) state.lines r)
     → read_proof s text ≡ r
 unfolding read_proof read_certificate_lines
 end_back s text lines trees r mean read done =
@@ -218,10 +218,10 @@ end_back s text lines trees r mean read done =
     let follows = walk.afterwards.follows in
     ap (read_certificate_lines s true 1 (record { lines = []; unused = [] })) cut
     ∙ walk.same
-    ∙ one_end (λ n. uses n lines) trees (length whole + 1 - 1) walk.book.lines _ r
-    (finishes s (λ n. uses n lines) trees walk.book.unused (length whole + 1 - 1) walk.book.lines follows.slots
+    ∙ one_end (λ n. uses n lines) trees (length whole + 1 - 1) walk.state.lines _ r
+    (finishes s (λ n. uses n lines) trees walk.state.unused (length whole + 1 - 1) walk.state.lines follows.slots
     follows.fresh)
-    (done walk.fresh walk.book walk.afterwards)
+    (done walk.fresh walk.state walk.afterwards)
 
 pub spelled_back : (s : Schema) (text : List ℕ) (t : Tree) → SpellsWithin s text t → read_proof s text ≡ Ok t
 spelled_back s text t spelled =
@@ -241,7 +241,7 @@ spelled_back s text t spelled =
         no_deeper s lines t are k (get_or trees k d) (slice_get-get_or trees k d inside),
       );
     })
-    (λ fresh book afterwards. record {
+    (λ fresh state afterwards. record {
       before = are.before;
       trees = refl;
       each = λ k low high. are.used k low (omega (arith, high, size, length_push are.before t));

@@ -124,7 +124,7 @@ all_prepared s os stated (by_given k) all =
       levels = λ u d h. cc;
       counted = λ u d h. cc;
     })
-    (λ some. known_node s os os 1 (leaf (given (k - 1))) (leaf_conclusion s (given (k - 1))) all refl
+    (λ not_empty. known_node s os os 1 (leaf (given (k - 1))) (leaf_conclusion s (given (k - 1))) all refl
     (λ d h. h) refl (omega arith))
 all_prepared s os stated by_reflexivity all =
     known_node s os os 1 (leaf (reflexivity (left_of stated) (right_of stated)))
@@ -184,24 +184,24 @@ within_limits_ok before l levels outcome =
     let holds : Result Opened Diagnostic → Type 0 = λ r. IfOk r (PassesLimits before levels outcome) in
     cond_both (nat_le MOST_NODES before) (Err too_many_lines)
     (cond (nat_lt MOST_LEVELS levels) (Err too_deep) last) holds (λ many. tt)
-    (λ few. cond_both (nat_lt MOST_LEVELS levels) (Err too_deep) last holds (λ deep. tt)
+    (λ within_limit. cond_both (nat_lt MOST_LEVELS levels) (Err too_deep) last holds (λ deep. tt)
     (λ flat. IfOk-weaker last (λ o. (outcome ≡ Ok (o.tree, o.conclusion)) × (o.levels ≡ levels))
     (PassesLimits before levels outcome)
     (λ o ok. record {
-      lines_fit = grind (arith, nat_tests, few);
+      lines_fit = grind (arith, nat_tests, within_limit);
       levels_fit = grind (arith, nat_tests, flat);
       same_levels = ok.1;
       prepared_so = ok.0;
     })
     (concluded_ok l.number levels l.stated outcome)))
 
-entered_keeps : (s : Schema) (at : ℕ) (book : CheckerStateValue) (l : Line) → IsCheckerState s book
-    → IfOk (enter_line s at book l) (IsCheckerState s)
+entered_keeps : (s : Schema) (at : ℕ) (state : CheckerStateValue) (l : Line) → IsCheckerState s state
+    → IfOk (enter_line s at state l) (IsCheckerState s)
 unfolding enter_line
-entered_keeps s at book l is =
-    let os = book.unused in
+entered_keeps s at state l is =
+    let os = state.unused in
     let all = prepare_line s os l.stated l.body >>= λ p. within_limits (length os) l p.levels p.outcome
-    >>= λ o. Ok (add_line at book.lines p.unused o) in
+    >>= λ o. Ok (add_line at state.lines p.unused o) in
     cond_both (l.number == length os + 1) all (Err wrong_number) (λ r. IfOk r (IsCheckerState s))
     (λ numbered. bind_each (IsCheckerState s) (prepare_line s os l.stated l.body) _
     (λ p found. bind_each (IsCheckerState s) (within_limits (length os) l p.levels p.outcome) _
@@ -223,28 +223,28 @@ entered_keeps s at book l is =
     })))
     (λ other. tt)
 
-read_as_keeps : (k : LineKind) (s : Schema) (fresh : Bool) (number : ℕ) (book : CheckerStateValue) (text : List ℕ)
-    → IsCheckerState s book → IfOk (read_as k s fresh number book text) (λ next. IsCheckerState s next.1)
-read_as_keeps Blank s fresh number book text is = is
-read_as_keeps Opening s fresh number book text is = is
-read_as_keeps Certificate s fresh number book text is =
+read_as_keeps : (k : LineKind) (s : Schema) (fresh : Bool) (number : ℕ) (state : CheckerStateValue) (text : List ℕ)
+    → IsCheckerState s state → IfOk (read_as k s fresh number state text) (λ next. IsCheckerState s next.1)
+read_as_keeps Blank s fresh number state text is = is
+read_as_keeps Opening s fresh number state text is = is
+read_as_keeps Certificate s fresh number state text is =
     bind_each (λ next. IsCheckerState s next.1)
     (in_line (certificate_line (names_of s) (rest_from number 1 (lex mode.numbered text)))) _
-    (λ l read. bind_each (λ next. IsCheckerState s next.1) (enter_line s number book l) _
-    (λ next enter. ok_at (IsCheckerState s) _ next enter (entered_keeps s number book l is)))
+    (λ l read. bind_each (λ next. IsCheckerState s next.1) (enter_line s number state l) _
+    (λ next enter. ok_at (IsCheckerState s) _ next enter (entered_keeps s number state l is)))
 
-pub read_one_keeps : (s : Schema) (fresh : Bool) (number : ℕ) (book : CheckerStateValue) (text : List ℕ) (next : Bool × CheckerStateValue) → IsCheckerState s book → read_one s fresh number book text ≡ Ok next → IsCheckerState s next.1
+pub read_one_keeps : (s : Schema) (fresh : Bool) (number : ℕ) (state : CheckerStateValue) (text : List ℕ) (next : Bool × CheckerStateValue) → IsCheckerState s state → read_one s fresh number state text ≡ Ok next → IsCheckerState s next.1
 unfolding read_one
-read_one_keeps s fresh number book text next is h =
+read_one_keeps s fresh number state text next is h =
     ok_at (λ (x : Bool × CheckerStateValue). IsCheckerState s x.1) _ next h
-    (read_as_keeps (line_kind fresh (lex mode.numbered text)) s fresh number book text is)
+    (read_as_keeps (line_kind fresh (lex mode.numbered text)) s fresh number state text is)
 
-finished_checked : (s : Schema) (last : ℕ) (book : CheckerStateValue) (i : Option ℕ) (o : Option Opened)
-    → IsCheckerState s book → root book.unused ≡ o → IfOk (finished_at last book.lines i o) (IsChecked s)
-finished_checked s last book (Some i) o is e = tt
-finished_checked s last book None None is e = tt
-finished_checked s last book None (Some u) is e =
-    let os = book.unused in
+finished_checked : (s : Schema) (last : ℕ) (state : CheckerStateValue) (i : Option ℕ) (o : Option Opened)
+    → IsCheckerState s state → root state.unused ≡ o → IfOk (finished_at last state.lines i o) (IsChecked s)
+finished_checked s last state (Some i) o is e = tt
+finished_checked s last state None None is e = tt
+finished_checked s last state None (Some u) is e =
+    let os = state.unused in
     let i = length os - 1 in
     let stands = AllStand-get s os i (Some u) is.stand e in
     let counted = all_nodes-close os i (Some u) e in
@@ -259,16 +259,16 @@ pub at_line-ok : {A : Type 0} (n : ℕ) (r : Result A Diagnostic) (x : A) → at
 at_line-ok n (Ok y) x h = cc
 at_line-ok n (Err why) x h = cc
 
-read_lines_checked : (s : Schema) (fresh : Bool) (number : ℕ) (book : CheckerStateValue) (texts : List (List ℕ))
-    → IsCheckerState s book → IfOk (read_certificate_lines s fresh number book texts) (IsChecked s)
+read_lines_checked : (s : Schema) (fresh : Bool) (number : ℕ) (state : CheckerStateValue) (texts : List (List ℕ))
+    → IsCheckerState s state → IfOk (read_certificate_lines s fresh number state texts) (IsChecked s)
 unfolding read_certificate_lines finished_certificate
-read_lines_checked s fresh number book [] is =
-    finished_checked s (number - 1) book (first_unused book.unused) (root book.unused) is refl
-read_lines_checked s fresh number book (text ∷ texts) is =
-    bind_each (IsChecked s) (at_line number (read_one s fresh number book text)) _
+read_lines_checked s fresh number state [] is =
+    finished_checked s (number - 1) state (first_unused state.unused) (root state.unused) is refl
+read_lines_checked s fresh number state (text ∷ texts) is =
+    bind_each (IsChecked s) (at_line number (read_one s fresh number state text)) _
     (λ next read. read_lines_checked s next.0 (number + 1) next.1 texts
-    (read_one_keeps s fresh number book text next is
-    (at_line-ok number (read_one s fresh number book text) next read)))
+    (read_one_keeps s fresh number state text next is
+    (at_line-ok number (read_one s fresh number state text) next read)))
 
 -- what is read is within the limits, and proves a dependency
 pub read_proof_checked : (s : Schema) (text : List ℕ) (t : Tree) → read_proof s text ≡ Ok t → IsChecked s t
@@ -279,12 +279,12 @@ read_proof_checked s text t h =
     (record { stand = tt {0}; count = refl; lines_fit = omega arith }))
 
 -- the last line of a checker state proves what it concludes
-pub root_proves : (s : Schema) (book : CheckerStateValue) (t : Tree) (d : Dependency) → IsCheckerState s book → root_conclusion book.unused ≡ Some (t, d) → Proves s t d
-root_proves s book t d is h = told (root book.unused) refl h
+pub root_proves : (s : Schema) (state : CheckerStateValue) (t : Tree) (d : Dependency) → IsCheckerState s state → root_conclusion state.unused ≡ Some (t, d) → Proves s t d
+root_proves s state t d is h = by_cases (root state.unused) refl h
   where
-    told : (o : Option Opened) → root book.unused ≡ o → option_map concluded_by o ≡ Some (t, d) → Proves s t d
-    told None r e = cc
-    told (Some u) r e =
-        let stands = AllStand-get s book.unused (length book.unused - 1) (Some u) is.stand r in
+    by_cases : (o : Option Opened) → root state.unused ≡ o → option_map concluded_by o ≡ Some (t, d) → Proves s t d
+    by_cases None r e = cc
+    by_cases (Some u) r e =
+        let stands = AllStand-get s state.unused (length state.unused - 1) (Some u) is.stand r in
         let same : concluded_by u ≡ (t, d) = cc in
         subst (λ (x : Tree × Dependency). Proves s x.0 x.1) same stands.proves

@@ -42,27 +42,27 @@ pub kind_counts : (fresh : Bool) (text : List ℕ) (k : LineKind) → line_kind 
 unfolding line_kind
 kind_counts fresh text k e =
     subst (λ (j : LineKind). Counts j fresh text) e
-    (told fresh (lex mode.numbered text).marks (lex mode.numbered text).stop refl refl)
+    (by_cases fresh (lex mode.numbered text).marks (lex mode.numbered text).stop refl refl)
   where
-    told : (a : Bool) (ms : List Mark) (stop : Option LexError) → (lex mode.numbered text).marks ≡ ms
+    by_cases : (a : Bool) (ms : List Mark) (stop : Option LexError) → (lex mode.numbered text).marks ≡ ms
         → (lex mode.numbered text).stop ≡ stop → Counts (kind_from a ms stop) a text
-    told true [] None marks ends = λ texts. rw (marks, ends) refl
-    told false [] None marks ends = λ texts. rw (marks, ends) refl
-    told true [] (Some stop) marks ends = λ texts. rw (marks, ends, marks) refl
-    told false [] (Some stop) marks ends = λ texts. rw (marks, ends) refl
-    told true (m ∷ ms) stop marks ends =
+    by_cases true [] None marks ends = λ texts. rw (marks, ends) refl
+    by_cases false [] None marks ends = λ texts. rw (marks, ends) refl
+    by_cases true [] (Some stop) marks ends = λ texts. rw (marks, ends, marks) refl
+    by_cases false [] (Some stop) marks ends = λ texts. rw (marks, ends) refl
+    by_cases true (m ∷ ms) stop marks ends =
         cond_both (is_yes m.kind m.word && is_blank_from ms stop) Opening Certificate (λ j. Counts j true text)
         (λ says texts. rw (marks, marks, ends, says) refl) (λ says texts. rw (marks, marks, ends, says) refl)
-    told false (m ∷ ms) stop marks ends = λ texts. rw marks refl
+    by_cases false (m ∷ ms) stop marks ends = λ texts. rw marks refl
 
 -- ---- the sets of a line
 of_attributes : (s : Schema) (ms : List Mark) (x : Attributes) → IsSide format.Plain (names_of s) ms x → OfAttributes x
 of_attributes s ms x (inl empty) k member =
     let wrong : true ≡ false = sym member ∙ ap (λ (y : Attributes). y k) empty.nothing in cc
-of_attributes s ms x (inr some) k member =
+of_attributes s ms x (inr not_empty) k member =
     let inside : below (length (names_of s)) k ≡ true =
-    named_within (names_of s) ms k (ap (λ (y : Attributes). y k) (sym some.members) ∙ member) in
-    grind (arith, nat_tests, inside, s.valid.few_names)
+    named_within (names_of s) ms k (ap (λ (y : Attributes). y k) (sym not_empty.members) ∙ member) in
+    grind (arith, nat_tests, inside, s.valid.names_within_limit)
 
 rule_of_attributes : (s : Schema) (ms : List Mark) (b : Body) → IsRule (names_of s) ms b → BodyOfAttributes b
 rule_of_attributes s ms (by_given k) is = tt

@@ -33,29 +33,29 @@ pub record IsBelow (all : List Tree) (n : ℕ) (w : Tree) : Type 0 where
   pub less : depth premise < depth w
 
 step_below : (prior : List Tree) (n p : ℕ) (u w : Tree) → IsTreeAt prior p u → depth u < depth w → 0 < times n (p ∷ []) → IsBelow prior n w
-step_below prior n p u w at less some =
+step_below prior n p u w at less not_empty =
     ⊎_elim
     (λ (same : n ≡ p). record {
       premise = u;
       at = record { before = at.before; number = omega (arith, same, at.number); tree = at.tree };
       less = less;
     })
-    (λ (other : n ≡ p → ⊥). absurd (omega (arith, some, times_other n p (ne_eqb n p other))))
+    (λ (other : n ≡ p → ⊥). absurd (omega (arith, not_empty, times_other n p (ne_eqb n p other))))
     (cases_eq n p)
 
 line_below : (prior : List Tree) (l : Line) (b : Body) (w : Tree) (n : ℕ) → IsTreeOf prior l b w → 0 < times n (premises_of b) → IsBelow prior n w
-line_below prior l (by_given k) w n tree some = absurd (omega (arith, some))
-line_below prior l by_reflexivity w n tree some = absurd (omega (arith, some))
-line_below prior l by_mreflexivity w n tree some = absurd (omega (arith, some))
-line_below prior l (by_step rule p) w n tree some =
-    step_below prior n p tree.premise w tree.earlier (omega (arith, ap depth tree.tree)) some
-line_below prior l (by_pair rule p q) w n tree some =
+line_below prior l (by_given k) w n tree not_empty = absurd (omega (arith, not_empty))
+line_below prior l by_reflexivity w n tree not_empty = absurd (omega (arith, not_empty))
+line_below prior l by_mreflexivity w n tree not_empty = absurd (omega (arith, not_empty))
+line_below prior l (by_step rule p) w n tree not_empty =
+    step_below prior n p tree.premise w tree.earlier (omega (arith, ap depth tree.tree)) not_empty
+line_below prior l (by_pair rule p q) w n tree not_empty =
     let deep : depth w ≡ max (depth tree.first) (depth tree.second) + 1 = ap depth tree.tree in
     ⊎_elim
     (λ (first : 0 < times n (p ∷ [])). step_below prior n p tree.first w tree.first_earlier
     (omega (arith, deep)) first)
     (λ (none : times n (p ∷ []) ≤ 0). step_below prior n q tree.second w tree.second_earlier
-    (omega (arith, deep)) (omega (arith, some, none, times_two n p q)))
+    (omega (arith, deep)) (omega (arith, not_empty, none, times_two n p q)))
     (cases_lt 0 (times n (p ∷ [])))
 
 -- a line that is used is used by a later one
@@ -67,10 +67,10 @@ record IsUsed (prior ts : List Tree) (n : ℕ) : Type 0 where
   later : n ≤ length prior + at
 
 line_using : (s : Schema) (prior : List Tree) (ls : List Line) (ts : List Tree) (n : ℕ) → AreNodes s prior ls ts → 0 < uses n ls → IsUsed prior ts n
-line_using s prior [] [] n are some = let none : ⊥ = omega (arith, some) in absurd none
-line_using s prior [] (t ∷ ts) n are some = absurd are
-line_using s prior (l ∷ ls) [] n are some = absurd are
-line_using s prior (l ∷ ls) (t ∷ ts) n (here, rest) some =
+line_using s prior [] [] n are not_empty = let none : ⊥ = omega (arith, not_empty) in absurd none
+line_using s prior [] (t ∷ ts) n are not_empty = absurd are
+line_using s prior (l ∷ ls) [] n are not_empty = absurd are
+line_using s prior (l ∷ ls) (t ∷ ts) n (here, rest) not_empty =
     ⊎_elim
     (λ (own : 0 < times n (premises_of l.body)).
     let below = line_below prior l l.body t n here.tree own in
@@ -94,7 +94,7 @@ line_using s prior (l ∷ ls) (t ∷ ts) n (here, rest) some =
       later = omega (arith, inside, below.at.number);
     })
     (λ (none : times n (premises_of l.body) ≤ 0).
-    let used = line_using s (prior ++ t ∷ []) ls ts n rest (omega (arith, none, some, uses_first n l ls)) in
+    let used = line_using s (prior ++ t ∷ []) ls ts n rest (omega (arith, none, not_empty, uses_first n l ls)) in
     record {
       at = suc used.at;
       tree = used.tree;

@@ -11,8 +11,8 @@ use Rattle.proof_grammar.proofs.SlotLemmas.{AreSlots, times}
 use Rattle.proof_grammar.proofs.PreparedLaws.{tree_earlier}
 
 -- the checker state after lines that are used so often
-pub record Follows (s : Schema) (used : ℕ → ℕ) (ts : List Tree) (book : CheckerStateValue) : Type 0 where
-  pub slots : AreSlots s used 0 ts book.unused
+pub record Follows (s : Schema) (used : ℕ → ℕ) (ts : List Tree) (state : CheckerStateValue) : Type 0 where
+  pub slots : AreSlots s used 0 ts state.unused
   pub fresh : (n : ℕ) → length ts ≤ n → used n ≡ 0
 
 abbrev pub used_after : (ℕ → ℕ) → Line → ℕ → ℕ
@@ -29,5 +29,5 @@ pub record IsEntered (s : Schema) (used : ℕ → ℕ) (ts : List Tree) (l : Lin
 pub premises_early : (ts : List Tree) (l : Line) (b : Body) (t : Tree) (n : ℕ) → IsTreeOf ts l b t → length ts < n
     → times n (premises_of b) ≡ 0
 premises_early ts l b t n tree late =
-    ⊎_elim (λ some. let within = tree_earlier ts l b t tree n some in absurd (omega (arith, late, within.1)))
+    ⊎_elim (λ not_empty. let within = tree_earlier ts l b t tree n not_empty in absurd (omega (arith, late, within.1)))
     (λ none. omega (arith, none)) (cases_lt 0 (times n (premises_of b)))

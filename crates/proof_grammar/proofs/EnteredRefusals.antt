@@ -47,7 +47,7 @@ checks_limits : (s : Schema) (lines : List Line) (ts : List Tree) (l : Line) (p 
     → IsOutcome s (λ n. uses n lines) ts l p → ChecksLimits s lines ts l p (within_limits (length ts) l p.levels p.outcome)
 unfolding within_limits
 checks_limits s lines ts l p number earlier once is =
-    told (nat_le MOST_NODES (length ts)) (nat_lt MOST_LEVELS p.levels) p.outcome refl refl refl
+    by_cases (nat_le MOST_NODES (length ts)) (nat_lt MOST_LEVELS p.levels) p.outcome refl refl refl
   where
     named : NamesNoLine ts l → ⊥
     named = no_names ts l earlier
@@ -56,7 +56,7 @@ checks_limits s lines ts l p number earlier once is =
     twice = not_twice lines l once
 
     flat : p.levels ≤ MOST_LEVELS → IsTooDeep ts l → ⊥
-    flat few deep = omega (arith, few, is.levels deep.tree deep.is, deep.deep)
+    flat within_limit deep = omega (arith, within_limit, is.levels deep.tree deep.is, deep.deep)
 
     stated : (u : Tree) (d : Dependency) (b : Bool) → length ts < MOST_NODES → p.levels ≤ MOST_LEVELS
         → p.outcome ≡ Ok (u, d) → same_dependency l.stated d ≡ b → ChecksLimits s lines ts l p
@@ -84,21 +84,21 @@ checks_limits s lines ts l p number earlier once is =
           );
         }
 
-    told : (a b : Bool) (r : Result (Tree × Dependency) FaultKind) → nat_le MOST_NODES (length ts) ≡ a
+    by_cases : (a b : Bool) (r : Result (Tree × Dependency) FaultKind) → nat_le MOST_NODES (length ts) ≡ a
         → nat_lt MOST_LEVELS p.levels ≡ b → p.outcome ≡ r → ChecksLimits s lines ts l p
         (cond a (Err too_many_lines) (cond b (Err too_deep) (concluded_as l.number l.stated p.levels r)))
-    told true b r many deep concludes = record {
+    by_cases true b r many deep concludes = record {
       wrong = grind (arith, nat_tests, many);
       first = first_of s lines ts l 5 (omega arith) (number, named, twice, tt, tt, tt);
     }
-    told false true r many deep concludes =
+    by_cases false true r many deep concludes =
         let over : MOST_LEVELS < p.levels = grind (arith, nat_tests, deep) in
         let tree = is.deep over in
         record {
           wrong = record { tree = tree.0; is = tree.1; deep = omega (arith, over, is.levels tree.0 tree.1) };
           first = first_of s lines ts l 6 (omega arith) (number, named, twice, grind (arith, nat_tests, many), tt, tt);
         }
-    told false false (Err why) many deep concludes = record {
+    by_cases false false (Err why) many deep concludes = record {
       wrong = (refl, is.fails why concludes);
       first = first_of s lines ts l 7 (omega arith) (
         number,
@@ -109,7 +109,7 @@ checks_limits s lines ts l p number earlier once is =
         tt,
       );
     }
-    told false false (Ok x) many deep concludes = stated x.0 x.1 (same_dependency l.stated x.1)
+    by_cases false false (Ok x) many deep concludes = stated x.0 x.1 (same_dependency l.stated x.1)
         (grind (arith, nat_tests, many)) (grind (arith, nat_tests, deep)) concludes refl
 
 -- ---- what is entered
@@ -119,19 +119,19 @@ Enters s lines ts l (Ok next) = (t : Tree) × IsEntered s (λ n. uses n lines) t
 Enters s lines ts l (Err c) = IsFirstWrong s lines ts l c
 
 -- the checker state after one line more
-Follows-push : (s : Schema) (at : ℕ) (lines : List Line) (ts : List Tree) (book : CheckerStateValue) (l : Line) (p : Prepared)
-    (r : Result Opened Diagnostic) → Follows s (λ n. uses n lines) ts book → IsLineOfAttributes l
+Follows-push : (s : Schema) (at : ℕ) (lines : List Line) (ts : List Tree) (state : CheckerStateValue) (l : Line) (p : Prepared)
+    (r : Result Opened Diagnostic) → Follows s (λ n. uses n lines) ts state → IsLineOfAttributes l
     → l.number ≡ length ts + 1 → AllOnce (λ n. uses n lines) (premises_of l.body)
     → IsOutcome s (λ n. uses n lines) ts l p → ChecksLimits s lines ts l p r
-    → Enters s lines ts l (r >>= λ o. Ok (add_line at book.lines p.unused o))
-Follows-push s at lines ts book l p (Err c) follows own number once is first = first
-Follows-push s at lines ts book l p (Ok o) follows own number once is checks_limits =
+    → Enters s lines ts l (r >>= λ o. Ok (add_line at state.lines p.unused o))
+Follows-push s at lines ts state l p (Err c) follows own number once is first = first
+Follows-push s at lines ts state l p (Ok o) follows own number once is checks_limits =
     let t = o.tree in
     let used : ℕ → ℕ = used_after (λ n. uses n lines) l in
     let gives = is.gives t o.conclusion checks_limits.concludes in
     let levels = is.levels t gives.0 in
     let low : (x : Attributes) → IsSubset x (universe_of s) → OfAttributes x = λ x within k h.
-    let inside : below (width_of s) k ≡ true = within k h in grind (arith, nat_tests, inside, s.valid.few_names) in
+    let inside : below (width_of s) k ≡ true = within k h in grind (arith, nat_tests, inside, s.valid.names_within_limit) in
     let within = conclusion_within s t o.conclusion gives.2 gives.1 in
     let same = same_there l.stated o.conclusion own.left own.right (low (left_of o.conclusion) within.0)
     (low (right_of o.conclusion) within.1) checks_limits.same in
@@ -158,18 +158,18 @@ Follows-push s at lines ts book l p (Ok o) follows own number once is checks_lim
       once,
     )
 
-pub enters : (s : Schema) (at : ℕ) (lines : List Line) (ts : List Tree) (book : CheckerStateValue) (l : Line)
-    → Follows s (λ n. uses n lines) ts book → IsLineOfAttributes l → Enters s lines ts l (enter_line s at book l)
+pub enters : (s : Schema) (at : ℕ) (lines : List Line) (ts : List Tree) (state : CheckerStateValue) (l : Line)
+    → Follows s (λ n. uses n lines) ts state → IsLineOfAttributes l → Enters s lines ts l (enter_line s at state l)
 unfolding enter_line
-enters s at lines ts book l follows own = told (l.number == length book.unused + 1) refl
+enters s at lines ts state l follows own = by_cases (l.number == length state.unused + 1) refl
   where
-    size : length book.unused ≡ length ts
-    size = slots_size s (λ n. uses n lines) 0 ts book.unused follows.slots
+    size : length state.unused ≡ length ts
+    size = slots_size s (λ n. uses n lines) 0 ts state.unused follows.slots
 
     made : l.number ≡ length ts + 1 → (r : Result Prepared Diagnostic) → Prepares s lines ts l r
-        → Enters s lines ts l (r >>= λ p. within_limits (length book.unused) l p.levels p.outcome
-        >>= λ o. Ok (add_line at book.lines p.unused o))
-    made number (Ok p) is = Follows-push s at lines ts book l p (within_limits (length book.unused) l p.levels p.outcome) follows own
+        → Enters s lines ts l (r >>= λ p. within_limits (length state.unused) l p.levels p.outcome
+        >>= λ o. Ok (add_line at state.lines p.unused o))
+    made number (Ok p) is = Follows-push s at lines ts state l p (within_limits (length state.unused) l p.levels p.outcome) follows own
         number is.1 is.2 (subst (λ n. ChecksLimits s lines ts l p (within_limits n l p.levels p.outcome)) (sym size)
         (checks_limits s lines ts l p number is.0 is.1 is.2))
     made number (Err no_such_line) wrong =
@@ -180,13 +180,13 @@ enters s at lines ts book l follows own = told (l.number == length book.unused +
     }
     made number (Err _) wrong = absurd wrong
 
-    told : (b : Bool) → (l.number == length book.unused + 1) ≡ b
-        → Enters s lines ts l (cond b (prepare_line s book.unused l.stated l.body
-        >>= λ p. within_limits (length book.unused) l p.levels p.outcome
-        >>= λ o. Ok (add_line at book.lines p.unused o)) (Err wrong_number))
-    told true e = made (grind (arith, nat_tests, e, size)) (prepare_line s book.unused l.stated l.body)
-        (prepares s lines ts book.unused l.number l.stated l.body follows.slots own)
-    told false e = record {
+    by_cases : (b : Bool) → (l.number == length state.unused + 1) ≡ b
+        → Enters s lines ts l (cond b (prepare_line s state.unused l.stated l.body
+        >>= λ p. within_limits (length state.unused) l p.levels p.outcome
+        >>= λ o. Ok (add_line at state.lines p.unused o)) (Err wrong_number))
+    by_cases true e = made (grind (arith, nat_tests, e, size)) (prepare_line s state.unused l.stated l.body)
+        (prepares s lines ts state.unused l.number l.stated l.body follows.slots own)
+    by_cases false e = record {
       wrong = λ is. grind (arith, nat_tests, e, size, is);
       first = first_of s lines ts l 2 (omega arith) (tt, tt, tt, tt, tt, tt);
     }
@@ -195,49 +195,49 @@ enters s at lines ts book l follows own = told (l.number == length book.unused +
 nothing_wrong : (s : Schema) (lines : List Line) (ts : List Tree) (l : Line) (t : Tree) (c : Diagnostic) → IsNode s ts l t
     → length ts < MOST_NODES → depth t ≤ MOST_LEVELS → AllOnce (λ n. uses n lines) (premises_of l.body)
     → Wrong s lines ts l c → ⊥
-nothing_wrong s lines ts l t wrong_number node few flat once wrong = wrong node.number
-nothing_wrong s lines ts l t no_such_line node few flat once wrong =
+nothing_wrong s lines ts l t wrong_number node within_limit flat once wrong = wrong node.number
+nothing_wrong s lines ts l t no_such_line node within_limit flat once wrong =
     no_names ts l (tree_earlier ts l l.body t node.tree) wrong
-nothing_wrong s lines ts l t used_twice node few flat once wrong = not_twice lines l once wrong
-nothing_wrong s lines ts l t too_many_lines node few flat once wrong = omega (arith, wrong, few)
-nothing_wrong s lines ts l t too_deep node few flat once wrong =
+nothing_wrong s lines ts l t used_twice node within_limit flat once wrong = not_twice lines l once wrong
+nothing_wrong s lines ts l t too_many_lines node within_limit flat once wrong = omega (arith, wrong, within_limit)
+nothing_wrong s lines ts l t too_deep node within_limit flat once wrong =
     omega (arith, wrong.deep, flat, ap depth (tree_of_line ts l l.body wrong.tree t wrong.is node.tree))
-nothing_wrong s lines ts l t (unsound fault) node few flat once wrong =
+nothing_wrong s lines ts l t (unsound fault) node within_limit flat once wrong =
     no_fault s ts l l.body t l.stated fault.kind node.tree node.states wrong.1
-nothing_wrong s lines ts l t (states_other stated concluded) node few flat once wrong =
+nothing_wrong s lines ts l t (states_other stated concluded) node within_limit flat once wrong =
     let same = tree_of_line ts l l.body wrong.1.tree t wrong.1.is node.tree in
     wrong.1.other (Proves-one s t l.stated concluded node.states
     (subst (λ (u : Tree). Proves s u concluded) same wrong.1.proves))
-nothing_wrong s lines ts l t _ node few flat once wrong = wrong
+nothing_wrong s lines ts l t _ node within_limit flat once wrong = wrong
 
 -- a node within the limits is entered
-pub entered_back : (s : Schema) (at : ℕ) (lines : List Line) (ts : List Tree) (book : CheckerStateValue) (l : Line) (t : Tree)
-    → Follows s (λ n. uses n lines) ts book → IsLineOfAttributes l → IsNode s ts l t → length ts < MOST_NODES
+pub entered_back : (s : Schema) (at : ℕ) (lines : List Line) (ts : List Tree) (state : CheckerStateValue) (l : Line) (t : Tree)
+    → Follows s (λ n. uses n lines) ts state → IsLineOfAttributes l → IsNode s ts l t → length ts < MOST_NODES
     → depth t ≤ MOST_LEVELS → ((n : ℕ) → 0 < n → used_after (λ n. uses n lines) l n ≤ 1)
-    → (next : CheckerStateValue) × (enter_line s at book l ≡ Ok next) × IsEntered s (λ n. uses n lines) ts l next t
-entered_back s at lines ts book l t follows own node few flat once =
-    told (enter_line s at book l) refl (enters s at lines ts book l follows own)
+    → (next : CheckerStateValue) × (enter_line s at state l ≡ Ok next) × IsEntered s (λ n. uses n lines) ts l next t
+entered_back s at lines ts state l t follows own node within_limit flat once =
+    by_cases (enter_line s at state l) refl (enters s at lines ts state l follows own)
   where
-    told : (r : Result CheckerStateValue Diagnostic) → enter_line s at book l ≡ r → Enters s lines ts l r
-        → (next : CheckerStateValue) × (enter_line s at book l ≡ Ok next) × IsEntered s (λ n. uses n lines) ts l next t
-    told (Ok next) e is = (
+    by_cases : (r : Result CheckerStateValue Diagnostic) → enter_line s at state l ≡ r → Enters s lines ts l r
+        → (next : CheckerStateValue) × (enter_line s at state l ≡ Ok next) × IsEntered s (λ n. uses n lines) ts l next t
+    by_cases (Ok next) e is = (
       next,
       e,
       subst (IsEntered s (λ n. uses n lines) ts l next)
           (tree_of_line ts l l.body is.0 t is.1.node.tree node.tree) is.1,
     )
-    told (Err c) e first = absurd (nothing_wrong s lines ts l t c node few flat
-        (λ n some. once n (tree_earlier ts l l.body t node.tree n some).0) first.wrong)
+    by_cases (Err c) e first = absurd (nothing_wrong s lines ts l t c node within_limit flat
+        (λ n not_empty. once n (tree_earlier ts l l.body t node.tree n not_empty).0) first.wrong)
 
 -- a line is refused for its first diagnostic
-pub refused_entered : (s : Schema) (at : ℕ) (lines : List Line) (ts : List Tree) (book : CheckerStateValue) (l : Line)
-    (c : Diagnostic) → Follows s (λ n. uses n lines) ts book → IsLineOfAttributes l → IsFirstWrong s lines ts l c
-    → enter_line s at book l ≡ Err c
-refused_entered s at lines ts book l c follows own first =
-    told (enter_line s at book l) (enters s at lines ts book l follows own)
+pub refused_entered : (s : Schema) (at : ℕ) (lines : List Line) (ts : List Tree) (state : CheckerStateValue) (l : Line)
+    (c : Diagnostic) → Follows s (λ n. uses n lines) ts state → IsLineOfAttributes l → IsFirstWrong s lines ts l c
+    → enter_line s at state l ≡ Err c
+refused_entered s at lines ts state l c follows own first =
+    by_cases (enter_line s at state l) (enters s at lines ts state l follows own)
   where
-    told : (r : Result CheckerStateValue Diagnostic) → Enters s lines ts l r → r ≡ Err c
-    told (Ok next) is =
+    by_cases : (r : Result CheckerStateValue Diagnostic) → Enters s lines ts l r → r ≡ Err c
+    by_cases (Ok next) is =
         absurd (nothing_wrong s lines ts l is.0 c is.1.node is.1.lines_fit is.1.levels_fit is.2 first.wrong)
-    told (Err d) other = ap Err (one_of_rank s lines ts l d c
+    by_cases (Err d) other = ap Err (one_of_rank s lines ts l d c
         (omega (arith, other.first c first.wrong, first.first d other.wrong)) other.wrong first.wrong)

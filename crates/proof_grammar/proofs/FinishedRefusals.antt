@@ -47,7 +47,7 @@ finishes s used (t ∷ ts) os last lines slots fresh =
     ap (λ n. take n all) count ∙ take-append_seam found.front (found.slot ∷ []) in
     let at : slice_get all (length all - 1) ≡ Some found.slot =
     ap (slice_get all) count ∙ slice_get-append found.front found.slot [] in
-    rw (found.slots, cut, at) (told (nat_lt (open_prefix found.front) (length found.front)) found.slot refl found.is)
+    rw (found.slots, cut, at) (by_cases (nat_lt (open_prefix found.front) (length found.front)) found.slot refl found.is)
   where
     found : IsLast s used 0 (t ∷ ts) os
     found = last_slot s used 0 t ts os slots
@@ -61,10 +61,10 @@ finishes s used (t ∷ ts) os last lines slots fresh =
     whole : length (t ∷ ts) ≡ length found.before + 1
     whole = ap length found.trees ∙ length_push found.before found.tree
 
-    told : (b : Bool) (slot : Option Opened) → nat_lt (open_prefix found.front) (length found.front) ≡ b
+    by_cases : (b : Bool) (slot : Option Opened) → nat_lt (open_prefix found.front) (length found.front) ≡ b
         → IsSlot s (used (0 + length (t ∷ ts))) found.tree slot
         → Finishes used (t ∷ ts) last lines (finished_at last lines (cond b (Some (open_prefix found.front)) None) slot)
-    told true slot less is =
+    by_cases true slot less is =
         let inside : open_prefix found.front < length found.before = grind (arith, nat_tests, less, size) in
         let same : open_prefix found.front + 1 ≡ 0 + open_prefix found.front + 1 = omega arith in
         inr (record {
@@ -74,12 +74,12 @@ finishes s used (t ∷ ts) os last lines slots fresh =
           earlier = first.earlier;
           is = refl;
         })
-    told false (Some o) past is = record {
+    by_cases false (Some o) past is = record {
       before = found.before;
       trees = found.trees ∙ ap (λ v. found.before ++ v ∷ []) (sym is.1.tree);
       each = λ k low high. first.earlier k low (grind (arith, nat_tests, past, size, high));
     }
-    told false None past is = absurd (omega (arith, is, fresh (0 + length (t ∷ ts)) (omega arith)))
+    by_cases false None past is = absurd (omega (arith, is, fresh (0 + length (t ∷ ts)) (omega arith)))
 
 -- they are finished in one way
 pub one_end : (used : ℕ → ℕ) (ts : List Tree) (last : ℕ) (lines : List ℕ) (r q : Result Tree LineDiagnostic)
@@ -96,27 +96,27 @@ one_end used ts last lines (Ok t) (Ok u) first second =
     ∙ ap (slice_get ts) size ∙ ap (λ vs. slice_get vs (length second.before)) second.trees ∙ slice_get-append second.before u []))
 one_end used ts last lines (Ok t) (Err e) done (inl none) =
     absurd (omega (arith, ap length done.trees, length_push done.before t, ap length none.0))
-one_end used ts last lines (Ok t) (Err e) done (inr some) =
+one_end used ts last lines (Ok t) (Err e) done (inr not_empty) =
     absurd (omega (
       arith,
-      some.unused,
-      done.each (some.at + 1) (omega arith)
-          (omega (arith, some.inside, ap length done.trees, length_push done.before t)),
+      not_empty.unused,
+      done.each (not_empty.at + 1) (omega arith)
+          (omega (arith, not_empty.inside, ap length done.trees, length_push done.before t)),
     ))
 one_end used ts last lines (Err e) (Ok t) (inl none) done =
     absurd (omega (arith, ap length done.trees, length_push done.before t, ap length none.0))
-one_end used ts last lines (Err e) (Ok t) (inr some) done =
+one_end used ts last lines (Err e) (Ok t) (inr not_empty) done =
     absurd (omega (
       arith,
-      some.unused,
-      done.each (some.at + 1) (omega arith)
-          (omega (arith, some.inside, ap length done.trees, length_push done.before t)),
+      not_empty.unused,
+      done.each (not_empty.at + 1) (omega arith)
+          (omega (arith, not_empty.inside, ap length done.trees, length_push done.before t)),
     ))
 one_end used ts last lines (Err e) (Err f) (inl first) (inl second) = ap Err (first.1 ∙ sym second.1)
-one_end used ts last lines (Err e) (Err f) (inl none) (inr some) =
-    absurd (omega (arith, ap length none.0, some.inside))
-one_end used ts last lines (Err e) (Err f) (inr some) (inl none) =
-    absurd (omega (arith, ap length none.0, some.inside))
+one_end used ts last lines (Err e) (Err f) (inl none) (inr not_empty) =
+    absurd (omega (arith, ap length none.0, not_empty.inside))
+one_end used ts last lines (Err e) (Err f) (inr not_empty) (inl none) =
+    absurd (omega (arith, ap length none.0, not_empty.inside))
 one_end used ts last lines (Err e) (Err f) (inr first) (inr second) =
     let same : first.at ≡ second.at = ⊎_elim (λ same. same)
     (⊎_elim

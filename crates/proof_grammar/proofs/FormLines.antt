@@ -14,7 +14,7 @@ use Rattle.proof_grammar.specs.declared.rule_name.RuleName.TheVariants as rule
 use Rattle.proof_grammar.specs.Lines.{Line, certificate_line}
 use Rattle.proof_grammar.specs.LineDiagnostics.{TokenForm, token_form, word_form, token_forms, a_number, a_colon, an_arrow, an_empty, a_with, a_rule, a_word, AreLine, BeginLine, TakesNames, FormsWant}
 use Rattle.proof_grammar.specs.Tokens.{is_with, rule_word}
-use Rattle.proof_grammar.proofs.FormShapes.{heading, lhs, rhs, by, wide, narrow, ending, Shape, at_number, at_start, at_side, past, at_rule, at_with, Ends, comes_from, is_final, may_end, runs, runs-append, takes_words, then_turn, shape_after, wanted_by}
+use Rattle.proof_grammar.proofs.FormShapes.{heading, lhs, rhs, by, wide, narrow, ending, Shape, at_number, at_start, at_side, past, at_rule, at_with, Ends, comes_from, is_final, shape_may_end, runs, runs-append, takes_words, then_turn, shape_after, wanted_by}
 use Rattle.proof_grammar.proofs.JudgedLines.{Judged, WrongAt}
 use Rattle.proof_grammar.proofs.JudgedRules.{line_judged}
 use Rattle.proof_grammar.proofs.LineLaws.{line_reads, marks_read}
@@ -79,12 +79,12 @@ sample_fine (Some s) [] last (suc p) n leads final h =
 
 -- ---- lines
 pub final_line : (fs : List TokenForm) (s : Shape) → runs (Some at_start) fs ≡ Some s → is_final s ≡ true → AreLine fs
-final_line fs s leads final = told (certificate_line all_words (rest_at 1 1 (map sample_mark fs))) refl
+final_line fs s leads final = by_cases (certificate_line all_words (rest_at 1 1 (map sample_mark fs))) refl
     (line_judged all_words 1 1 (map sample_mark fs) None)
   where
-    told : (r : Result Line SchemaRefusal) → certificate_line all_words (rest_at 1 1 (map sample_mark fs)) ≡ r
+    by_cases : (r : Result Line SchemaRefusal) → certificate_line all_words (rest_at 1 1 (map sample_mark fs)) ≡ r
         → Judged at_start all_words 1 1 (map sample_mark fs) None r → AreLine fs
-    told (Ok l) read judged =
+    by_cases (Ok l) read judged =
         let reads = line_reads all_words (rest_at 1 1 (map sample_mark fs)) l read in
         record {
           names = all_words;
@@ -93,7 +93,7 @@ final_line fs s leads final = told (certificate_line all_words (rest_at 1 1 (map
           same_forms = sample_forms fs;
           is_line = reads.is_line;
         }
-    told (Err e) read judged =
+    by_cases (Err e) read judged =
         absurd (⊎_elim (λ here. sample_fine (Some at_start) fs s judged.position _ leads final here.1)
         (λ flaw. none-some flaw.0 flaw.1) judged.stands)
 
@@ -107,7 +107,7 @@ line_ends fs is =
 
 pub begins_from : (fs : List TokenForm) (s : Shape) → runs (Some at_start) fs ≡ Some s → BeginLine fs
 begins_from fs s leads =
-    let more = may_end s in
+    let more = shape_may_end s in
     record {
       rest = more.0;
       line = final_line (fs ++ more.0) more.1.0

@@ -163,12 +163,12 @@ part_ends words by = ([], (past words by, refl, refl))
 part_ends words narrow = ([], (past words narrow, refl, refl))
 part_ends words ending = ([], (past words ending, refl, refl))
 
-pub may_end : (s : Shape) → MayEnd s
-may_end (at_number first) = let more = part_ends false heading in (a_number ∷ more.0, more.1)
-may_end (at_number nothing) = (a_number ∷ [], (past false ending, refl, refl))
-may_end (at_number second) = (a_number ∷ a_number ∷ [], (past false ending, refl, refl))
-may_end (at_number (sets k)) = let more = part_ends false k in (a_number ∷ a_with ∷ an_empty ∷ more.0, more.1)
-may_end (at_side k) = let more = part_ends false k in (an_empty ∷ more.0, more.1)
-may_end (past words k) = part_ends words k
-may_end at_rule = (a_rule rule.Reflexivity ∷ [], (past false ending, refl, refl))
-may_end (at_with k) = let more = part_ends false k in (a_with ∷ an_empty ∷ more.0, more.1)
+pub shape_may_end : (s : Shape) → MayEnd s
+shape_may_end (at_number first) = let more = part_ends false heading in (a_number ∷ more.0, more.1)
+shape_may_end (at_number nothing) = (a_number ∷ [], (past false ending, refl, refl))
+shape_may_end (at_number second) = (a_number ∷ a_number ∷ [], (past false ending, refl, refl))
+shape_may_end (at_number (sets k)) = let more = part_ends false k in (a_number ∷ a_with ∷ an_empty ∷ more.0, more.1)
+shape_may_end (at_side k) = let more = part_ends false k in (an_empty ∷ more.0, more.1)
+shape_may_end (past words k) = part_ends words k
+shape_may_end at_rule = (a_rule rule.Reflexivity ∷ [], (past false ending, refl, refl))
+shape_may_end (at_with k) = let more = part_ends false k in (a_with ∷ an_empty ∷ more.0, more.1)

@@ -67,8 +67,8 @@ body_judged rule.MAugmentation names at next_column ms stop f follows =
     (with_judged wide names at from ns stop _
     (λ to ks. in_row _ names at to ks stop (side names (left_at at to ks stop)) _ f
     (side_judged wide names at to ks stop _
-    (λ w some middle ls none. in_row _ names at middle ls stop (colon (left_at at middle ls stop)) _ f
-    (colon_judged some wide (at_side narrow) names at middle ls stop _ (refl, refl, refl, refl) none
+    (λ w not_empty middle ls none. in_row _ names at middle ls stop (colon (left_at at middle ls stop)) _ f
+    (colon_judged not_empty wide (at_side narrow) names at middle ls stop _ (refl, refl, refl, refl) none
     (λ then_from rs. in_row _ names at then_from rs stop (side names (left_at at then_from rs stop)) _ f
     (side_judged narrow names at then_from rs stop _ (λ z words last ts end.
     follows (by_step (maugmentation w z) p) words narrow last ts (refl, refl, refl, refl) end))))))))))
@@ -93,8 +93,8 @@ line_judged names at next_column ms stop =
     (λ e. absurd (false≢true e))
     (λ b bs. in_row (at_side lhs) names at b bs stop (side names (left_at at b bs stop)) _ _
     (side_judged lhs names at b bs stop _
-    (λ x some c cs none. in_row _ names at c cs stop (arrow (left_at at c cs stop)) _ _
-    (arrow_judged some names at c cs stop _ none
+    (λ x not_empty c cs none. in_row _ names at c cs stop (arrow (left_at at c cs stop)) _ _
+    (arrow_judged not_empty names at c cs stop _ none
     (λ s d ds. in_row (at_side rhs) names at d ds stop (side names (left_at at d ds stop)) _ _
     (side_judged rhs names at d ds stop _
     (λ y words e es end. colon_judged words rhs at_rule names at e es stop _ (refl, refl, refl, refl) end

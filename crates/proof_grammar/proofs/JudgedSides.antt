@@ -37,27 +37,27 @@ word_judged : (s : Shape) (k : Part) (names : List (List ℕ)) (line next_column
     → Judged s names line next_column (m ∷ ms) stop (attribute_of_word names line m >>= g)
 unfolding look_up
 word_judged s k names line next_column m ms stop g word takes stays rest =
-    told (is_reserved_token format.Plain m.kind m.word) (attribute_named names m.word) refl refl
+    by_cases (is_reserved_token format.Plain m.kind m.word) (attribute_named names m.word) refl refl
   where
-    told : (b : Bool) (o : Option ℕ) → is_reserved_token format.Plain m.kind m.word ≡ b → attribute_named names m.word ≡ o
+    by_cases : (b : Bool) (o : Option ℕ) → is_reserved_token format.Plain m.kind m.word ≡ b → attribute_named names m.word ≡ o
         → Judged s names line next_column (m ∷ ms) stop
         (at line m.column m.length (cond b (Err kind.ReservedName) (known_attribute o)) >>= g)
-    told true o reserved named =
+    by_cases true o reserved named =
         first_here s names line next_column (m ∷ ms) stop (refusal line m.column m.length kind.ReservedName)
         (inl (omega arith, inl (takes, (word, inl (refl, reserved))))) tt refl
         (λ n wrong. ⊎_elim (λ here. ⊎_elim (λ c. ⊎_elim (λ three. omega (arith, ap number_of three.0))
         (λ five. omega (arith, ap number_of five.0))
         c.1.1) (λ six. omega (arith, ap number_of six.0)) here.1) (λ flaw. absurd (omega (arith, flaw.2))) wrong)
-    told false None free named =
+    by_cases false None not_reserved named =
         first_here s names line next_column (m ∷ ms) stop (refusal line m.column m.length kind.UnknownName)
         (inl (omega arith, inl (takes, (word, inr (refl, named))))) tt refl
-        (λ n wrong. ⊎_elim (λ here. ⊎_elim (λ c. ⊎_elim (λ three. absurd (true≢false (sym three.1 ∙ free)))
+        (λ n wrong. ⊎_elim (λ here. ⊎_elim (λ c. ⊎_elim (λ three. absurd (true≢false (sym three.1 ∙ not_reserved)))
         (λ five. omega (arith, ap number_of five.0)) c.1.1) (λ six. omega (arith, ap number_of six.0)) here.1)
         (λ flaw. absurd (omega (arith, flaw.2))) wrong)
-    told false (Some a) free named =
+    by_cases false (Some a) not_reserved named =
         goes_on s (past true k) names line next_column m ms stop (g a)
         (word_leads s (past true k) stays m.kind m.word word)
-        (λ n on diagnoses. ⊎_elim (λ three. true≢false (sym three.1 ∙ free))
+        (λ n on diagnoses. ⊎_elim (λ three. true≢false (sym three.1 ∙ not_reserved))
         (λ five. none-some a (sym five.1 ∙ named)) diagnoses.1) (rest a)
 
 -- what follows a side, from any column
@@ -73,20 +73,20 @@ words_judged : (k : Part) (names : List (List ℕ)) (line : ℕ) (x : Attributes
 unfolding words_from
 words_judged k names line x next_column [] stop f follows = follows x true next_column [] (λ e. tt)
 words_judged k names line x next_column (m ∷ ms) stop f follows =
-    told (is_word_token m.kind) refl (λ a. words_judged k names line (union x (only a))
+    by_cases (is_word_token m.kind) refl (λ a. words_judged k names line (union x (only a))
     (m.column + m.length) ms stop f follows)
   where
-    told : (b : Bool) → is_word_token m.kind ≡ b
+    by_cases : (b : Bool) → is_word_token m.kind ≡ b
         → ((a : ℕ) → Judged (past true k) names line (m.column + m.length) ms stop
         (words_from names line (union x (only a)) (m.column + m.length) ms stop >>= f))
         → Judged (past true k) names line next_column (m ∷ ms) stop
         (cond b (attribute_of_word names line m >>= λ a. words_from names line (union x (only a))
         (m.column + m.length) ms stop) (Ok (x, left_at line next_column (m ∷ ms) stop)) >>= f)
-    told true is rest =
+    by_cases true is rest =
         in_row (past true k) names line next_column (m ∷ ms) stop (attribute_of_word names line m) _ f
         (word_judged (past true k) k names line next_column m ms stop _ is refl
         (word_forms (λ t. shape_after (past true k) t ≡ Some (past true k)) (λ r. refl) refl refl) rest)
-    told false is rest = follows x true next_column (m ∷ ms) (λ e. is)
+    by_cases false is rest = follows x true next_column (m ∷ ms) (λ e. is)
 
 abbrev of_kind : Mark → TokenKind → Mark
 of_kind m kd = record m { kind = kd }
@@ -97,7 +97,7 @@ pub side_judged : (k : Part) (names : List (List ℕ)) (line next_column : ℕ) 
 unfolding side take
 side_judged k names line next_column [] None f follows = end_here (at_side k) names line next_column what.Side refl refl
 side_judged k names line next_column [] (Some stop) f follows = flaw_here (at_side k) names line next_column stop
-side_judged k names line next_column (m ∷ ms) stop f follows = told m.kind
+side_judged k names line next_column (m ∷ ms) stop f follows = by_cases m.kind
   where
     word : (kd : TokenKind) → is_word_token kd ≡ true → Judged (at_side k) names line next_column (of_kind m kd ∷ ms) stop
         ((attribute_of_word names line (of_kind m kd) >>= λ a. words names (only a) (left_at line (m.column + m.length) ms stop)) >>= f)
@@ -107,13 +107,13 @@ side_judged k names line next_column (m ∷ ms) stop f follows = told m.kind
         (word_forms (λ t. shape_after (at_side k) t ≡ Some (past true k)) (λ r. refl) refl refl)
         (λ a. words_judged k names line (only a) (m.column + m.length) ms stop f follows))
 
-    told : (kd : TokenKind) → Judged (at_side k) names line next_column (of_kind m kd ∷ ms) stop
+    by_cases : (kd : TokenKind) → Judged (at_side k) names line next_column (of_kind m kd ∷ ms) stop
         (side_from names (of_kind m kd) (left_at line (m.column + m.length) ms stop) kd >>= f)
-    told token.Identifier = word token.Identifier refl
-    told token.Quoted = word token.Quoted refl
-    told token.Empty =
+    by_cases token.Identifier = word token.Identifier refl
+    by_cases token.Quoted = word token.Quoted refl
+    by_cases token.Empty =
         goes_on (at_side k) (past false k) names line next_column (of_kind m token.Empty) ms stop _ refl
         (not_word (at_side k) names (of_kind m token.Empty) (λ e. refl))
         (follows none false (m.column + m.length) ms (λ e. absurd (false≢true e)))
-    told kd = stuck_here (at_side k) names line next_column (of_kind m kd) ms stop what.Side refl
+    by_cases kd = stuck_here (at_side k) names line next_column (of_kind m kd) ms stop what.Side refl
         (not_word (at_side k) names (of_kind m kd) (λ e. refl)) refl

@@ -60,7 +60,7 @@ Reads names line stop want None m ms r =
     r ≡ Err (refusal_of_token want m (left_at line (m.column + m.length) ms stop))
 Reads names line stop want (Some t) m ms r = Judged t names line (m.column + m.length) ms stop r
 
--- where a token leads is told by what is found in it
+-- where a token leads is reported by what is found in it
 token_judged : {D : Type 0} (s : Shape) (names : List (List ℕ)) (line next_column : ℕ) (ms : List Mark)
     (stop : Option LexError) (want : What) (found : Mark → D) (t : D → Option Shape)
     (read : D → Mark × Rest → Result Line SchemaRefusal) → want ≡ wanted_by s → is_final s ≡ false
@@ -74,13 +74,13 @@ token_judged {D} s names line next_column [] None want found t read wants open_e
 token_judged {D} s names line next_column [] (Some stop) want found t read wants open_end other goes reads =
     flaw_here s names line next_column stop
 token_judged {D} s names line next_column (m ∷ ms) stop want found t read wants open_end other goes reads =
-    told (t (found m)) _ (goes m other) (reads (found m) m ms)
+    by_cases (t (found m)) _ (goes m other) (reads (found m) m ms)
   where
-    told : (o : Option Shape) (r : Result Line SchemaRefusal) → shape_after s (form m) ≡ o
+    by_cases : (o : Option Shape) (r : Result Line SchemaRefusal) → shape_after s (form m) ≡ o
         → Reads names line stop want o m ms r → Judged s names line next_column (m ∷ ms) stop r
-    told None r cannot is = subst (Judged s names line next_column (m ∷ ms) stop) (sym is)
+    by_cases None r cannot is = subst (Judged s names line next_column (m ∷ ms) stop) (sym is)
         (stuck_here s names line next_column m ms stop want cannot (not_word s names m other) wants)
-    told (Some u) r on rest = goes_on s u names line next_column m ms stop r on (not_word s names m other) rest
+    by_cases (Some u) r on rest = goes_on s u names line next_column m ms stop r on (not_word s names m other) rest
 
 -- what follows a token, from any column
 abbrev pub Follows : {X : Type 0} → List (List ℕ) → ℕ → Option LexError → (X → Shape)
@@ -149,16 +149,16 @@ premise_judged a names line next_column ms stop f follows =
 with_goes : (k : Part) (kd : TokenKind) (word : List ℕ)
     → shape_after (at_with k) (token_form kd word) ≡ cond (is_with kd word) (Some (at_side k)) None
 unfolding is_with rule_word
-with_goes k token.Identifier word = told (rule_word word) (is_with token.Identifier word) refl refl
+with_goes k token.Identifier word = by_cases (rule_word word) (is_with token.Identifier word) refl refl
   where
-    told : (o : Option RuleName) (b : Bool) → rule_word word ≡ o → is_with token.Identifier word ≡ b
+    by_cases : (o : Option RuleName) (b : Bool) → rule_word word ≡ o → is_with token.Identifier word ≡ b
         → shape_after (at_with k) (word_form o b) ≡ cond b (Some (at_side k)) None
-    told (Some r) true shape_of_rule is =
+    by_cases (Some r) true shape_of_rule is =
         let same : word ≡ codes "with" = (bytes_eq-Decides word (codes "with")).0 is in
         absurd (none-some r (sym (ap rule_word same) ∙ shape_of_rule))
-    told None true shape_of_rule is = refl
-    told (Some r) false shape_of_rule is = refl
-    told None false shape_of_rule is = refl
+    by_cases None true shape_of_rule is = refl
+    by_cases (Some r) false shape_of_rule is = refl
+    by_cases None false shape_of_rule is = refl
 with_goes k _ word = refl
 
 pub with_judged : (k : Part) (names : List (List ℕ)) (line next_column : ℕ) (ms : List Mark) (stop : Option LexError)
@@ -171,12 +171,12 @@ with_judged k names line next_column ms stop f follows =
 
 rule_goes : (kd : TokenKind) (word : List ℕ) → shape_after at_rule (token_form kd word) ≡ option_map shape_of_rule (rule_named kd word)
 unfolding rule_named
-rule_goes token.Identifier word = told (rule_word word) (is_with token.Identifier word)
+rule_goes token.Identifier word = by_cases (rule_word word) (is_with token.Identifier word)
   where
-    told : (o : Option RuleName) (b : Bool) → shape_after at_rule (word_form o b) ≡ option_map shape_of_rule o
-    told (Some r) b = refl
-    told None true = refl
-    told None false = refl
+    by_cases : (o : Option RuleName) (b : Bool) → shape_after at_rule (word_form o b) ≡ option_map shape_of_rule o
+    by_cases (Some r) b = refl
+    by_cases None true = refl
+    by_cases None false = refl
 rule_goes _ word = refl
 
 pub rule_judged : (names : List (List ℕ)) (line next_column : ℕ) (ms : List Mark) (stop : Option LexError)

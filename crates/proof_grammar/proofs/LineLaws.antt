@@ -80,14 +80,14 @@ record Ends (r : Rest) : Type 0 where
 
 unless_there : {X : Type 0} (r : Rest) (x y : X) → unless (refusal_at_end r) x ≡ Ok y → (x ≡ y) × Ends r
 unfolding refusal_at_end
-unless_there {X} r x y e = told r.marks r.stop e
+unless_there {X} r x y e = by_cases r.marks r.stop e
   where
-    told : (ms : List Mark) (stop : Option LexError)
+    by_cases : (ms : List Mark) (stop : Option LexError)
         → unless (refusal_at_end (record { line = r.line; next_column = r.next_column; marks = ms; stop = stop })) x ≡ Ok y
         → (x ≡ y) × Ends (record { line = r.line; next_column = r.next_column; marks = ms; stop = stop })
-    told [] None e = (cc, record { marks = refl; stop = refl })
-    told [] (Some stop) e = cc
-    told (m ∷ ms) stop e = cc
+    by_cases [] None e = (cc, record { marks = refl; stop = refl })
+    by_cases [] (Some stop) e = cc
+    by_cases (m ∷ ms) stop e = cc
 
 -- a line that is read
 pub record ReadsLine (names : List (List ℕ)) (start : Rest) (l : Line) : Type 0 where

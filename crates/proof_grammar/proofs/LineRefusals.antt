@@ -93,14 +93,14 @@ diagnostic_there : (names : List (List ℕ)) (ms : List Mark) (stop : Option Lex
     → Wrong at_start names ms stop p n → TokensDiagnostic names ms stop p n
 diagnostic_there names ms stop p n (inr flaw) = inr flaw
 diagnostic_there names ms stop p n (inl (low, wrong)) =
-    inl (told (runs (Some at_start) (take p (token_forms ms))) (slice_get ms p) refl refl wrong)
+    inl (by_cases (runs (Some at_start) (take p (token_forms ms))) (slice_get ms p) refl refl wrong)
   where
-    told : (o : Option Shape) (k : Option Mark) → runs (Some at_start) (take p (token_forms ms)) ≡ o → slice_get ms p ≡ k
+    by_cases : (o : Option Shape) (k : Option Mark) → runs (Some at_start) (take p (token_forms ms)) ≡ o → slice_get ms p ≡ k
         → WrongAt names stop n o k → SideWordDiagnostic names ms p n ⊎ ((n ≡ expected) × CannotGoOn (token_forms ms) stop p)
-    told None k reached at wrong = absurd wrong
-    told (Some s) (Some m) reached at (inl (takes, word)) =
+    by_cases None k reached at wrong = absurd wrong
+    by_cases (Some s) (Some m) reached at (inl (takes, word)) =
         inl (m, at, (names_at (take p (token_forms ms)) s reached).0 takes, word)
-    told (Some s) (Some m) reached at (inr (six, cannot)) = inr (
+    by_cases (Some s) (Some m) reached at (inr (six, cannot)) = inr (
       six,
       record {
         before = begins_from (take p (token_forms ms)) s reached;
@@ -113,7 +113,7 @@ diagnostic_there names ms stop p n (inl (low, wrong)) =
         );
       },
     )
-    told (Some s) None reached at (six, ended, open_end) =
+    by_cases (Some s) None reached at (six, ended, open_end) =
         let same : p ≡ length (token_forms ms) = ⊎_elim (λ inside. absurd (none-some inside.0 (sym at ∙ inside.2)))
         (λ past. omega (arith, low, past.0, length-map ms form)) (slice_get_cases ms p).1 in
         let whole = take_all p (token_forms ms) (omega (arith, same)) in
@@ -141,25 +141,25 @@ diagnostic_back names ms stop p n (inl (inl (m, at, takes, word))) =
     inl (omega (arith, inside), rw (on.2, at) (inl ((names_at (take p (token_forms ms)) on.0 on.2).1 takes, word)))
 diagnostic_back names ms stop p n (inl (inr (six, stuck))) =
     let there = begins_to (take p (token_forms ms)) stuck.before in
-    inl (told there.0 (slice_get ms p) there.1 refl stuck.here)
+    inl (by_cases there.0 (slice_get ms p) there.1 refl stuck.here)
   where
-    told : (s : Shape) (k : Option Mark) → runs (Some at_start) (take p (token_forms ms)) ≡ Some s → slice_get ms p ≡ k
+    by_cases : (s : Shape) (k : Option Mark) → runs (Some at_start) (take p (token_forms ms)) ≡ Some s → slice_get ms p ≡ k
         → ((p < length (token_forms ms)) × (BeginLine (take (suc p) (token_forms ms)) → ⊥))
         ⊎ ((p ≡ length (token_forms ms)) × (stop ≡ None) × (AreLine (token_forms ms) → ⊥))
         → TokenWrong (Some at_start) names ms stop p n
-    told s (Some m) reached at (inl (less, cannot)) =
+    by_cases s (Some m) reached at (inl (less, cannot)) =
         let none : (o : Option Shape) → shape_after s (form m) ≡ o → shape_after s (form m) ≡ None = elim [
           | None ↦ λ e. e
           | Some t ↦ λ e. absurd (cannot (begins_from (take (suc p) (token_forms ms)) t
               (runs_next (Some at_start) ms p m at ∙ ap (λ o. then_turn o (form m)) reached ∙ e)))
         ] in
         (omega (arith, less, length-map ms form), rw (reached, at) (inr (six, none (shape_after s (form m)) refl)))
-    told s None reached at (inl (less, cannot)) =
+    by_cases s None reached at (inl (less, cannot)) =
         absurd (⊎_elim (λ inside. none-some inside.0 (sym at ∙ inside.2)) (λ past. omega (arith, less, past.0, length-map ms form))
         (slice_get_cases ms p).1)
-    told s (Some m) reached at (inr (same, ended, cannot)) =
+    by_cases s (Some m) reached at (inr (same, ended, cannot)) =
         absurd (omega (arith, same, length-map ms form, slice_get_within ms p m at))
-    told s None reached at (inr (same, ended, cannot)) =
+    by_cases s None reached at (inr (same, ended, cannot)) =
         let whole = take_all p (token_forms ms) (omega (arith, same)) in
         let open_end = false_from_ne_true (is_final s) (λ final.
         cannot (final_line (token_forms ms) s (sym (ap (runs (Some at_start)) whole) ∙ reached) final)) in

@@ -39,8 +39,8 @@ earlier_slot s used ts os p o slots earlier here =
 -- a premise that is taken is used
 pub premise_taken : (s : Schema) (used : ℕ → ℕ) (ts : List Tree) (os : List (Option Opened)) (p : ℕ)
     → AreSlots s used 0 ts os → 0 < p → used p ≡ 0 → AreSlots s (λ n. used n + times n (p ∷ [])) 0 ts (close_line os p)
-premise_taken s used ts os p slots some unused =
-    let same : 0 + (p - 1) + 1 ≡ p = omega (arith, some) in
+premise_taken s used ts os p slots not_empty unused =
+    let same : 0 + (p - 1) + 1 ≡ p = omega (arith, not_empty) in
     let next : ℕ → ℕ = λ n. used n + times n (p ∷ []) in
     let one : next p ≡ 1 = omega (arith, unused, times_self p) in
     slots_close s used next 0 ts os (p - 1) slots (ap next same ∙ one)

@@ -32,28 +32,28 @@ AllOnce used ps = (n : ℕ) → 0 < times n ps → used n + times n ps ≤ 1
 
 pub earlier_more : (ts : List Tree) (p : ℕ) (ps : List ℕ) (t : Tree) → IsTreeAt ts p t → AllEarlier ts ps
     → AllEarlier ts (p ∷ ps)
-earlier_more ts p ps t at rest n some =
+earlier_more ts p ps t at rest n not_empty =
     let inside = slice_get_within ts at.before t at.tree in
     ⊎_elim (λ same. (omega (arith, same, at.number), omega (arith, same, at.number, inside)))
-    (λ other. rest n (omega (arith, some, times_more n p ps, times_other n p (ne_eqb n p other)))) (cases_eq n p)
+    (λ other. rest n (omega (arith, not_empty, times_more n p ps, times_other n p (ne_eqb n p other)))) (cases_eq n p)
 
 pub once_more : (used : ℕ → ℕ) (p : ℕ) (ps : List ℕ) → used p ≡ 0 → AllOnce (λ n. used n + times n (p ∷ [])) ps
     → AllOnce used (p ∷ ps)
-once_more used p ps unused rest n some =
+once_more used p ps unused rest n not_empty =
     let sum = times_more n p ps in
     ⊎_elim (λ more. omega (arith, sum, rest n more)) (λ none. ⊎_elim
     (λ same. omega (arith, sum, none, ap used same, unused, ap (λ m. times m (p ∷ [])) same, times_self p))
-    (λ other. absurd (omega (arith, some, none, sum, times_other n p (ne_eqb n p other)))) (cases_eq n p))
+    (λ other. absurd (omega (arith, not_empty, none, sum, times_other n p (ne_eqb n p other)))) (cases_eq n p))
     (cases_lt 0 (times n ps))
 
 -- a line that has a tree uses earlier lines alone
 pub tree_earlier : (ts : List Tree) (l : Line) (b : Body) (t : Tree) → IsTreeOf ts l b t → AllEarlier ts (premises_of b)
-tree_earlier ts l (by_step rule p) t tree n some =
-    earlier_more ts p [] tree.premise tree.earlier (λ m named. absurd (omega (arith, named))) n some
-tree_earlier ts l (by_pair rule p q) t tree n some =
+tree_earlier ts l (by_step rule p) t tree n not_empty =
+    earlier_more ts p [] tree.premise tree.earlier (λ m named. absurd (omega (arith, named))) n not_empty
+tree_earlier ts l (by_pair rule p q) t tree n not_empty =
     earlier_more ts p (q ∷ []) tree.first tree.first_earlier
-    (earlier_more ts q [] tree.second tree.second_earlier (λ m named. absurd (omega (arith, named)))) n some
-tree_earlier ts l _ t tree n some = absurd (omega (arith, some))
+    (earlier_more ts q [] tree.second tree.second_earlier (λ m named. absurd (omega (arith, named)))) n not_empty
+tree_earlier ts l _ t tree n not_empty = absurd (omega (arith, not_empty))
 
 -- ---- nothing is wrong with them
 pub no_names : (ts : List Tree) (l : Line) → AllEarlier ts (premises_of l.body) → NamesNoLine ts l → ⊥
@@ -64,5 +64,5 @@ no_names ts l earlier is =
 pub not_twice : (lines : List Line) (l : Line) → AllOnce (λ n. uses n lines) (premises_of l.body) → UsesTwice lines l → ⊥
 not_twice lines l once is =
     let first = uses_first is.premise l [] in
-    let few = once is.premise (omega (arith, is.named, first)) in
-    omega (arith, few, is.twice, first, uses-append is.premise lines (l ∷ []))
+    let within_limit = once is.premise (omega (arith, is.named, first)) in
+    omega (arith, within_limit, is.twice, first, uses-append is.premise lines (l ∷ []))

@@ -46,7 +46,7 @@ Prepares s lines ts l (Err _) = ⊥
 late_missing : (ts : List Tree) (os : List (Option Opened)) (p : ℕ) → length os ≡ length ts → is_earlier os p ≡ false
     → (p ≡ 0) ⊎ (length ts < p)
 late_missing ts os p size e =
-    ⊎_elim (λ some. inr (grind (arith, nat_tests, e, size, some))) (λ none. inl (omega (arith, none))) (cases_lt 0 p)
+    ⊎_elim (λ not_empty. inr (grind (arith, nat_tests, e, size, not_empty))) (λ none. inl (omega (arith, none))) (cases_lt 0 p)
 
 with_tree_err : (t : Tree) (r : Result Dependency FaultKind) (why : FaultKind) → with_tree t r ≡ Err why → r ≡ Err why
 with_tree_err t (Ok e) why h = cc
@@ -84,7 +84,7 @@ step_prepares s lines ts os n stated rule q false o slots own earlier here = rec
 step_prepares s lines ts os n stated rule q true None slots own earlier here =
     let slot = earlier_slot s (λ m. uses m lines) ts os q None slots earlier here in
     let l : Line = record { number = n; stated = stated; body = by_step rule q } in (
-      earlier_more ts q [] slot.0 slot.1 (λ m some. absurd (omega (arith, some))),
+      earlier_more ts q [] slot.0 slot.1 (λ m not_empty. absurd (omega (arith, not_empty))),
       record {
         premise = q;
         named = omega (arith, times_self q);
@@ -96,8 +96,8 @@ step_prepares s lines ts os n stated rule q true (Some o) slots own earlier here
     let slot = earlier_slot s used ts os q (Some o) slots earlier here in
     let is = slot.2.1 in
     let l : Line = record { number = n; stated = stated; body = by_step rule q } in (
-      earlier_more ts q [] slot.0 slot.1 (λ m some. absurd (omega (arith, some))),
-      once_more used q [] slot.2.0 (λ m some. absurd (omega (arith, some))),
+      earlier_more ts q [] slot.0 slot.1 (λ m not_empty. absurd (omega (arith, not_empty))),
+      once_more used q [] slot.2.0 (λ m not_empty. absurd (omega (arith, not_empty))),
       outcome_of s used ts l (o.levels + 1) (step rule o.tree) (step rule slot.0)
           (step_conclusion s rule o.conclusion) (close_line os q) (ap (step rule) is.tree)
           (record { premise = slot.0; earlier = slot.1; tree = refl }) (ap (λ k. k + 1) is.levels)
@@ -129,7 +129,7 @@ pair_prepares s lines ts os n stated rule q r true true None w slots first secon
     let right = earlier_slot s used ts os r _ slots second refl in
     let l : Line = record { number = n; stated = stated; body = by_pair rule q r } in (
       earlier_more ts q (r ∷ []) left.0 left.1
-          (earlier_more ts r [] right.0 right.1 (λ m some. absurd (omega (arith, some)))),
+          (earlier_more ts r [] right.0 right.1 (λ m not_empty. absurd (omega (arith, not_empty)))),
       record {
         premise = q;
         named = omega (arith, times_two q q r, times_self q);
@@ -144,7 +144,7 @@ pair_prepares s lines ts os n stated rule q r true true (Some o) None slots firs
     (ap (λ m. nat_lt 0 r && nat_le r m) (length-set os (q - 1) None) ∙ second) there in
     let l : Line = record { number = n; stated = stated; body = by_pair rule q r } in (
       earlier_more ts q (r ∷ []) left.0 left.1
-          (earlier_more ts r [] right.0 right.1 (λ m some. absurd (omega (arith, some)))),
+          (earlier_more ts r [] right.0 right.1 (λ m not_empty. absurd (omega (arith, not_empty)))),
       record {
         premise = r;
         named = omega (arith, times_two r q r, times_self r);
@@ -162,8 +162,8 @@ pair_prepares s lines ts os n stated rule q r true true (Some o) (Some w) slots 
     let two = right.2.1 in
     let l : Line = record { number = n; stated = stated; body = by_pair rule q r } in (
       earlier_more ts q (r ∷ []) left.0 left.1
-          (earlier_more ts r [] right.0 right.1 (λ m some. absurd (omega (arith, some)))),
-      once_more used q (r ∷ []) left.2.0 (once_more next r [] right.2.0 (λ m some. absurd (omega (arith, some)))),
+          (earlier_more ts r [] right.0 right.1 (λ m not_empty. absurd (omega (arith, not_empty)))),
+      once_more used q (r ∷ []) left.2.0 (once_more next r [] right.2.0 (λ m not_empty. absurd (omega (arith, not_empty)))),
       outcome_of s used ts l (max o.levels w.levels + 1) (pair rule o.tree w.tree) (pair rule left.0 right.0)
           (pair_conclusion rule o.conclusion w.conclusion) (close_line (close_line os q) r)
           (λ i. pair rule (one.tree i) (two.tree i))
@@ -200,8 +200,8 @@ leaf_prepares : (s : Schema) (lines : List Line) (ts : List Tree) (os : List (Op
     (Ok (record { levels = 1; outcome = with_tree (leaf rule) (leaf_conclusion s rule); unused = os }))
 leaf_prepares s lines ts os l rule none slots tree attributes fails =
     let used : ℕ → ℕ = λ m. uses m lines in (
-      subst (AllEarlier ts) (sym none) (λ n some. absurd (omega (arith, some))),
-      subst (AllOnce used) (sym none) (λ n some. absurd (omega (arith, some))),
+      subst (AllEarlier ts) (sym none) (λ n not_empty. absurd (omega (arith, not_empty))),
+      subst (AllOnce used) (sym none) (λ n not_empty. absurd (omega (arith, not_empty))),
       outcome_of s used ts l 1 (leaf rule) (leaf rule) (leaf_conclusion s rule) os refl tree refl attributes
           (λ d h. h) fails (slots_same s used (λ m. used m + times m (premises_of l.body)) 0 ts os
           (λ m h. omega (arith, ap (times m) none)) slots),
@@ -215,8 +215,8 @@ given_prepares : (s : Schema) (lines : List Line) (ts : List Tree) (os : List (O
       unused = os;
     }))
 given_prepares s lines ts os n stated k true slots is = (
-  λ m some. absurd (omega (arith, some)),
-  λ m some. absurd (omega (arith, some)),
+  λ m not_empty. absurd (omega (arith, not_empty)),
+  λ m not_empty. absurd (omega (arith, not_empty)),
   record {
     levels = λ t tree. absurd (grind (arith, nat_tests, is, tree.number));
     deep = λ h. absurd (omega (arith, h));

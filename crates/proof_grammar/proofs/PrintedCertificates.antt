@@ -34,8 +34,8 @@ lines_are names (l ∷ ls) = rw (line_text_is names l) (ap (λ t. (text_of_line 
 -- a text that begins with digits begins with no byte-order mark
 without_mark-digits : (word rest : List ℕ) → list_all is_ascii_digit word ≡ true → 0 < length word
     → without_mark (word ++ rest) ≡ word ++ rest
-without_mark-digits [] rest e some = absurd (omega arith)
-without_mark-digits (b ∷ bs) rest e some =
+without_mark-digits [] rest e not_empty = absurd (omega arith)
+without_mark-digits (b ∷ bs) rest e not_empty =
     let digit = (and_parts (is_ascii_digit b) (list_all is_ascii_digit bs) e).0 in
     let other : (239 == b) ≡ false = grind (arith, nat_tests) in rw other refl
 
@@ -44,7 +44,7 @@ no_mark : (names : List (List ℕ)) (ls : List Line) → ArePrintableLines names
 no_mark names [] all = refl
 no_mark names (l ∷ ls) (here, rest) =
     let is = decimal_is l.number here.number in
-    simp append_assoc (without_mark-digits (decimal l.number) _ is.digits is.some)
+    simp append_assoc (without_mark-digits (decimal l.number) _ is.digits is.not_empty)
 
 -- ---- the lines that count
 each_means : (names : List (List ℕ)) (ls : List Line) → AreNames format.Plain names → ArePrintableLines names ls → MeanLines names (map (text_of_line names) ls) ls

@@ -94,18 +94,18 @@ line_text_is names l = rw (body_is names l.body) (simp (append_assoc, dependency
 -- ---- the parts are proper
 body_proper : (names : List (List ℕ)) (b : Body) → AreNames format.Plain names → DigitsFit b
     → AreProper ((colon, keyword (body_name b)) ∷ body_parts names b)
-body_proper names (by_given k) are few = (refl, (few, tt))
-body_proper names by_reflexivity are few = (refl, tt)
-body_proper names by_mreflexivity are few = (refl, tt)
-body_proper names (by_step (augmentation z) p) are few =
-    (refl, (few, (refl, (printed_names format.Plain names z are, tt))))
-body_proper names (by_step complementation p) are few = (refl, (few, tt))
-body_proper names (by_step (maugmentation w z) p) are few =
-    (refl, (few, (refl, (printed_names format.Plain names w are, (printed_names format.Plain names z are, tt)))))
-body_proper names (by_step replication p) are few = (refl, (few, tt))
-body_proper names (by_pair transitivity p q) are few = (refl, (few.0, (few.1, tt)))
-body_proper names (by_pair mtransitivity p q) are few = (refl, (few.0, (few.1, tt)))
-body_proper names (by_pair coalescence p q) are few = (refl, (few.0, (few.1, tt)))
+body_proper names (by_given k) are within_limit = (refl, (within_limit, tt))
+body_proper names by_reflexivity are within_limit = (refl, tt)
+body_proper names by_mreflexivity are within_limit = (refl, tt)
+body_proper names (by_step (augmentation z) p) are within_limit =
+    (refl, (within_limit, (refl, (printed_names format.Plain names z are, tt))))
+body_proper names (by_step complementation p) are within_limit = (refl, (within_limit, tt))
+body_proper names (by_step (maugmentation w z) p) are within_limit =
+    (refl, (within_limit, (refl, (printed_names format.Plain names w are, (printed_names format.Plain names z are, tt)))))
+body_proper names (by_step replication p) are within_limit = (refl, (within_limit, tt))
+body_proper names (by_pair transitivity p q) are within_limit = (refl, (within_limit.0, (within_limit.1, tt)))
+body_proper names (by_pair mtransitivity p q) are within_limit = (refl, (within_limit.0, (within_limit.1, tt)))
+body_proper names (by_pair coalescence p q) are within_limit = (refl, (within_limit.0, (within_limit.1, tt)))
 
 line_proper : (names : List (List ℕ)) (l : Line) → AreNames format.Plain names → IsPrintableLine names l
     → AreProper (line_parts names l)

@@ -109,9 +109,9 @@ printed_uses s (step rule t) d n k proves =
     let last = numbered_line (p + 1) d (by_step rule p) ∷ [] in
     let own : uses k last ≡ indicator k p = filtered_more k p [] (nat_eq k p) refl ∙ omega arith in
     let more = printed_uses s t proves.0 n k proves.1 in
-    let some = nodes-pos t in
+    let not_empty = nodes-pos t in
     let concludes : conclusion_after s 0 (step rule t) ≡ Ok d = conclusion_after-from s 0 (step rule t) d proves in
-    rw (concludes, uses-append k lines last, own) (grind (arith, nat_tests, more, some))
+    rw (concludes, uses-append k lines last, own) (grind (arith, nat_tests, more, not_empty))
 printed_uses s (pair rule t u) d n k proves =
     let p = n + nodes t in
     let q = p + nodes u in
@@ -123,11 +123,11 @@ printed_uses s (pair rule t u) d n k proves =
     ∙ ap (λ m. indicator k p + m) (filtered_more k q [] (nat_eq k q) refl) ∙ omega arith in
     let first = printed_uses s t proves.0 n k proves.2 in
     let second = printed_uses s u proves.1 p k proves.3 in
-    let some = nodes-pos t in
+    let not_empty = nodes-pos t in
     let more = nodes-pos u in
     let concludes : conclusion_after s 0 (pair rule t u) ≡ Ok d = conclusion_after-from s 0 (pair rule t u) d proves in
     rw (concludes, uses-append k (xs ++ ys) last, uses-append k xs ys, own)
-    (grind (arith, nat_tests, first, second, some, more))
+    (grind (arith, nat_tests, first, second, not_empty, more))
 
 -- each line is a node, and each but the last is used once
 pub printed_nodes : (s : Schema) (t : Tree) (d : Dependency) → Proves s t d → AreNodesOf s (node_lines_after s 0 t) t

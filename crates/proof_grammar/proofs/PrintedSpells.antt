@@ -24,10 +24,10 @@ use Rattle.proof_grammar.proofs.PrintedWithin.{tree_printable}
 pub printed_spells : (answered : Bool) (s : Schema) (p : Deriv) (d : Dependency)
     → naming_of s ≡ Bare → AreNames format.Plain (names_of s) → Proves s (tree_of p) d → nodes (tree_of p) ≤ MOST_NODES
     → Spells s (answer_text answered ++ canonical_certificate s (tree_of p)) (tree_of p)
-printed_spells answered s p d bare are proves few =
+printed_spells answered s p d bare are proves within_limit =
     let lines = node_lines_after s 0 (tree_of p) in
     let mean = printed_lines_mean answered (names_of s) lines are
-    (tree_printable s (tree_of p) d 0 (tree_of-attributes p) proves (omega (arith, few))) in
+    (tree_printable s (tree_of p) d 0 (tree_of-attributes p) proves (omega (arith, within_limit))) in
     let same = ap (λ (names : List (List ℕ)). answer_text answered ++ certificate_lines_text names lines) (sym (printed_bare s bare)) in
     subst (λ (text : List ℕ). Spells s text (tree_of p)) same
     (record { lines = lines; mean = mean; nodes = printed_nodes s (tree_of p) d proves })
@@ -35,5 +35,5 @@ printed_spells answered s p d bare are proves few =
 pub answered_spells : (s : Schema) (p : Deriv) (d : Dependency) → naming_of s ≡ Bare → AreNames format.Plain (names_of s) → Proves s (tree_of p) d
     → nodes (tree_of p) ≤ MOST_NODES
     → (w : Spells s (codes "yes\n" ++ canonical_certificate s (tree_of p)) (tree_of p)) × (length w.lines ≡ nodes (tree_of p))
-answered_spells s p d bare are proves few =
-    let w = printed_spells true s p d bare are proves few in (w, lines_count s w.lines (tree_of p) w.nodes)
+answered_spells s p d bare are proves within_limit =
+    let w = printed_spells true s p d bare are proves within_limit in (w, lines_count s w.lines (tree_of p) w.nodes)

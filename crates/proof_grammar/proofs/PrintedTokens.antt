@@ -32,8 +32,8 @@ read_on value digits = fold (λ v d. v * 10 + (d - 48)) value digits
 -- what is known of the decimal of a number
 pub record IsDecimal (n : ℕ) (word : List ℕ) : Type 0 where
   pub digits : list_all is_ascii_digit word ≡ true
-  pub some : 0 < length word
-  pub few : length word ≤ 9
+  pub not_empty : 0 < length word
+  pub within_limit : length word ≤ 9
   pub value : number_of word ≡ n
 
 pub decimal_is : (n : ℕ) → n < 10 ^ 9 → IsDecimal n (decimal n)
@@ -41,7 +41,7 @@ decimal_is n small =
     let wide : n < 2 ^ 64 = omega arith in
     let own : IsNumeralModel (λ ds. list_all is_ascii_digit ds ≡ true) number_of =
     numerals_by_fold _ digits_value-model read_on (search rules) in
-    record { digits = digits_decimal own n wide; some = decimal_nonempty n wide; few = length-decimal-le 9 n (omega arith) small wide; value = digits_value-decimal own n wide }
+    record { digits = digits_decimal own n wide; not_empty = decimal_nonempty n wide; within_limit = length-decimal-le 9 n (omega arith) small wide; value = digits_value-decimal own n wide }
 
 run_is : (word rest : List ℕ) → list_all is_ascii_digit word ≡ true → Apart rest → run_length (word ++ rest) ≡ length word
 run_is [] [] e apart = refl
@@ -56,8 +56,8 @@ run_is (b ∷ bs) rest e apart =
 front_number : (word rest : List ℕ) → list_all is_ascii_digit word ≡ true → 0 < length word → length word ≤ 9 → Apart rest
     → front_piece mode.numbered (word ++ rest) ≡ piece.Token (token.Number (number_of word)) (length word)
 unfolding front_piece run_piece is_number
-front_number [] rest e some few apart = absurd (omega arith)
-front_number (first ∷ others) rest e some few apart =
+front_number [] rest e not_empty within_limit apart = absurd (omega arith)
+front_number (first ∷ others) rest e not_empty within_limit apart =
     let parts = and_parts (is_ascii_digit first) (list_all is_ascii_digit others) e in
     let digit = parts.0 in
     let gap : is_gap first ≡ false = grind (arith, nat_tests) in
@@ -152,9 +152,9 @@ part_lexed : (column : ℕ) (p : Part) (rest : List ℕ) → IsProper p → Apar
 part_lexed column (keyword word) rest proper apart = name_lexed mode.numbered column word rest proper apart
 part_lexed column (number n) rest small apart =
     let is = decimal_is n small in
-    let some : 0 < length (decimal n ++ rest) = omega (arith, length-append (decimal n) rest, is.some) in
+    let not_empty : 0 < length (decimal n ++ rest) = omega (arith, length-append (decimal n) rest, is.not_empty) in
     at_token mode.numbered column (decimal n ++ rest) (token.Number (number_of (decimal n)))
-    (length (decimal n)) some (sym (front_number (decimal n) rest is.digits is.some is.few apart))
+    (length (decimal n)) not_empty (sym (front_number (decimal n) rest is.digits is.not_empty is.within_limit apart))
     ∙ (rw (take-append_seam (decimal n) rest, drop-append_seam (decimal n) rest, is.value) refl)
 part_lexed column (side words) rest proper apart =
     side_lexed mode.numbered column words rest proper apart ∙ led_marks (side_marks column words) _

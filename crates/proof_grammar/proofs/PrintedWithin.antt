@@ -31,18 +31,18 @@ printable_append names (x ∷ xs) ys first second = (first.0, printable_append n
 leaf_printable : (s : Schema) (n : ℕ) (rule : Leaf) (d : Dependency) → IsWithin (universe_of s) d
     → leaf_conclusion s rule ≡ Ok d → n < 10 ^ 9
     → IsPrintableLine (names_of s) (numbered_line n d (leaf_body rule))
-leaf_printable s n (given k) d within h few =
+leaf_printable s n (given k) d within h within_limit =
     let inside = slice_get_within (theory_of s) k d (some_of_ok (slice_get (theory_of s) k) NoSuchGiven d h) in
     record {
       stated = within;
       body = tt {0};
-      number = few;
-      digits_fit = omega (arith, inside, length-map (deps_of s) dependency_of, s.valid.few_deps);
+      number = within_limit;
+      digits_fit = omega (arith, inside, length-map (deps_of s) dependency_of, s.valid.deps_within_limit);
     }
-leaf_printable s n (reflexivity x y) d within h few =
-    record { stated = within; body = tt {0}; number = few; digits_fit = tt {0} }
-leaf_printable s n (mreflexivity x y) d within h few =
-    record { stated = within; body = tt {0}; number = few; digits_fit = tt {0} }
+leaf_printable s n (reflexivity x y) d within h within_limit =
+    record { stated = within; body = tt {0}; number = within_limit; digits_fit = tt {0} }
+leaf_printable s n (mreflexivity x y) d within h within_limit =
+    record { stated = within; body = tt {0}; number = within_limit; digits_fit = tt {0} }
 
 pub step_within : (s : Schema) (rule : Step) (x d : Dependency) → StepOfAttributes rule
     → step_conclusion s rule x ≡ Ok d → IsStepWithin (universe_of s) rule
@@ -61,24 +61,24 @@ step_within s replication x d own h = tt {0}
 -- ---- the lines
 pub tree_printable : (s : Schema) (t : Tree) (d : Dependency) (n : ℕ) → TreeOfAttributes t → Proves s t d
     → n + nodes t < 10 ^ 9 → ArePrintableLines (names_of s) (node_lines_after s n t)
-tree_printable s (leaf rule) d n own proves few =
+tree_printable s (leaf rule) d n own proves within_limit =
     let concludes : conclusion_after s 0 (leaf rule) ≡ Ok d = conclusion_after-from s 0 (leaf rule) d proves in
     rw concludes (
-      leaf_printable s (n + 1) rule d (conclusion_within s (leaf rule) d own proves) proves few,
+      leaf_printable s (n + 1) rule d (conclusion_within s (leaf rule) d own proves) proves within_limit,
       tt {0},
     )
-tree_printable s (step rule t) d n own proves few =
+tree_printable s (step rule t) d n own proves within_limit =
     let last : IsPrintableLine (names_of s)
     (numbered_line (n + nodes t + 1) d (by_step rule (n + nodes t))) = record {
       stated = conclusion_within s (step rule t) d own proves;
       body = step_within s rule proves.0 d own.0 proves.2;
-      number = omega (arith, few);
-      digits_fit = omega (arith, few);
+      number = omega (arith, within_limit);
+      digits_fit = omega (arith, within_limit);
     } in
     let concludes : conclusion_after s 0 (step rule t) ≡ Ok d = conclusion_after-from s 0 (step rule t) d proves in
     rw concludes (printable_append (names_of s) (node_lines_after s n t) _
-    (tree_printable s t proves.0 n own.1 proves.1 (omega (arith, few))) (last, tt {0}))
-tree_printable s (pair rule t u) d n own proves few =
+    (tree_printable s t proves.0 n own.1 proves.1 (omega (arith, within_limit))) (last, tt {0}))
+tree_printable s (pair rule t u) d n own proves within_limit =
     let xs = node_lines_after s n t in
     let ys = node_lines_after s (n + nodes t) u in
     let last : IsPrintableLine (names_of s)
@@ -86,11 +86,11 @@ tree_printable s (pair rule t u) d n own proves few =
     record {
       stated = conclusion_within s (pair rule t u) d own proves;
       body = tt {0};
-      number = omega (arith, few);
-      digits_fit = (omega (arith, few), omega (arith, few));
+      number = omega (arith, within_limit);
+      digits_fit = (omega (arith, within_limit), omega (arith, within_limit));
     } in
-    let first = tree_printable s t proves.0 n own.0 proves.2 (omega (arith, few)) in
-    let second = tree_printable s u proves.1 (n + nodes t) own.1 proves.3 (omega (arith, few)) in
+    let first = tree_printable s t proves.0 n own.0 proves.2 (omega (arith, within_limit)) in
+    let second = tree_printable s u proves.1 (n + nodes t) own.1 proves.3 (omega (arith, within_limit)) in
     let concludes : conclusion_after s 0 (pair rule t u) ≡ Ok d = conclusion_after-from s 0 (pair rule t u) d proves in
     rw concludes (printable_append (names_of s) (xs ++ ys) _
     (printable_append (names_of s) xs ys first second) (last, tt {0}))

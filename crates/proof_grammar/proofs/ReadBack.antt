@@ -22,11 +22,11 @@ pub printed_is_read : (answered : Bool) (s : Schema) (p : Deriv) (d : Dependency
     → naming_of s ≡ Bare → AreNames format.Plain (names_of s) → Proves s (tree_of p) d → nodes (tree_of p) ≤ MOST_NODES
     → depth (tree_of p) ≤ MOST_LEVELS
     → read_proof s (answer_text answered ++ canonical_certificate s (tree_of p)) ≡ Ok (tree_of p)
-printed_is_read answered s p d bare are proves few flat =
-    let w = printed_spells answered s p d bare are proves few in
+printed_is_read answered s p d bare are proves within_limit flat =
+    let w = printed_spells answered s p d bare are proves within_limit in
     spelled_back s (answer_text answered ++ canonical_certificate s (tree_of p)) (tree_of p)
     (record {
       spells = w;
-      lines_fit = omega (arith, lines_count s w.lines (tree_of p) w.nodes, few);
+      lines_fit = omega (arith, lines_count s w.lines (tree_of p) w.nodes, within_limit);
       levels_fit = flat;
     })

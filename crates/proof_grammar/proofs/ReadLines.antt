@@ -39,31 +39,31 @@ read_from s number texts r = at_line number r >>= λ next. read_certificate_line
 
 -- ---- what follows lines
 -- no line is used twice
-follows_once : (s : Schema) (used : ℕ → ℕ) (ts : List Tree) (book : CheckerStateValue) (n : ℕ) → Follows s used ts book → 0 < n → used n ≤ 1
-follows_once s used ts book n follows low =
-    let size = slots_size s used 0 ts book.unused follows.slots in
+follows_once : (s : Schema) (used : ℕ → ℕ) (ts : List Tree) (state : CheckerStateValue) (n : ℕ) → Follows s used ts state → 0 < n → used n ≤ 1
+follows_once s used ts state n follows low =
+    let size = slots_size s used 0 ts state.unused follows.slots in
     ⊎_elim
-    (λ (inside : n - 1 < length book.unused).
+    (λ (inside : n - 1 < length state.unused).
     let same : 0 + (n - 1) + 1 ≡ n = omega (arith, low) in
-    let tree = tree_of_slot s used 0 ts book.unused (n - 1) follows.slots inside in
-    let found = slot_of_tree s used 0 ts book.unused (n - 1) tree.0 follows.slots tree.1 in
-    let few : used (0 + (n - 1) + 1) ≤ 1 = slot (used (0 + (n - 1) + 1)) tree.0 found.slot found.is in
-    omega (arith, few, ap used same))
-    (λ (past : length book.unused ≤ n - 1). omega (arith, follows.fresh n (omega (arith, past, low, size))))
-    (cases_lt (n - 1) (length book.unused))
+    let tree = tree_of_slot s used 0 ts state.unused (n - 1) follows.slots inside in
+    let found = slot_of_tree s used 0 ts state.unused (n - 1) tree.0 follows.slots tree.1 in
+    let within_limit : used (0 + (n - 1) + 1) ≤ 1 = slot (used (0 + (n - 1) + 1)) tree.0 found.slot found.is in
+    omega (arith, within_limit, ap used same))
+    (λ (past : length state.unused ≤ n - 1). omega (arith, follows.fresh n (omega (arith, past, low, size))))
+    (cases_lt (n - 1) (length state.unused))
   where
     slot : (often : ℕ) (t : Tree) (o : Option Opened) → IsSlot s often t o → often ≤ 1
     slot often t (Some o) is = omega (arith, is.0)
     slot often t None is = omega (arith, is)
 
 -- the line of the text is kept
-entered_adds : (s : Schema) (at : ℕ) (book next : CheckerStateValue) (l : Line) → enter_line s at book l ≡ Ok next → next.lines ≡ book.lines ++ at ∷ []
+entered_adds : (s : Schema) (at : ℕ) (state next : CheckerStateValue) (l : Line) → enter_line s at state l ≡ Ok next → next.lines ≡ state.lines ++ at ∷ []
 unfolding enter_line
-entered_adds s at book next l h =
-    let os = book.unused in
-    let adds : CheckerStateValue → Type 0 = λ b. b.lines ≡ book.lines ++ at ∷ [] in
+entered_adds s at state next l h =
+    let os = state.unused in
+    let adds : CheckerStateValue → Type 0 = λ b. b.lines ≡ state.lines ++ at ∷ [] in
     let all = prepare_line s os l.stated l.body >>= λ p. within_limits (length os) l p.levels p.outcome
-    >>= λ o. Ok (add_line at book.lines p.unused o) in
+    >>= λ o. Ok (add_line at state.lines p.unused o) in
     ok_at adds _ next h
     (cond_both (l.number == length os + 1) all (Err wrong_number) (λ r. IfOk r adds)
     (λ numbered. bind_each adds (prepare_line s os l.stated l.body) _
@@ -96,13 +96,13 @@ pub record IsPosition (text : List ℕ) (at i : ℕ) : Type 0 where
   pub stands : StandsAt text before here at
   pub count : length (certificate_lines_of before) ≡ i
 
-pub record HasReadLines (s : Schema) (text : List ℕ) (before : List (List ℕ)) (fresh : Bool) (lines : List Line) (trees : List Tree) (book : CheckerStateValue) : Type 0 where
+pub record HasReadLines (s : Schema) (text : List ℕ) (before : List (List ℕ)) (fresh : Bool) (lines : List Line) (trees : List Tree) (state : CheckerStateValue) : Type 0 where
   pub counts : (more : List (List ℕ)) → certificate_lines_of (before ++ more) ≡ certificate_lines_of before ++ lines_to_read fresh more
   pub mean : MeanLines (names_of s) (certificate_lines_of before) lines
   pub read : AreRead s lines trees
-  pub follows : Follows s (λ n. uses n lines) trees book
-  pub size : length book.lines ≡ length trees
-  pub positions : (i : ℕ) → i < length book.lines → IsPosition text (slice_index book.lines i) i
+  pub follows : Follows s (λ n. uses n lines) trees state
+  pub size : length state.lines ≡ length trees
+  pub positions : (i : ℕ) → i < length state.lines → IsPosition text (slice_index state.lines i) i
 
 pub at_start : (s : Schema) (text : List ℕ) → HasReadLines s text [] true [] [] (record { lines = []; unused = [] })
 at_start s text = record {
@@ -115,9 +115,9 @@ at_start s text = record {
 }
 
 -- a line that does not count
-pub line_passed_over : (s : Schema) (text : List ℕ) (before : List (List ℕ)) (fresh next : Bool) (lines : List Line) (trees : List Tree) (book : CheckerStateValue) (here : List ℕ)
-    → HasReadLines s text before fresh lines trees book → ((more : List (List ℕ)) → lines_to_read fresh (here ∷ more) ≡ lines_to_read next more) → HasReadLines s text (before ++ here ∷ []) next lines trees book
-line_passed_over s text before fresh next lines trees book here afterwards skips =
+pub line_passed_over : (s : Schema) (text : List ℕ) (before : List (List ℕ)) (fresh next : Bool) (lines : List Line) (trees : List Tree) (state : CheckerStateValue) (here : List ℕ)
+    → HasReadLines s text before fresh lines trees state → ((more : List (List ℕ)) → lines_to_read fresh (here ∷ more) ≡ lines_to_read next more) → HasReadLines s text (before ++ here ∷ []) next lines trees state
+line_passed_over s text before fresh next lines trees state here afterwards skips =
     let so_far = certificate_lines_of before in
     let same : certificate_lines_of (before ++ here ∷ []) ≡ so_far =
     afterwards.counts (here ∷ []) ∙ ap (λ (ls : List (List ℕ)). so_far ++ ls) (skips [] ∙ nothing_counts next) ∙ append-nil so_far in
@@ -134,18 +134,18 @@ line_passed_over s text before fresh next lines trees book here afterwards skips
     }
 
 -- where a certificate line counts, it stands after those before
-pub counts_here : (s : Schema) (text : List ℕ) (before : List (List ℕ)) (fresh : Bool) (lines : List Line) (trees : List Tree) (book : CheckerStateValue) (here : List ℕ)
-    → HasReadLines s text before fresh lines trees book → Counts Certificate fresh here → certificate_lines_of (before ++ here ∷ []) ≡ certificate_lines_of before ++ here ∷ []
-counts_here s text before fresh lines trees book here afterwards counts = afterwards.counts (here ∷ []) ∙ ap (λ (ls : List (List ℕ)). certificate_lines_of before ++ ls) (counts [])
+pub counts_here : (s : Schema) (text : List ℕ) (before : List (List ℕ)) (fresh : Bool) (lines : List Line) (trees : List Tree) (state : CheckerStateValue) (here : List ℕ)
+    → HasReadLines s text before fresh lines trees state → Counts Certificate fresh here → certificate_lines_of (before ++ here ∷ []) ≡ certificate_lines_of before ++ here ∷ []
+counts_here s text before fresh lines trees state here afterwards counts = afterwards.counts (here ∷ []) ∙ ap (λ (ls : List (List ℕ)). certificate_lines_of before ++ ls) (counts [])
 
 -- a line is entered
-pub one_more : (s : Schema) (text : List ℕ) (before : List (List ℕ)) (fresh : Bool) (lines : List Line) (trees : List Tree) (book : CheckerStateValue) (here : List ℕ) (at : ℕ) (l : Line) (u : Tree)
-    (next : CheckerStateValue) → HasReadLines s text before fresh lines trees book → Counts Certificate fresh here → StandsAt text before here at → MeansLine (names_of s) here l
-    → enter_line s at book l ≡ Ok next → IsEntered s (λ n. uses n lines) trees l next u → HasReadLines s text (before ++ here ∷ []) false (lines ++ l ∷ []) (trees ++ u ∷ []) next
-one_more s text before fresh lines trees book here at l u next afterwards counts stands means enter is =
+pub one_more : (s : Schema) (text : List ℕ) (before : List (List ℕ)) (fresh : Bool) (lines : List Line) (trees : List Tree) (state : CheckerStateValue) (here : List ℕ) (at : ℕ) (l : Line) (u : Tree)
+    (next : CheckerStateValue) → HasReadLines s text before fresh lines trees state → Counts Certificate fresh here → StandsAt text before here at → MeansLine (names_of s) here l
+    → enter_line s at state l ≡ Ok next → IsEntered s (λ n. uses n lines) trees l next u → HasReadLines s text (before ++ here ∷ []) false (lines ++ l ∷ []) (trees ++ u ∷ []) next
+one_more s text before fresh lines trees state here at l u next afterwards counts stands means enter is =
     let so_far = certificate_lines_of before in
-    let whole = counts_here s text before fresh lines trees book here afterwards counts in
-    let adds = entered_adds s at book next l enter in
+    let whole = counts_here s text before fresh lines trees state here afterwards counts in
+    let adds = entered_adds s at state next l enter in
     let count = nodes_size s [] lines trees afterwards.read.nodes in
     let used : ℕ → ℕ = λ n. uses n (lines ++ l ∷ []) in
     let sums : (n : ℕ) → used_after (λ n. uses n lines) l n ≡ used n =
@@ -155,16 +155,16 @@ one_more s text before fresh lines trees book here at l u next afterwards counts
           (λ n low. sums n) is.follows.slots;
       fresh = λ n h. sym (sums n) ∙ is.follows.fresh n h;
     } in
-    let position : (i : ℕ) → i < length (book.lines ++ at ∷ [])
-    → IsPosition text (slice_index (book.lines ++ at ∷ []) i) i = λ i h.
+    let position : (i : ℕ) → i < length (state.lines ++ at ∷ [])
+    → IsPosition text (slice_index (state.lines ++ at ∷ []) i) i = λ i h.
     ⊎_elim
-    (λ (inside : i < length book.lines).
-    subst (λ (n : ℕ). IsPosition text n i) (sym (get_or_append_left book.lines (at ∷ []) 0 i inside))
+    (λ (inside : i < length state.lines).
+    subst (λ (n : ℕ). IsPosition text n i) (sym (get_or_append_left state.lines (at ∷ []) 0 i inside))
     (afterwards.positions i inside))
-    (λ (past : length book.lines ≤ i).
-    let last : length book.lines ≡ i = omega (arith, past, h, length-append book.lines (at ∷ [])) in
-    let value : slice_index (book.lines ++ at ∷ []) i ≡ at =
-    sym (ap (slice_index (book.lines ++ at ∷ [])) last) ∙ get_or-append_seam book.lines at [] 0 in
+    (λ (past : length state.lines ≤ i).
+    let last : length state.lines ≡ i = omega (arith, past, h, length-append state.lines (at ∷ [])) in
+    let value : slice_index (state.lines ++ at ∷ []) i ≡ at =
+    sym (ap (slice_index (state.lines ++ at ∷ [])) last) ∙ get_or-append_seam state.lines at [] 0 in
     let size = mean_size (names_of s) so_far lines afterwards.mean in
     subst (λ (n : ℕ). IsPosition text n i) (sym value)
     (record {
@@ -173,7 +173,7 @@ one_more s text before fresh lines trees book here at l u next afterwards counts
       stands = stands;
       count = omega (arith, size, count, afterwards.size, last);
     }))
-    (cases_lt i (length book.lines)) in
+    (cases_lt i (length state.lines)) in
     record {
       counts = λ more. ap certificate_lines_of (append_assoc before (here ∷ []) more)
           ∙ afterwards.counts (here ∷ more)
@@ -190,7 +190,7 @@ one_more s text before fresh lines trees book here at l u next afterwards counts
       };
       follows = follows;
       size = ap length adds
-          ∙ omega (arith, length-append book.lines (at ∷ []), length-append trees (u ∷ []), afterwards.size);
+          ∙ omega (arith, length-append state.lines (at ∷ []), length-append trees (u ∷ []), afterwards.size);
       positions = subst (λ (ls : List ℕ). (i : ℕ) → i < length ls → IsPosition text (slice_index ls i) i)
           (sym adds) position;
     }

@@ -30,13 +30,13 @@ pub record Takes (r : Rest) (m : Mark) (next : Rest) : Type 0 where
 
 pub take_there : (want : What) (r : Rest) (t : Mark × Rest) → take want r ≡ Ok t → Takes r t.0 t.1
 unfolding take
-take_there want r t e = told r.marks r.stop e
+take_there want r t e = by_cases r.marks r.stop e
   where
-    told : (ms : List Mark) (stop : Option LexError) → take_from want r.line r.next_column ms stop ≡ Ok t
+    by_cases : (ms : List Mark) (stop : Option LexError) → take_from want r.line r.next_column ms stop ≡ Ok t
         → Takes (record { line = r.line; next_column = r.next_column; marks = ms; stop = stop }) t.0 t.1
-    told [] None e = cc
-    told [] (Some stop) e = cc
-    told (m ∷ ms) stop e =
+    by_cases [] None e = cc
+    by_cases [] (Some stop) e = cc
+    by_cases (m ∷ ms) stop e =
         subst (λ (u : Mark × Rest). Takes (record {
           line = r.line;
           next_column = r.next_column;
@@ -48,17 +48,17 @@ take_there want r t e = told r.marks r.stop e
 -- ---- words
 attribute_there : (names : List (List ℕ)) (line : ℕ) (m : Mark) (a : ℕ) → attribute_of_word names line m ≡ Ok a → Names format.Plain names m.kind m.word a
 unfolding look_up
-attribute_there names line m a e = told (is_reserved_token format.Plain m.kind m.word) (attribute_named names m.word) refl refl e
+attribute_there names line m a e = by_cases (is_reserved_token format.Plain m.kind m.word) (attribute_named names m.word) refl refl e
   where
-    told : (b : Bool) (o : Option ℕ) → is_reserved_token format.Plain m.kind m.word ≡ b → attribute_named names m.word ≡ o
+    by_cases : (b : Bool) (o : Option ℕ) → is_reserved_token format.Plain m.kind m.word ≡ b → attribute_named names m.word ≡ o
         → at line m.column m.length (cond b (Err kind.ReservedName) (known_attribute o)) ≡ Ok a → Names format.Plain names m.kind m.word a
-    told true o free lookup e = cc
-    told false None free lookup e = cc
-    told false (Some c) free lookup e = record { free = free; lookup = let same : c ≡ a = cc in lookup ∙ ap Some same }
+    by_cases true o not_reserved lookup e = cc
+    by_cases false None not_reserved lookup e = cc
+    by_cases false (Some c) not_reserved lookup e = record { not_reserved = not_reserved; lookup = let same : c ≡ a = cc in lookup ∙ ap Some same }
 
 attribute_back : (names : List (List ℕ)) (line : ℕ) (m : Mark) (attribute : IsAttribute format.Plain names m) → attribute_of_word names line m ≡ Ok attribute.index
 unfolding look_up
-attribute_back names line m attribute = rw (attribute.free, attribute.known) refl
+attribute_back names line m attribute = rw (attribute.not_reserved, attribute.known) refl
 
 -- words that are read, and what they add to a set
 record ReadsWords (names : List (List ℕ)) (acc : Attributes) (marks : List Mark) (stop : Option LexError) (x : Attributes) (next : Rest) : Type 0 where
@@ -96,7 +96,7 @@ words_there names line acc next_column (m ∷ ms) stop x next e =
       each = All-cons (IsAttribute format.Plain names) m rest.words
           (record {
             word = is;
-            free = names_it.free;
+            not_reserved = names_it.not_reserved;
             index = here.0;
             known = names_it.lookup;
           }) rest.each;
@@ -118,7 +118,7 @@ pub side_there : (names : List (List ℕ)) (r : Rest) (s : Attributes × Rest) �
 unfolding side
 side_there names r s e =
     let first = bind_ok (take what.Side r) _ s e in
-    told first.0.0 first.0.1 (take_there what.Side r first.0 first.1) first.0.0.kind refl first.2
+    by_cases first.0.0 first.0.1 (take_there what.Side r first.0 first.1) first.0.0.kind refl first.2
   where
     word : (m : Mark) (next_column : Rest) → Takes r m next_column → is_word_token m.kind ≡ true
         → (attribute_of_word names next_column.line m >>= λ a. words names (only a) next_column) ≡ Ok s → ReadsSide names r s.0 s.1
@@ -131,18 +131,18 @@ side_there names r s e =
           marks = m ∷ rest.words;
           whole = takes.marks ∙ ap (λ t. m ∷ t) rest.whole;
           is_side = inr (record {
-            some = omega arith;
+            not_empty = omega arith;
             each = All-cons (IsAttribute format.Plain names) m rest.words
-                (record { word = is; free = names_it.free; index = here.0; known = names_it.lookup }) rest.each;
+                (record { word = is; not_reserved = names_it.not_reserved; index = here.0; known = names_it.lookup }) rest.each;
             members = rest.members ∙ sym (attributes_of_words-cons names m rest.words here.0 names_it.lookup);
           });
           stop = rest.same_stop ∙ takes.stop;
         }
 
-    told : (m : Mark) (next_column : Rest) → Takes r m next_column → (k : TokenKind) → m.kind ≡ k → side_from names m next_column k ≡ Ok s → ReadsSide names r s.0 s.1
-    told m next_column takes token.Identifier is e = word m next_column takes (ap is_word_token is) e
-    told m next_column takes token.Quoted is e = word m next_column takes (ap is_word_token is) e
-    told m next_column takes token.Empty is e =
+    by_cases : (m : Mark) (next_column : Rest) → Takes r m next_column → (k : TokenKind) → m.kind ≡ k → side_from names m next_column k ≡ Ok s → ReadsSide names r s.0 s.1
+    by_cases m next_column takes token.Identifier is e = word m next_column takes (ap is_word_token is) e
+    by_cases m next_column takes token.Quoted is e = word m next_column takes (ap is_word_token is) e
+    by_cases m next_column takes token.Empty is e =
         subst (λ (u : Attributes × Rest). ReadsSide names r u.0 u.1) (the_ok _ s e)
         (record {
           marks = m ∷ [];
@@ -150,7 +150,7 @@ side_there names r s e =
           is_side = inl (record { mark = m; alone = refl; is_empty = is; nothing = refl });
           stop = takes.stop;
         })
-    told m next_column takes _ is e = cc
+    by_cases m next_column takes _ is e = cc
 
 -- ---- back
 -- what is left of a line
@@ -205,7 +205,7 @@ pub side_back : (names : List (List ℕ)) (line from : ℕ) (marks tail : List M
     → SideRead names line from marks tail stop x
 unfolding side take
 side_back names line from marks tail stop x (inl empty) other = record { next_column = empty.mark.column + empty.mark.length; read = rw (empty.alone, empty.is_empty, empty.nothing) refl }
-side_back names line from [] tail stop x (inr words) other = let some : 0 < 0 = words.some in absurd (omega arith)
+side_back names line from [] tail stop x (inr words) other = let not_empty : 0 < 0 = words.not_empty in absurd (omega arith)
 side_back names line from (m ∷ marks) tail stop x (inr words) other =
     let here : IsAttribute format.Plain names m = All-head (IsAttribute format.Plain names) m marks words.each in
     let there : All (IsAttribute format.Plain names) marks = All-tail (IsAttribute format.Plain names) m marks words.each in

@@ -36,9 +36,9 @@ refused_there s text e h = subst (TextFits s text) h (text_fits s text)
 -- ---- from what goes wrong
 -- a line that stands in a text counts
 not_passed : (s : Schema) (text : List ℕ) (before : List (List ℕ)) (here : List ℕ) (at : ℕ) (fresh : Bool)
-    (lines : List Line) (trees : List Tree) (book : CheckerStateValue) → HasReadLines s text before fresh lines trees book
+    (lines : List Line) (trees : List Tree) (state : CheckerStateValue) → HasReadLines s text before fresh lines trees state
     → StandsAt text before here at → lines_to_read fresh (here ∷ []) ≡ [] → ⊥
-not_passed s text before here at fresh lines trees book afterwards stands none =
+not_passed s text before here at fresh lines trees state afterwards stands none =
     omega (
       arith,
       ap length (sym stands.counts ∙ afterwards.counts (here ∷ [])),
@@ -48,22 +48,22 @@ not_passed s text before here at fresh lines trees book afterwards stands none =
     )
 
 line_refuses : (k : LineKind) (s : Schema) (text : List ℕ) (e : LineDiagnostic) (before after : List (List ℕ))
-    (here : List ℕ) (fresh : Bool) (lines : List Line) (trees : List Tree) (book : CheckerStateValue)
-    → HasReadLines s text before fresh lines trees book → StandsAt text before here e.line → Counts k fresh here
+    (here : List ℕ) (fresh : Bool) (lines : List Line) (trees : List Tree) (state : CheckerStateValue)
+    → HasReadLines s text before fresh lines trees state → StandsAt text before here e.line → Counts k fresh here
     → IsBadLine (names_of s) here e.line e.diagnostic ⊎ IsWrongLine s lines trees here e.diagnostic
-    → read_from s e.line after (read_as k s fresh e.line book here) ≡ Err e
-line_refuses Blank s text e before after here fresh lines trees book afterwards stands counts why =
-    absurd (not_passed s text before here e.line fresh lines trees book afterwards stands
+    → read_from s e.line after (read_as k s fresh e.line state here) ≡ Err e
+line_refuses Blank s text e before after here fresh lines trees state afterwards stands counts why =
+    absurd (not_passed s text before here e.line fresh lines trees state afterwards stands
     (counts [] ∙ nothing_counts fresh))
-line_refuses Opening s text e before after here fresh lines trees book afterwards stands counts why =
-    absurd (not_passed s text before here e.line fresh lines trees book afterwards stands (counts []))
-line_refuses Certificate s text e before after here fresh lines trees book afterwards stands counts (inl bad) =
+line_refuses Opening s text e before after here fresh lines trees state afterwards stands counts why =
+    absurd (not_passed s text before here e.line fresh lines trees state afterwards stands (counts []))
+line_refuses Certificate s text e before after here fresh lines trees state afterwards stands counts (inl bad) =
     rw ((refusals.refusal_law (names_of s) e.line here bad.refusal).1 bad.grammar)
     (ap (λ c. Err (diagnostic_at e.line c)) (sym bad.is))
-line_refuses Certificate s text e before after here fresh lines trees book afterwards stands counts (inr wrong) =
+line_refuses Certificate s text e before after here fresh lines trees state afterwards stands counts (inr wrong) =
     let own = line_of_attributes s here wrong.line wrong.means in
     let reads = line_back (names_of s) e.line here wrong.line wrong.means in
-    let refuses = refused_entered s e.line lines trees book wrong.line e.diagnostic afterwards.follows own wrong.wrong in
+    let refuses = refused_entered s e.line lines trees state wrong.line e.diagnostic afterwards.follows own wrong.wrong in
     rw (reads, refuses) refl
 
 -- what goes wrong so is refused
@@ -77,21 +77,21 @@ refused_back s text e (inl refused) =
     let walk = read_lines_walked s text refused.before after_it refused.lines refused.trees stands.cut refused.mean refused.read in
     ap (read_certificate_lines s true 1 (record { lines = []; unused = [] })) stands.cut
     ∙ walk.same
-    ∙ ap (λ n. read_certificate_lines s walk.fresh n walk.book after_it) (sym stands.number)
+    ∙ ap (λ n. read_certificate_lines s walk.fresh n walk.state after_it) (sym stands.number)
     ∙ line_refuses (line_kind walk.fresh (lex mode.numbered here)) s text e refused.before stands.after here walk.fresh
-    refused.lines refused.trees walk.book walk.afterwards stands (kind_counts walk.fresh here _ refl) refused.why
+    refused.lines refused.trees walk.state walk.afterwards stands (kind_counts walk.fresh here _ refl) refused.why
 refused_back s text e (inr refused) =
     let size = nodes_size s [] refused.lines refused.trees refused.read.nodes in
-    end_back s text refused.lines refused.trees (Err e) refused.mean refused.read (λ fresh book afterwards. ⊎_elim
+    end_back s text refused.lines refused.trees (Err e) refused.mean refused.read (λ fresh state afterwards. ⊎_elim
     (λ empty. let at : e.line ≡ length (line_texts (without_mark text)) + 1 - 1 = omega (arith, empty.at) in
     let none = nil_from_length refused.trees (omega (arith, size, ap length empty.none)) in
     inl (none, λ i. diagnostic_at (at i) (empty.is i)))
     (λ never.
     let i = never.number - 1 in
-    let number : i + 1 ≡ never.number = omega (arith, never.some) in
-    let position = afterwards.positions i (omega (arith, never.not_last, never.some, size, afterwards.size)) in
-    let at : slice_index book.lines i ≡ e.line =
-    same_position text position.before never.before position.here never.here (slice_index book.lines i) e.line position.stands
+    let number : i + 1 ≡ never.number = omega (arith, never.not_empty) in
+    let position = afterwards.positions i (omega (arith, never.not_last, never.not_empty, size, afterwards.size)) in
+    let at : slice_index state.lines i ≡ e.line =
+    same_position text position.before never.before position.here never.here (slice_index state.lines i) e.line position.stands
     never.stands (omega (arith, position.count, never.is_number)) in
     inr (record {
       at = i;

@@ -31,9 +31,9 @@ use Rattle.proof_grammar.proofs.ReadLines.{read_from, nothing_counts, HasReadLin
 pub record IsWalked (s : Schema) (text : List ℕ) (before after : List (List ℕ)) (lines : List Line) (trees : List Tree)
     (found : Result Tree LineDiagnostic) : Type 0 where
   pub fresh : Bool
-  pub book : CheckerStateValue
-  pub afterwards : HasReadLines s text before fresh lines trees book
-  pub same : found ≡ read_certificate_lines s fresh (length before + 1) book after
+  pub state : CheckerStateValue
+  pub afterwards : HasReadLines s text before fresh lines trees state
+  pub same : found ≡ read_certificate_lines s fresh (length before + 1) state after
 
 -- it has come to these lines of the text; they mean these lines more, and have these trees
 record HasCome (s : Schema) (text : List ℕ) (after whole : List (List ℕ)) (all : List Line) (grown : List Tree)
@@ -42,11 +42,11 @@ record HasCome (s : Schema) (text : List ℕ) (after whole : List (List ℕ)) (a
   fresh : Bool
   lines : List Line
   trees : List Tree
-  book : CheckerStateValue
+  state : CheckerStateValue
   cut : line_texts (without_mark text) ≡ before ++ (texts ++ after)
   front : whole ≡ before ++ texts
   count : number ≡ length before + 1
-  afterwards : HasReadLines s text before fresh lines trees book
+  afterwards : HasReadLines s text before fresh lines trees state
   mean : MeanLines (names_of s) (lines_to_read fresh texts) more
   all_lines : all ≡ lines ++ more
   all_trees : grown ≡ trees ++ us
@@ -63,11 +63,11 @@ Walks-skipped s text after whole all grown number here texts more us w fresh cou
   fresh = fresh;
   lines = w.lines;
   trees = w.trees;
-  book = w.book;
+  state = w.state;
   cut = w.cut ∙ sym (append_assoc w.before (here ∷ []) (texts ++ after));
   front = w.front ∙ sym (append_assoc w.before (here ∷ []) texts);
   count = omega (arith, w.count, length-append w.before (here ∷ []));
-  afterwards = line_passed_over s text w.before w.fresh fresh w.lines w.trees w.book here w.afterwards counts;
+  afterwards = line_passed_over s text w.before w.fresh fresh w.lines w.trees w.state here w.afterwards counts;
   mean = subst (λ (ls : List (List ℕ)). MeanLines (names_of s) ls more) (counts texts) w.mean;
   all_lines = w.all_lines;
   all_trees = w.all_trees;
@@ -78,14 +78,14 @@ Walks-skipped s text after whole all grown number here texts more us w fresh cou
 abbrev Walks : Schema → List ℕ → List (List ℕ) → List (List ℕ) → List Line → List Tree → ℕ → List (List ℕ) → Type 0
 Walks s text after whole all grown number texts =
     (more : List Line) (us : List Tree) (w : HasCome s text after whole all grown number texts more us)
-    → IsWalked s text whole after all grown (read_certificate_lines s w.fresh number w.book (texts ++ after))
+    → IsWalked s text whole after all grown (read_certificate_lines s w.fresh number w.state (texts ++ after))
 
 walk_more : (k : LineKind) (s : Schema) (text : List ℕ) (after whole : List (List ℕ)) (all : List Line)
     (grown : List Tree) (number : ℕ) (here : List ℕ) (texts : List (List ℕ)) (more : List Line) (us : List Tree)
     (w : HasCome s text after whole all grown number (here ∷ texts) more us) → AreRead s all grown
     → Counts k w.fresh here → Walks s text after whole all grown (number + 1) texts
     → IsWalked s text whole after all grown
-    (read_from s number (texts ++ after) (read_as k s w.fresh number w.book here))
+    (read_from s number (texts ++ after) (read_as k s w.fresh number w.state here))
 unfolding Walks-skipped
 walk_more Blank s text after whole all grown number here texts more us w read counts on =
     on more us (Walks-skipped s text after whole all grown number here texts more us w w.fresh counts)
@@ -114,23 +114,23 @@ walk_more Certificate s text after whole all grown number here texts (l ∷ more
       uses_first n l more,
     ) in
     let own = line_of_attributes s here l means.0 in
-    let enters = entered_back s number w.lines w.trees w.book l u w.afterwards.follows own w.nodes.0 room flat once in
+    let enters = entered_back s number w.lines w.trees w.state l u w.afterwards.follows own w.nodes.0 room flat once in
     let stands : StandsAt text w.before here number = record {
       after = texts ++ after;
       cut = w.cut;
       number = w.count;
-      counts = counts_here s text w.before w.fresh w.lines w.trees w.book here w.afterwards counts;
+      counts = counts_here s text w.before w.fresh w.lines w.trees w.state here w.afterwards counts;
     } in
     rw (line_back (names_of s) number here l means.0, enters.1) (on more us (record {
       before = w.before ++ here ∷ [];
       fresh = false;
       lines = w.lines ++ l ∷ [];
       trees = w.trees ++ u ∷ [];
-      book = enters.0;
+      state = enters.0;
       cut = w.cut ∙ sym (append_assoc w.before (here ∷ []) (texts ++ after));
       front = w.front ∙ sym (append_assoc w.before (here ∷ []) texts);
       count = omega (arith, w.count, length-append w.before (here ∷ []));
-      afterwards = one_more s text w.before w.fresh w.lines w.trees w.book here number l u enters.0 w.afterwards counts
+      afterwards = one_more s text w.before w.fresh w.lines w.trees w.state here number l u enters.0 w.afterwards counts
           stands means.0 enters.1 enters.2;
       mean = means.1;
       all_lines = w.all_lines ∙ sym (append_assoc w.lines (l ∷ []) more);
@@ -143,12 +143,12 @@ walk : (s : Schema) (text : List ℕ) (after whole : List (List ℕ)) (all : Lis
 unfolding read_certificate_lines read_one
 walk s text after whole all grown number [] read [] [] w =
     let of : List (List ℕ) → List Line → List Tree → Type 0 =
-    λ b ls ts. IsWalked s text b after ls ts (read_certificate_lines s w.fresh number w.book after) in
+    λ b ls ts. IsWalked s text b after ls ts (read_certificate_lines s w.fresh number w.state after) in
     let start : of w.before w.lines w.trees = record {
       fresh = w.fresh;
-      book = w.book;
+      state = w.state;
       afterwards = w.afterwards;
-      same = ap (λ n. read_certificate_lines s w.fresh n w.book after) w.count;
+      same = ap (λ n. read_certificate_lines s w.fresh n w.state after) w.count;
     } in
     let same_front = sym (w.front ∙ append-nil w.before) in
     let same_lines = sym (w.all_lines ∙ append-nil w.lines) in
@@ -173,7 +173,7 @@ read_lines_walked s text before after lines trees cut mean read =
       fresh = true;
       lines = [];
       trees = [];
-      book = record { lines = []; unused = [] };
+      state = record { lines = []; unused = [] };
       cut = cut;
       front = refl;
       count = refl;

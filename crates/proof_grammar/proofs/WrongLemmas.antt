@@ -24,11 +24,11 @@ If true A = A
 If false A = Unit {0}
 
 le_unless : (j k : ℕ) (A : Type 0) → If (nat_lt j k) A → (A → ⊥) → k ≤ j
-le_unless j k A asked none = told (nat_lt j k) refl asked
+le_unless j k A asked none = by_cases (nat_lt j k) refl asked
   where
-    told : (b : Bool) → nat_lt j k ≡ b → If b A → k ≤ j
-    told true e holds = absurd (none holds)
-    told false e holds = grind (arith, nat_tests, e)
+    by_cases : (b : Bool) → nat_lt j k ≡ b → If b A → k ≤ j
+    by_cases true e holds = absurd (none holds)
+    by_cases false e holds = grind (arith, nat_tests, e)
 
 -- no diagnostic of a smaller rank holds
 abbrev pub NoneOfLowerRank : Schema → List Line → List Tree → Line → ℕ → Type 0
@@ -45,8 +45,8 @@ pub first_of : (s : Schema) (lines : List Line) (trees : List Tree) (l : Line) (
 first_of s lines trees l k high none wrong_number wrong = le_unless 2 k _ none.0 wrong
 first_of s lines trees l k high none no_such_line wrong = le_unless 3 k _ none.1 (λ named. named wrong)
 first_of s lines trees l k high none used_twice wrong = le_unless 4 k _ none.2 (λ once. once wrong)
-first_of s lines trees l k high none too_many_lines wrong = le_unless 5 k _ none.3 (λ few. omega (arith, few, wrong))
-first_of s lines trees l k high none too_deep wrong = le_unless 6 k _ none.4 (λ few. few wrong)
+first_of s lines trees l k high none too_many_lines wrong = le_unless 5 k _ none.3 (λ within_limit. omega (arith, within_limit, wrong))
+first_of s lines trees l k high none too_deep wrong = le_unless 6 k _ none.4 (λ within_limit. within_limit wrong)
 first_of s lines trees l k high none (unsound fault) wrong = le_unless 7 k _ none.5 (λ sound. sound fault.kind wrong.1)
 first_of s lines trees l k high none (states_other stated concluded) wrong = high
 first_of s lines trees l k high none _ wrong = absurd wrong
@@ -90,7 +90,7 @@ tree_says s trees l (by_pair rule p q) t d tree proves =
 fault_says : (s : Schema) (trees : List Tree) (l : Line) (b : Body) (why : FaultKind) → NodeFault s trees l b why
     → Says s trees l b (Err why)
 fault_says s trees l (by_given k) why (inl none) = inl (none.0, ap Err none.1)
-fault_says s trees l (by_given k) why (inr some) = inr some
+fault_says s trees l (by_given k) why (inr not_empty) = inr not_empty
 fault_says s trees l by_reflexivity why fault = fault
 fault_says s trees l by_mreflexivity why fault = fault
 fault_says s trees l (by_step rule p) why fault =

@@ -108,11 +108,11 @@ add_line at lines unused o = record { lines = lines ++ at ∷ []; unused = unuse
 
 -- the checker state after one certificate line more
 unfoldable pub enter_line : Schema → ℕ → CheckerStateValue → Line → Result CheckerStateValue Diagnostic
-enter_line s at book l =
-    if l.number == length book.unused + 1
-    then (prepare_line s book.unused l.stated l.body
-    >>= λ p. within_limits (length book.unused) l p.levels p.outcome
-    >>= λ o. Ok (add_line at book.lines p.unused o))
+enter_line s at state l =
+    if l.number == length state.unused + 1
+    then (prepare_line s state.unused l.stated l.body
+    >>= λ p. within_limits (length state.unused) l p.levels p.outcome
+    >>= λ o. Ok (add_line at state.lines p.unused o))
     else Err wrong_number
 
 -- the first line but the last that no line used
@@ -140,4 +140,4 @@ finished_at last lines None None = Err (diagnostic_at last empty_proof)
 
 -- the tree of a checker state whose text ends with this line
 unfoldable pub finished_certificate : ℕ → CheckerStateValue → Result Tree LineDiagnostic
-finished_certificate last book = finished_at last book.lines (first_unused book.unused) (root book.unused)
+finished_certificate last state = finished_at last state.lines (first_unused state.unused) (root state.unused)

@@ -56,7 +56,7 @@ pub record IsEmptyProof (text : List ℕ) (lines : List Line) (e : LineDiagnosti
 -- the first line but the last that no line uses; it is refused at its line of the text
 pub record IsNeverUsed (text : List ℕ) (lines : List Line) (e : LineDiagnostic) : Type 0 where
   pub number : ℕ
-  pub some : 0 < number
+  pub not_empty : 0 < number
   pub not_last : number < length lines
   pub unused : uses number lines ≡ 0
   pub first : (n : ℕ) → 0 < n → n < number → uses n lines ≡ 1

@@ -50,17 +50,17 @@ in_line (Err e) = Err (bad_line e)
 
 abbrev pub read_as : LineKind → Schema → Bool → ℕ → CheckerStateValue → List ℕ
     → Result (Bool × CheckerStateValue) Diagnostic
-read_as Blank s fresh number book text = Ok (fresh, book)
-read_as Opening s fresh number book text = Ok (false, book)
-read_as Certificate s fresh number book text =
+read_as Blank s fresh number state text = Ok (fresh, state)
+read_as Opening s fresh number state text = Ok (false, state)
+read_as Certificate s fresh number state text =
     in_line (certificate_line (names_of s) (rest_from number 1 (lex mode.numbered text)))
-    >>= λ l. enter_line s number book l
+    >>= λ l. enter_line s number state l
     >>= λ next. Ok (false, next)
 
 -- the checker state after one line of the text more, and whether a `yes` may still come
 unfoldable pub read_one : Schema → Bool → ℕ → CheckerStateValue → List ℕ → Result (Bool × CheckerStateValue) Diagnostic
-read_one s fresh number book text =
-    read_as (line_kind fresh (lex mode.numbered text)) s fresh number book text
+read_one s fresh number state text =
+    read_as (line_kind fresh (lex mode.numbered text)) s fresh number state text
 
 -- a diagnostic gets its line
 abbrev pub at_line : {A : Type 0} → ℕ → Result A Diagnostic → Result A LineDiagnostic
@@ -70,9 +70,9 @@ at_line number (Err why) = Err (diagnostic_at number why)
 -- the tree of lines, of which the first has this number
 unfoldable pub read_certificate_lines : Schema → Bool → ℕ → CheckerStateValue → List (List ℕ)
     → Result Tree LineDiagnostic
-read_certificate_lines s fresh number book [] = finished_certificate (number - 1) book
-read_certificate_lines s fresh number book (text ∷ texts) =
-    at_line number (read_one s fresh number book text)
+read_certificate_lines s fresh number state [] = finished_certificate (number - 1) state
+read_certificate_lines s fresh number state (text ∷ texts) =
+    at_line number (read_one s fresh number state text)
     >>= λ next. read_certificate_lines s next.0 (number + 1) next.1 texts
 
 -- the tree that a certificate spells, or the first diagnostic

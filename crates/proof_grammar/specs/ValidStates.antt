@@ -31,7 +31,7 @@ all_nodes [] = 0
 all_nodes (o ∷ os) = open_nodes o + all_nodes os
 
 -- a checker state of lines that stand, in which each line's node stands once
-pub record IsCheckerState (s : Schema) (book : CheckerStateValue) : Type 0 where
-  pub stand : AllStand s book.unused
-  pub count : all_nodes book.unused ≡ length book.unused
-  pub lines_fit : length book.unused ≤ MOST_NODES
+pub record IsCheckerState (s : Schema) (state : CheckerStateValue) : Type 0 where
+  pub stand : AllStand s state.unused
+  pub count : all_nodes state.unused ≡ length state.unused
+  pub lines_fit : length state.unused ≤ MOST_NODES

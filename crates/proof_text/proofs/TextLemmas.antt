@@ -9,10 +9,10 @@ use Rattle.proof_grammar.specs.ValidStates.{IsCheckerState}
 use Rattle.proof_grammar.specs.Texts.{read_certificate_lines, read_proof}
 
 -- to read the lines that are left is to read the whole
-pub record Reads (s : Schema) (text : List ℕ) (fresh : Bool) (number : ℕ) (book : CheckerStateValue) (rest : List ℕ) : Type 0 where
-  pub same : read_proof s text ≡ read_certificate_lines s fresh number book (line_texts rest)
+pub record Reads (s : Schema) (text : List ℕ) (fresh : Bool) (number : ℕ) (state : CheckerStateValue) (rest : List ℕ) : Type 0 where
+  pub same : read_proof s text ≡ read_certificate_lines s fresh number state (line_texts rest)
   pub room : number + length rest ≤ MOST_PROOF_BYTES + 1
-  pub checker_state : IsCheckerState s book
+  pub checker_state : IsCheckerState s state
 
 pub line_within : (text line : List ℕ) (after : Option (Bor (List ℕ))) → CutsLine text line after → length line ≤ length text
 line_within text line None cut = cut.within

@@ -29,7 +29,7 @@ pub const MOST_PROOF_BYTES: usize = 268_435_456;
 
 /// The derivation that a certificate spells, within the limits on lines and levels, or its refusal: the
 /// first line that goes wrong, and there the first diagnostic in the order of `ProofRefusalKind`, but
-/// that an unused line is told at the text's end.
+/// that an unused line is reported at the text's end.
 pub fn read_proof(
     alloc: Global,
     schema: &Schema,
@@ -67,20 +67,20 @@ pub fn read_concluded(
         (RefusesAs (λ refusal. IsRefusalWithin (universe_of schema.now) refusal.kind)) }
 {
     let guide = Guide::of(schema);
-    let mut book = CheckerState::new(alloc);
+    let mut state = CheckerState::new(alloc);
     let mut fresh = true;
     let mut number = 1;
     let mut rest = without_mark(text);
     'lines: loop {
         let (line, after) = cut_line(rest);
-        match read_one(alloc, schema, &guide, &mut book, fresh, number, line) {
+        match read_one(alloc, schema, &guide, &mut state, fresh, number, line) {
             Err(Failure::Refused(kind)) => {
                 return Err(Failure::Refused(ProofRefusal { line: number, kind }));
             }
             Err(Failure::OutOfMemory) => return Err(Failure::OutOfMemory),
             Ok(still_fresh) => match after {
                 None => {
-                    return match book.finish(number) {
+                    return match state.finish(number) {
                         Ok(read) => Ok(read),
                         Err(refusal) => Err(Failure::Refused(refusal)),
                     };
@@ -95,25 +95,25 @@ pub fn read_concluded(
     }
 }
 
-/// Reads one line of the text. Whether a `yes` may still come is told and answered.
+/// Reads one line of the text. Whether a `yes` may still come is handed in and answered.
 #[tactic(auto, unfolding(proof_grammar::specs::Texts::read_one, proof_grammar::specs::Texts::line_kind, proof_grammar::specs::Lines::certificate_line, schema_grammar::specs::Rests::take))]
 fn read_one(
     alloc: Global,
     schema: &Schema,
     guide: &Guide,
-    book: &mut CheckerState,
+    state: &mut CheckerState,
     fresh: bool,
     number: u32,
     text: &[u8],
 ) -> Result<bool, Failure<ProofRefusalKind>>
     requires fits_u32 { 1 + length text.now < 2 ^ 32 }
-    requires checker_state { IsCheckerState schema.now (checker_state_of book.old) }
+    requires checker_state { IsCheckerState schema.now (checker_state_of state.old) }
     ensures ok { IfOk result
-        (λ still. read_one schema.now fresh number (checker_state_of book.old) text.now
-        ≡ Ok (still, checker_state_of book.new)) }
+        (λ still. read_one schema.now fresh number (checker_state_of state.old) text.now
+        ≡ Ok (still, checker_state_of state.new)) }
     ensures err { IfErr result
         (RefusesAs (λ why. IsFound why (read_one schema.now fresh number
-        (checker_state_of book.old) text.now))) }
+        (checker_state_of state.old) text.now))) }
     ensures within { IfErr result (RefusesAs (IsRefusalWithin (universe_of schema.now))) }
 {
     let start = Cursor::start(number, Mode::NUMBERED, text);
@@ -127,7 +127,7 @@ fn read_one(
             match read_line(&Names::Guided(schema, guide), first, &word, rest) {
                 Err(refusal) => Err(Failure::Refused(ProofRefusalKind::BadLine(refusal))),
                 Ok(line) => {
-                    book.enter(alloc, schema, number, &line)?;
+                    state.enter(alloc, schema, number, &line)?;
                     Ok(false)
                 }
             }

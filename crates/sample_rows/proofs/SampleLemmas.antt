@@ -49,19 +49,19 @@ record IsRow (from end : ℕ) (t : Tuple) : Type 0 where
   tongue : ℕ
   after : from ≤ person
   before : person < end
-  few_skills : skill < 2
-  few_tongues : tongue < 2
+  skills_within_limit : skill < 2
+  tongues_within_limit : tongue < 2
   is : t ≡ sample_row person skill tongue
 
 row_is : (i a b : ℕ) (t : Tuple) → a < 2 → b < 2 → t ≡ sample_row i a b → IsRow i (i + 1) t
-row_is i a b t few_a few_b e = record {
+row_is i a b t a_within_limit b_within_limit e = record {
   person = i;
   skill = a;
   tongue = b;
   after = omega arith;
   before = omega arith;
-  few_skills = few_a;
-  few_tongues = few_b;
+  skills_within_limit = a_within_limit;
+  tongues_within_limit = b_within_limit;
   is = e;
 }
 
@@ -72,8 +72,8 @@ among_more from end first last t low high r = record {
   tongue = r.tongue;
   after = omega (arith, low, r.after);
   before = omega (arith, high, r.before);
-  few_skills = r.few_skills;
-  few_tongues = r.few_tongues;
+  skills_within_limit = r.skills_within_limit;
+  tongues_within_limit = r.tongues_within_limit;
   is = r.is;
 }
 
@@ -141,23 +141,23 @@ in_rows from (suc n) i t low high h = elim (cases_lt from i) [
 
 -- ---- texts of numbers
 same_number : (letter m n : ℕ) → m < 2 ^ 64 → n < 2 ^ 64 → letter ∷ decimal m ≡ letter ∷ decimal n → m ≡ n
-same_number letter m n few_m few_n e =
+same_number letter m n m_within_limit n_within_limit e =
     let digits : decimal m ≡ decimal n = cc in
-    decimal_injective m n few_m few_n digits
+    decimal_injective m n m_within_limit n_within_limit digits
 
 -- ---- the dependencies
 persons_of : (n : ℕ) (t u : Tuple) → n < 2 ^ 64 → (rt : IsRow 0 n t) → (ru : IsRow 0 n u) → AgreeOn (only 0) t u
     → rt.person ≡ ru.person
-persons_of n t u few rt ru agree =
-    same_number 112 rt.person ru.person (omega (arith, few, rt.before)) (omega (arith, few, ru.before))
+persons_of n t u within_limit rt ru agree =
+    same_number 112 rt.person ru.person (omega (arith, within_limit, rt.before)) (omega (arith, within_limit, ru.before))
     (sym (ap (λ (v : Tuple). value_at v 0) rt.is) ∙ agree 0 refl ∙ ap (λ (v : Tuple). value_at v 0) ru.is)
 
 city_obeyed : (n : ℕ) → n < 2 ^ 64 → ObeysFd (only 0) (only 1) (sample_relation n)
-city_obeyed n few t u t_in u_in agree k member =
+city_obeyed n within_limit t u t_in u_in agree k member =
     let rt = row_of n t t_in in
     let ru = row_of n u u_in in
     let at : k ≡ 1 = eqb-true k 1 member in
-    let same : rt.person ≡ ru.person = persons_of n t u few rt ru agree in
+    let same : rt.person ≡ ru.person = persons_of n t u within_limit rt ru agree in
     let cities : value_at t 1 ≡ value_at u 1 =
     ap (λ (v : Tuple). value_at v 1) rt.is ∙ ap (λ (i : ℕ). 99 ∷ decimal (i % 100)) same
     ∙ sym (ap (λ (v : Tuple). value_at v 1) ru.is) in
@@ -180,13 +180,13 @@ rest_agrees i a c b (suc (suc (suc zero))) h = refl
 rest_agrees i a c b (suc (suc (suc (suc k)))) h = refl
 
 skill_obeyed : (n : ℕ) → n < 2 ^ 64 → ObeysMvd (below 4) (only 0) (only 2) (sample_relation n)
-skill_obeyed n few t u t_in u_in agree =
+skill_obeyed n within_limit t u t_in u_in agree =
     let rt = row_of n t t_in in
     let ru = row_of n u u_in in
-    let same : rt.person ≡ ru.person = persons_of n t u few rt ru agree in
+    let same : rt.person ≡ ru.person = persons_of n t u within_limit rt ru agree in
     let v : Tuple = sample_row rt.person rt.skill ru.tongue in
     let there : Contains (sample_relation n) v = in_rows 0 n rt.person v (omega arith) (omega (arith, rt.before))
-    (in_person rt.person rt.skill ru.tongue rt.few_skills ru.few_tongues) in (
+    (in_person rt.person rt.skill ru.tongue rt.skills_within_limit ru.tongues_within_limit) in (
       v,
       there,
       subst (λ (w : Tuple). AgreeOn (union (only 0) (only 2)) v w) (sym rt.is)
@@ -197,9 +197,9 @@ skill_obeyed n few t u t_in u_in agree =
     )
 
 each_obeyed : (n : ℕ) → n < 2 ^ 64 → All (λ d. Obeys 4 d (sample_relation n)) sample_theory
-each_obeyed n few zero d l = city_obeyed n few
-each_obeyed n few (suc zero) d l = skill_obeyed n few
-each_obeyed n few (suc (suc k)) d l = absurd (omega (arith, l))
+each_obeyed n within_limit zero d l = city_obeyed n within_limit
+each_obeyed n within_limit (suc zero) d l = skill_obeyed n within_limit
+each_obeyed n within_limit (suc (suc k)) d l = absurd (omega (arith, l))
 
 row_over : (n : ℕ) → IsOver 4 (sample_relation n)
 row_over n i d l =
@@ -207,10 +207,10 @@ row_over n i d l =
     ap length r.is
 
 sample_legal : (n : ℕ) → n < 2 ^ 64 → IsLegal 4 sample_theory (sample_relation n)
-sample_legal n few = record { over = row_over n; obeys = each_obeyed n few }
+sample_legal n within_limit = record { over = row_over n; obeys = each_obeyed n within_limit }
 
 pub rows_legal : (n : ℕ) (r : Relation) → n < 2 ^ 64 → r ≡ sample_relation n → IsLegal 4 sample_theory r
-rows_legal n r few is = subst (IsLegal 4 sample_theory) (sym is) (sample_legal n few)
+rows_legal n r within_limit is = subst (IsLegal 4 sample_theory) (sym is) (sample_legal n within_limit)
 
 -- ---- no two rows are equal
 abbrev Differ : Tuple → Tuple → Type 0
@@ -232,9 +232,9 @@ other_tongue i a c e =
 
 other_person : (i a b from end : ℕ) (t : Tuple) → i < from → end < 2 ^ 64 → IsRow from end t
     → Differ (sample_row i a b) t
-other_person i a b from end t before few r e =
-    let persons : i ≡ r.person = same_number 112 i r.person (omega (arith, before, r.after, r.before, few))
-    (omega (arith, r.before, few)) (ap (λ (v : Tuple). value_at v 0) (e ∙ r.is)) in
+other_person i a b from end t before within_limit r e =
+    let persons : i ≡ r.person = same_number 112 i r.person (omega (arith, before, r.after, r.before, within_limit))
+    (omega (arith, r.before, within_limit)) (ap (λ (v : Tuple). value_at v 0) (e ∙ r.is)) in
     omega (arith, persons, before, r.after)
 
 -- the rows of a person, before rows of others
@@ -268,14 +268,14 @@ four_differ i rest apart differ =
     (all_pairs_cons Differ (sample_row i 1 1) rest (λ t h e. apart 1 1 t h e) differ)))
 
 differ_from : (from n : ℕ) → from + n < 2 ^ 64 → AllPairs Differ (flat_map person_rows (range_with_len from n))
-differ_from from zero few = λ i j d less low. absurd (omega (arith, low))
-differ_from from (suc n) few =
+differ_from from zero within_limit = λ i j d less low. absurd (omega (arith, low))
+differ_from from (suc n) within_limit =
     four_differ from (flat_map person_rows (range_with_len (from + 1) n))
-    (λ a b t h. other_person from a b (from + 1) ((from + 1) + n) t (omega arith) (omega (arith, few))
+    (λ a b t h. other_person from a b (from + 1) ((from + 1) + n) t (omega arith) (omega (arith, within_limit))
     (row_from (from + 1) n t h))
-    (differ_from (from + 1) n (omega (arith, few)))
+    (differ_from (from + 1) n (omega (arith, within_limit)))
 
 pub rows_differ : (n : ℕ) (r : Relation) → n < 2 ^ 64 → r ≡ sample_relation n → AllPairs Differ r
-rows_differ n r few is =
-    let short : 0 + n < 2 ^ 64 = omega (arith, few) in
+rows_differ n r within_limit is =
+    let short : 0 + n < 2 ^ 64 = omega (arith, within_limit) in
     subst (AllPairs Differ) (sym is) (differ_from 0 n short)

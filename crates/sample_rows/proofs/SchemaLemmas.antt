@@ -59,10 +59,10 @@ pub schema_valid : (names : List (List ℕ)) (deps : List Dep) (lines : List ℕ
 schema_valid names deps lines l r s is_names is_deps two hl hr hs =
     subst (λ (ns : List (List ℕ)). IsSchema ns deps lines) (sym is_names)
     (subst (λ (ds : List Dep). IsSchema sample_names ds lines) (sym is_deps) (record {
-      some_names = omega arith;
-      few_names = omega arith;
+      names_not_empty = omega arith;
+      names_within_limit = omega arith;
       names_differ = names_differ;
-      few_deps = omega arith;
+      deps_within_limit = omega arith;
       deps_within = each_within l r s hl hr hs;
       one_line_each = two;
     }))

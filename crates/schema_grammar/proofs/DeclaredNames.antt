@@ -8,12 +8,12 @@ use Rattle.schema_grammar.specs.Schemas.{MeansSchema}
 use Rattle.schema_grammar.specs.Texts.{read_text}
 use Rattle.schema_grammar.proofs.RefusalLemmas.{ok_at}
 use Rattle.schema_grammar.proofs.SchemaLaws.{schema-law}
-use Rattle.schema_grammar.proofs.SoundLemmas.{IsWhole, opening_whole, whole_free}
+use Rattle.schema_grammar.proofs.SoundLemmas.{IsWhole, opening_is_whole, whole_not_reserved}
 
 -- what a schema text declares are names, which differ, and none of which is reserved
 pub declared_are_names : (text : List ℕ) (d : Declarations) → MeansSchema text d → AreNames format.Plain d.names
 unfolding read_text
 declared_are_names text d means =
     let whole = ok_at IsWhole _ d ((schema-law text d).1 means)
-    (opening_whole 1 (line_texts (without_mark text))) in
-    record { each = whole.sound.proper; free = whole_free d whole; differ = whole.sound.names_differ }
+    (opening_is_whole 1 (line_texts (without_mark text))) in
+    record { each = whole.sound.proper; not_reserved = whole_not_reserved d whole; differ = whole.sound.names_differ }

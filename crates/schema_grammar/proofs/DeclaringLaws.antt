@@ -37,67 +37,67 @@ unless_ok : {X : Type 0} (b : Bool) (why : SchemaRefusalKind) (r : Result X Sche
 unless_ok true why r x e = cc
 unless_ok false why r x e = (refl, e)
 
-declares_name : (f : Format) (column : ColumnType) (d whole : Declarations) (some : Bool) (m : Mark) → name_step f column d some m.kind m.word ≡ Ok whole
+declares_name : (f : Format) (column : ColumnType) (d whole : Declarations) (any_name : Bool) (m : Mark) → name_step f column d any_name m.kind m.word ≡ Ok whole
     → IsNewName f d m × (whole ≡ add_name d m.word column)
 unfolding declare
-declares_name f column d whole some m e = told (is_word_token m.kind) refl
+declares_name f column d whole any_name m e = by_cases (is_word_token m.kind) refl
   where
-    told : (b : Bool) → is_word_token m.kind ≡ b → IsNewName f d m × (whole ≡ add_name d m.word column)
-    told true is =
-        let declares : declare f column d m.kind m.word ≡ Ok whole = sym (name_step-word f column d some m.kind m.word is) ∙ e in
-        let free = unless_ok (is_reserved_token f m.kind m.word) kind.ReservedName _ whole declares in
-        let new = unless_ok (is_some (attribute_named d.names m.word)) kind.DoubleName _ whole free.1 in
+    by_cases : (b : Bool) → is_word_token m.kind ≡ b → IsNewName f d m × (whole ≡ add_name d m.word column)
+    by_cases true is =
+        let declares : declare f column d m.kind m.word ≡ Ok whole = sym (name_step-word f column d any_name m.kind m.word is) ∙ e in
+        let not_reserved = unless_ok (is_reserved_token f m.kind m.word) kind.ReservedName _ whole declares in
+        let new = unless_ok (is_some (attribute_named d.names m.word)) kind.DoubleName _ whole not_reserved.1 in
         let room = unless_ok (nat_le MOST_ATTRIBUTES (length d.names)) kind.TooManyAttributes (Ok (add_name d m.word column)) whole new.1 in
         let unknown = none (attribute_named d.names m.word) new.0 in
         let same : Ok whole ≡ Ok (add_name d m.word column) = sym room.1 in
-        (record { word = is; free = free.0; new = unknown; room = leb-false _ _ room.0 }, cc)
+        (record { word = is; not_reserved = not_reserved.0; new = unknown; room = leb-false _ _ room.0 }, cc)
       where
         none : (o : Option ℕ) → is_some o ≡ false → o ≡ None
         none None e = refl
         none (Some a) e = cc
-    told false is = let wrong = sym (name_step-other f column d some m.kind m.word is) ∙ e in cc
+    by_cases false is = let wrong = sym (name_step-other f column d any_name m.kind m.word is) ∙ e in cc
 
-name_declared : (f : Format) (column : ColumnType) (d : Declarations) (some : Bool) (m : Mark) → IsNewName f d m → name_step f column d some m.kind m.word ≡ Ok (add_name d m.word column)
+name_declared : (f : Format) (column : ColumnType) (d : Declarations) (any_name : Bool) (m : Mark) → IsNewName f d m → name_step f column d any_name m.kind m.word ≡ Ok (add_name d m.word column)
 unfolding declare
-name_declared f column d some m new =
-    let room = lt-leb MOST_ATTRIBUTES (length d.names) new.room in rw (name_step-word f column d some m.kind m.word new.word) (rw (new.free, new.new, room) refl)
+name_declared f column d any_name m new =
+    let room = lt-leb MOST_ATTRIBUTES (length d.names) new.room in rw (name_step-word f column d any_name m.kind m.word new.word) (rw (new.not_reserved, new.new, room) refl)
 
 -- names after a declaring word are read exactly where each is a new one
-names_there : (f : Format) (column : ColumnType) (line : ℕ) (d whole : Declarations) (some : Bool)
+names_there : (f : Format) (column : ColumnType) (line : ℕ) (d whole : Declarations) (any_name : Bool)
     (next_column : ℕ) (ms : List Mark)
-    → list_names f column line d some next_column ms None ≡ Ok whole
-    → (some ≡ false → 0 < length ms) × DeclareNames f column d ms whole
+    → list_names f column line d any_name next_column ms None ≡ Ok whole
+    → (any_name ≡ false → 0 < length ms) × DeclareNames f column d ms whole
 unfolding list_names
 names_there f column line d whole true next_column [] e = ((λ none. cc), cc)
 names_there f column line d whole false next_column [] e = cc
-names_there f column line d whole some next_column (m ∷ ms) e =
-    let two = and_then-ok (at line m.column m.length (name_step f column d some m.kind m.word)) _ whole e in
+names_there f column line d whole any_name next_column (m ∷ ms) e =
+    let two = and_then-ok (at line m.column m.length (name_step f column d any_name m.kind m.word)) _ whole e in
     let named = at-ok line m.column m.length _ two.x two.first in
-    let first = declares_name f column d two.x some m named in
+    let first = declares_name f column d two.x any_name m named in
     let rest : list_names f column line (add_name d m.word column) true (m.column + m.length) ms None ≡ Ok whole =
     ap (λ n. list_names f column line n true (m.column + m.length) ms None) (sym first.1) ∙ two.second in
     let more = names_there f column line (add_name d m.word column) whole true (m.column + m.length) ms rest in
     ((λ none. omega arith), (first.0, more.1))
 
-names_back : (f : Format) (column : ColumnType) (line : ℕ) (d whole : Declarations) (some : Bool)
+names_back : (f : Format) (column : ColumnType) (line : ℕ) (d whole : Declarations) (any_name : Bool)
     (next_column : ℕ) (ms : List Mark)
-    → (some ≡ false → 0 < length ms) → DeclareNames f column d ms whole
-    → list_names f column line d some next_column ms None ≡ Ok whole
+    → (any_name ≡ false → 0 < length ms) → DeclareNames f column d ms whole
+    → list_names f column line d any_name next_column ms None ≡ Ok whole
 unfolding list_names
 names_back f column line d whole true next_column [] has e = cc
 names_back f column line d whole false next_column [] has e = absurd (omega (arith, has refl))
-names_back f column line d whole some next_column (m ∷ ms) has (new, rest) =
-    rw (name_declared f column d some m new)
+names_back f column line d whole any_name next_column (m ∷ ms) has (new, rest) =
+    rw (name_declared f column d any_name m new)
     (names_back f column line (add_name d m.word column) whole true (m.column + m.length) ms
     (λ none. cc) rest)
 
-names_stopped : (f : Format) (column : ColumnType) (line : ℕ) (d whole : Declarations) (some : Bool)
+names_stopped : (f : Format) (column : ColumnType) (line : ℕ) (d whole : Declarations) (any_name : Bool)
     (next_column : ℕ) (ms : List Mark) (stop : LexError)
-    → list_names f column line d some next_column ms (Some stop) ≡ Ok whole → ⊥
+    → list_names f column line d any_name next_column ms (Some stop) ≡ Ok whole → ⊥
 unfolding list_names
-names_stopped f column line d whole some next_column [] stop e = cc
-names_stopped f column line d whole some next_column (m ∷ ms) stop e =
-    let two = and_then-ok (at line m.column m.length (name_step f column d some m.kind m.word)) _ whole e in
+names_stopped f column line d whole any_name next_column [] stop e = cc
+names_stopped f column line d whole any_name next_column (m ∷ ms) stop e =
+    let two = and_then-ok (at line m.column m.length (name_step f column d any_name m.kind m.word)) _ whole e in
     names_stopped f column line two.x whole true (m.column + m.length) ms stop two.second
 
 -- the first token of a dependency line, with room for the line
@@ -140,7 +140,7 @@ has_tokens l ms marks stop i = record { marks = marks i; stop = stop i }
 -- a line is read exactly where it means what is declared after it
 pub line_there : (f : Format) (number : ℕ) (d : Declarations) (line : List ℕ) (whole : Declarations) → read_line f number d line ≡ Ok whole → MeansTextLine f number d line whole
 unfolding read_line
-line_there f number d line whole e = told (lex mode.plain line).marks (lex mode.plain line).stop refl refl e
+line_there f number d line whole e = by_cases (lex mode.plain line).marks (lex mode.plain line).stop refl refl e
   where
     l : Lexed
     l = lex mode.plain line
@@ -156,7 +156,7 @@ line_there f number d line whole e = told (lex mode.plain line).marks (lex mode.
           tokens = has_tokens l
               (m ∷ ms) marks stop;
           declaring = is;
-          some = both.0 refl;
+          not_empty = both.0 refl;
           names = both.1;
         }
     declaring m ms column (Some s) marks stop is e =
@@ -182,10 +182,10 @@ line_there f number d line whole e = told (lex mode.plain line).marks (lex mode.
     from m ms stop (Some column) marks same is e = inl (inr (declaring m ms column stop marks same is e))
     from m ms stop None marks same is e = inr (stating m ms stop marks same is (dependency_there f number d whole m ms stop e))
 
-    told : (ms : List Mark) (stop : Option LexError) → l.marks ≡ ms → l.stop ≡ stop → line_of_marks f number d ms stop ≡ Ok whole → MeansTextLine f number d line whole
-    told [] None marks stop e = inl (inl (record { tokens = has_tokens l [] marks stop; same = cc }))
-    told [] (Some s) marks stop e = cc
-    told (m ∷ ms) stop marks same e = from m ms stop (column_type_of_token f m.kind m.word) marks same refl e
+    by_cases : (ms : List Mark) (stop : Option LexError) → l.marks ≡ ms → l.stop ≡ stop → line_of_marks f number d ms stop ≡ Ok whole → MeansTextLine f number d line whole
+    by_cases [] None marks stop e = inl (inl (record { tokens = has_tokens l [] marks stop; same = cc }))
+    by_cases [] (Some s) marks stop e = cc
+    by_cases (m ∷ ms) stop marks same e = from m ms stop (column_type_of_token f m.kind m.word) marks same refl e
 
 pub line_back : (f : Format) (number : ℕ) (d : Declarations) (line : List ℕ) (whole : Declarations) → MeansTextLine f number d line whole → read_line f number d line ≡ Ok whole
 unfolding read_line
@@ -193,7 +193,7 @@ line_back f number d line whole (inl (inl blank)) = rw (blank.tokens, blank.same
 line_back f number d line whole (inl (inr is)) =
     rw (is.tokens, is.declaring)
     (names_back f is.column number d whole false (is.head.column + is.head.length) is.words
-    (λ none. is.some) is.names)
+    (λ none. is.not_empty) is.names)
 line_back f number d line whole (inr is) =
     rw (is.tokens, is.stating, is.adds)
     (dependency_back f number d is.head is.others is.dep ((dependency-law f d.names number 1 (is.head ∷ is.others) is.dep).1 is.dependency) is.room)
@@ -203,7 +203,7 @@ pub lines_there : (f : Format) (number : ℕ) (d whole : Declarations) (lines : 
 unfolding read_lines finish
 lines_there f number d whole [] e = elim (cases_Bool (length d.names == 0)) [
   | inl none ↦ let wrong = rw none at e in cc
-  | inr some ↦ let read = rw some at e in
+  | inr any_name ↦ let read = rw any_name at e in
       let same : whole ≡ d = cc in (same, rw same (grind (arith, nat_tests)))
 ]
 lines_there f number d whole (line ∷ lines) e =
@@ -228,7 +228,7 @@ before_read f first d (line ∷ before) rest middle (next, here, means) =
 pub lines_back : (f : Format) (number : ℕ) (d whole : Declarations) (lines : List (List ℕ)) → MeansLines f number d lines whole → 0 < length whole.names
     → read_lines f number d lines ≡ Ok whole
 unfolding read_lines finish
-lines_back f number d whole lines means some =
+lines_back f number d whole lines means any_name =
     let is : (length whole.names == 0) ≡ false = grind (arith, nat_tests) in
     ap (read_lines f number d) (sym (append-nil lines)) ∙ before_read f number d lines [] whole means
     ∙ rw is refl

@@ -154,7 +154,7 @@ pub judge : {whole : List Mark} {stop : Option LexError} {At : ℕ → Shape →
     (follow f declared line r from ms stop)
 unfolding follow
 judge {whole} {stop} {At} {Stuck} {Wanted} judges f declared line first [] k from r left reached before =
-    told stop refl
+    by_cases stop refl
   where
     all : k ≡ length whole
     all = let size = left.size in omega arith
@@ -191,25 +191,25 @@ judge {whole} {stop} {At} {Stuck} {Wanted} judges f declared line first [] k fro
         (λ n diagnostic. ⊎_elim (λ six. omega (arith, ap number_of six.0)) (λ flaw. let wrong = flaw.1 in cc)
         (ended n diagnostic))
 
-    told : (o : Option LexError) → stop ≡ o
+    by_cases : (o : Option LexError) → stop ≡ o
         → Judged (LineDiagnostic Stuck f declared whole stop) Wanted (span_at line first whole stop)
         (follow f declared line r from [] o)
-    told None is = ending is (finish_dependency r) (end_fits r)
-    told (Some s) is =
+    by_cases None is = ending is (finish_dependency r) (end_fits r)
+    by_cases (Some s) is =
         first_at _ Wanted _ (refused_by line s) k before (inr (s, is, all, flaw_kind s.flaw))
         (flaw_carries (Wanted k) s.flaw)
         (sym (there ∙ ap (λ o. span_at line from [] o 0) is))
         (λ n diagnostic. ⊎_elim (λ six. absurd (judges.flawed k s all is six.1))
         (λ flaw. flaw_least s flaw.0 n (sym is ∙ flaw.1) flaw.2) (ended n diagnostic))
 judge {whole} {stop} {At} {Stuck} {Wanted} judges f declared line first (m ∷ ms) k from r left reached before =
-    told (step f declared r m.kind m.word) (step_fits f declared r m)
+    by_cases (step f declared r m.kind m.word) (step_fits f declared r m)
     (λ next there none. judge judges f declared line first ms (suc k) (m.column + m.length) next
     (left_next line first whole stop k from m ms left) there none)
   where
     is : slice_get whole k ≡ Some m
     is = left.marks 0 k (omega arith)
 
-    told : (o : Result Reached SchemaRefusalKind) → StepFits f declared r m o
+    by_cases : (o : Result Reached SchemaRefusalKind) → StepFits f declared r m o
         → ((next : Reached) → At (suc k) (shape_of next)
         → ((p : ℕ) (n : DiagnosticKind) → p < suc k → LineDiagnostic Stuck f declared whole stop p n → ⊥)
         → Judged (LineDiagnostic Stuck f declared whole stop) Wanted (span_at line first whole stop)
@@ -217,7 +217,7 @@ judge {whole} {stop} {At} {Stuck} {Wanted} judges f declared line first (m ∷ m
         → Judged (LineDiagnostic Stuck f declared whole stop) Wanted (span_at line first whole stop)
         (at line m.column m.length o
         >>= (λ next. follow f declared line next (m.column + m.length) ms stop))
-    told (Ok next) fit rest =
+    by_cases (Ok next) fit rest =
         let on = judges.goes_on k (shape_of r) (shape_of next) m is reached fit.0 in
         rest next on.1 (λ p n less diagnostic. elim (cases_order p k) [
           | inl here ↦ ⊎_elim (fit.1 n) (λ six. on.0 six.1)
@@ -226,7 +226,7 @@ judge {whole} {stop} {At} {Stuck} {Wanted} judges f declared line first (m ∷ m
           | inr (inl earlier) ↦ before p n earlier diagnostic
           | inr (inr later) ↦ absurd (omega arith)
         ])
-    told (Err why) fit rest = first_at _ Wanted _ (refusal line m.column m.length why) k before
+    by_cases (Err why) fit rest = first_at _ Wanted _ (refusal line m.column m.length why) k before
         (token_diagnoses judges f declared k r m why is reached fit)
         (Carries-map (λ w. w ≡ wanted_by (shape_of r)) (Wanted k)
         (λ w same. subst (Wanted k) (sym same) (judges.wants k (shape_of r) reached)) why fit.3)

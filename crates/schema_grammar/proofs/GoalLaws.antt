@@ -91,21 +91,21 @@ reads_word : (f : Format) (declared : List (List ℕ)) (line : ℕ) (r : Reached
     → ReadsWord f declared line r m ms d
 unfolding follow step look_up
 reads_word f declared line r from m ms d is_word e =
-    told (is_reserved_token f m.kind m.word) (attribute_named declared m.word) refl refl
+    by_cases (is_reserved_token f m.kind m.word) (attribute_named declared m.word) refl refl
     (ap (λ o. at line m.column m.length (o >>= (λ s. expect (advance r s)))
     >>= (λ next. follow f declared line next (m.column + m.length) ms None))
     (sym (symbol_of-word f declared m.kind m.word is_word)) ∙ e)
   where
-    told : (b : Bool) (o : Option ℕ) → is_reserved_token f m.kind m.word ≡ b → attribute_named declared m.word ≡ o
+    by_cases : (b : Bool) (o : Option ℕ) → is_reserved_token f m.kind m.word ≡ b → attribute_named declared m.word ≡ o
         → (at line m.column m.length
         (cond b (Err kind.ReservedName) (known_attribute o) >>= (λ a. Ok (symbol.Attribute a))
         >>= (λ s. expect (advance r s)))
         >>= (λ next. follow f declared line next (m.column + m.length) ms None)) ≡ Ok d
         → ReadsWord f declared line r m ms d
-    told true o free lookup e = cc
-    told false None free lookup e = cc
-    told false (Some a) free lookup e =
-        record { is = record { word = is_word; free = free; index = a; known = lookup }; goes_on = e }
+    by_cases true o not_reserved lookup e = cc
+    by_cases false None not_reserved lookup e = cc
+    by_cases false (Some a) not_reserved lookup e =
+        record { is = record { word = is_word; not_reserved = not_reserved; index = a; known = lookup }; goes_on = e }
 
 end_makes : (f : Format) (declared : List (List ℕ)) (line column : ℕ) (r : Reached) (d : Dependency) → at line column 0 (expect (finish_dependency r)) ≡ Ok d → Rest f declared r [] d
 unfolding finish_dependency
@@ -166,7 +166,7 @@ word_makes f declared line from start m ms d is_word rest e =
       sign = more.sign;
       whole = ap (λ t. m ∷ t) more.whole;
       left_side = inr (record {
-        some = omega arith;
+        not_empty = omega arith;
         each = All-cons (IsAttribute f declared) _ _ reads.is more.each;
         members = refl;
       });
@@ -203,7 +203,7 @@ word_makes f declared line from (after_sign s x) m ms d is_word rest e =
     record {
       y = attributes_of_words declared (m ∷ ms);
       right_side = inr (record {
-        some = omega arith;
+        not_empty = omega arith;
         each = All-cons (IsAttribute f declared) _ _ reads.is more.each;
         members = refl;
       });
@@ -276,7 +276,7 @@ word_read : (f : Format) (declared : List (List ℕ)) (line : ℕ) (r : Reached)
     ≡ (at line m.column m.length (expect (advance r (symbol.Attribute attribute.index))) >>= (λ next. follow f declared line next (m.column + m.length) ms stop))
 unfolding follow step look_up
 word_read f declared line r from m ms stop attribute =
-    rw (symbol_of-word f declared m.kind m.word attribute.word, attribute.free, attribute.known) refl
+    rw (symbol_of-word f declared m.kind m.word attribute.word, attribute.not_reserved, attribute.known) refl
 
 right_read : (f : Format) (declared : List (List ℕ)) (line : ℕ) (s : Sign) (x y : Attributes) (from : ℕ) (ms : List Mark) → All (IsAttribute f declared) ms
     → follow f declared line (right s x y) from ms None ≡ Ok (dependency_of_sign s x (union y (attributes_of_words declared ms)))
@@ -293,7 +293,7 @@ pub side_read : (f : Format) (declared : List (List ℕ)) (line : ℕ) (s : Sign
     → follow f declared line (after_sign s x) from ms None ≡ Ok (dependency_of_sign s x y)
 unfolding follow step finish_dependency advance
 side_read f declared line s x y from ms (inl empty) = rw (empty.alone, empty.is_empty, empty.nothing) refl
-side_read f declared line s x y from [] (inr words) = let some : 0 < 0 = words.some in absurd (omega arith)
+side_read f declared line s x y from [] (inr words) = let not_empty : 0 < 0 = words.not_empty in absurd (omega arith)
 side_read f declared line s x y from (m ∷ ms) (inr words) =
     let here : IsAttribute f declared m = All-head (IsAttribute f declared) m ms words.each in
     let there : All (IsAttribute f declared) ms = All-tail (IsAttribute f declared) m ms words.each in
@@ -334,7 +334,7 @@ sides_read f declared line s x y from lhs arrow rhs (inl empty) is_arrow side =
     rw (empty.alone, empty.is_empty, empty.nothing)
     (arrow_read f declared line left_empty s none (empty.mark.column + empty.mark.length) arrow rhs refl is_arrow
     ∙ side_read f declared line s none y (arrow.column + arrow.length) rhs side)
-sides_read f declared line s x y from [] arrow rhs (inr words) is_arrow side = let some : 0 < 0 = words.some in absurd (omega arith)
+sides_read f declared line s x y from [] arrow rhs (inr words) is_arrow side = let not_empty : 0 < 0 = words.not_empty in absurd (omega arith)
 sides_read f declared line s x y from (m ∷ ms) arrow rhs (inr words) is_arrow side =
     let here : IsAttribute f declared m = All-head (IsAttribute f declared) m ms words.each in
     let there : All (IsAttribute f declared) ms = All-tail (IsAttribute f declared) m ms words.each in
@@ -362,11 +362,11 @@ follow_has_no_stop f declared line r from (m ∷ ms) stop d e =
 -- only a line with a line's end is read
 pub no_stop : (f : Format) (declared : List (List ℕ)) (line : ℕ) (r : Reached) (from : ℕ) (l : Lexed) (d : Dependency)
     → follow_rest f declared r (rest_from line from l) ≡ Ok d → HasTokens l l.marks
-no_stop f declared line r from l d e = told l.stop refl
+no_stop f declared line r from l d e = by_cases l.stop refl
   where
-    told : (o : Option LexError) → l.stop ≡ o → HasTokens l l.marks
-    told None same = λ i. record { marks = l.marks; stop = same i }
-    told (Some stop) same =
+    by_cases : (o : Option LexError) → l.stop ≡ o → HasTokens l l.marks
+    by_cases None same = λ i. record { marks = l.marks; stop = same i }
+    by_cases (Some stop) same =
         absurd (follow_has_no_stop f declared line r from l.marks stop d
         (ap (follow f declared line r from l.marks) (sym same) ∙ e))
 

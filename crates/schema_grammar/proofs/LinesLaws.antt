@@ -40,17 +40,17 @@ DiagnosticParts f first d line lines l p n =
 diagnostic_parts : (f : Format) (first : ℕ) (d : Declarations) (line : List ℕ) (lines : List (List ℕ)) (l p : ℕ) (n : DiagnosticKind)
     → LinesDiagnostic f first d (line ∷ lines) l p n → DiagnosticParts f first d line lines l p n
 diagnostic_parts f first d line lines l p n diagnostic =
-    told diagnostic.before diagnostic.cut diagnostic.means diagnostic.stands_on
+    by_cases diagnostic.before diagnostic.cut diagnostic.means diagnostic.stands_on
   where
-    told : (before : List (List ℕ)) → line ∷ lines ≡ before ++ diagnostic.line ∷ diagnostic.after
+    by_cases : (before : List (List ℕ)) → line ∷ lines ≡ before ++ diagnostic.line ∷ diagnostic.after
         → MeansLines f first d before diagnostic.declared → l ≡ first + length before
         → DiagnosticParts f first d line lines l p n
-    told [] cut means stands_on =
+    by_cases [] cut means stands_on =
         let same = cons_parts line diagnostic.line lines diagnostic.after cut in
         let of : List ℕ → Type 0 = λ t. TextLineDiagnostic f diagnostic.declared (lex mode.plain t).marks (lex mode.plain t).stop p n in
         let of_d : Declarations → Type 0 = λ t. TextLineDiagnostic f t (lex mode.plain line).marks (lex mode.plain line).stop p n in
         inl ((omega arith), subst of_d means (subst of (sym same.0) diagnostic.diagnostic))
-    told (one ∷ before) cut (middle, here, rest) stands_on =
+    by_cases (one ∷ before) cut (middle, here, rest) stands_on =
         let same = cons_parts line one lines (before ++ diagnostic.line ∷ diagnostic.after) cut in
         let of : List ℕ → Type 0 = λ t. MeansTextLine f first d t middle in
         let of_d : Declarations → Type 0 = λ t. MeansLines f (first + 1) t before diagnostic.declared in
@@ -140,14 +140,14 @@ lines-law f first d [] = elim (cases_Bool (length d.names == 0)) [
         let last : first - 1 ≡ first + 0 - 1 = omega arith in
         ap (λ k. refusal k 1 0 kind.NoAttributes) last;
   }))
-  | inr some ↦ rw some (λ l p n diagnostic.
+  | inr not_empty ↦ rw not_empty (λ l p n diagnostic.
       let size = ap length diagnostic.cut ∙ length-append diagnostic.before
       (diagnostic.line ∷ diagnostic.after) in absurd (omega (arith, size)))
 ]
-lines-law f first d (line ∷ lines) = told (λ next. lines-law f (first + 1) next lines) (read_line f first d line) refl (line-law f first d line)
+lines-law f first d (line ∷ lines) = by_cases (λ next. lines-law f (first + 1) next lines) (read_line f first d line) refl (line-law f first d line)
   where
-    told : ((next : Declarations) → FitsLines f (first + 1) next lines (read_lines f (first + 1) next lines)) → (o : Result Declarations SchemaRefusal) → read_line f first d line ≡ o → FitsTextLine f d first (lex mode.plain line).marks (lex mode.plain line).stop o
+    by_cases : ((next : Declarations) → FitsLines f (first + 1) next lines (read_lines f (first + 1) next lines)) → (o : Result Declarations SchemaRefusal) → read_line f first d line ≡ o → FitsTextLine f d first (lex mode.plain line).marks (lex mode.plain line).stop o
         → FitsLines f first d (line ∷ lines) (o >>= (λ next. read_lines f (first + 1) next lines))
-    told rest (Ok next) read fits =
+    by_cases rest (Ok next) read fits =
         lines_after f first d next line lines (read_lines f (first + 1) next lines) read fits (rest next)
-    told rest (Err e) read fits = inl (line_here f first d line lines e fits)
+    by_cases rest (Err e) read fits = inl (line_here f first d line lines e fits)

@@ -40,41 +40,41 @@ WordDiagnostic f names count m number =
 -- what a token after a declaring word gives
 abbrev NameFits : Format → ColumnType → Declarations → List (List ℕ) → ℕ → Bool → Mark
     → Result Declarations SchemaRefusalKind → Type 0
-NameFits f column d names count some m (Ok next) =
+NameFits f column d names count any_name m (Ok next) =
     (next ≡ add_name d m.word column) × (is_word_token m.kind ≡ true) ×
     ((n : DiagnosticKind) → WordDiagnostic f names count m n → ⊥)
-NameFits f column d names count some m (Err why) =
+NameFits f column d names count any_name m (Err why) =
     WordDiagnostic f names count m (diagnostic_kind why) ×
     ((n : DiagnosticKind) → WordDiagnostic f names count m n → number_of (diagnostic_kind why) ≤ number_of n)
-    × Carries (λ w. w ≡ what_after_declaring some) why
+    × Carries (λ w. w ≡ what_after_declaring any_name) why
 
-name_fits : (f : Format) (column : ColumnType) (d : Declarations) (some : Bool) (m : Mark)
-    → NameFits f column d d.names (length d.names) some m (name_step f column d some m.kind m.word)
+name_fits : (f : Format) (column : ColumnType) (d : Declarations) (any_name : Bool) (m : Mark)
+    → NameFits f column d d.names (length d.names) any_name m (name_step f column d any_name m.kind m.word)
 unfolding declare
-name_fits f column d some m = told (is_word_token m.kind) refl
+name_fits f column d any_name m = by_cases (is_word_token m.kind) refl
   where
     word : is_word_token m.kind ≡ true → (a b c : Bool) → is_reserved_token f m.kind m.word ≡ a
         → is_some (attribute_named d.names m.word) ≡ b → nat_le MOST_ATTRIBUTES (length d.names) ≡ c
-        → NameFits f column d d.names (length d.names) some m
+        → NameFits f column d d.names (length d.names) any_name m
         (cond a (Err kind.ReservedName)
         (cond b (Err kind.DoubleName) (cond c (Err kind.TooManyAttributes) (Ok (add_name d m.word column)))))
     word is true b c reserved double full =
         (inl (is, inl (inl (refl, reserved))), (λ n diagnostic. grind (arith, same_number)), tt)
-    word is false true c free double full =
+    word is false true c not_reserved double full =
         (inl (is, inl (inr (refl, double))), (λ n diagnostic. grind (arith, same_number)), tt)
-    word is false false true free new full =
+    word is false false true not_reserved new full =
         (inl (is, inr (refl, leb-true _ _ full)), (λ n diagnostic. grind (arith, same_number)), tt)
-    word is false false false free new full =
+    word is false false false not_reserved new full =
         (refl, is, λ n diagnostic. let room = leb-false _ _ full in grind arith)
 
-    told : (b : Bool) → is_word_token m.kind ≡ b
-        → NameFits f column d d.names (length d.names) some m (name_step f column d some m.kind m.word)
-    told true is =
-        rw (name_step-word f column d some m.kind m.word is)
+    by_cases : (b : Bool) → is_word_token m.kind ≡ b
+        → NameFits f column d d.names (length d.names) any_name m (name_step f column d any_name m.kind m.word)
+    by_cases true is =
+        rw (name_step-word f column d any_name m.kind m.word is)
         (word is (is_reserved_token f m.kind m.word) (is_some (attribute_named d.names m.word))
         (nat_le MOST_ATTRIBUTES (length d.names)) refl refl refl)
-    told false is =
-        rw (name_step-other f column d some m.kind m.word is)
+    by_cases false is =
+        rw (name_step-other f column d any_name m.kind m.word is)
         (inr (refl, is), (λ n diagnostic. grind (arith, same_number)), refl)
 
 abbrev words_in : List Mark → List (List ℕ)
@@ -83,15 +83,15 @@ words_in ms = map (λ w. w.word) ms
 -- names are read where nothing is wrong, or refused by the first diagnostic, after so many of the words
 judge_names : (f : Format) (column : ColumnType) (d : Declarations) (line first : ℕ) (whole : List Mark)
     (stop : Option LexError)
-    (words : List Mark) (k from : ℕ) (some : Bool) (now : Declarations)
+    (words : List Mark) (k from : ℕ) (any_name : Bool) (now : Declarations)
     → IsLeft line first whole stop k from words → now.names ≡ d.names ++ words_in (take k whole)
-    → All (λ w. is_word_token w.kind ≡ true) (take k whole) → NamesWant k (what_after_declaring some)
+    → All (λ w. is_word_token w.kind ≡ true) (take k whole) → NamesWant k (what_after_declaring any_name)
     → ((p : ℕ) (n : DiagnosticKind) → p < k → NamesDiagnostic f d whole stop p n → ⊥)
     → Judged (NamesDiagnostic f d whole stop) NamesWant (span_at line first whole stop)
-    (list_names f column line now some from words stop)
+    (list_names f column line now any_name from words stop)
 unfolding list_names
-judge_names f column d line first whole stop [] k from some now left names each want before =
-    told some stop refl want
+judge_names f column d line first whole stop [] k from any_name now left names each want before =
+    by_cases any_name stop refl want
   where
     all : k ≡ length whole
     all = let size = left.size in omega arith
@@ -106,22 +106,22 @@ judge_names f column d line first whole stop [] k from some now left names each 
     ended p n on (inl (inr (six, position, nothing, none))) = inl (six, position)
     ended p n on (inr (s, is, position, number)) = inr (s, is, number)
 
-    told : (some : Bool) (o : Option LexError) → stop ≡ o → NamesWant k (what_after_declaring some)
+    by_cases : (any_name : Bool) (o : Option LexError) → stop ≡ o → NamesWant k (what_after_declaring any_name)
         → Judged (NamesDiagnostic f d whole stop) NamesWant (span_at line first whole stop)
-        (list_names f column line now some from [] o)
-    told true None is want = λ p n diagnostic. ⊎_elim (λ (earlier : p < k). before p n earlier diagnostic)
+        (list_names f column line now any_name from [] o)
+    by_cases true None is want = λ p n diagnostic. ⊎_elim (λ (earlier : p < k). before p n earlier diagnostic)
         (λ (later : k ≤ p).
         ⊎_elim (λ none. ⊎_elim (λ here. let wrong = here.1 in cc) (λ on. omega (arith, on.0, none.1)) want)
         (λ flaw. let wrong = flaw.1 in cc) (ended p n later diagnostic))
         (cases_lt p k)
-    told false None is want =
+    by_cases false None is want =
         let here : k ≡ 0 = ⊎_elim (λ here. here.0) (λ on. let wrong = on.1 in cc) want in
         first_at _ NamesWant _ (refusal line from 0 (kind.Expected what.Name)) k before
         (inl (inr (refl, here, nil_from_length whole (sym all ∙ here), is))) want
         (sym (there ∙ ap (λ o. span_at line from [] o 0) is))
         (λ n diagnostic. ⊎_elim (λ none. omega (arith, ap number_of none.0)) (λ flaw. let wrong = flaw.1 in cc)
         (ended k n (omega arith) diagnostic))
-    told some (Some s) is want =
+    by_cases any_name (Some s) is want =
         first_at _ NamesWant _ (refused_by line s) k before (inr (s, is, all, flaw_kind s.flaw))
         (flaw_carries (NamesWant k) s.flaw)
         (sym (there ∙ ap (λ o. span_at line from [] o 0) is)) least
@@ -131,10 +131,10 @@ judge_names f column d line first whole stop [] k from some now left names each 
             absurd (omega (arith, all, slice_get_within whole k m here))
         least n (inl (inr (six, position, nothing, none))) = cc
         least n (inr (t, here, position, number)) = flaw_least s t n (sym is ∙ here) number
-judge_names f column d line first whole stop (w ∷ words) k from some now left names each want before =
-    let read = name_step f column now some w.kind w.word in
-    let counted = subst (λ (c : ℕ). NameFits f column now now.names c some w read) count (name_fits f column now some w) in
-    told read (subst (λ (t : List (List ℕ)). NameFits f column now t (length d.names + k) some w read) names counted)
+judge_names f column d line first whole stop (w ∷ words) k from any_name now left names each want before =
+    let read = name_step f column now any_name w.kind w.word in
+    let counted = subst (λ (c : ℕ). NameFits f column now now.names c any_name w read) count (name_fits f column now any_name w) in
+    by_cases read (subst (λ (t : List (List ℕ)). NameFits f column now t (length d.names + k) any_name w read) names counted)
     (λ next on each_word none. judge_names f column d line first whole stop words (suc k)
     (w.column + w.length) true next (left_next line first whole stop k from w words left) on each_word
     (inr (omega arith, refl)) none)
@@ -160,8 +160,8 @@ judge_names f column d line first whole stop (w ∷ words) k from some now left 
     at_word n (inl (inr (six, position, nothing, none))) = absurd (omega (arith, less, ap length nothing))
     at_word n (inr (s, here, position, number)) = absurd (omega (arith, less))
 
-    told : (o : Result Declarations SchemaRefusalKind)
-        → NameFits f column now (d.names ++ words_in (take k whole)) (length d.names + k) some w o
+    by_cases : (o : Result Declarations SchemaRefusalKind)
+        → NameFits f column now (d.names ++ words_in (take k whole)) (length d.names + k) any_name w o
         → ((next : Declarations) → next.names ≡ d.names ++ words_in (take (suc k) whole)
         → All (λ x. is_word_token x.kind ≡ true) (take (suc k) whole)
         → ((p : ℕ) (n : DiagnosticKind) → p < suc k → NamesDiagnostic f d whole stop p n → ⊥)
@@ -170,7 +170,7 @@ judge_names f column d line first whole stop (w ∷ words) k from some now left 
         → Judged (NamesDiagnostic f d whole stop) NamesWant (span_at line first whole stop)
         (at line w.column w.length o
         >>= (λ next. list_names f column line next true (w.column + w.length) words stop))
-    told (Ok next) (same, word, none) rest = rest next
+    by_cases (Ok next) (same, word, none) rest = rest next
         (ap (λ x. x.names) same ∙ ap (λ t. t ++ w.word ∷ []) names ∙ append_assoc d.names
         (words_in (take k whole)) (w.word ∷ [])
         ∙ ap (λ t. d.names ++ t)
@@ -182,10 +182,10 @@ judge_names f column d line first whole stop (w ∷ words) k from some now left 
           | inr (inl earlier) ↦ before p n earlier diagnostic
           | inr (inr later) ↦ absurd (omega arith)
         ])
-    told (Err why) (stands, least, carries) rest =
+    by_cases (Err why) (stands, least, carries) rest =
         first_at _ NamesWant _ (refusal line w.column w.length why) k before
         (inl (inl (w, is, each, stands)))
-        (Carries-map (λ x. x ≡ what_after_declaring some) (NamesWant k)
+        (Carries-map (λ x. x ≡ what_after_declaring any_name) (NamesWant k)
         (λ x same. subst (NamesWant k) (sym same) want) why carries)
         (sym (left.spans 0 k (omega arith))) (λ n diagnostic. least n (at_word n diagnostic))
 

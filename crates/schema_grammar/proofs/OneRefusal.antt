@@ -70,29 +70,29 @@ wanted_after (Some s) = Some (wanted_by s)
 wanted_at : (ks : List TokenKind) (w : What) → Wants ks w → wanted_after (runs at_start ks) ≡ Some w
 wanted_at ks what.Side begins =
     let leads = begins_to (ks ++ token.Empty ∷ []) begins in
-    told leads.shape (runs at_start ks) (sym (runs-append at_start ks (token.Empty ∷ [])) ∙ leads.leads)
+    by_cases leads.shape (runs at_start ks) (sym (runs-append at_start ks (token.Empty ∷ [])) ∙ leads.leads)
   where
-    told : (last : Shape) (o : Option Shape) → bind o (λ t. runs t (token.Empty ∷ [])) ≡ Some last
+    by_cases : (last : Shape) (o : Option Shape) → bind o (λ t. runs t (token.Empty ∷ [])) ≡ Some last
         → wanted_after o ≡ Some what.Side
-    told last (Some at_start) e = refl
-    told last (Some past_arrow) e = refl
-    told last o e = cc
+    by_cases last (Some at_start) e = refl
+    by_cases last (Some past_arrow) e = refl
+    by_cases last o e = cc
 wanted_at ks what.Arrow begins =
     let leads = begins_to (ks ++ token.Arrow ∷ []) begins in
-    told leads.shape (runs at_start ks) (sym (runs-append at_start ks (token.Arrow ∷ [])) ∙ leads.leads)
+    by_cases leads.shape (runs at_start ks) (sym (runs-append at_start ks (token.Arrow ∷ [])) ∙ leads.leads)
   where
-    told : (last : Shape) (o : Option Shape) → bind o (λ t. runs t (token.Arrow ∷ [])) ≡ Some last
+    by_cases : (last : Shape) (o : Option Shape) → bind o (λ t. runs t (token.Arrow ∷ [])) ≡ Some last
         → wanted_after o ≡ Some what.Arrow
-    told last (Some in_left) e = refl
-    told last (Some past_empty) e = refl
-    told last o e = cc
+    by_cases last (Some in_left) e = refl
+    by_cases last (Some past_empty) e = refl
+    by_cases last o e = cc
 wanted_at ks what.LineEnd line =
-    let ends = line_ends ks line in ap wanted_after ends.leads ∙ told ends.last ends.final
+    let ends = line_ends ks line in ap wanted_after ends.leads ∙ by_cases ends.last ends.final
   where
-    told : (s : Shape) → is_final s ≡ true → Some (wanted_by s) ≡ Some what.LineEnd
-    told in_right final = refl
-    told past_end final = refl
-    told s final = cc
+    by_cases : (s : Shape) → is_final s ≡ true → Some (wanted_by s) ≡ Some what.LineEnd
+    by_cases in_right final = refl
+    by_cases past_end final = refl
+    by_cases s final = cc
 wanted_at ks w h = absurd h
 
 pub one_want : (ks : List TokenKind) → OneWant (Wants ks)

@@ -75,18 +75,18 @@ sides_lexed s left right left_names right_names =
     sign_lexed sign.Multivalued = double_arrow_lexed mode.plain (side_end 1 left) (side_text right)
 
 reserved_word : (f : Format) (word key : List ℕ) → bytes_eq word key ≡ true → is_reserved f key ≡ true → is_reserved f word ≡ false → ⊥
-reserved_word f word key same reserved free =
+reserved_word f word key same reserved not_reserved =
     let wrong : true ≡ false = sym reserved ∙ ap (is_reserved f) (sym ((bytes_eq-Decides word key).0 same))
-    ∙ free in cc
+    ∙ not_reserved in cc
 
 -- a word that is not reserved declares nothing
-free_declares : (f : Format) (word : List ℕ) → is_reserved f word ≡ false → column_type_of_word f word ≡ None
+not_reserved_declares : (f : Format) (word : List ℕ) → is_reserved f word ≡ false → column_type_of_word f word ≡ None
 unfolding is_reserved column_type_of_word
-free_declares format.Plain word e = elim (cases_Bool (bytes_eq word (codes "attributes"))) [
+not_reserved_declares format.Plain word e = elim (cases_Bool (bytes_eq word (codes "attributes"))) [
   | inl is ↦ absurd (reserved_word format.Plain word (codes "attributes") is refl e)
   | inr other ↦ rw other refl
 ]
-free_declares format.Typed word e = elim (cases_Bool (bytes_eq word (codes "attributes"))) [
+not_reserved_declares format.Typed word e = elim (cases_Bool (bytes_eq word (codes "attributes"))) [
   | inl is ↦ absurd (reserved_word format.Typed word (codes "attributes") is refl e)
   | inr first ↦ elim (cases_Bool (bytes_eq word (codes "text"))) [
     | inl is ↦ absurd (reserved_word format.Typed word (codes "text") is refl e)
@@ -117,7 +117,7 @@ side_heads : (f : Format) (names : List (List ℕ)) (column : ℕ) (words : List
 unfolding column_type_of_token
 side_heads f names column [] known = record { head = _; others = _; whole = refl; stating = refl }
 side_heads f names column (word ∷ words) (here, rest) =
-    record { head = _; others = _; whole = refl; stating = free_declares f word here.1.free }
+    record { head = _; others = _; whole = refl; stating = not_reserved_declares f word here.1.not_reserved }
 
 printed_sides : (f : Format) (names : List (List ℕ)) (s : Sign) (x y : Attributes) → AreNames f names
     → IsSubset x (below (length names)) → IsSubset y (below (length names))

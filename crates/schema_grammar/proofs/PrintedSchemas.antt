@@ -65,18 +65,18 @@ with_names d words column = record { names = d.names ++ words; columns = d.colum
 declare_front : (f : Format) (column : ColumnType) (d : Declarations) (names words rest : List (List ℕ))
     (at position : ℕ) → AreNames f names → IsCutAt names d.names (words ++ rest) position
     → length names ≤ MOST_ATTRIBUTES → DeclareNames f column d (word_marks at words) (with_names d words column)
-declare_front f column d names [] rest at position are cut few =
+declare_front f column d names [] rest at position are cut within_limit =
     λ i. record { names = append-nil d.names i; columns = append-nil d.columns i; deps = d.deps; lines = d.lines }
-declare_front f column d names (word ∷ words) rest at position are cut few =
+declare_front f column d names (word ∷ words) rest at position are cut within_limit =
     let known = known_at f names d.names word (words ++ rest) position are cut in
     let size : length names ≡ length d.names + suc (length (words ++ rest)) = ap length cut.whole ∙ length-append d.names (word ∷ words ++ rest) in
     let more = declare_front f column (add_name d word column) names words rest (at + 1 + length word)
-    (position + 1) are (cut_more names d.names word (words ++ rest) position cut) few in
+    (position + 1) are (cut_more names d.names word (words ++ rest) position cut) within_limit in
     let same : with_names (add_name d word column) words column ≡ with_names d (word ∷ words) column =
     (λ i. record { names = append_assoc d.names (word ∷ []) words i; columns = append_assoc d.columns (column ∷ []) (map (λ w. column) words) i; deps = d.deps; lines = d.lines }) in
     let of : Declarations → Type 0 = λ w. DeclareNames f column (add_name d word column) (word_marks (at + 1 + length word) words) w in
     let new = none_found d.names word (differ_before f names d.names word (words ++ rest) are cut.whole) in
-    (record { word = refl; free = known.free; new = new; room = omega arith }, subst of same more)
+    (record { word = refl; not_reserved = known.not_reserved; new = new; room = omega arith }, subst of same more)
 
 -- a declaring line as it is printed
 declaring_mean : (f : Format) (column : ColumnType) (number : ℕ) (d : Declarations) (key : List ℕ)
@@ -84,20 +84,20 @@ declaring_mean : (f : Format) (column : ColumnType) (number : ℕ) (d : Declarat
     → IsCutAt names d.names (words ++ rest) position → length names ≤ MOST_ATTRIBUTES → 0 < length words
     → is_bare_name key ≡ true → column_type_of_token f token.Identifier key ≡ Some column
     → MeansTextLine f number d (key ++ words_text words) (with_names d words column)
-declaring_mean f column number d key names words rest position are cut few some proper is =
+declaring_mean f column number d key names words rest position are cut within_limit not_empty proper is =
     inl (inr (record {
       head = record { kind = token.Identifier; column = 1; length = length key; word = key };
       words = word_marks (1 + length key) words;
       column = column;
       tokens = word_line key words proper (front_proper f names d.names words rest position are cut);
       declaring = is;
-      some = (elim words as
+      not_empty = (elim words as
           (λ ws. 0 < length ws → 0 < length (word_marks (1 + length key) ws)) [
             | [] ↦ λ h. h
             | w ∷ ws ↦
                 λ h. omega arith
-          ]) some;
-      names = declare_front f column d names words rest (1 + length key) position are cut few;
+          ]) not_empty;
+      names = declare_front f column d names words rest (1 + length key) position are cut within_limit;
     }))
 
 -- text and integer columns
@@ -135,7 +135,7 @@ EachSome (r ∷ rs) = (0 < length r.names) × IsPlain r.column × EachSome rs
 record AreRuns (runs : List Run) (columns : List ColumnType) (names : List (List ℕ)) : Type 0 where
   names_are : run_names runs ≡ names
   columns_are : run_columns runs ≡ columns
-  some : EachSome runs
+  not_empty : EachSome runs
 
 front_runs : (c : ColumnType) (name : List ℕ) (runs : List Run) (columns : List ColumnType) (names : List (List ℕ))
     → IsPlain c → AreRuns runs columns names
@@ -144,30 +144,30 @@ front_runs c name [] columns names plain are =
     record {
       names_are = ap (λ t. name ∷ t) are.names_are;
       columns_are = ap (λ t. c ∷ t) are.columns_are;
-      some = (omega arith, plain, tt);
+      not_empty = (omega arith, plain, tt);
     }
-front_runs c name (r ∷ rs) columns names plain are = told (same_column c r.column) refl
+front_runs c name (r ∷ rs) columns names plain are = by_cases (same_column c r.column) refl
   where
-    told : (b : Bool) → same_column c r.column ≡ b
+    by_cases : (b : Bool) → same_column c r.column ≡ b
         → AreRuns (cond b (record { column = c; names = name ∷ r.names } ∷ rs)
         (record { column = c; names = name ∷ [] } ∷ r ∷ rs)) (c ∷ columns) (name ∷ names)
-    told true e = record {
+    by_cases true e = record {
       names_are = ap (λ t. name ∷ t) are.names_are;
       columns_are = ap (λ k. (c ∷ map (λ (w : List ℕ). k) r.names) ++ run_columns rs) (same_column-is c r.column e)
           ∙ ap (λ t. c ∷ t) are.columns_are;
-      some = (omega arith, plain, are.some.2);
+      not_empty = (omega arith, plain, are.not_empty.2);
     }
-    told false e =
+    by_cases false e =
         record {
           names_are = ap (λ t. name ∷ t) are.names_are;
           columns_are = ap
               (λ t. c ∷ t) are.columns_are;
-          some = (omega arith, plain, are.some);
+          not_empty = (omega arith, plain, are.not_empty);
         }
 
 are_runs : (columns : List ColumnType) (names : List (List ℕ)) → length columns ≡ length names → AllPlain columns
     → AreRuns (runs_of columns names) columns names
-are_runs [] [] e plain = record { names_are = refl; columns_are = refl; some = tt }
+are_runs [] [] e plain = record { names_are = refl; columns_are = refl; not_empty = tt }
 are_runs [] (name ∷ names) e plain = absurd (omega arith)
 are_runs (column ∷ columns) [] e plain = absurd (omega arith)
 are_runs (column ∷ columns) (name ∷ names) e plain =
@@ -199,13 +199,13 @@ runs_mean : (number : ℕ) (d : Declarations) (names : List (List ℕ)) (runs : 
     → IsCutAt names d.names (run_names runs) position → length names ≤ MOST_ATTRIBUTES → EachSome runs → MeansLines format.Typed (number + length runs) (with_runs d runs) lines whole
     → MeansLines format.Typed number d (map run_line runs ++ lines) whole
 unfolding column_type_of_token column_type_of_word
-runs_mean number d names [] lines whole position are cut few some rest =
+runs_mean number d names [] lines whole position are cut within_limit not_empty rest =
     let same : with_runs d [] ≡ d = (λ i. record { names = append-nil d.names i; columns = append-nil d.columns i; deps = d.deps; lines = d.lines }) in
     let back : number + 0 ≡ number = omega arith in
     let of : Declarations → Type 0 = λ e. MeansLines format.Typed number e lines whole in
     let of_n : ℕ → Type 0 = λ n. MeansLines format.Typed n (with_runs d []) lines whole in
     subst of same (subst of_n back rest)
-runs_mean number d names (r ∷ runs) lines whole position are cut few (here, plain, some) rest =
+runs_mean number d names (r ∷ runs) lines whole position are cut within_limit (here, plain, not_empty) rest =
     let next = with_names d r.names r.column in
     let same : with_runs d (r ∷ runs) ≡ with_runs next runs =
     (λ i. record { names = sym (append_assoc d.names r.names (run_names runs)) i; columns = sym (append_assoc d.columns (map (λ w. r.column) r.names) (run_columns runs)) i; deps = d.deps; lines = d.lines }) in
@@ -216,27 +216,27 @@ runs_mean number d names (r ∷ runs) lines whole position are cut few (here, pl
     let declares_it = plain_declares r.column plain in (
       next,
       declaring_mean format.Typed r.column number d (type_word r.column) names r.names
-          (run_names runs) position are cut few here proper declares_it,
+          (run_names runs) position are cut within_limit here proper declares_it,
       runs_mean (number + 1) next names runs lines whole (position + length r.names) are
           (record {
             whole = cut.whole ∙ sym (append_assoc d.names r.names (run_names runs));
             size = length-append d.names r.names ∙ ap (λ k. k + length r.names) cut.size;
           })
-          few some (subst of_n later (subst of same rest)),
+          within_limit not_empty (subst of_n later (subst of same rest)),
     )
 
 -- names of a text with an integer column
 typed_names : (columns : List ColumnType) (names : List (List ℕ)) (deps : List Dependency) → IsPrintable columns names deps → list_any is_integer columns ≡ true → AreNames format.Typed names
 unfolding is_reserved
-typed_names columns names deps is some = record {
+typed_names columns names deps is not_empty = record {
   each = is.are_names.each;
-  free = λ k d h. rw (is.are_names.free k d h, is.are_columns.no_type_name has k d h) refl;
+  not_reserved = λ k d h. rw (is.are_names.not_reserved k d h, is.are_columns.no_type_name has k d h) refl;
   differ = is.are_names.differ;
 }
   where
     has : Contains columns Integer
     has =
-        let any = Any-from_list_any is_integer columns some in
+        let any = Any-from_list_any is_integer columns not_empty in
         let is_one : any.1 ≡ Integer = integer_is any.1 any.4 in
         (any.0, any.2, ap (get_or columns any.0) (sym is_one) ∙ any.3 ∙ is_one)
 
@@ -265,13 +265,13 @@ split_names [] ys h = (tt, h)
 split_names (x ∷ xs) ys (here, rest) = let more = split_names xs ys rest in ((here, more.0), more.1)
 
 runs_bytes : (runs : List Run) → EachSome runs → AllNames (run_names runs) → EachBytes (map run_line runs)
-runs_bytes [] some names = tt
-runs_bytes (r ∷ rs) (here, plain, some) names =
+runs_bytes [] not_empty names = tt
+runs_bytes (r ∷ rs) (here, plain, not_empty) names =
     let parts = split_names r.names (run_names rs) names in
     let word = plain_bytes r.column plain in (
       bytes_both (type_word r.column) (words_text r.names) word
           (words_bytes r.names parts.0),
-      runs_bytes rs some parts.1,
+      runs_bytes rs not_empty parts.1,
     )
 
 -- a printed text is cut into its lines and an empty one
@@ -307,8 +307,8 @@ plain_means columns names deps is none =
     let after_names = with_names no_declaration names Text in
     let here = declaring_mean format.Plain Text 1 no_declaration
     (codes "attributes") names names [] 0 is.are_names
-    (record { whole = sym (append-nil names); size = refl }) is.few is.some refl refl in
-    let few = is.few_deps in
+    (record { whole = sym (append-nil names); size = refl }) is.within_limit is.not_empty refl refl in
+    let within_limit = is.deps_within_limit in
     let more = dependencies_mean format.Plain 2 after_names deps is.are_names is.within (omega arith) in
     let of_columns : List ColumnType → Type 0 =
     λ cs. MeansLines format.Plain 2 after_names rest (printed_declarations cs names deps 2) in
@@ -316,7 +316,7 @@ plain_means columns names deps is none =
     let of : List (List ℕ) → Type 0 = λ ls. IsPlainText ls (printed_declarations columns names deps 2) in (
       line_numbers 2 deps,
       record {
-        some = is.some;
+        not_empty = is.not_empty;
         lines = inl
             (subst of (sym cut) (record { no_version = no_version; declared = (after_names, here, means) }));
       },
@@ -324,30 +324,30 @@ plain_means columns names deps is none =
 
 typed_means : (columns : List ColumnType) (names : List (List ℕ)) (deps : List Dependency) → IsPrintable columns names deps → list_any is_integer columns ≡ true → Means columns names deps
 unfolding declaring_lines declared_text
-typed_means columns names deps is some =
-    let are = typed_names columns names deps is some in
+typed_means columns names deps is not_empty =
+    let are = typed_names columns names deps is not_empty in
     let runs = runs_of columns names in
-    let first : declaring_lines columns names ≡ codes "version 2" ∷ map run_line runs = rw some refl in
+    let first : declaring_lines columns names ≡ codes "version 2" ∷ map run_line runs = rw not_empty refl in
     let cut_up = are_runs columns names is.are_columns.one_each is.are_columns.plain in
     let back : run_names runs ≡ names = cut_up.names_are in
     let types : run_columns runs ≡ columns = cut_up.columns_are in
     let proper : AllNames (run_names runs) = subst AllNames (sym back) (all_names format.Typed names are) in
-    let each : EachBytes (declaring_lines columns names) = subst EachBytes (sym first) (refl, runs_bytes runs cut_up.some proper) in
-    let unmarked : without_mark (declared_text columns names deps) ≡ declared_text columns names deps = rw some refl in
+    let each : EachBytes (declaring_lines columns names) = subst EachBytes (sym first) (refl, runs_bytes runs cut_up.not_empty proper) in
+    let unmarked : without_mark (declared_text columns names deps) ≡ declared_text columns names deps = rw not_empty refl in
     let rest = map (dependency_text names) deps ++ [] ∷ [] in
     let cut : line_texts (without_mark (declared_text columns names deps)) ≡ codes "version 2" ∷ (map run_line runs ++ rest) =
     ap line_texts unmarked ∙ text_cut columns names deps each is.are_names ∙ ap (λ ls. ls ++ rest) first in
     let whole = printed_declarations columns names deps (2 + length runs) in
     let filled : with_runs no_declaration runs ≡ record { names = names; columns = columns; deps = []; lines = [] } = (λ i. record { names = back i; columns = types i; deps = []; lines = [] }) in
     let last = dependencies_mean format.Typed (2 + length runs)
-    (record { names = names; columns = columns; deps = []; lines = [] }) deps are is.within (omega (arith, is.few_deps)) in
+    (record { names = names; columns = columns; deps = []; lines = [] }) deps are is.within (omega (arith, is.deps_within_limit)) in
     let of_d : Declarations → Type 0 = λ d. MeansLines format.Typed (2 + length runs) d rest whole in
     let lines_mean = runs_mean 2 no_declaration names runs rest whole 0 are
-    (record { whole = sym back; size = refl }) is.few cut_up.some (subst of_d (sym filled) last) in
+    (record { whole = sym back; size = refl }) is.within_limit cut_up.not_empty (subst of_d (sym filled) last) in
     let of : List (List ℕ) → Type 0 = λ ls. IsTypedText ls whole in (
       line_numbers (2 + length runs) deps,
       record {
-        some = is.some;
+        not_empty = is.not_empty;
         lines = inr (subst of (sym cut) (record {
           before = [];
           version = codes "version 2";
@@ -363,17 +363,17 @@ typed_means columns names deps is some =
 -- what is printed of a schema, none of whose names is reserved, means it
 pub printed-schema-law : (s : Schema) → naming_of s ≡ Bare → length (deps_of s) ≤ MOST_DEPENDENCY_LINES → AreNames format.Plain (names_of s)
     → Means (types_of s) (names_of s) (theory_of s)
-printed-schema-law s bare few are = elim (cases_Bool (list_any is_integer (types_of s))) [
-  | inl some ↦ typed_means (types_of s) (names_of s) (theory_of s) printable some
+printed-schema-law s bare within_limit are = elim (cases_Bool (list_any is_integer (types_of s))) [
+  | inl not_empty ↦ typed_means (types_of s) (names_of s) (theory_of s) printable not_empty
   | inr none ↦ plain_means (types_of s) (names_of s) (theory_of s) printable none
 ]
   where
     printable : IsPrintable (types_of s) (names_of s) (theory_of s)
     printable = record {
-      some = s.valid.some_names;
-      few = s.valid.few_names;
+      not_empty = s.valid.names_not_empty;
+      within_limit = s.valid.names_within_limit;
       are_names = are;
       are_columns = (s.typed.bare bare).are_columns;
-      few_deps = let size = length-map (deps_of s) dependency_of in omega (arith, size, few);
+      deps_within_limit = let size = length-map (deps_of s) dependency_of in omega (arith, size, within_limit);
       within = dependencies_all-from (IsWithin (universe_of s)) (deps_of s) s.valid.deps_within;
     }

@@ -39,7 +39,7 @@ differ_before f names before word words are e k d h =
 -- what is known of the name in the middle
 pub record IsKnown (f : Format) (names : List (List ℕ)) (name : List ℕ) (position : ℕ) : Type 0 where
   pub proper : is_bare_name name ≡ true
-  pub free : is_reserved f name ≡ false
+  pub not_reserved : is_reserved f name ≡ false
   pub found : attribute_named names name ≡ Some position
 
 -- each word is a known name
@@ -69,8 +69,8 @@ known_at f names before name after position are cut =
     let here : get_or (before ++ name ∷ after) (length before) [] ≡ name = get_or_at before name after [] (length before) refl in
     record {
       proper = subst (λ (t : List ℕ). is_bare_name t ≡ true) here (whole.each (length before) [] (omega arith));
-      free = subst (λ (t : List ℕ). is_reserved f t ≡ false) here
-          (whole.free (length before) [] (omega arith));
+      not_reserved = subst (λ (t : List ℕ). is_reserved f t ≡ false) here
+          (whole.not_reserved (length before) [] (omega arith));
       found = ap (λ t. attribute_named t name) cut.whole ∙ attribute_named-append before name after
           (differ_before f names before name after are cut.whole) ∙ ap Some cut.size;
     }
@@ -78,11 +78,11 @@ known_at f names before name after position are cut =
 pub members_known : (f : Format) (x : Attributes) (names before after : List (List ℕ)) (position : ℕ) → AreNames f names → IsCutAt names before after position → EachKnown f names (members_from x position after)
 members_known f x names before [] position are cut = tt
 members_known f x names before (name ∷ after) position are cut =
-    told (x position) (members_known f x names (before ++ name ∷ []) after (position + 1) are (cut_more names before name after position cut))
+    by_cases (x position) (members_known f x names (before ++ name ∷ []) after (position + 1) are (cut_more names before name after position cut))
   where
-    told : (b : Bool) → EachKnown f names (members_from x (position + 1) after) → EachKnown f names (cond b (name ∷ members_from x (position + 1) after) (members_from x (position + 1) after))
-    told true rest = ((position, known_at f names before name after position are cut), rest)
-    told false rest = rest
+    by_cases : (b : Bool) → EachKnown f names (members_from x (position + 1) after) → EachKnown f names (cond b (name ∷ members_from x (position + 1) after) (members_from x (position + 1) after))
+    by_cases true rest = ((position, known_at f names before name after position are cut), rest)
+    by_cases false rest = rest
 
 -- whether i is one of n attributes from a position on
 abbrev within_window : ℕ → ℕ → ℕ → Bool
@@ -94,7 +94,7 @@ members_set : (f : Format) (x : Attributes) (names before after : List (List ℕ
 members_set f x names before [] position i are cut =
     let window : within_window position 0 i ≡ false = grind (arith, nat_tests) in rw window refl
 members_set f x names before (name ∷ after) position i are cut =
-    told (x position) (i == position) refl refl (members_set f x names (before ++ name ∷ []) after (position + 1) i are (cut_more names before name after position cut))
+    by_cases (x position) (i == position) refl refl (members_set f x names (before ++ name ∷ []) after (position + 1) i are (cut_more names before name after position cut))
   where
     found : attribute_named names name ≡ Some position
     found = (known_at f names before name after position are cut).found
@@ -103,30 +103,30 @@ members_set f x names before (name ∷ after) position i are cut =
         → within_window (position + 1) (length after) i ≡ within_window position (suc (length after)) i
     other is = grind (arith, nat_tests)
 
-    told : (b same : Bool) → x position ≡ b → (i == position) ≡ same → words_set names (members_from x (position + 1) after) i ≡ (within_window (position + 1) (length after) i && x i)
+    by_cases : (b same : Bool) → x position ≡ b → (i == position) ≡ same → words_set names (members_from x (position + 1) after) i ≡ (within_window (position + 1) (length after) i && x i)
         → words_set names (cond b (name ∷ members_from x (position + 1) after) (members_from x (position + 1) after)) i ≡ (within_window position (suc (length after)) i && x i)
-    told true true here is rest =
+    by_cases true true here is rest =
         let at : i ≡ position = eqb-true i position is in
         let value : x i ≡ true = ap x at ∙ here in
         let window : within_window position (suc (length after)) i ≡ true = grind (arith, nat_tests) in
         rw (found, is, window, value) refl
-    told true false here is rest = rw (found, is) (rest ∙ ap (λ w. w && x i) (other is))
-    told false true here is rest =
+    by_cases true false here is rest = rw (found, is) (rest ∙ ap (λ w. w && x i) (other is))
+    by_cases false true here is rest =
         let at : i ≡ position = eqb-true i position is in
         let value : x i ≡ false = ap x at ∙ here in
         let past : within_window (position + 1) (length after) i ≡ false = grind (arith, nat_tests) in
         rest ∙ (rw (past, value) (sym (and-false (within_window position (suc (length after)) i))))
-    told false false here is rest = rest ∙ ap (λ w. w && x i) (other is)
+    by_cases false false here is rest = rest ∙ ap (λ w. w && x i) (other is)
 
 members_are : (f : Format) (x : Attributes) (names : List (List ℕ)) → AreNames f names → IsSubset x (below (length names)) → x ≡ words_set names (members_from x 0 names)
 members_are f x names are within =
-    fun_ext (λ i. told i (x i) refl ∙ sym (members_set f x names [] names 0 i are (record { whole = refl; size = refl })))
+    fun_ext (λ i. by_cases i (x i) refl ∙ sym (members_set f x names [] names 0 i are (record { whole = refl; size = refl })))
   where
-    told : (i : ℕ) (b : Bool) → x i ≡ b → x i ≡ (within_window 0 (length names) i && x i)
-    told i true is =
+    by_cases : (i : ℕ) (b : Bool) → x i ≡ b → x i ≡ (within_window 0 (length names) i && x i)
+    by_cases i true is =
         let small : nat_lt i (length names) ≡ true = within i is in
         let window : within_window 0 (length names) i ≡ true = grind (arith, nat_tests) in rw (window, is) refl
-    told i false is =
+    by_cases i false is =
         is ∙ sym (ap (λ v. within_window 0 (length names) i && v) is ∙ and-false
         (within_window 0 (length names) i))
 
@@ -137,7 +137,7 @@ marks_set names column (word ∷ words) k = ap (λ b. is_at (attribute_named nam
 marks_known : (f : Format) (names : List (List ℕ)) (column : ℕ) (words : List (List ℕ)) → EachKnown f names words → All (IsAttribute f names) (word_marks column words)
 marks_known f names column [] known = All-nil (IsAttribute f names)
 marks_known f names column (word ∷ words) (here, rest) =
-    All-cons (IsAttribute f names) _ _ (record { word = refl; free = here.1.free; index = here.0; known = here.1.found }) (marks_known f names (column + 1 + length word) words rest)
+    All-cons (IsAttribute f names) _ _ (record { word = refl; not_reserved = here.1.not_reserved; index = here.0; known = here.1.found }) (marks_known f names (column + 1 + length word) words rest)
 
 pub known_names : (f : Format) (names words : List (List ℕ)) → EachKnown f names words → AllNames words
 known_names f names [] known = tt
@@ -146,8 +146,8 @@ known_names f names (word ∷ words) (here, rest) = (here.1.proper, known_names 
 side_is : (f : Format) (names : List (List ℕ)) (x : Attributes) (column : ℕ) (words : List (List ℕ)) → EachKnown f names words → x ≡ words_set names words → IsSide f names (side_marks column words) x
 side_is f names x column [] known e = inl (record { mark = _; alone = refl; is_empty = refl; nothing = e })
 side_is f names x column (word ∷ words) (here, rest) e = inr (record {
-  some = omega arith;
-  each = All-cons (IsAttribute f names) _ _ (record { word = refl; free = here.1.free; index = here.0; known = here.1.found }) (marks_known f names (column + length word) words rest);
+  not_empty = omega arith;
+  each = All-cons (IsAttribute f names) _ _ (record { word = refl; not_reserved = here.1.not_reserved; index = here.0; known = here.1.found }) (marks_known f names (column + length word) words rest);
   members = e ∙ fun_ext (λ k. ap (λ b. is_at (attribute_named names word) k || b) (sym (marks_set names (column + length word) words k)));
 })
 

@@ -18,27 +18,27 @@ IsRising from (m ∷ ms) stop = (from ≤ m.column) × (0 < m.length) × IsRisin
 rising_earlier : (from to : ℕ) (ms : List Mark) (stop : Option LexError) → from ≤ to → IsRising to ms stop → IsRising from ms stop
 rising_earlier from to [] None h r = tt
 rising_earlier from to [] (Some s) h r = omega arith
-rising_earlier from to (m ∷ ms) stop h (first, some, rest) = ((omega arith), some, rest)
+rising_earlier from to (m ∷ ms) stop h (first, not_empty, rest) = ((omega arith), not_empty, rest)
 
 token_rises : (column n : ℕ) (afterwards : ℕ → Lexed) {text : List ℕ} → LiesIn text n
     → ((skip : ℕ) → IsRising (column + 1 + skip) (afterwards skip).marks (afterwards skip).stop)
     → (column + 0 ≤ column) × (0 < n) × IsRising (column + n) (afterwards (n - 1)).marks (afterwards (n - 1)).stop
 token_rises column n afterwards lies rest =
-    let has_some : 0 < n = lies.some in
+    let is_not_empty : 0 < n = lies.not_empty in
     let same : column + 1 + (n - 1) ≡ column + n = omega arith in
     let of : ℕ → Type 0 = λ c. IsRising c (afterwards (n - 1)).marks (afterwards (n - 1)).stop in
-    ((omega arith), has_some, subst of same (rest (n - 1)))
+    ((omega arith), is_not_empty, subst of same (rest (n - 1)))
 
 -- the tokens at whose front this piece stands
 piece_rises : (m : Mode) (p : Piece) (column : ℕ) (text : List ℕ) (afterwards : ℕ → Lexed) → 0 < length text → p ≡ front_piece m text
     → ((skip : ℕ) → IsRising (column + 1 + skip) (afterwards skip).marks (afterwards skip).stop) → IsRising (column + 0) (led_by p column text afterwards).marks (led_by p column text afterwards).stop
-piece_rises m piece.Gap column text afterwards some is rest = rising_earlier (column + 0) (column + 1 + 0) (afterwards 0).marks (afterwards 0).stop (omega arith) (rest 0)
-piece_rises m piece.Comment column text afterwards some is rest = tt
-piece_rises m (piece.Token k n) column text afterwards some is rest =
-    token_rises column n afterwards (lies_in m text k n some is) rest
-piece_rises m (piece.Quoted name n) column text afterwards some is rest =
-    token_rises column n afterwards (quoted_at m text name n some is).lies rest
-piece_rises m (piece.Flaw why n) column text afterwards some is rest = omega arith
+piece_rises m piece.Gap column text afterwards not_empty is rest = rising_earlier (column + 0) (column + 1 + 0) (afterwards 0).marks (afterwards 0).stop (omega arith) (rest 0)
+piece_rises m piece.Comment column text afterwards not_empty is rest = tt
+piece_rises m (piece.Token k n) column text afterwards not_empty is rest =
+    token_rises column n afterwards (lies_in m text k n not_empty is) rest
+piece_rises m (piece.Quoted name n) column text afterwards not_empty is rest =
+    token_rises column n afterwards (quoted_at m text name n not_empty is).lies rest
+piece_rises m (piece.Flaw why n) column text afterwards not_empty is rest = omega arith
 
 lexed_rises : (m : Mode) (skip column : ℕ) (text : List ℕ) → IsRising (column + skip) (tokens_after m skip column text).marks (tokens_after m skip column text).stop
 unfolding tokens_after
@@ -63,7 +63,7 @@ spans_rise : (line afterwards : ℕ) (ms : List Mark) (stop : Option LexError) (
 spans_rise line afterwards [] stop p q rising h g = absurd (omega arith)
 spans_rise line afterwards (m ∷ ms) stop p zero rising h g = absurd (omega arith)
 spans_rise line afterwards (m ∷ ms) stop zero (suc q) rising h g =
-    let next = from_on line (m.column + m.length) ms stop q rising.2 (omega arith) in let some = rising.1 in omega arith
+    let next = from_on line (m.column + m.length) ms stop q rising.2 (omega arith) in let not_empty = rising.1 in omega arith
 spans_rise line afterwards (m ∷ ms) stop (suc p) (suc q) rising h g = spans_rise line (m.column + m.length) ms stop p q rising.2 (omega arith) (omega arith)
 
 -- a later position of a line stands in a greater column

@@ -29,7 +29,7 @@ pub version_there : (lines : List (List ℕ)) (text : HasVersionLine lines) (lin
     → read_version (record { line = line; next_column = text.head.column + text.head.length; marks = text.others; stop = (lex mode.numbered text.version).stop }) ≡ Ok d
     → IsVersionLine text.version × (d ≡ no_declaration)
 unfolding read_version take refusal_at_end
-version_there lines text line d e = told text.others (lex mode.numbered text.version).stop refl refl e
+version_there lines text line d e = by_cases text.others (lex mode.numbered text.version).stop refl refl e
   where
     ends : (m : Mark) (ms : List Mark) (stop : Option LexError) → text.others ≡ m ∷ ms
         → (lex mode.numbered text.version).stop ≡ stop
@@ -58,27 +58,27 @@ version_there lines text line d e = told text.others (lex mode.numbered text.ver
     ]
     numbered k m ms stop is others same e = cc
 
-    told : (ms : List Mark) (stop : Option LexError) → text.others ≡ ms
+    by_cases : (ms : List Mark) (stop : Option LexError) → text.others ≡ ms
         → (lex mode.numbered text.version).stop ≡ stop
         → read_version (record { line = line; next_column = text.head.column + text.head.length; marks = ms; stop = stop }) ≡ Ok d
         → IsVersionLine text.version × (d ≡ no_declaration)
-    told [] None others stop e = cc
-    told [] (Some s) others stop e = cc
-    told (m ∷ ms) stop others same e = numbered m.kind m ms stop refl others same e
+    by_cases [] None others stop e = cc
+    by_cases [] (Some s) others stop e = cc
+    by_cases (m ∷ ms) stop others same e = numbered m.kind m ms stop refl others same e
 
 -- a text has a version line, or none
 pub version_line_or_none : (lines : List (List ℕ)) → (has_version_line lines ≡ false) ⊎ HasVersionLine lines
 unfolding has_version_line
 version_line_or_none [] = inl refl
 version_line_or_none (line ∷ lines) =
-    told (lex mode.numbered line).marks (lex mode.numbered line).stop refl refl (version_line_or_none lines)
+    by_cases (lex mode.numbered line).marks (lex mode.numbered line).stop refl refl (version_line_or_none lines)
   where
-    told : (ms : List Mark) (stop : Option LexError) → (lex mode.numbered line).marks ≡ ms
+    by_cases : (ms : List Mark) (stop : Option LexError) → (lex mode.numbered line).marks ≡ ms
         → (lex mode.numbered line).stop ≡ stop
         → (has_version_line lines ≡ false) ⊎ HasVersionLine lines
         → (begins_version ms stop (has_version_line lines) ≡ false) ⊎ HasVersionLine (line ∷ lines)
-    told [] None marks stop (inl none) = inl none
-    told [] None marks stop (inr text) = inr (record {
+    by_cases [] None marks stop (inl none) = inl none
+    by_cases [] None marks stop (inr text) = inr (record {
       before = line ∷ text.before;
       version = text.version;
       later = text.later;
@@ -90,8 +90,8 @@ version_line_or_none (line ∷ lines) =
       starts = text.starts;
       is_word = text.is_word;
     })
-    told [] (Some s) marks stop later = inl refl
-    told (m ∷ ms) stop marks same later = elim (cases_Bool (is_version m.kind m.word)) [
+    by_cases [] (Some s) marks stop later = inl refl
+    by_cases (m ∷ ms) stop marks same later = elim (cases_Bool (is_version m.kind m.word)) [
       | inl is ↦ inr (record {
         before = [];
         version = line;
@@ -112,22 +112,22 @@ pub plain_opening : (number : ℕ) (lines : List (List ℕ)) → has_version_lin
 unfolding read_opening has_version_line read_lines
 plain_opening number [] none = refl
 plain_opening number (line ∷ lines) none =
-    told (lex mode.numbered line).marks (lex mode.numbered line).stop refl refl none
+    by_cases (lex mode.numbered line).marks (lex mode.numbered line).stop refl refl none
     (plain_opening (number + 1) lines)
   where
-    told : (ms : List Mark) (stop : Option LexError) → (lex mode.numbered line).marks ≡ ms
+    by_cases : (ms : List Mark) (stop : Option LexError) → (lex mode.numbered line).marks ≡ ms
         → (lex mode.numbered line).stop ≡ stop
         → begins_version ms stop (has_version_line lines) ≡ false
         → (has_version_line lines ≡ false
         → read_opening (number + 1) lines ≡ read_lines format.Plain (number + 1) no_declaration lines)
         → opening_from number line lines (read_opening (number + 1) lines) ms stop
         ≡ read_lines format.Plain number no_declaration (line ∷ lines)
-    told [] None marks stop none later =
+    by_cases [] None marks stop none later =
         let blank = lexed_plain 0 1 line (has_tokens (lex mode.numbered line) [] marks stop) in
         rw (line_back format.Plain number no_declaration line no_declaration
         (inl (inl (record { tokens = blank; same = refl })))) (later none)
-    told [] (Some s) marks stop none later = refl
-    told (m ∷ ms) stop marks same none later = rw none refl
+    by_cases [] (Some s) marks stop none later = refl
+    by_cases (m ∷ ms) stop marks same none later = rw none refl
 
 -- lines without a token are passed over
 blank_skipped : (number : ℕ) (before rest : List (List ℕ)) → All IsBlankLine before
@@ -171,14 +171,14 @@ MeansFrom number lines whole =
 pub opening_means : (number : ℕ) (lines : List (List ℕ)) (whole : Declarations)
     → read_opening number lines ≡ Ok whole
     → MeansFrom number lines whole × (0 < length whole.names)
-opening_means number lines whole e = told (version_line_or_none lines)
+opening_means number lines whole e = by_cases (version_line_or_none lines)
   where
-    told : (has_version_line lines ≡ false) ⊎ HasVersionLine lines
+    by_cases : (has_version_line lines ≡ false) ⊎ HasVersionLine lines
         → MeansFrom number lines whole × (0 < length whole.names)
-    told (inl none) =
+    by_cases (inl none) =
         let both = lines_there format.Plain number no_declaration whole lines
         (sym (plain_opening number lines none) ∙ e) in (inl (none, both.0), both.1)
-    told (inr text) =
+    by_cases (inr text) =
         let two = and_then-ok _ (λ d. read_lines format.Typed (length text.before + number + 1) d text.later) whole
         (sym (typed_opening number lines text) ∙ e) in
         let is = version_there lines text (length text.before + number) two.x two.first in
@@ -189,7 +189,7 @@ opening_means number lines whole e = told (version_line_or_none lines)
 
 pub schema-law : (text : List ℕ) (whole : Declarations) → (read_text text ≡ Ok whole) ↔ MeansSchema text whole
 unfolding read_text
-schema-law text whole = (λ e. there (opening_means 1 lines whole e), λ means. back means.some means.lines)
+schema-law text whole = (λ e. there (opening_means 1 lines whole e), λ means. back means.not_empty means.lines)
   where
     lines : List (List ℕ)
     lines = line_texts (without_mark text)
@@ -198,10 +198,10 @@ schema-law text whole = (λ e. there (opening_means 1 lines whole e), λ means. 
     two n = omega arith
 
     there : MeansFrom 1 lines whole × (0 < length whole.names) → MeansSchema text whole
-    there (inl plain, some) =
-        record { some = some; lines = inl (record { no_version = plain.0; declared = plain.1 }) }
-    there (inr (has, is, declared), some) = record {
-      some = some;
+    there (inl plain, not_empty) =
+        record { not_empty = not_empty; lines = inl (record { no_version = plain.0; declared = plain.1 }) }
+    there (inr (has, is, declared), not_empty) = record {
+      not_empty = not_empty;
       lines = inr (record {
         before = has.before;
         version = has.version;
@@ -215,10 +215,10 @@ schema-law text whole = (λ e. there (opening_means 1 lines whole e), λ means. 
 
     back : 0 < length whole.names → IsPlainText lines whole ⊎ IsTypedText lines whole
         → read_opening 1 lines ≡ Ok whole
-    back some (inl plain) =
+    back not_empty (inl plain) =
         plain_opening 1 lines plain.no_version
-        ∙ lines_back format.Plain 1 no_declaration whole lines plain.declared some
-    back some (inr typed) =
+        ∙ lines_back format.Plain 1 no_declaration whole lines plain.declared not_empty
+    back not_empty (inr typed) =
         version_opening 1 lines typed.before typed.version typed.later typed.cut typed.blank typed.versioned
         ∙ lines_back format.Typed (length typed.before + 1 + 1) no_declaration whole typed.later
-        (rw (← two (length typed.before)) at typed.declared) some
+        (rw (← two (length typed.before)) at typed.declared) not_empty

@@ -142,7 +142,7 @@ advance_fits f declared r m (Err w) turned none =
 
 pub step_fits : (f : Format) (declared : List (List ℕ)) (r : Reached) (m : Mark) → StepFits f declared r m (step f declared r m.kind m.word)
 unfolding step look_up
-step_fits f declared r m = told m.kind
+step_fits f declared r m = by_cases m.kind
   where
     word : (k : TokenKind) → is_word_token k ≡ true → ((a : ℕ) → Turns r k (advance r (symbol.Attribute a)))
         → (b : Bool) (o : Option ℕ) → is_reserved_token f k m.word ≡ b → attribute_named declared m.word ≡ o
@@ -151,18 +151,18 @@ step_fits f declared r m = told m.kind
         >>= (λ s. expect (advance r s)))
     word k is turns true o reserved lookup =
         (inl (is, inl (refl, reserved)), (λ n diagnostic. grind (arith, same_number)), omega arith, tt)
-    word k is turns false None free lookup =
+    word k is turns false None not_reserved lookup =
         (inl (is, inr (refl, lookup)), (λ n diagnostic. grind (arith, same_number)), omega arith, tt)
-    word k is turns false (Some a) free lookup =
+    word k is turns false (Some a) not_reserved lookup =
         advance_fits f declared r (record m { kind = k }) _ (turns a)
         (λ n diagnostic. grind arith)
 
-    told : (k : TokenKind) → StepFits f declared r (record m { kind = k }) (step f declared r k m.word)
-    told token.Identifier = word token.Identifier refl (advance-Turns r token.Identifier) (is_reserved_token f token.Identifier m.word)
+    by_cases : (k : TokenKind) → StepFits f declared r (record m { kind = k }) (step f declared r k m.word)
+    by_cases token.Identifier = word token.Identifier refl (advance-Turns r token.Identifier) (is_reserved_token f token.Identifier m.word)
         (attribute_named declared m.word) refl refl
-    told token.Quoted = word token.Quoted refl (advance-Turns r token.Quoted) (is_reserved_token f token.Quoted m.word)
+    by_cases token.Quoted = word token.Quoted refl (advance-Turns r token.Quoted) (is_reserved_token f token.Quoted m.word)
         (attribute_named declared m.word) refl refl
-    told k =
+    by_cases k =
         advance_fits f declared r (record m { kind = k }) _ (advance-Turns r k 0)
         (λ n diagnostic. let is = diagnostic.0 in cc)
 
@@ -186,18 +186,18 @@ pub record Ends (s : Shape) (ks : List TokenKind) : Type 0 where
 follow_runs : (f : Format) (declared : List (List ℕ)) (line : ℕ) (r : Reached) (from : ℕ) (ms : List Mark) (d : Dependency)
     → follow f declared line r from ms None ≡ Ok d → Ends (shape_of r) (kinds ms)
 unfolding follow
-follow_runs f declared line r from [] d e = told (finish_dependency r) (end_fits r) e
+follow_runs f declared line r from [] d e = by_cases (finish_dependency r) (end_fits r) e
   where
-    told : (o : Result Dependency What) → EndFits r o → at line from 0 (expect o) ≡ Ok d → Ends (shape_of r) []
-    told (Ok dep) final e = record { last = shape_of r; leads = refl; final = final }
-    told (Err what) final e = cc
+    by_cases : (o : Result Dependency What) → EndFits r o → at line from 0 (expect o) ≡ Ok d → Ends (shape_of r) []
+    by_cases (Ok dep) final e = record { last = shape_of r; leads = refl; final = final }
+    by_cases (Err what) final e = cc
 follow_runs f declared line r from (m ∷ ms) d e =
-    told (step f declared r m.kind m.word) (step_fits f declared r m) (λ next h. follow_runs f declared line next (m.column + m.length) ms d h) e
+    by_cases (step f declared r m.kind m.word) (step_fits f declared r m) (λ next h. follow_runs f declared line next (m.column + m.length) ms d h) e
   where
-    told : (o : Result Reached SchemaRefusalKind) → StepFits f declared r m o → ((next : Reached) → follow f declared line next (m.column + m.length) ms None ≡ Ok d → Ends (shape_of next) (kinds ms))
+    by_cases : (o : Result Reached SchemaRefusalKind) → StepFits f declared r m o → ((next : Reached) → follow f declared line next (m.column + m.length) ms None ≡ Ok d → Ends (shape_of next) (kinds ms))
         → (at line m.column m.length o >>= (λ next. follow f declared line next (m.column + m.length) ms None)) ≡ Ok d → Ends (shape_of r) (m.kind ∷ kinds ms)
-    told (Ok next) fit rest e = let more = rest next e in record { last = more.last; leads = rw fit.0 more.leads; final = more.final }
-    told (Err why) fit rest e = cc
+    by_cases (Ok next) fit rest e = let more = rest next e in record { last = more.last; leads = rw fit.0 more.leads; final = more.final }
+    by_cases (Err why) fit rest e = cc
 
 -- a token of each kind, over the one name `a`
 abbrev sample_mark : TokenKind → Mark
@@ -219,19 +219,19 @@ record Reads (r : Reached) (ks : List TokenKind) : Type 0 where
 
 runs_read : (r : Reached) (ks : List TokenKind) (s : Shape) → runs (shape_of r) ks ≡ Some s → is_final s ≡ true → Reads r ks
 unfolding follow is_reserved
-runs_read r [] s e final = told (finish_dependency r) refl (end_fits r)
+runs_read r [] s e final = by_cases (finish_dependency r) refl (end_fits r)
   where
-    told : (o : Result Dependency What) → finish_dependency r ≡ o → EndFits r o → Reads r []
-    told (Ok dep) is fit =
+    by_cases : (o : Result Dependency What) → finish_dependency r ≡ o → EndFits r o → Reads r []
+    by_cases (Ok dep) is fit =
         record { marks = []; same = refl; dep = dep; read = ap (λ t. at 1 1 0 (expect t)) is }
-    told (Err what) is fit =
+    by_cases (Err what) is fit =
         let last : shape_of r ≡ s = cc in
         let wrong : false ≡ true = sym fit.0 ∙ ap is_final last ∙ final in cc
-runs_read r (k ∷ ks) s e final = told (step format.Plain one_name r k (97 ∷ [])) refl (step_fits format.Plain one_name r (sample_mark k)) (λ next h. runs_read next ks s h final)
+runs_read r (k ∷ ks) s e final = by_cases (step format.Plain one_name r k (97 ∷ [])) refl (step_fits format.Plain one_name r (sample_mark k)) (λ next h. runs_read next ks s h final)
   where
-    told : (o : Result Reached SchemaRefusalKind) → step format.Plain one_name r k (97 ∷ []) ≡ o → StepFits format.Plain one_name r (sample_mark k) o
+    by_cases : (o : Result Reached SchemaRefusalKind) → step format.Plain one_name r k (97 ∷ []) ≡ o → StepFits format.Plain one_name r (sample_mark k) o
         → ((next : Reached) → runs (shape_of next) ks ≡ Some s → Reads next ks) → Reads r (k ∷ ks)
-    told (Ok next) is fit rest =
+    by_cases (Ok next) is fit rest =
         let more = rest next (ap (λ o. bind o (λ t. runs t ks)) (sym fit.0) ∙ e) in
         record {
           marks = sample_mark k ∷ more.marks;
@@ -240,9 +240,9 @@ runs_read r (k ∷ ks) s e final = told (step format.Plain one_name r k (97 ∷ 
           read = ap (λ o. at 1 0 1 o >>= (λ n. follow format.Plain one_name 1 n 1 more.marks None)) is
               ∙ more.read;
         }
-    told (Err why) is (inl (word, inl (number, reserved)), less, small, carries) rest = let free = sample_is_free k in cc
-    told (Err why) is (inl (word, inr (number, unknown)), less, small, carries) rest = cc
-    told (Err why) is (inr (six, stuck), less, small, carries) rest =
+    by_cases (Err why) is (inl (word, inl (number, reserved)), less, small, carries) rest = let not_reserved = sample_is_free k in cc
+    by_cases (Err why) is (inl (word, inr (number, unknown)), less, small, carries) rest = cc
+    by_cases (Err why) is (inr (six, stuck), less, small, carries) rest =
         let wrong : None ≡ Some s = ap (λ o. bind o (λ t. runs t ks)) (sym stuck) ∙ e in cc
 
 pub final_line : (ks : List TokenKind) (s : Shape) → runs at_start ks ≡ Some s → is_final s ≡ true → IsLine ks
@@ -272,11 +272,11 @@ completion past_end = []
 
 pub runs-append : (s : Shape) (ks ls : List TokenKind) → runs s (ks ++ ls) ≡ bind (runs s ks) (λ t. runs t ls)
 runs-append s [] ls = refl
-runs-append s (k ∷ ks) ls = told (λ t. runs-append t ks ls) (advance_shape s k)
+runs-append s (k ∷ ks) ls = by_cases (λ t. runs-append t ks ls) (advance_shape s k)
   where
-    told : ((t : Shape) → runs t (ks ++ ls) ≡ bind (runs t ks) (λ u. runs u ls)) → (o : Option Shape) → bind o (λ t. runs t (ks ++ ls)) ≡ bind (bind o (λ t. runs t ks)) (λ t. runs t ls)
-    told rest None = refl
-    told rest (Some t) = rest t
+    by_cases : ((t : Shape) → runs t (ks ++ ls) ≡ bind (runs t ks) (λ u. runs u ls)) → (o : Option Shape) → bind o (λ t. runs t (ks ++ ls)) ≡ bind (bind o (λ t. runs t ks)) (λ t. runs t ls)
+    by_cases rest None = refl
+    by_cases rest (Some t) = rest t
 
 pub begins_from : (ks : List TokenKind) (s : Shape) → runs at_start ks ≡ Some s → BeginsLine ks
 begins_from ks s e =
@@ -312,8 +312,8 @@ pub record Leads (ks : List TokenKind) : Type 0 where
 pub begins_to : (ks : List TokenKind) → BeginsLine ks → Leads ks
 begins_to ks begins =
     let ends = line_ends (ks ++ begins.rest) begins.line in
-    told (runs at_start ks) ends.last refl (sym (runs-append at_start ks begins.rest) ∙ ends.leads)
+    by_cases (runs at_start ks) ends.last refl (sym (runs-append at_start ks begins.rest) ∙ ends.leads)
   where
-    told : (o : Option Shape) (last : Shape) → runs at_start ks ≡ o → bind o (λ t. runs t begins.rest) ≡ Some last → Leads ks
-    told None last same e = cc
-    told (Some s) last same e = record { shape = s; leads = same }
+    by_cases : (o : Option Shape) (last : Shape) → runs at_start ks ≡ o → bind o (λ t. runs t begins.rest) ≡ Some last → Leads ks
+    by_cases None last same e = cc
+    by_cases (Some s) last same e = record { shape = s; leads = same }

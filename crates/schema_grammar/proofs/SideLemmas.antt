@@ -22,5 +22,5 @@ attributes_of_words-cons declared m ms a e = fun_ext (λ k. ap (λ o. is_at o k 
 
 -- what a word or a quoted name stands for
 pub record Names (f : Format) (declared : List (List ℕ)) (k : TokenKind) (word : List ℕ) (a : ℕ) : Type 0 where
-  pub free : is_reserved_token f k word ≡ false
+  pub not_reserved : is_reserved_token f k word ≡ false
   pub lookup : attribute_named declared word ≡ Some a

@@ -50,11 +50,11 @@ FitsFormat format.Typed d = All (λ name. is_type_name name ≡ false) d.names
 
 -- what is declared so far forms a schema, once it has a name
 pub record IsSound (f : Format) (d : Declarations) : Type 0 where
-  pub few_names : length d.names ≤ MOST_ATTRIBUTES
+  pub names_within_limit : length d.names ≤ MOST_ATTRIBUTES
   pub names_differ : AllPairs (λ a b. same_name a b ≡ false) d.names
-  pub free : All (λ name. is_reserved f name ≡ false) d.names
+  pub not_reserved : All (λ name. is_reserved f name ≡ false) d.names
   pub proper : All (λ name. is_bare_name name ≡ true) d.names
-  pub few_deps : length d.deps ≤ MOST_DEPENDENCY_LINES
+  pub deps_within_limit : length d.deps ≤ MOST_DEPENDENCY_LINES
   pub deps_within : All (IsWithin (below (length d.names))) d.deps
   pub one_line_each : length d.lines ≡ length d.deps
   pub one_column_each : length d.columns ≡ length d.names
@@ -63,11 +63,11 @@ pub record IsSound (f : Format) (d : Declarations) : Type 0 where
 
 pub nothing_sound : (f : Format) → IsSound f no_declaration
 nothing_sound f = record {
-  few_names = omega arith;
+  names_within_limit = omega arith;
   names_differ = λ i j d h g. absurd (omega arith);
-  free = λ k d h. absurd (omega arith);
+  not_reserved = λ k d h. absurd (omega arith);
   proper = λ k d h. absurd (omega arith);
-  few_deps = omega arith;
+  deps_within_limit = omega arith;
   deps_within = λ k d h. absurd (omega arith);
   one_line_each = refl;
   one_column_each = refl;
@@ -92,14 +92,14 @@ bare_kind k is unquoted = cc
 led_proper : (m : Mode) → m.quotes ≡ false → (column : ℕ) (text : List ℕ) (afterwards : ℕ → Lexed) (p : Piece) → 0 < length text
     → p ≡ front_piece m text
     → ((n : ℕ) → All IsProper (afterwards n).marks) → All IsProper (led_by p column text afterwards).marks
-led_proper m none column text afterwards piece.Gap some e later = later 0
-led_proper m none column text afterwards (piece.Token k n) some e later =
-    let unquoted = not_quoted m text k n some e in
+led_proper m none column text afterwards piece.Gap not_empty e later = later 0
+led_proper m none column text afterwards (piece.Token k n) not_empty e later =
+    let unquoted = not_quoted m text k n not_empty e in
     All-cons IsProper _ _
-    (record { unquoted = unquoted; bare = λ is. is_a_word m text k n some e (bare_kind k is unquoted) }) (later (n - 1))
-led_proper m none column text afterwards (piece.Quoted name n) some e later =
-    let taken = (quoted_at m text name n some e).taken in cc
-led_proper m none column text afterwards p some e later = All-nil IsProper
+    (record { unquoted = unquoted; bare = λ is. is_a_word m text k n not_empty e (bare_kind k is unquoted) }) (later (n - 1))
+led_proper m none column text afterwards (piece.Quoted name n) not_empty e later =
+    let taken = (quoted_at m text name n not_empty e).taken in cc
+led_proper m none column text afterwards p not_empty e later = All-nil IsProper
 
 lexed_proper : (m : Mode) → m.quotes ≡ false → (skip column : ℕ) (text : List ℕ) → All IsProper (tokens_after m skip column text).marks
 unfolding tokens_after
@@ -146,15 +146,15 @@ name_sound f column d m h proper sound new =
     let more : length (d.names ++ m.word ∷ []) ≡ length d.names + 1 = length-append d.names (m.word ∷ []) in
     let columns : length (d.columns ++ column ∷ []) ≡ length d.columns + 1 = length-append d.columns (column ∷ []) in
     let room = new.room in
-    let free : is_reserved f m.word ≡ false =
-    ap (λ k. is_reserved_token f k m.word) (sym (bare_kind m.kind new.word proper.unquoted)) ∙ new.free in
+    let not_reserved : is_reserved f m.word ≡ false =
+    ap (λ k. is_reserved_token f k m.word) (sym (bare_kind m.kind new.word proper.unquoted)) ∙ new.not_reserved in
     record {
-      few_names = omega arith;
+      names_within_limit = omega arith;
       names_differ = all_pairs_push (λ a b. same_name a b ≡ false) d.names m.word sound.names_differ
           (no_name d.names m.word new.new);
-      free = All-push (λ name. is_reserved f name ≡ false) d.names m.word sound.free free;
+      not_reserved = All-push (λ name. is_reserved f name ≡ false) d.names m.word sound.not_reserved not_reserved;
       proper = All-push (λ name. is_bare_name name ≡ true) d.names m.word sound.proper (proper.bare new.word);
-      few_deps = sound.few_deps;
+      deps_within_limit = sound.deps_within_limit;
       deps_within = λ k e below_k. let inside = sound.deps_within k e below_k in (
         below-wider (length d.names) (length (d.names ++ m.word ∷ [])) (left_of (get_or d.deps k e))
             (omega arith) inside.0,
@@ -164,7 +164,7 @@ name_sound f column d m h proper sound new =
       one_line_each = sound.one_line_each;
       one_column_each = let same = sound.one_column_each in omega arith;
       plain = All-push (λ c. IsTrue (is_plain_type c)) d.columns column sound.plain (column_plain f column h);
-      fits = name_fits f column d m.word h free sound.fits;
+      fits = name_fits f column d m.word h not_reserved sound.fits;
     }
 
 names_sound : (f : Format) (column : ColumnType) (d : Declarations) (ms : List Mark) (whole : Declarations)
@@ -181,11 +181,11 @@ dependency_sound f d dep line sound room inside =
     let deps : length (d.deps ++ dep ∷ []) ≡ length d.deps + 1 = length-append d.deps (dep ∷ []) in
     let lines : length (d.lines ++ line ∷ []) ≡ length d.lines + 1 = length-append d.lines (line ∷ []) in
     record {
-      few_names = sound.few_names;
+      names_within_limit = sound.names_within_limit;
       names_differ = sound.names_differ;
-      free = sound.free;
+      not_reserved = sound.not_reserved;
       proper = sound.proper;
-      few_deps = omega arith;
+      deps_within_limit = omega arith;
       deps_within = All-push (IsWithin (below (length d.names))) d.deps dep sound.deps_within inside;
       one_line_each = let same = sound.one_line_each in omega arith;
       one_column_each = sound.one_column_each;
@@ -247,23 +247,23 @@ line_sound f line d text sound =
 pub record IsWhole (d : Declarations) : Type 0 where
   pub format : Format
   pub sound : IsSound format d
-  pub some : 0 < length d.names
+  pub not_empty : 0 < length d.names
 
-pub opening_whole : (number : ℕ) (lines : List (List ℕ)) → IfOk (read_opening number lines) IsWhole
-opening_whole number lines = when_ok IsWhole _ (λ whole e.
+pub opening_is_whole : (number : ℕ) (lines : List (List ℕ)) → IfOk (read_opening number lines) IsWhole
+opening_is_whole number lines = when_ok IsWhole _ (λ whole e.
     let means = opening_means number lines whole e in
     elim (means.0) [
       | inl plain ↦ record {
         format = format.Plain;
         sound = lines_sound format.Plain number no_declaration lines whole (nothing_sound format.Plain) plain.1;
-        some = means.1;
+        not_empty = means.1;
       }
       | inr typed ↦ record {
         format = format.Typed;
         sound = lines_sound format.Typed
             (length typed.0.before + number + 1) no_declaration typed.0.later whole
             (nothing_sound format.Typed) typed.2;
-        some = means.1;
+        not_empty = means.1;
       }
     ])
 
@@ -272,10 +272,10 @@ forms_schema d deps whole e =
     let sound = whole.sound in
     let size : length d.deps ≡ length deps = ap length e ∙ length-map deps dependency_of in
     record {
-      some_names = whole.some;
-      few_names = sound.few_names;
+      names_not_empty = whole.not_empty;
+      names_within_limit = sound.names_within_limit;
       names_differ = sound.names_differ;
-      few_deps = let few = sound.few_deps in omega arith;
+      deps_within_limit = let within_limit = sound.deps_within_limit in omega arith;
       deps_within = dependencies_all-to (IsWithin (below (length d.names))) deps
           (subst (All (IsWithin (below (length d.names)))) e sound.deps_within);
       one_line_each = let same = sound.one_line_each in omega arith;
@@ -294,12 +294,12 @@ forms_columns d whole = record {
 }
 
 -- no name of a text that is read is reserved
-pub whole_free : (d : Declarations) → IsWhole d → All (λ name. is_reserved format.Plain name ≡ false) d.names
+pub whole_not_reserved : (d : Declarations) → IsWhole d → All (λ name. is_reserved format.Plain name ≡ false) d.names
 unfolding is_reserved
-whole_free d whole k e h =
+whole_not_reserved d whole k e h =
     (elim (whole.format) as
     (λ f. is_reserved f (get_or d.names k e) ≡ false → is_reserved format.Plain (get_or d.names k e) ≡ false) [
-      | format.Plain ↦ λ free. free
-      | format.Typed ↦ λ free.
-          (or_parts (is_common_word (get_or d.names k e)) (is_type_name (get_or d.names k e)) free).0
-    ]) (whole.sound.free k e h)
+      | format.Plain ↦ λ not_reserved. not_reserved
+      | format.Typed ↦ λ not_reserved.
+          (or_parts (is_common_word (get_or d.names k e)) (is_type_name (get_or d.names k e)) not_reserved).0
+    ]) (whole.sound.not_reserved k e h)

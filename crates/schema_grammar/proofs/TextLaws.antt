@@ -34,19 +34,19 @@ version-law line next_column [] (Some s) =
     (λ p n less. absurd (omega arith)) (inr (s, refl, refl, flaw_kind s.flaw))
     (flaw_carries (VersionWants 0) s.flaw) refl
     (λ n diagnostic. grind (arith, flaw_least s))
-version-law line next_column (m ∷ ms) stop = told (number_in m.kind) refl
+version-law line next_column (m ∷ ms) stop = by_cases (number_in m.kind) refl
   where
     ends : (i : ℕ) → number_in m.kind ≡ Some i → (i == VERSION) ≡ true
         → (others : List Mark) (o : Option LexError)
         → FitsVersion line next_column (m ∷ others) o (unless (refusal_at_end_from line others o) no_declaration)
-    ends i some two [] None = λ p n diagnostic. grind arith
-    ends i some two [] (Some s) =
+    ends i not_empty two [] None = λ p n diagnostic. grind arith
+    ends i not_empty two [] (Some s) =
         first_at (VersionDiagnostic (m ∷ []) (Some s)) VersionWants
         (span_at line next_column (m ∷ []) (Some s)) (refused_by line s) 1
         (λ p n less diagnostic. grind arith) (inr (s, refl, refl, flaw_kind s.flaw))
         (flaw_carries (VersionWants 1) s.flaw) refl
         (λ n diagnostic. grind (arith, flaw_least s))
-    ends i some two (k ∷ ks) o =
+    ends i not_empty two (k ∷ ks) o =
         first_at (VersionDiagnostic (m ∷ k ∷ ks) o) VersionWants (span_at line next_column (m ∷ k ∷ ks) o)
         (refusal line k.column k.length (kind.Expected what.LineEnd)) 1
         (λ p n less diagnostic. grind arith) (inl (inr (inr (k, refl, refl, refl))))
@@ -55,19 +55,19 @@ version-law line next_column (m ∷ ms) stop = told (number_in m.kind) refl
     number : (i : ℕ) (b : Bool) → number_in m.kind ≡ Some i → (i == VERSION) ≡ b
         → FitsVersion line next_column (m ∷ ms) stop
         (cond b (unless (refusal_at_end_from line ms stop) no_declaration) (Err (refusal line m.column m.length kind.UnknownVersion)))
-    number i true some two = ends i some two ms stop
-    number i false some other =
+    number i true not_empty two = ends i not_empty two ms stop
+    number i false not_empty other =
         first_at (VersionDiagnostic (m ∷ ms) stop) VersionWants (span_at line next_column (m ∷ ms) stop)
         (refusal line m.column m.length kind.UnknownVersion) 0 (λ p n less. absurd (omega arith))
-        (inl (inr (inl (m, i, refl, some, other, refl, refl)))) tt refl (λ n diagnostic. grind (arith, same_number))
+        (inl (inr (inl (m, i, refl, not_empty, other, refl, refl)))) tt refl (λ n diagnostic. grind (arith, same_number))
 
-    told : (o : Option ℕ) → number_in m.kind ≡ o → FitsVersion line next_column (m ∷ ms) stop (version_number m (record { line = line; next_column = m.column + m.length; marks = ms; stop = stop }) o)
-    told None none =
+    by_cases : (o : Option ℕ) → number_in m.kind ≡ o → FitsVersion line next_column (m ∷ ms) stop (version_number m (record { line = line; next_column = m.column + m.length; marks = ms; stop = stop }) o)
+    by_cases None none =
         first_at (VersionDiagnostic (m ∷ ms) stop) VersionWants (span_at line next_column (m ∷ ms) stop)
         (refusal line m.column m.length (kind.Expected what.Number)) 0
         (λ p n less. absurd (omega arith))
         (inl (inl (inl (m, refl, none, refl, refl)))) (inl (refl, refl)) refl (λ n diagnostic. grind (arith, same_number))
-    told (Some i) some = number i (i == VERSION) some refl
+    by_cases (Some i) not_empty = number i (i == VERSION) not_empty refl
 
 -- a schema text is refused by its first diagnostic, or as declaring nothing, and read where there is
 -- neither

@@ -22,11 +22,11 @@ use Rattle.schema_grammar.proofs.RefusalLemmas.{when_ok, ok_at}
 
 attribute_named-within : (names : List (List ℕ)) (word : List ℕ) (k : ℕ) → is_at (attribute_named names word) k ≡ true
     → k < length names
-attribute_named-within names word k here = told (attribute_named names word) refl here
+attribute_named-within names word k here = by_cases (attribute_named names word) refl here
   where
-    told : (o : Option ℕ) → attribute_named names word ≡ o → is_at o k ≡ true → k < length names
-    told None lookup at = absurd (false≢true at)
-    told (Some a) lookup at =
+    by_cases : (o : Option ℕ) → attribute_named names word ≡ o → is_at o k ≡ true → k < length names
+    by_cases None lookup at = absurd (false≢true at)
+    by_cases (Some a) lookup at =
         rw (eqb-true k a at) (position-Some (λ name. same_name name word) names a [] lookup).0
 
 pub named_within : (names : List (List ℕ)) (words : List Mark) → IsSubset (attributes_of_words names words) (below (length names))

@@ -17,14 +17,14 @@ symbol_of-word f declared token.Identifier word e = refl
 symbol_of-word f declared token.Quoted word e = refl
 symbol_of-word f declared k word e = cc
 
-pub name_step-word : (f : Format) (column : ColumnType) (d : Declarations) (some : Bool) (k : TokenKind) (word : List ℕ)
-    → is_word_token k ≡ true → name_step f column d some k word ≡ declare f column d k word
-name_step-word f column d some token.Identifier word e = refl
-name_step-word f column d some token.Quoted word e = refl
-name_step-word f column d some k word e = cc
+pub name_step-word : (f : Format) (column : ColumnType) (d : Declarations) (not_empty : Bool) (k : TokenKind) (word : List ℕ)
+    → is_word_token k ≡ true → name_step f column d not_empty k word ≡ declare f column d k word
+name_step-word f column d not_empty token.Identifier word e = refl
+name_step-word f column d not_empty token.Quoted word e = refl
+name_step-word f column d not_empty k word e = cc
 
-pub name_step-other : (f : Format) (column : ColumnType) (d : Declarations) (some : Bool) (k : TokenKind) (word : List ℕ)
-    → is_word_token k ≡ false → name_step f column d some k word ≡ Err (kind.Expected (what_after_declaring some))
-name_step-other f column d some token.Identifier word e = cc
-name_step-other f column d some token.Quoted word e = cc
-name_step-other f column d some k word e = refl
+pub name_step-other : (f : Format) (column : ColumnType) (d : Declarations) (not_empty : Bool) (k : TokenKind) (word : List ℕ)
+    → is_word_token k ≡ false → name_step f column d not_empty k word ≡ Err (kind.Expected (what_after_declaring not_empty))
+name_step-other f column d not_empty token.Identifier word e = cc
+name_step-other f column d not_empty token.Quoted word e = cc
+name_step-other f column d not_empty k word e = refl

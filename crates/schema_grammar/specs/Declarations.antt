@@ -51,27 +51,27 @@ declare f column d k word =
 
 -- what is wanted after a declaring word where no name stands
 abbrev pub what_after_declaring : Bool → What
-what_after_declaring some = if some then what.LineEnd else what.Name
+what_after_declaring any_name = if any_name then what.LineEnd else what.Name
 
--- a token after a declaring word; `some` is whether a name stood before
+-- a token after a declaring word; `any_name` is whether a name stood before
 abbrev pub name_step : Format → ColumnType → Declarations → Bool → TokenKind → List ℕ
     → Result Declarations SchemaRefusalKind
-name_step f column d some token.Identifier word = declare f column d token.Identifier word
-name_step f column d some token.Quoted word = declare f column d token.Quoted word
-name_step f column d some _ word = Err (kind.Expected (what_after_declaring some))
+name_step f column d any_name token.Identifier word = declare f column d token.Identifier word
+name_step f column d any_name token.Quoted word = declare f column d token.Quoted word
+name_step f column d any_name _ word = Err (kind.Expected (what_after_declaring any_name))
 
 -- the tokens after a declaring word
 unfoldable pub list_names : Format → ColumnType → ℕ → Declarations → Bool → ℕ → List Mark → Option LexError
     → Result Declarations SchemaRefusal
 list_names f column line d true next_column [] None = Ok d
 list_names f column line d false next_column [] None = at line next_column 0 (Err (kind.Expected what.Name))
-list_names f column line d some next_column [] (Some stop) = Err (refused_by line stop)
-list_names f column line d some next_column (m ∷ ms) stop =
-    at line m.column m.length (name_step f column d some m.kind m.word)
+list_names f column line d any_name next_column [] (Some stop) = Err (refused_by line stop)
+list_names f column line d any_name next_column (m ∷ ms) stop =
+    at line m.column m.length (name_step f column d any_name m.kind m.word)
     >>= (λ next. list_names f column line next true (m.column + m.length) ms stop)
 
 abbrev pub list_names_rest : Format → ColumnType → Declarations → Bool → Rest → Result Declarations SchemaRefusal
-list_names_rest f column d some r = list_names f column r.line d some r.next_column r.marks r.stop
+list_names_rest f column d any_name r = list_names f column r.line d any_name r.next_column r.marks r.stop
 
 -- the first token of a dependency line: what the line can't begin with comes before one dependency
 -- too many

@@ -31,7 +31,7 @@ attributes_of_words declared words k = list_any (λ m. is_at (attribute_named de
 -- a word or a quoted name that names a declared attribute
 pub record IsAttribute (f : Format) (declared : List (List ℕ)) (m : Mark) : Type 0 where
   pub word : is_word_token m.kind ≡ true
-  pub free : is_reserved_token f m.kind m.word ≡ false
+  pub not_reserved : is_reserved_token f m.kind m.word ≡ false
   pub index : ℕ
   pub known : attribute_named declared m.word ≡ Some index
 
@@ -44,7 +44,7 @@ pub record IsEmptySide (ms : List Mark) (x : Attributes) : Type 0 where
 
 -- or it is one or more words, for the attributes that they name
 pub record IsNamedSide (f : Format) (declared : List (List ℕ)) (ms : List Mark) (x : Attributes) : Type 0 where
-  pub some : 0 < length ms
+  pub not_empty : 0 < length ms
   pub each : All (IsAttribute f declared) ms
   pub members : x ≡ attributes_of_words declared ms
 

@@ -15,14 +15,14 @@ use Rattle.schema_grammar.specs.Words.{is_reserved}
 -- names that differ, and that no text of the format reserves
 pub record AreNames (f : Format) (names : List (List ℕ)) : Type 0 where
   pub each : All (λ name. is_bare_name name ≡ true) names
-  pub free : All (λ name. is_reserved f name ≡ false) names
+  pub not_reserved : All (λ name. is_reserved f name ≡ false) names
   pub differ : AllPairs (λ a b. same_name a b ≡ false) names
 
 -- what a schema holds none of whose names is reserved
 pub record IsPrintable (columns : List ColumnType) (names : List (List ℕ)) (deps : List Dependency) : Type 0 where
-  pub some : 0 < length names
-  pub few : length names ≤ MOST_ATTRIBUTES
+  pub not_empty : 0 < length names
+  pub within_limit : length names ≤ MOST_ATTRIBUTES
   pub are_names : AreNames format.Plain names
   pub are_columns : AreColumns names columns
-  pub few_deps : length deps ≤ MOST_DEPENDENCY_LINES
+  pub deps_within_limit : length deps ≤ MOST_DEPENDENCY_LINES
   pub within : All (IsWithin (below (length names))) deps

@@ -30,7 +30,7 @@ use Rattle.schema_grammar.specs.Rests.{number_in}
 -- a word or a quoted name that declares one name more
 pub record IsNewName (f : Format) (d : Declarations) (m : Mark) : Type 0 where
   pub word : is_word_token m.kind ≡ true
-  pub free : is_reserved_token f m.kind m.word ≡ false
+  pub not_reserved : is_reserved_token f m.kind m.word ≡ false
   pub new : attribute_named d.names m.word ≡ None
   pub room : length d.names < MOST_ATTRIBUTES
 
@@ -47,7 +47,7 @@ pub record IsDeclaring (f : Format) (d : Declarations) (line : List ℕ) (whole 
   pub column : ColumnType
   pub tokens : HasTokens (lex mode.plain line) (head ∷ words)
   pub declaring : column_type_of_token f head.kind head.word ≡ Some column
-  pub some : 0 < length words
+  pub not_empty : 0 < length words
   pub names : DeclareNames f column d words whole
 
 -- a dependency line, which no declaring word begins
@@ -114,7 +114,7 @@ pub record IsTypedText (lines : List (List ℕ)) (whole : Declarations) : Type 0
 
 -- a schema text means what it declares: one attribute at least
 pub record MeansSchema (text : List ℕ) (whole : Declarations) : Type 0 where
-  pub some : 0 < length whole.names
+  pub not_empty : 0 < length whole.names
   pub lines : IsPlainText (line_texts (without_mark text)) whole
       ⊎ IsTypedText (line_texts (without_mark text)) whole
 

@@ -102,7 +102,7 @@ all_follow : (schema other : Schema) (numbers : List ℕ) → AreDifferences sch
     → IsImpliedBy other schema
 all_follow schema other numbers are none k d lt =
     ⊎_elim
-    (λ (some : Contains numbers k). absurd (omega (arith, some.1, ap (λ (xs : List ℕ). length xs) none)))
+    (λ (not_empty : Contains numbers k). absurd (omega (arith, not_empty.1, ap (λ (xs : List ℕ). length xs) none)))
     (λ follows. follows)
     (are.all k (get_or (theory_of schema) k d) (slice_get-get_or (theory_of schema) k d lt))
 

@@ -20,8 +20,8 @@ abbrev pub rest_text : Bool → List (List ℕ) → List ℕ
 rest_text true words = words_text words
 rest_text false words = side_text words
 
-pub record PrintsSet (names : List (List ℕ)) (x : Attributes) (before text : List ℕ) (some : Bool) (attribute : ℕ) : Type 0 where
-  pub same : text ++ rest_text some (members_from x attribute (drop attribute names)) ≡ before ++ set_text names x
+pub record PrintsSet (names : List (List ℕ)) (x : Attributes) (before text : List ℕ) (any_written : Bool) (attribute : ℕ) : Type 0 where
+  pub same : text ++ rest_text any_written (members_from x attribute (drop attribute names)) ≡ before ++ set_text names x
 
 -- what stands after a name of this type
 abbrev pub after_text : ColumnType → List ColumnType → List (List ℕ) → List ℕ
@@ -40,9 +40,9 @@ drop-item xs i x e =
     rw (add-one, drop-cons xs i x)
     (let same : get_or xs i x ≡ x = get_or_from_slice_get xs i x x e in rw same refl)
 
-pub set_inside : (names : List (List ℕ)) (x : Attributes) (before text next : List ℕ) (some more : Bool) (k : ℕ) (name : List ℕ)
-    → PrintsSet names x before text some k → slice_get names k ≡ Some name → true ≡ x k
-    → next ≡ text ++ cond some (32 ∷ name) name → more ≡ true → PrintsSet names x before next more (k + 1)
+pub set_inside : (names : List (List ℕ)) (x : Attributes) (before text next : List ℕ) (any_written more : Bool) (k : ℕ) (name : List ℕ)
+    → PrintsSet names x before text any_written k → slice_get names k ≡ Some name → true ≡ x k
+    → next ≡ text ++ cond any_written (32 ∷ name) name → more ≡ true → PrintsSet names x before next more (k + 1)
 set_inside names x before text next true more k name prints here within added is_more = record {
   same = let rest = drop-item names k name here in let inside : x k ≡ true = sym within in let old = prints.same in rw (added, is_more) (rw append_assoc (rw (rest, inside) at old));
 }
@@ -146,13 +146,13 @@ empty_from_members x names within none j =
 nullable_line : (words : List (List ℕ)) → (words ≡ [] → ⊥)
     → codes "nullable " ++ side_text words ++ 10 ∷ [] ≡ lines_text (nullable_lines words)
 unfolding nullable_lines
-nullable_line [] some = absurd (some refl)
-nullable_line (word ∷ words) some = simp (append_assoc, append-nil)
+nullable_line [] any_written = absurd (any_written refl)
+nullable_line (word ∷ words) any_written = simp (append_assoc, append-nil)
 
 pub nullable_printed : (x : Attributes) (names : List (List ℕ)) → (members_from x 0 names ≡ [] → ⊥)
     → codes "nullable " ++ set_text names x ++ 10 ∷ [] ≡ lines_text (nullable_lines (members_from x 0 names))
 unfolding set_text
-nullable_printed x names some = nullable_line (members_from x 0 names) some
+nullable_printed x names any_written = nullable_line (members_from x 0 names) any_written
 
 pub nullable_nothing : (x : Attributes) (names : List (List ℕ)) → IsEmpty x
     → lines_text (nullable_lines (members_from x 0 names)) ≡ []
@@ -160,9 +160,9 @@ unfolding nullable_lines
 nullable_nothing x names none = rw (members_empty x 0 names none) refl
 
 -- all of a set is printed
-pub set_done : (names : List (List ℕ)) (x : Attributes) (before text : List ℕ) (some : Bool) (k : ℕ)
-    → PrintsSet names x before text some k → length names ≤ k → text ++ rest_text some [] ≡ before ++ set_text names x
-set_done names x before text some k prints past =
+pub set_done : (names : List (List ℕ)) (x : Attributes) (before text : List ℕ) (any_written : Bool) (k : ℕ)
+    → PrintsSet names x before text any_written k → length names ≤ k → text ++ rest_text any_written [] ≡ before ++ set_text names x
+set_done names x before text any_written k prints past =
     let none : drop k names ≡ [] = drop_all k names past in
     rw none at prints.same
 

@@ -112,27 +112,31 @@ pub fn add_set(text: &mut Vec<u8>, schema: &Schema, set: AttrSet) -> Result<(), 
     ensures added { OnOk result (text.new.items
         ≡ text.old.items ++ set_text (printed_names_of schema.now) (attributes set)) }
 {
-    let mut some = false;
+    let mut any_written = false;
     for attribute in 0..schema.width() {
         if set.contains(attribute) {
-            add_member(text, some, schema.naming(), schema.name(attribute))?;
-            some = true;
+            add_member(text, any_written, schema.naming(), schema.name(attribute))?;
+            any_written = true;
         }
     }
-    if some { Ok(()) } else { add(text, b"()") }
+    if any_written {
+        Ok(())
+    } else {
+        add(text, b"()")
+    }
 }
 
 /// A name; after a blank where another one stands before it.
 fn add_member(
     text: &mut Vec<u8>,
-    some: bool,
+    any_written: bool,
     naming: Naming,
     name: &Name,
 ) -> Result<(), OutOfMemory>
     ensures added { OnOk result (text.new.items
-        ≡ text.old.items ++ (if some then 32 ∷ spelling naming name.now else spelling naming name.now)) }
+        ≡ text.old.items ++ (if any_written then 32 ∷ spelling naming name.now else spelling naming name.now)) }
 {
-    if some {
+    if any_written {
         add(text, b" ")?;
     }
     add_name(text, naming, name)

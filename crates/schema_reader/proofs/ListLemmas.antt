@@ -39,32 +39,32 @@ pub line_states : (f : Format) (d : Declarations) (r : Rest) (m : Mark) (after :
 line_states f d r m after led states = rw (led.marks, states, led.stop, ← led.line) refl
 
 -- ---- names
-pub names_ended : (f : Format) (column : ColumnType) (d : Declarations) (some : Bool) (r : Rest) → some ≡ true → HasEnded r
-    → list_names_rest f column d some r ≡ Ok d
+pub names_ended : (f : Format) (column : ColumnType) (d : Declarations) (any_name : Bool) (r : Rest) → any_name ≡ true → HasEnded r
+    → list_names_rest f column d any_name r ≡ Ok d
 unfolding list_names
-names_ended f column d some r is ended = rw (is, ended.marks, ended.stop) refl
+names_ended f column d any_name r is ended = rw (is, ended.marks, ended.stop) refl
 
-pub names_wanted : (f : Format) (column : ColumnType) (d : Declarations) (some : Bool) (r : Rest) → some ≡ false → HasEnded r
-    → list_names_rest f column d some r ≡ Err (refusal r.line r.next_column 0 (kind.Expected what.Name))
+pub names_wanted : (f : Format) (column : ColumnType) (d : Declarations) (any_name : Bool) (r : Rest) → any_name ≡ false → HasEnded r
+    → list_names_rest f column d any_name r ≡ Err (refusal r.line r.next_column 0 (kind.Expected what.Name))
 unfolding list_names
-names_wanted f column d some r is ended = rw (is, ended.marks, ended.stop) refl
+names_wanted f column d any_name r is ended = rw (is, ended.marks, ended.stop) refl
 
-pub names_stopped : (f : Format) (column : ColumnType) (d : Declarations) (some : Bool) (r : Rest) (e : SchemaRefusal) → IsStopped r e
-    → list_names_rest f column d some r ≡ Err e
+pub names_stopped : (f : Format) (column : ColumnType) (d : Declarations) (any_name : Bool) (r : Rest) (e : SchemaRefusal) → IsStopped r e
+    → list_names_rest f column d any_name r ≡ Err e
 unfolding list_names
 names_stopped f column d true r e stopped = rw (stopped.marks, stopped.stop, stopped.refusal) refl
 names_stopped f column d false r e stopped = rw (stopped.marks, stopped.stop, stopped.refusal) refl
 
-pub names_refused : (f : Format) (column : ColumnType) (d : Declarations) (some : Bool) (r : Rest) (m : Mark) (after : Rest) (why : SchemaRefusalKind)
-    → IsLed r m after → name_step f column d some m.kind m.word ≡ Err why
-    → list_names_rest f column d some r ≡ Err (refusal r.line m.column m.length why)
+pub names_refused : (f : Format) (column : ColumnType) (d : Declarations) (any_name : Bool) (r : Rest) (m : Mark) (after : Rest) (why : SchemaRefusalKind)
+    → IsLed r m after → name_step f column d any_name m.kind m.word ≡ Err why
+    → list_names_rest f column d any_name r ≡ Err (refusal r.line m.column m.length why)
 unfolding list_names
 names_refused f column d true r m after why led refused = rw (led.marks, refused) refl
 names_refused f column d false r m after why led refused = rw (led.marks, refused) refl
 
-pub names_more : (f : Format) (column : ColumnType) (d : Declarations) (some : Bool) (r : Rest) (m : Mark) (after : Rest) (next : Declarations)
-    → IsLed r m after → name_step f column d some m.kind m.word ≡ Ok next
-    → list_names_rest f column d some r ≡ list_names_rest f column next true after
+pub names_more : (f : Format) (column : ColumnType) (d : Declarations) (any_name : Bool) (r : Rest) (m : Mark) (after : Rest) (next : Declarations)
+    → IsLed r m after → name_step f column d any_name m.kind m.word ≡ Ok next
+    → list_names_rest f column d any_name r ≡ list_names_rest f column next true after
 unfolding list_names
 names_more f column d true r m after next led taken = rw (led.marks, taken, led.stop, led.line, led.column) refl
 names_more f column d false r m after next led taken = rw (led.marks, taken, led.stop, led.line, led.column) refl

@@ -19,7 +19,7 @@ use Rattle.tokens.specs.Views.{HasEnded, IsStopped, IsLed}
 pub record Reads (f : Format) (first : ℕ) (text : List ℕ) (d : Declarations) (number : ℕ) (rest : List ℕ) : Type 0 where
   pub same : read_lines f first no_declaration (line_texts text) ≡ read_lines f number d (line_texts rest)
   pub sound : IsSound f d
-  pub few : length d.names ≤ MOST_ATTRIBUTES
+  pub within_limit : length d.names ≤ MOST_ATTRIBUTES
   pub room : number + length rest < 2 ^ 31
 
 -- only lines without tokens stand before what is left

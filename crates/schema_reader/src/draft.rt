@@ -81,12 +81,12 @@ impl Draft {
             (list_names_rest format column.now (declarations_of_draft self.old) false
             (rest_of start.entry))) }
     {
-        let mut some = false;
+        let mut any_name = false;
         let mut rest = start;
         'names: loop {
             match rest.next() {
                 NextToken::End => {
-                    return if some {
+                    return if any_name {
                         Ok(())
                     } else {
                         Err(Failure::Refused(rest.refusal_of_end(What::Name)))
@@ -94,13 +94,13 @@ impl Draft {
                 }
                 NextToken::Refusal(refusal) => return Err(Failure::Refused(refusal)),
                 NextToken::Token(token, word, after) => {
-                    match self.name_step(format, column, some, token.kind, &word) {
+                    match self.name_step(format, column, any_name, token.kind, &word) {
                         Err(Failure::Refused(kind)) => {
                             return Err(Failure::Refused(rest.refusal_of(token, kind)));
                         }
                         Err(Failure::OutOfMemory) => return Err(Failure::OutOfMemory),
                         Ok(()) => {
-                            some = true;
+                            any_name = true;
                             rest = after;
                         }
                     }
@@ -109,31 +109,31 @@ impl Draft {
         }
     }
 
-    /// Takes one token after a declaring word; `some` is whether a name stood before.
+    /// Takes one token after a declaring word; `any_name` is whether a name stood before.
     #[tactic(auto, using(dep_model::proofs::NameLemmas::bare_name_is_name))]
     fn name_step(
         &mut self,
         format: Format,
         column: &ColumnType,
-        some: bool,
+        any_name: bool,
         kind: TokenKind,
         word: &Word<'_>,
     ) -> Result<(), Failure<SchemaRefusalKind>>
         requires bare { kind ≡ TokenKind.Identifier → is_bare_name (bytes_of word.now) ≡ true }
         requires name { kind ≡ TokenKind.Quoted → IsName (bytes_of word.now) }
         ensures ok { OnOk result (name_step format column.now
-            (declarations_of_draft self.old) some kind (bytes_of word.now)
+            (declarations_of_draft self.old) any_name kind (bytes_of word.now)
             ≡ Ok (declarations_of_draft self.new)) }
         ensures err { IfErr result
             (λ failure. Refuses failure (name_step format column.now
-            (declarations_of_draft self.old) some kind (bytes_of word.now))) }
+            (declarations_of_draft self.old) any_name kind (bytes_of word.now))) }
     {
         match kind {
             TokenKind::Identifier | TokenKind::Quoted => {
                 self.declare(format, column, kind, word.bytes())
             }
             _ => {
-                let want = if some { What::LineEnd } else { What::Name };
+                let want = if any_name { What::LineEnd } else { What::Name };
                 Err(Failure::Refused(SchemaRefusalKind::Expected(want)))
             }
         }

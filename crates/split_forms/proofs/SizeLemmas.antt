@@ -17,7 +17,7 @@ use Rattle.split_forms.specs.Lists.{IsSplitStep, ReachedIn}
 -- ---- the schemes of a list lie within the universe and are not empty
 pub record IsProper (n : ℕ) (scheme : Attributes) : Type 0 where
   pub within : IsSubset scheme (below n)
-  pub some : IsEmpty scheme → ⊥
+  pub not_empty : IsEmpty scheme → ⊥
 
 module _ (n : ℕ) (ds : List Dependency) (scheme x y : Attributes) (proper : IsProper n scheme)
     (cut : IsCut n ds scheme x y) where
@@ -27,13 +27,13 @@ module _ (n : ℕ) (ds : List Dependency) (scheme x y : Attributes) (proper : Is
   pub one_proper : IsProper n (union x y)
   one_proper = record {
     within = λ k m. proper.within k (one_within k m);
-    some = λ none. true≢false (sym (grind (arith, cut.some.2)) ∙ none cut.some.0);
+    not_empty = λ none. true≢false (sym (grind (arith, cut.not_empty.2)) ∙ none cut.not_empty.0);
   }
 
   pub other_proper : IsProper n (difference scheme y)
   other_proper = record {
     within = λ k m. proper.within k (grind (arith, m));
-    some = λ none. true≢false (sym (grind (arith, cut.rest.1, cut.rest.2)) ∙ none cut.rest.0);
+    not_empty = λ none. true≢false (sym (grind (arith, cut.rest.1, cut.rest.2)) ∙ none cut.rest.0);
   }
 
   low : (k : ℕ) → scheme k ≡ true → k < n
@@ -44,14 +44,14 @@ module _ (n : ℕ) (ds : List Dependency) (scheme x y : Attributes) (proper : Is
       (grind (arith, cut.rest.2)) cut.rest.1
 
   pub other_smaller : count_below (difference scheme y) n < count_below scheme n
-  other_smaller = count_below-lt n (difference scheme y) scheme cut.some.0 (λ k m. grind (arith, m))
-      (low cut.some.0 cut.some.1) (grind (arith, cut.some.2)) cut.some.1
+  other_smaller = count_below-lt n (difference scheme y) scheme cut.not_empty.0 (λ k m. grind (arith, m))
+      (low cut.not_empty.0 cut.not_empty.1) (grind (arith, cut.not_empty.2)) cut.not_empty.1
 
 pub proper_count : (n : ℕ) (scheme : Attributes) → IsProper n scheme → 0 < count_below scheme n
 proper_count n scheme proper =
     ⊎_elim
     (λ found. count_below-pos n scheme found.0 found.1 found.2)
-    (λ (none : IsEmpty scheme). absurd (proper.some none))
+    (λ (none : IsEmpty scheme). absurd (proper.not_empty none))
     (tell_empty n scheme proper.within)
 
 -- ---- the bound
@@ -139,38 +139,38 @@ module _ (n : ℕ) (ds : List Dependency) (Whole : Attributes → Type 0) (Cut :
 
   -- of the reached lists
   pub reached_proper : 0 < n → (count : ℕ) (l : List Attributes) → ReachedIn n Whole Cut count l → All (IsProper n) l
-  reached_proper some zero l p =
+  reached_proper not_empty zero l p =
       subst (λ (s : List Attributes). All (IsProper n) s) (sym p)
       (All-cons (IsProper n) (below n) [] universe (All-nil (IsProper n)))
     where
       universe : IsProper n (below n)
       universe = record {
         within = λ k m. m;
-        some = λ none. true≢false (sym (lt-ltb 0 n some) ∙ none 0);
+        not_empty = λ none. true≢false (sym (lt-ltb 0 n not_empty) ∙ none 0);
       }
-  reached_proper some (suc count) l p = step_proper p.0 l (reached_proper some count p.0 p.1) p.2
+  reached_proper not_empty (suc count) l p = step_proper p.0 l (reached_proper not_empty count p.0 p.1) p.2
 
   pub reached_most : 0 < n → (count : ℕ) (l : List Attributes) → ReachedIn n Whole Cut count l → most_schemes n l ≤ 2 ^ (n - 1)
   unfolding most_schemes
-  reached_most some zero l p =
+  reached_most not_empty zero l p =
       omega (
         arith,
         ap (λ (s : List Attributes). most_schemes n s) p,
         ap (λ (m : ℕ). 2 ^ (m - 1))
             (count_below-below n n (omega arith)),
       )
-  reached_most some (suc count) l p =
-      omega (arith, reached_most some count p.0 p.1, step_most p.0 l (reached_proper some count p.0 p.1) p.2)
+  reached_most not_empty (suc count) l p =
+      omega (arith, reached_most not_empty count p.0 p.1, step_most p.0 l (reached_proper not_empty count p.0 p.1) p.2)
 
-  pub reached_few : 0 < n → (count : ℕ) (l : List Attributes) → ReachedIn n Whole Cut count l → length l ≤ 2 ^ (n - 1)
-  reached_few some count l p = omega (arith, most_schemes-length n l, reached_most some count l p)
+  pub reached_within_limit : 0 < n → (count : ℕ) (l : List Attributes) → ReachedIn n Whole Cut count l → length l ≤ 2 ^ (n - 1)
+  reached_within_limit not_empty count l p = omega (arith, most_schemes-length n l, reached_most not_empty count l p)
 
   -- and they are lossless
   pub reached_lossless : 0 < n → (count : ℕ) (l : List Attributes) → ReachedIn n Whole Cut count l → IsLossless n ds l
-  reached_lossless some zero l p = subst (λ (s : List Attributes). IsLossless n ds s) (sym p) (whole_lossless n ds)
-  reached_lossless some (suc count) l p =
+  reached_lossless not_empty zero l p = subst (λ (s : List Attributes). IsLossless n ds s) (sym p) (whole_lossless n ds)
+  reached_lossless not_empty (suc count) l p =
       let step = p.2 in
-      let cut = halves p.0 l (reached_proper some count p.0 p.1) step in
+      let cut = halves p.0 l (reached_proper not_empty count p.0 p.1) step in
       subst (λ (s : List Attributes). IsLossless n ds s) (sym step.replaced)
       (split_lossless n ds step.earlier step.later step.scheme step.x step.y cut.implied cut.apart
-      (subst (λ (s : List Attributes). IsLossless n ds s) step.list (reached_lossless some count p.0 p.1)))
+      (subst (λ (s : List Attributes). IsLossless n ds s) step.list (reached_lossless not_empty count p.0 p.1)))

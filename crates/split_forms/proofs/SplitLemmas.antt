@@ -15,7 +15,7 @@ use Rattle.split_forms.specs.Lists.{IsSplitStep, ReachedIn}
 use Rattle.split_forms.specs.Splitting.{StaysWhole, IsCutBy, IsStuckScheme, ReachedList, FinishedList, IsStuckAt, IsTooWideAt, HasTooManySchemes}
 use Rattle.normal_forms.proofs.UniqueLemmas.{one_chosen, one_visible}
 use Rattle.normal_forms.proofs.ViolationLemmas.{violation_cut, not_in_form}
-use Rattle.split_forms.proofs.SizeLemmas.{IsProper, All-append_right, reached_proper, reached_few, reached_lossless}
+use Rattle.split_forms.proofs.SizeLemmas.{IsProper, All-append_right, reached_proper, reached_within_limit, reached_lossless}
 use Rattle.split_forms.proofs.StepLemmas.{split_at_first-unique, one_successor, whole_is_last, stuck_is_last, last_reached, same_last, reached_length}
 
 -- a given left side that violates the form is one of those of which none does
@@ -58,7 +58,7 @@ one_cut n ds form scheme x y v w proper p q =
     p
 
 -- ---- the reached lists
-module _ (n : ℕ) (ds : List Dependency) (form : Form) (some : 0 < n) (split : form ≡ Third → ⊥) where
+module _ (n : ℕ) (ds : List Dependency) (form : Form) (not_empty : 0 < n) (split : form ≡ Third → ⊥) where
   abbrev Whole : Attributes → Type 0
   Whole = StaysWhole n ds form
 
@@ -69,13 +69,13 @@ module _ (n : ℕ) (ds : List Dependency) (form : Form) (some : 0 < n) (split : 
   parts s x y proper cut = violation_cut n ds form s x y proper.within split (cut_violates n ds form s x y cut)
 
   pub lists_proper : (l : List Attributes) → ReachedList n ds form l → All (IsProper n) l
-  lists_proper l reached = reached_proper n ds Whole Cut parts some reached.0 l reached.1
+  lists_proper l reached = reached_proper n ds Whole Cut parts not_empty reached.0 l reached.1
 
   pub lists_lossless : (l : List Attributes) → ReachedList n ds form l → IsLossless n ds l
-  lists_lossless l reached = reached_lossless n ds Whole Cut parts some reached.0 l reached.1
+  lists_lossless l reached = reached_lossless n ds Whole Cut parts not_empty reached.0 l reached.1
 
   pub lists_short : (l : List Attributes) → ReachedList n ds form l → length l ≤ 2 ^ (n - 1)
-  lists_short l reached = reached_few n ds Whole Cut parts some reached.0 l reached.1
+  lists_short l reached = reached_within_limit n ds Whole Cut parts not_empty reached.0 l reached.1
 
   pub too_many_short : (limit : ℕ) → HasTooManySchemes n ds form limit → limit < 2 ^ (n - 1)
   too_many_short limit many = omega (arith, many.many, lists_short many.schemes many.reached)
@@ -102,9 +102,9 @@ module _ (n : ℕ) (ds : List Dependency) (form : Form) (some : 0 < n) (split : 
   proper_at count l p = lists_proper l (count, p)
 
   -- what has no successor and so many schemes at most leaves none with more
-  last_few : (l : List Attributes) (limit : ℕ) → ReachedList n ds form l
+  last_within_limit : (l : List Attributes) (limit : ℕ) → ReachedList n ds form l
       → ((a : List Attributes) → IsSplitStep Whole Cut l a → ⊥) → length l ≤ limit → HasTooManySchemes n ds form limit → ⊥
-  last_few l limit reached none few many =
+  last_within_limit l limit reached none within_limit many =
       let more = many.reached in
       let before : more.0 ≤ reached.0 =
       last_reached n Whole Cut (cut_not_whole n ds form) (one_cut n ds form) proper_at reached.0 l reached.1 none
@@ -112,21 +112,21 @@ module _ (n : ℕ) (ds : List Dependency) (form : Form) (some : 0 < n) (split : 
       absurd (omega (
         arith,
         before,
-        few,
+        within_limit,
         many.many,
         reached_length Whole Cut n reached.0 l reached.1,
         reached_length
             Whole Cut n more.0 many.schemes more.1,
       ))
 
-  pub finished_few : (l : List Attributes) (limit : ℕ) → FinishedList n ds form l → length l ≤ limit
+  pub finished_within_limit : (l : List Attributes) (limit : ℕ) → FinishedList n ds form l → length l ≤ limit
       → HasTooManySchemes n ds form limit → ⊥
-  finished_few l limit finished few many = last_few l limit finished.reached (λ a. finished_last l a finished) few many
+  finished_within_limit l limit finished within_limit many = last_within_limit l limit finished.reached (λ a. finished_last l a finished) within_limit many
 
-  pub stuck_few : (limit : ℕ) (scheme : Attributes) → IsTooWideAt n ds form limit scheme → HasTooManySchemes n ds form limit → ⊥
-  stuck_few limit scheme wide many =
-      last_few wide.schemes limit wide.reached (λ a. stuck_last wide.schemes a scheme wide.reached wide.stuck)
-      wide.few many
+  pub stuck_within_limit : (limit : ℕ) (scheme : Attributes) → IsTooWideAt n ds form limit scheme → HasTooManySchemes n ds form limit → ⊥
+  stuck_within_limit limit scheme wide many =
+      last_within_limit wide.schemes limit wide.reached (λ a. stuck_last wide.schemes a scheme wide.reached wide.stuck)
+      wide.within_limit many
 
   -- a finished list is not stuck
   pub finished_not_stuck : (l : List Attributes) (limit : ℕ) (scheme : Attributes) → FinishedList n ds form l

@@ -149,8 +149,8 @@ module _ (n : ℕ) (ds : List Dependency) (form : Form) where
       next_length = omega (arith, length-map xs attributes, step_length Whole (IsCutBy n ds form) (schemes_of xs) after next_step)
 
       pub walk_many : (limit : ℕ) → length xs ≤ limit → limit ≤ length xs → HasTooManySchemes n ds form limit
-      walk_many limit few many =
-          record { schemes = after; reached = next_reached; many = omega (arith, next_length, few, many) }
+      walk_many limit within_limit many =
+          record { schemes = after; reached = next_reached; many = omega (arith, next_length, within_limit, many) }
 
       pub walk_cut : (ys : List AttrSet)
           → ((e l : List Attributes) (s : Attributes) → length e ≡ at → schemes_of xs ≡ e ++ s ∷ l
@@ -173,17 +173,17 @@ module _ (n : ℕ) (ds : List Dependency) (form : Form) where
     -- it is stuck
     pub walk_stuck : (limit : ℕ) → length xs ≤ limit → IsStuckScheme n ds form (attributes scheme)
         → IsTooWideAt n ds form limit (attributes scheme)
-    walk_stuck limit few stuck = record {
+    walk_stuck limit within_limit stuck = record {
       schemes = schemes_of xs;
       reached = walked.reached;
-      few = omega (arith, few, length-map xs attributes);
+      within_limit = omega (arith, within_limit, length-map xs attributes);
       stuck = record { earlier = earlier; later = later; list = list; whole = walked.whole; stuck = stuck };
     }
 
     pub walk_within : 0 < n → (form ≡ Third → ⊥) → IsSubset (attributes scheme) (below n)
-    walk_within some split =
+    walk_within not_empty split =
         let proper = All-get_or (IsProper n) (schemes_of xs) at (attributes scheme) long
-        (lists_proper n ds form some split (schemes_of xs) walked.reached) in
+        (lists_proper n ds form not_empty split (schemes_of xs) walked.reached) in
         subst (λ (s : Attributes). IsSubset s (below n)) there proper.within
 
   pub walk_end : (xs : List AttrSet) (at : ℕ) → length xs ≤ at → IsWalkedTo xs at
@@ -197,10 +197,10 @@ module _ (n : ℕ) (ds : List Dependency) (form : Form) where
 -- a reached list is a plan
 pub reached_plan : (n : ℕ) (ds : List Dependency) (form : Form) (l : List Attributes) → 0 < n → (form ≡ Third → ⊥)
     → ReachedList n ds form l → IsPlan n l
-reached_plan n ds form l some split reached =
-    let proper = lists_proper n ds form some split l reached in
+reached_plan n ds form l not_empty split reached =
+    let proper = lists_proper n ds form not_empty split l reached in
     record {
       within = All-weaker (IsProper n) (λ (s : Attributes). IsSubset s (below n)) (λ s is. is.within) l proper;
-      some = All-weaker (IsProper n) (λ (s : Attributes). IsEmpty s → ⊥) (λ s is. is.some) l proper;
-      covers = (lists_lossless n ds form some split l reached).covers;
+      not_empty = All-weaker (IsProper n) (λ (s : Attributes). IsEmpty s → ⊥) (λ s is. is.not_empty) l proper;
+      covers = (lists_lossless n ds form not_empty split l reached).covers;
     }

@@ -16,7 +16,7 @@ IsNeverTooWide n ds form limit = (scheme : Attributes) → IsTooWideAt n ds form
 -- no reached list is stuck, or longer than the limit
 pub record IsWithinLimits (n : ℕ) (ds : List Dependency) (form : Form) (limit : ℕ) : Type 0 where
   pub narrow : IsNeverTooWide n ds form limit
-  pub few : HasTooManySchemes n ds form limit → ⊥
+  pub within_limit : HasTooManySchemes n ds form limit → ⊥
 
 -- why a universe is not split: exactly one of the two causes holds
 abbrev pub IsRefusedSplit : ℕ → List Dependency → Form → ℕ → SplitRefusal → Type 0

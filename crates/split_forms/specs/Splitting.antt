@@ -54,7 +54,7 @@ pub record IsTooWideAt (n : ℕ) (ds : List Dependency) (form : Form) (limit : �
     : Type 0 where
   pub schemes : List Attributes
   pub reached : ReachedList n ds form schemes
-  pub few : length schemes ≤ limit
+  pub within_limit : length schemes ≤ limit
   pub stuck : IsStuckAt n ds form schemes scheme
 
 -- a reached list has one scheme more than so many

@@ -3,22 +3,22 @@ use Rattle.std.proofs.Common.{◌≡◌, ◌<◌, ◌+◌, ℕ, zero, suc, Bool,
 use Rattle.std.specs.Prelude.{if◌then◌else◌, nat_lt}
 use Rattle.std.proofs.lemmas.Bool.Decides.{nat_tests}
 use Rattle.std.proofs.lemmas.List.{take_more, flat_map_more}
-use Rattle.sql_names.specs.Names.{separator, comma_list, has_some}
+use Rattle.sql_names.specs.Names.{separator, comma_list, is_not_empty}
 
 pub comma_list-push : {X : Type 0} (text : X → List ℕ) (xs : List X) (x : X)
-    → comma_list text (xs ++ x ∷ []) ≡ comma_list text xs ++ (if has_some xs then separator ++ text x else text x)
+    → comma_list text (xs ++ x ∷ []) ≡ comma_list text xs ++ (if is_not_empty xs then separator ++ text x else text x)
 comma_list-push text [] x = append-nil (text x)
 comma_list-push text (y ∷ xs) x = sym (flat_map_more (λ z. separator ++ text z) (text y) xs x)
 
-pub some_pushed : {X : Type 0} (xs : List X) (x : X) → has_some (xs ++ x ∷ []) ≡ true
-some_pushed [] x = refl
-some_pushed (y ∷ xs) x = refl
+pub not_empty_pushed : {X : Type 0} (xs : List X) (x : X) → is_not_empty (xs ++ x ∷ []) ≡ true
+not_empty_pushed [] x = refl
+not_empty_pushed (y ∷ xs) x = refl
 
 -- there are items before each position but the first
-pub some_before : {X : Type 0} (xs : List X) (n : ℕ) → n < length xs → has_some (take n xs) ≡ nat_lt 0 n
-some_before xs zero lt = refl
-some_before [] (suc n) lt = absurd (omega (arith, lt))
-some_before (x ∷ xs) (suc n) lt = let some : nat_lt 0 (suc n) ≡ true = grind (arith, nat_tests) in sym some
+pub not_empty_before : {X : Type 0} (xs : List X) (n : ℕ) → n < length xs → is_not_empty (take n xs) ≡ nat_lt 0 n
+not_empty_before xs zero lt = refl
+not_empty_before [] (suc n) lt = absurd (omega (arith, lt))
+not_empty_before (x ∷ xs) (suc n) lt = let not_empty : nat_lt 0 (suc n) ≡ true = grind (arith, nat_tests) in sym not_empty
 
 -- two parts are added
 pub append_two : (old a b mid new : List ℕ) → mid ≡ old ++ a → new ≡ mid ++ b → new ≡ old ++ (a ++ b)
@@ -34,6 +34,6 @@ listed_next text xs i x d old before after piece within is before_is piece_is af
     ∙ ap (λ (p : List ℕ). old ++ (comma_list text (take i xs) ++ (if nat_lt 0 i then separator ++ p else p)))
     (piece_is ∙ ap text is)
     ∙ ap (λ (b : Bool). old ++ (comma_list text (take i xs)
-    ++ (if b then separator ++ text (get_or xs i d) else text (get_or xs i d)))) (sym (some_before xs i within))
+    ++ (if b then separator ++ text (get_or xs i d) else text (get_or xs i d)))) (sym (not_empty_before xs i within))
     ∙ ap (λ (t : List ℕ). old ++ t) (sym (comma_list-push text (take i xs) (get_or xs i d)))
     ∙ ap (λ ys. old ++ comma_list text ys) (sym (take_more xs i d within))

@@ -8,8 +8,8 @@ use Rattle.attr_sets.specs.Attributes.{Attributes}
 use Rattle.dep_model.specs.declared.schema.Schema.{Schema}
 use Rattle.dep_model.specs.Schemas.{names_of}
 use Rattle.schema_printer.specs.Printing.{members_from}
-use Rattle.sql_names.specs.Names.{separator, comma_list, quoted_name, has_some}
-use Rattle.sql_names.proofs.ListLemmas.{comma_list-push, some_pushed, append_two}
+use Rattle.sql_names.specs.Names.{separator, comma_list, quoted_name, is_not_empty}
+use Rattle.sql_names.proofs.ListLemmas.{comma_list-push, not_empty_pushed, append_two}
 
 -- ---- the names of a set's members
 members_append : (x : Attributes) (k : ℕ) (names more : List (List ℕ))
@@ -53,21 +53,21 @@ or_true true = refl
 or_true false = refl
 
 -- a name more
-pub comma_list-next : (xs : List (List ℕ)) (x name : List ℕ) (some : Bool) (before text next : List ℕ)
-    → text ≡ before ++ comma_list quoted_name xs → some ≡ has_some xs → x ≡ name
-    → next ≡ text ++ (if some then separator ++ quoted_name name else quoted_name name)
+pub comma_list-next : (xs : List (List ℕ)) (x name : List ℕ) (any_written : Bool) (before text next : List ℕ)
+    → text ≡ before ++ comma_list quoted_name xs → any_written ≡ is_not_empty xs → x ≡ name
+    → next ≡ text ++ (if any_written then separator ++ quoted_name name else quoted_name name)
     → next ≡ before ++ comma_list quoted_name (xs ++ x ∷ [])
-comma_list-next xs x name some before text next so_far is_some is added =
-    append_two before (comma_list quoted_name xs) (if some then separator ++ quoted_name name else quoted_name name) text next
+comma_list-next xs x name any_written before text next so_far is_some is added =
+    append_two before (comma_list quoted_name xs) (if any_written then separator ++ quoted_name name else quoted_name name) text next
     so_far added
     ∙ ap (λ (b : Bool). before ++ (comma_list quoted_name xs ++
     (if b then separator ++ quoted_name name else quoted_name name))) is_some
     ∙ ap (λ (n : List ℕ). before ++ (comma_list quoted_name xs ++
-    (if has_some xs then separator ++ quoted_name n else quoted_name n))) (sym is)
+    (if is_not_empty xs then separator ++ quoted_name n else quoted_name n))) (sym is)
     ∙ ap (λ (t : List ℕ). before ++ t) (sym (comma_list-push quoted_name xs x))
 
-pub some_more : (first : Bool) (xs : List (List ℕ)) (x : List ℕ) → true ≡ (first || has_some (xs ++ x ∷ []))
-some_more first xs x = sym (ap (λ (b : Bool). first || b) (some_pushed xs x) ∙ or_true first)
+pub not_empty_more : (first : Bool) (xs : List (List ℕ)) (x : List ℕ) → true ≡ (first || is_not_empty (xs ++ x ∷ []))
+not_empty_more first xs x = sym (ap (λ (b : Bool). first || b) (not_empty_pushed xs x) ∙ or_true first)
 
 pub name_is : (s : Schema) (k : ℕ) (name : List ℕ) → slice_get (names_of s) k ≡ Some name
     → get_or (names_of s) k [] ≡ name

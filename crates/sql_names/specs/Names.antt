@@ -16,9 +16,9 @@ comma_list text [] = []
 comma_list text (x ∷ xs) = text x ++ flat_map (λ y. separator ++ text y) xs
 
 -- whether a list has an item
-abbrev pub has_some : {X : Type 0} → List X → Bool
-has_some [] = false
-has_some (x ∷ xs) = true
+abbrev pub is_not_empty : {X : Type 0} → List X → Bool
+is_not_empty [] = false
+is_not_empty (x ∷ xs) = true
 
 -- a name in double quotes
 abbrev pub quoted_name : List ℕ → List ℕ

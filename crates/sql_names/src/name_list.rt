@@ -11,11 +11,11 @@ pub fn add_name_list(text: &mut Vec<u8>, schema: &Schema, set: AttrSet) -> Resul
     ensures added { OnOk result (text.new.items ≡ text.old.items
         ++ name_list schema.now (attributes set)) }
 {
-    let mut some = false;
+    let mut any_written = false;
     for attribute in 0..schema.width() {
         if set.contains(attribute) {
-            add_listed_name(text, some, schema.name(attribute))?;
-            some = true;
+            add_listed_name(text, any_written, schema.name(attribute))?;
+            any_written = true;
         }
     }
     Ok(())
@@ -32,22 +32,22 @@ pub fn add_names(text: &mut Vec<u8>, names: &[Name]) -> Result<(), OutOfMemory>
 }
 
 // Adds a quoted name; after a comma and a blank where another one stands before it.
-fn add_listed_name(text: &mut Vec<u8>, some: bool, name: &Name) -> Result<(), OutOfMemory>
+fn add_listed_name(text: &mut Vec<u8>, any_written: bool, name: &Name) -> Result<(), OutOfMemory>
     ensures added { OnOk result (text.new.items
-        ≡ text.old.items ++ (if some then separator ++ quoted_name name.now else quoted_name name.now)) }
+        ≡ text.old.items ++ (if any_written then separator ++ quoted_name name.now else quoted_name name.now)) }
 {
-    if some {
+    if any_written {
         add(text, b", ")?;
     }
     add_quoted(text, name)
 }
 
 /// Adds an item; after a comma and a blank where another one stands before it.
-pub fn add_listed(text: &mut Vec<u8>, some: bool, item: &[u8]) -> Result<(), OutOfMemory>
+pub fn add_listed(text: &mut Vec<u8>, any_written: bool, item: &[u8]) -> Result<(), OutOfMemory>
     ensures added { OnOk result (text.new.items
-        ≡ text.old.items ++ (if some then separator ++ item.now else item.now)) }
+        ≡ text.old.items ++ (if any_written then separator ++ item.now else item.now)) }
 {
-    if some {
+    if any_written {
         add(text, b", ")?;
     }
     add(text, item)

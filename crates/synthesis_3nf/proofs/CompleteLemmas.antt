@@ -33,7 +33,7 @@ use Rattle.synthesis_3nf.proofs.LosslessLemmas.{lossless, keeps}
 -- what is proved of the schemes before contained ones are dropped
 pub record IsSynthesized (n : ℕ) (ds cover : List Dependency) (plan : List Attributes) : Type 0 where
   pub within : (scheme : Attributes) → Contains plan scheme → IsSubset scheme (below n)
-  pub some : (scheme : Attributes) → Contains plan scheme → IsEmpty scheme → ⊥
+  pub not_empty : (scheme : Attributes) → Contains plan scheme → IsEmpty scheme → ⊥
   pub third : (scheme : Attributes) → Contains plan scheme → IsThird n ds scheme
   pub held : AreHeld cover plan
   pub holder : Attributes
@@ -42,29 +42,29 @@ pub record IsSynthesized (n : ℕ) (ds cover : List Dependency) (plan : List Att
 all_single : (cover : List Dependency) → All IsSingle cover → All (λ d. is_fd d ≡ true) cover
 all_single cover single = All-weaker IsSingle (λ (d : Dependency). is_fd d ≡ true) (λ d one. subst (λ (e : Dependency). is_fd e ≡ true) (sym one.2) refl) cover single
 
-module _ (n : ℕ) (ds cover : List Dependency) (few : n ≤ MOST_ATTRIBUTES) (some_attributes : 0 < n) (minimal : IsMinimalCover n ds cover) (within : All (IsWithin (below n)) cover) where
+module _ (n : ℕ) (ds cover : List Dependency) (within_limit : n ≤ MOST_ATTRIBUTES) (attributes_not_empty : 0 < n) (minimal : IsMinimalCover n ds cover) (within : All (IsWithin (below n)) cover) where
   functional : functional_part cover ≡ cover
   functional = functional_same cover (all_single cover minimal.single)
 
   -- the schemes of the groups alone
   group_within : (scheme : Attributes) → Contains (schemes_of_groups cover) scheme → IsSubset scheme (below n)
-  group_within scheme has = (groups_are n few cover minimal.single within scheme has).2
+  group_within scheme has = (groups_are n within_limit cover minimal.single within scheme has).2
 
-  group_some : (scheme : Attributes) → Contains (schemes_of_groups cover) scheme → IsEmpty scheme → ⊥
-  group_some scheme has empty =
-      let group = (groups_are n few cover minimal.single within scheme has).1 in
-      true≢false (sym group.some.1 ∙ empty group.first)
+  group_not_empty : (scheme : Attributes) → Contains (schemes_of_groups cover) scheme → IsEmpty scheme → ⊥
+  group_not_empty scheme has empty =
+      let group = (groups_are n within_limit cover minimal.single within scheme has).1 in
+      true≢false (sym group.not_empty.1 ∙ empty group.first)
 
   groups_third : (scheme : Attributes) → Contains (schemes_of_groups cover) scheme → IsThird n ds scheme
   groups_third scheme has =
-      let group = groups_are n few cover minimal.single within scheme has in
+      let group = groups_are n within_limit cover minimal.single within scheme has in
       group_third n ds cover minimal within functional group.0 scheme group.2 group.1
 
   -- where no group's scheme is a superkey, no key is empty
-  key_some : (key : Attributes) → IsSubset key (below n) → Implies n (functional_part ds) (fd key (below n)) → (HoldSuperkey n ds (schemes_of_groups cover) → ⊥) → IsEmpty key → ⊥
-  key_some key key_in determines none empty =
-      let found = lead_from_superkey n cover key 0 within functional key_in (part_implied n ds cover minimal within functional (fd key (below n)) determines) some_attributes (empty 0) in
-      let group = groups_hold n few cover minimal.single within found.0 found.1 in
+  key_not_empty : (key : Attributes) → IsSubset key (below n) → Implies n (functional_part ds) (fd key (below n)) → (HoldSuperkey n ds (schemes_of_groups cover) → ⊥) → IsEmpty key → ⊥
+  key_not_empty key key_in determines none empty =
+      let found = lead_from_superkey n cover key 0 within functional key_in (part_implied n ds cover minimal within functional (fd key (below n)) determines) attributes_not_empty (empty 0) in
+      let group = groups_hold n within_limit cover minimal.single within found.0 found.1 in
       let nothing : IsSubset key group.0 = λ (k : ℕ) m. absurd (true≢false (sym m ∙ empty k)) in
       none (Any-from (λ (scheme : Attributes). IsSuperkey n (functional_part ds) (below n) scheme) (schemes_of_groups cover) group.0 group.1
       (superkey-from n (functional_part ds) (below n) group.0 (group_within group.0 group.1)
@@ -73,9 +73,9 @@ module _ (n : ℕ) (ds cover : List Dependency) (few : n ≤ MOST_ATTRIBUTES) (s
   of_groups : HoldSuperkey n ds (schemes_of_groups cover) → IsSynthesized n ds cover (schemes_of_groups cover)
   of_groups holds = record {
     within = group_within;
-    some = group_some;
+    not_empty = group_not_empty;
     third = groups_third;
-    held = groups_hold n few cover minimal.single within;
+    held = groups_hold n within_limit cover minimal.single within;
     holder = holds.1;
     determines = ((holds.0, holds.2, holds.3), fd_on-to n (functional_part ds) (below n) holds.1 (below n) holds.4);
   }
@@ -87,10 +87,10 @@ module _ (n : ℕ) (ds cover : List Dependency) (few : n ≤ MOST_ATTRIBUTES) (s
       let groups = schemes_of_groups cover in
       record {
         within = λ scheme has. ⊎_elim (λ old. group_within scheme old) (λ new. subst (λ (s : Attributes). IsSubset s (below n)) new greedy.within) (Contains-push_cases groups key scheme has);
-        some = λ scheme has. ⊎_elim (λ old. group_some scheme old) (λ new. subst (λ (s : Attributes). IsEmpty s → ⊥) new (key_some key greedy.within implied none)) (Contains-push_cases groups key scheme has);
+        not_empty = λ scheme has. ⊎_elim (λ old. group_not_empty scheme old) (λ new. subst (λ (s : Attributes). IsEmpty s → ⊥) new (key_not_empty key greedy.within implied none)) (Contains-push_cases groups key scheme has);
         third = λ scheme has. ⊎_elim (λ old. groups_third scheme old) (λ new. subst (λ (s : Attributes). IsThird n ds s) new (key_third n ds key is)) (Contains-push_cases groups key scheme has);
         held = λ d has.
-            let group = groups_hold n few cover minimal.single within d has in
+            let group = groups_hold n within_limit cover minimal.single within d has in
             (group.0, Contains-append_left groups (key ∷ []) group.0 group.1, group.2);
         holder = key;
         determines = (Contains-push groups key, implied);
@@ -107,26 +107,26 @@ module _ (n : ℕ) (ds cover : List Dependency) (few : n ≤ MOST_ATTRIBUTES) (s
   module _ (plan : List Attributes) (is : IsSynthesized n ds cover plan) where
     pub are_covering : Covers n plan
     are_covering k low =
-        let some : Attributes = λ j. list_any (λ (scheme : Attributes). scheme j) plan in
+        let not_empty : Attributes = λ j. list_any (λ (scheme : Attributes). scheme j) plan in
         ⊎_elim
         (λ has. Any-from_list_any (λ (scheme : Attributes). scheme k) plan has)
         (λ lacks.
-        let some_in : IsSubset some (below n) = λ (j : ℕ) m.
+        let some_in : IsSubset not_empty (below n) = λ (j : ℕ) m.
         let found = any_some (λ (scheme : Attributes). scheme j) plan m in
         is.within found.0 found.1 j found.2 in
-        let implied : Implies n cover (fd some (below n)) =
-        fd_trans n cover some is.holder (below n)
-        (fd_within n cover some is.holder (λ (j : ℕ) m. any_from (λ (scheme : Attributes). scheme j) plan is.holder is.determines.0 m))
+        let implied : Implies n cover (fd not_empty (below n)) =
+        fd_trans n cover not_empty is.holder (below n)
+        (fd_within n cover not_empty is.holder (λ (j : ℕ) m. any_from (λ (scheme : Attributes). scheme j) plan is.holder is.determines.0 m))
         (part_implied n ds cover minimal within functional (fd is.holder (below n)) is.determines.1) in
-        let found = lead_from_superkey n cover some k within functional some_in implied low lacks in
+        let found = lead_from_superkey n cover not_empty k within functional some_in implied low lacks in
         let keeper = is.held found.0 found.1 in
         absurd (found.2.beyond (λ (j : ℕ) m. any_from (λ (scheme : Attributes). scheme j) plan keeper.0 keeper.1 (keeper.2 j (or_right (left_of found.0 j) (right_of found.0 j) m)))))
-        (cases_Bool (some k))
+        (cases_Bool (not_empty k))
 
     pub are_plan : IsPlan n plan
     are_plan = record {
       within = All-weaker (Contains plan) (λ (s : Attributes). IsSubset s (below n)) is.within plan (All-contains_itself plan);
-      some = All-weaker (Contains plan) (λ (s : Attributes). IsEmpty s → ⊥) is.some plan (All-contains_itself plan);
+      not_empty = All-weaker (Contains plan) (λ (s : Attributes). IsEmpty s → ⊥) is.not_empty plan (All-contains_itself plan);
       covers = are_covering;
     }
 

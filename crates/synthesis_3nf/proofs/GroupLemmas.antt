@@ -67,9 +67,9 @@ left_holds earlier (e ∷ later) d has =
     (Contains-cases e later d has)))
     (cases_Bool (list_any (λ y. is_same y (left_of e)) earlier))
 
-module _ (n : ℕ) (few : n ≤ MOST_ATTRIBUTES) (cover : List Dependency) (single : All IsSingle cover) (within : All (IsWithin (below n)) cover) where
+module _ (n : ℕ) (within_limit : n ≤ MOST_ATTRIBUTES) (cover : List Dependency) (single : All IsSingle cover) (within : All (IsWithin (below n)) cover) where
   wide : (x : Attributes) → IsSubset x (below n) → IsSubset x (below MOST_ATTRIBUTES)
-  wide x x_in k m = lt-ltb k MOST_ATTRIBUTES (omega (arith, few, ltb-true k n (x_in k m)))
+  wide x x_in k m = lt-ltb k MOST_ATTRIBUTES (omega (arith, within_limit, ltb-true k n (x_in k m)))
 
   same_left : (x y : Attributes) → IsSubset x (below n) → IsSubset y (below n) → is_same x y ≡ true → x ≡ y
   same_left x y x_in y_in same = is_same-true x y (wide x x_in) (wide y y_in) same
@@ -87,8 +87,8 @@ module _ (n : ℕ) (few : n ≤ MOST_ATTRIBUTES) (cover : List Dependency) (sing
 
   -- a member that gives the scheme of a left side an attribute
   giver : (x : Attributes) (a : ℕ) → list_any (λ d. is_same x (left_of d) && right_of d a) cover ≡ true → (d : Dependency) × Contains cover d × (is_same x (left_of d) ≡ true) × (right_of d a ≡ true)
-  giver x a some =
-      let found = any_some (λ d. is_same x (left_of d) && right_of d a) cover some in
+  giver x a not_empty =
+      let found = any_some (λ d. is_same x (left_of d) && right_of d a) cover not_empty in
       let both = and_parts (is_same x (left_of found.0)) (right_of found.0 a) found.2 in
       (found.0, found.1, both.0, both.1)
 
@@ -111,7 +111,7 @@ module _ (n : ℕ) (few : n ≤ MOST_ATTRIBUTES) (cover : List Dependency) (sing
               member_is x a found.0 found.1 (sym (same_left x (left_of found.0) x_in (left_in found.0 found.1) found.2)) found.3)
               (or_cases (x a) (list_any (λ e. is_same x (left_of e) && right_of e a) cover) in_scheme);
           first = one.1;
-          some = (member_is x one.1 d has left right, given x one.1 d has (is_same-from x (left_of d) (sym left)) right);
+          not_empty = (member_is x one.1 d has left right, given x one.1 d has (is_same-from x (left_of d) (sym left)) right);
         },
         λ k m. ⊎_elim
             (λ own. x_in k own)

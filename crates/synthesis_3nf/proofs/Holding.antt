@@ -10,7 +10,7 @@ pub record IsGroupScheme (cover : List Dependency) (x scheme : Attributes) : Typ
   pub left : IsSubset x scheme
   pub member : (a : ℕ) → scheme a ≡ true → x a ≡ false → Contains cover (fd x (only a))
   pub first : ℕ
-  pub some : Contains cover (fd x (only first)) × (scheme first ≡ true)
+  pub not_empty : Contains cover (fd x (only first)) × (scheme first ≡ true)
 
 -- a dependency lies within a scheme
 abbrev pub LiesIn : Dependency → Attributes → Type 0

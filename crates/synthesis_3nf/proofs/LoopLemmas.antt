@@ -54,7 +54,7 @@ any_of_map f p (x ∷ xs) = ap (λ (b : Bool). p (f x) || b) (any_of_map f p xs)
 
 list_any-schemes_of : (lefts : List AttrSet) (left : AttrSet) (x : Attributes) (b : Bool) → attributes left ≡ x → list_any (λ o. is_same (attributes o) (attributes left)) lefts ≡ b
     → list_any (λ y. is_same y x) (schemes_of lefts) ≡ b
-list_any-schemes_of lefts left x b same told = any_of_map attributes (λ y. is_same y x) lefts ∙ ap (λ (y : Attributes). list_any (λ o. is_same (attributes o) y) lefts) (sym same) ∙ told
+list_any-schemes_of lefts left x b same fact = any_of_map attributes (λ y. is_same y x) lefts ∙ ap (λ (y : Attributes). list_any (λ o. is_same (attributes o) y) lefts) (sym same) ∙ fact
 
 left_sides_after-next : (deps : List Dep) (lefts : List AttrSet) (i : ℕ) (d : Dep) → i < length deps → AreLeftsTo deps lefts i
     → left_sides_after [] (dependencies_of deps) ≡ schemes_of lefts ++ left_sides_after (schemes_of lefts) (dependency_of (get_or deps i d) ∷ dependencies_of (drop (suc i) deps))
@@ -62,21 +62,21 @@ left_sides_after-next deps lefts i d lt before = before ∙ ap (λ (ds : List De
 
 pub lefts_passed : (deps : List Dep) (lefts : List AttrSet) (i next : ℕ) (d : Dep) (left : AttrSet) → next ≡ suc i → i < length deps → AreLeftsTo deps lefts i
     → attributes left ≡ left_of (dependency_of (get_or deps i d)) → list_any (λ o. is_same (attributes o) (attributes left)) lefts ≡ true → AreLeftsTo deps lefts next
-lefts_passed deps lefts i next d left is_next lt before same told =
+lefts_passed deps lefts i next d left is_next lt before same fact =
     let e = dependency_of (get_or deps i d) in
     subst (λ (k : ℕ). AreLeftsTo deps lefts k) (sym is_next)
     (left_sides_after-next deps lefts i d lt before
-    ∙ ap (λ (xs : List Attributes). schemes_of lefts ++ xs) (left_passed (schemes_of lefts) e (dependencies_of (drop (suc i) deps)) (list_any-schemes_of lefts left (left_of e) true same told)))
+    ∙ ap (λ (xs : List Attributes). schemes_of lefts ++ xs) (left_passed (schemes_of lefts) e (dependencies_of (drop (suc i) deps)) (list_any-schemes_of lefts left (left_of e) true same fact)))
 
 pub lefts_added : (deps : List Dep) (lefts : List AttrSet) (i next : ℕ) (d : Dep) (left : AttrSet) → next ≡ suc i → i < length deps → AreLeftsTo deps lefts i
     → attributes left ≡ left_of (dependency_of (get_or deps i d)) → list_any (λ o. is_same (attributes o) (attributes left)) lefts ≡ false → AreLeftsTo deps (lefts ++ left ∷ []) next
-lefts_added deps lefts i next d left is_next lt before same told =
+lefts_added deps lefts i next d left is_next lt before same fact =
     let e = dependency_of (get_or deps i d) in
     let rest = dependencies_of (drop (suc i) deps) in
     let more : schemes_of (lefts ++ left ∷ []) ≡ schemes_of lefts ++ left_of e ∷ [] = map-append attributes lefts (left ∷ []) ∙ ap (λ (y : Attributes). schemes_of lefts ++ y ∷ []) same in
     subst (λ (k : ℕ). AreLeftsTo deps (lefts ++ left ∷ []) k) (sym is_next)
     (left_sides_after-next deps lefts i d lt before
-    ∙ ap (λ (xs : List Attributes). schemes_of lefts ++ xs) (left_added (schemes_of lefts) e rest (list_any-schemes_of lefts left (left_of e) false same told))
+    ∙ ap (λ (xs : List Attributes). schemes_of lefts ++ xs) (left_added (schemes_of lefts) e rest (list_any-schemes_of lefts left (left_of e) false same fact))
     ∙ sym (append_assoc (schemes_of lefts) (left_of e ∷ []) (left_sides_after (schemes_of lefts ++ left_of e ∷ []) rest))
     ∙ ap (λ (xs : List Attributes). xs ++ left_sides_after xs rest) (sym more))
 

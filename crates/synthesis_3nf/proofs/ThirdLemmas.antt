@@ -114,8 +114,8 @@ module _ (n : ℕ) (ds cover : List Dependency) (minimal : IsMinimalCover n ds c
           (λ has. has)
           (λ lacks.
           let a = group.first in
-          let whole = fd_each-to n (functional_part ds) j scheme (fd_on-to n (functional_part ds) scheme j scheme superkey) a group.some.1 in
-          absurd (minimal.short (fd x (only a)) group.some.0 k member
+          let whole = fd_each-to n (functional_part ds) j scheme (fd_on-to n (functional_part ds) scheme j scheme superkey) a group.not_empty.1 in
+          absurd (minimal.short (fd x (only a)) group.not_empty.0 k member
           (fd_trans n (functional_part ds) (difference x (only k)) j (only a)
           (fd_within n (functional_part ds) (difference x (only k)) j (λ (i : ℕ) h. grind (arith, nat_tests, h, inside i, lacks))) whole)))
           (cases_Bool (j k));

@@ -29,15 +29,15 @@ named_low : (names : List (List ℕ)) (column a : ℕ) (before : Attributes) (fi
     (attribute_named names field) ≡ Ok a → a < length names
 named_low names column a before field h = by (attribute_named names field) refl h
   where
-    free : (t : Bool) (b : ℕ) → cond t (Err (refusal.DoubleColumn column)) (Ok b) ≡ Ok a → b ≡ a
-    free true b e = cc
-    free false b e = cc
+    without_double : (t : Bool) (b : ℕ) → cond t (Err (refusal.DoubleColumn column)) (Ok b) ≡ Ok a → b ≡ a
+    without_double true b e = cc
+    without_double false b e = cc
 
     by : (o : Option ℕ) → attribute_named names field ≡ o → column_of column before o ≡ Ok a → a < length names
     by None p e = cc
     by (Some b) p e =
         let at = position-Some (λ (name : List ℕ). same_name name field) names b [] p in
-        subst (λ (k : ℕ). k < length names) (free (before b) b e) at.0
+        subst (λ (k : ℕ). k < length names) (without_double (before b) b e) at.0
 
 bind_ok : {A B : Type 0} (r : Result A RowRefusal) (f : A → Result B RowRefusal) (b : B) → (r >>= f) ≡ Ok b
     → (a : A) × (r ≡ Ok a) × (f a ≡ Ok b)

@@ -36,7 +36,7 @@ length-distinct_tuples-le (t ∷ r) =
 table_back : (s : Schema) (rows : Relation) (number : ℕ) (x : Attributes) → All (λ name. IsTrue (is_bare_name name)) (names_of s)
     → IsOver (width_of s) rows → TypedFor s rows → length rows ≤ MOST_ROWS → 0 < count_below x (width_of s)
     → PartOf s (table_file Csv (table_of s rows number x)).bytes (Ok (ordered_projection x rows))
-table_back s rows number x proper over typed few some =
+table_back s rows number x proper over typed within_limit not_empty =
     let n = width_of s in
     let each : IsOver (count_below x n) (projection x rows) =
     All-map (λ (u : Tuple). length u ≡ count_below x n) (project_tuple x) rows
@@ -44,19 +44,19 @@ table_back s rows number x proper over typed few some =
     let fits : All (Fits s x) (projection x rows) =
     All-map (Fits s x) (project_tuple x) rows
     (λ i d l k inside integer. subst IsIntegerText (sym (value_in-project_tuple x _ k inside)) (typed i d l k integer)) in
-    part_back s x (ordered_projection x rows) proper some
+    part_back s x (ordered_projection x rows) proper not_empty
     (all_distinct (λ (u : Tuple). length u ≡ count_below x n) (projection x rows) each)
     (all_distinct (Fits s x) (projection x rows) fits)
-    (omega (arith, few, length-distinct_tuples-le (projection x rows), length-map rows (project_tuple x)))
+    (omega (arith, within_limit, length-distinct_tuples-le (projection x rows), length-map rows (project_tuple x)))
 
 -- ---- all tables
 pub tables_back : (s : Schema) (rows : Relation) (number : ℕ) (plan : List Attributes)
     → All (λ name. IsTrue (is_bare_name name)) (names_of s) → IsOver (width_of s) rows → TypedFor s rows
     → length rows ≤ MOST_ROWS → All (λ (x : Attributes). 0 < count_below x (width_of s)) plan
     → All (λ (table : TableValue). PartOf s (table_file Csv table).bytes (Ok table.rows)) (tables_from s rows number plan)
-tables_back s rows number [] proper over typed few some = λ i d l. absurd (omega (arith, l))
-tables_back s rows number (x ∷ plan) proper over typed few some =
+tables_back s rows number [] proper over typed within_limit not_empty = λ i d l. absurd (omega (arith, l))
+tables_back s rows number (x ∷ plan) proper over typed within_limit not_empty =
     let Back : TableValue → Type 0 = λ table. PartOf s (table_file Csv table).bytes (Ok table.rows) in
     All-cons Back (table_of s rows number x) (tables_from s rows (number + 1) plan)
-    (table_back s rows number x proper over typed few (some 0 x (omega arith)))
-    (tables_back s rows (number + 1) plan proper over typed few (All-tail (λ (y : Attributes). 0 < count_below y (width_of s)) x plan some))
+    (table_back s rows number x proper over typed within_limit (not_empty 0 x (omega arith)))
+    (tables_back s rows (number + 1) plan proper over typed within_limit (All-tail (λ (y : Attributes). 0 < count_below y (width_of s)) x plan not_empty))

@@ -126,10 +126,10 @@ part_columns_from x before (name ∷ after) differ =
           let none : All (λ b. same_name b name ≡ false) before = λ k d h. other_name before name after k d h differ in
           let position : attribute_named names name ≡ Some m = attribute_named-append before name after none in
           let low : nat_lt m m ≡ false = grind (arith, nat_tests) in
-          let free : with_columns (members_below m x) m ≡ false = named_members x m m ∙ ap (λ (b : Bool). b && x m) low in
+          let unused : with_columns (members_below m x) m ≡ false = named_members x m m ∙ ap (λ (b : Bool). b && x m) low in
           let column : column_of (length (members_below m x) + 1) (with_columns (members_below m x))
           (attribute_named names name) ≡ Ok m =
-          own_column _ m _ _ position free in
+          own_column _ m _ _ position unused in
           ap (λ (b : Bool). columns_from names (members_below m x)
           (if b then name ∷ members_from x (m + 1) after else members_from x (m + 1) after)) inside
           ∙ ap (λ (r : Result ℕ RowRefusal). r >>= (λ a. columns_from names (members_below m x ++ a ∷ [])
@@ -198,10 +198,10 @@ Fits s x t = (k : ℕ) → x k ≡ true → slice_get (types_of s) k ≡ Some In
 
 row_is : (s : Schema) (x : Attributes) (row : ℕ) (t : Tuple) → length t ≡ count_below x (width_of s) → row ≤ MOST_ROWS
     → Fits s x t → RowOf s (members_below (width_of s) x) row t (Ok t)
-row_is s x row t size few typed =
+row_is s x row t size within_limit typed =
     let n = width_of s in
     let ms = members_below n x in (
-      (size ∙ sym (length-members_below n x), few),
+      (size ∙ sym (length-members_below n x), within_limit),
       tuple_is n x t size,
       λ a has.
           let both = and_parts (nat_lt a n) (x a) (sym (named_members x n a) ∙ has.0) in
@@ -228,20 +228,20 @@ members_all P x k (name ∷ names) all =
 pub part_back : (s : Schema) (x : Attributes) (rows : Relation) → All (λ name. IsTrue (is_bare_name name)) (names_of s)
     → 0 < count_below x (width_of s) → IsOver (count_below x (width_of s)) rows → All (Fits s x) rows
     → length rows ≤ MOST_ROWS → PartOf s (rows_text (members_from x 0 (names_of s)) rows) (Ok rows)
-part_back s x rows proper some over typed few =
+part_back s x rows proper not_empty over typed within_limit =
     let n = width_of s in
     let names = names_of s in
     let header = members_from x 0 names in
     let columns = members_below n x in
-    let wide : All (λ row. 0 < length row) rows = λ k d h. omega (arith, over k d h, some) in
-    let long : 0 < length header = omega (arith, some, column_count x names) in
+    let wide : All (λ row. 0 < length row) rows = λ k d h. omega (arith, over k d h, not_empty) in
+    let long : 0 < length header = omega (arith, not_empty, column_count x names) in
     let records : records_of (rows_text header rows) ≡ header ∷ rows =
     printed_records header rows long (members_all (λ name. IsTrue (is_bare_name name)) x 0 names proper) wide in
     let means : columns_of_header names header ≡ Ok columns = part_columns names x s.valid.names_differ in
     let first : AreFirstRows s columns rows rows = record {
       within = omega arith;
       each =
-          λ i less. row_is s x (i + 1) (slice_index_or rows i []) (over i [] less) (omega (arith, less, few)) (typed i [] less);
+          λ i less. row_is s x (i + 1) (slice_index_or rows i []) (over i [] less) (omega (arith, less, within_limit)) (typed i [] less);
     } in
     subst (λ (rs : List (List (List ℕ))). TableOf s (λ fields found. found ≡ columns_of_header names fields) rs (Ok rows))
     (sym records) (Ok columns, sym means, (first, refl))

@@ -24,7 +24,7 @@ use Rattle.dep_model.proofs.TupleLemmas.{IsOver-length, same_tuple-Contains}
 use Rattle.table_queries.specs.Queries.{Query, whole, values_on, several, join, except, breaches_of}
 use Rattle.table_queries.specs.Meanings.{GivesNone}
 
--- ---- what can be told
+-- ---- what can be said
 bytes_decide : (a b : List ℕ) → Decides (pointwise nat_eq a b) (a ≡ b)
 bytes_decide a b = pointwise_decides (λ (i j : ℕ). (eqb-true i j, eq-eqb i j)) a b
 
@@ -45,8 +45,8 @@ tell_tuple (u ∷ r) t = elim (cases_Bool (same_tuple t u)) [
 ]
 
 -- ---- functional dependencies
-fd_tells : (n : ℕ) (x y : Attributes) (r : Relation) → IsOver n r → GivesNone n (several x (union x y)) r ↔ ObeysFd x y r
-fd_tells n x y r over = (to, from)
+fd_query_exact : (n : ℕ) (x y : Attributes) (r : Relation) → IsOver n r → GivesNone n (several x (union x y)) r ↔ ObeysFd x y r
+fd_query_exact n x y r over = (to, from)
   where
     to : GivesNone n (several x (union x y)) r → ObeysFd x y r
     to none t u t_in u_in agree k m = elim (tell_value t u k) [
@@ -113,8 +113,8 @@ rest_of n x y = difference (below n) (union x y)
 abbrev mvd_breaches : ℕ → Attributes → Attributes → Query
 mvd_breaches n x y = except (join (values_on (union x y)) (values_on (union x (rest_of n x y)))) whole
 
-mvd_tells : (n : ℕ) (x y : Attributes) (r : Relation) → IsOver n r → GivesNone n (mvd_breaches n x y) r ↔ ObeysMvd (below n) x y r
-mvd_tells n x y r over = (to, from)
+mvd_query_exact : (n : ℕ) (x y : Attributes) (r : Relation) → IsOver n r → GivesNone n (mvd_breaches n x y) r ↔ ObeysMvd (below n) x y r
+mvd_query_exact n x y r over = (to, from)
   where
     to : GivesNone n (mvd_breaches n x y) r → ObeysMvd (below n) x y r
     to none t u t_in u_in agree =
@@ -160,19 +160,19 @@ mvd_whole n x y r inside t u t_in u_in agree =
 
 pub breaches_tell : (n : ℕ) (d : Dependency) (r : Relation) → n ≤ MOST_ATTRIBUTES → IsWithin (below n) d → IsOver n r
     → MatchOption (breaches_of n d) (Obeys n d r) (λ q. GivesNone n q r ↔ Obeys n d r)
-breaches_tell n (fd x y) r few inside over =
-    let low : IsSubset y (below MOST_ATTRIBUTES) = λ (k : ℕ) m. let at = inside.1 k m in grind (arith, nat_tests, at, few) in
+breaches_tell n (fd x y) r within_limit inside over =
+    let low : IsSubset y (below MOST_ATTRIBUTES) = λ (k : ℕ) m. let at = inside.1 k m in grind (arith, nat_tests, at, within_limit) in
     elim (cases_Bool (is_subset y x)) [
       | inl within ↦ rw within (reflexivity_obeyed x y r (is_subset-true y x low within))
-      | inr beyond ↦ rw beyond (fd_tells n x y r over)
+      | inr beyond ↦ rw beyond (fd_query_exact n x y r over)
     ]
-breaches_tell n (mvd x y) r few inside over =
-    let low : IsSubset y (below MOST_ATTRIBUTES) = λ (k : ℕ) m. let at = inside.1 k m in grind (arith, nat_tests, at, few) in
-    let all_low : IsSubset (below n) (below MOST_ATTRIBUTES) = λ (k : ℕ) m. grind (arith, nat_tests, m, few) in
+breaches_tell n (mvd x y) r within_limit inside over =
+    let low : IsSubset y (below MOST_ATTRIBUTES) = λ (k : ℕ) m. let at = inside.1 k m in grind (arith, nat_tests, at, within_limit) in
+    let all_low : IsSubset (below n) (below MOST_ATTRIBUTES) = λ (k : ℕ) m. grind (arith, nat_tests, m, within_limit) in
     elim (cases_Bool (is_subset y x)) [
       | inl within ↦ rw within (mreflexivity_obeyed (below n) x y r (is_subset-true y x low within))
       | inr beyond ↦ elim (cases_Bool (is_subset (below n) (union x y))) [
         | inl all ↦ rw (beyond, all) (mvd_whole n x y r (is_subset-true (below n) (union x y) all_low all))
-        | inr some ↦ rw (beyond, some) (mvd_tells n x y r over)
+        | inr not_empty ↦ rw (beyond, not_empty) (mvd_query_exact n x y r over)
       ]
     ]

@@ -58,7 +58,7 @@ breaches_even n (mvd x y) inside = elim (cases_Bool (is_subset y x)) [
   | inl within ↦ rw within tt
   | inr beyond ↦ elim (cases_Bool (is_subset (below n) (union x y))) [
     | inl all ↦ rw (beyond, all) tt
-    | inr some ↦ rw (beyond, some) ((tt, tt), tt, fun_ext (λ (k : ℕ). let in_x = inside.0 k in let in_y = inside.1 k in grind (arith, in_x, in_y)))
+    | inr not_empty ↦ rw (beyond, not_empty) ((tt, tt), tt, fun_ext (λ (k : ℕ). let in_x = inside.0 k in let in_y = inside.1 k in grind (arith, in_x, in_y)))
   ]
 ]
 

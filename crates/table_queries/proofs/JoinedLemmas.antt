@@ -109,13 +109,13 @@ gives_legal n ds tables r t lossless legal long given =
 
 legal_gives : (n : ℕ) (ds : List Dependency) (tables : List StoredTable) (r : Relation) (t : Tuple) → 0 < n → IsLossless n ds (schemes_of_tables tables)
     → Contains r t → Gives (plan_join tables) r t
-legal_gives n ds [] r t some lossless t_in = let has = lossless.covers 0 some in absurd (omega (arith, has.2))
-legal_gives n ds (first ∷ tables) r t some lossless t_in =
+legal_gives n ds [] r t not_empty lossless t_in = let has = lossless.covers 0 not_empty in absurd (omega (arith, has.2))
+legal_gives n ds (first ∷ tables) r t not_empty lossless t_in =
     joined-from (stored_query first) tables r t (Contains-map (project_tuple first.scheme) r t t_in) (λ table h. Contains-map (project_tuple table.scheme) r t t_in)
 
 pub join_given : (n : ℕ) (ds : List Dependency) (tables : List StoredTable) (r : Relation) → 0 < n → IsLossless n ds (schemes_of_tables tables) → IsLegal n ds r
     → (t : Tuple) → IsGiven n (plan_join tables) r t ↔ Contains r t
-join_given n ds tables r some lossless legal t = (to, from)
+join_given n ds tables r not_empty lossless legal t = (to, from)
   where
     its_own : (u : Tuple) → length u ≡ n → project_tuple (attributes_of n (plan_join tables)) u ≡ u
     its_own u long = project_tuple-whole (attributes_of n (plan_join tables)) u (λ (k : ℕ) l. all_attributes n tables lossless.covers k (omega (arith, l, long)))
@@ -128,11 +128,11 @@ join_given n ds tables r some lossless legal t = (to, from)
     from : Contains r t → IsGiven n (plan_join tables) r t
     from t_in =
         let long : length t ≡ n = All-contains (λ (u : Tuple). length u ≡ n) r t legal.over t_in in
-        record { tuple = t; over = long; gives = legal_gives n ds tables r t some lossless t_in; values = sym (its_own t long) }
+        record { tuple = t; over = long; gives = legal_gives n ds tables r t not_empty lossless t_in; values = sym (its_own t long) }
 
 pub nothing_left : (n : ℕ) (ds : List Dependency) (name : List ℕ) (tables : List StoredTable) (r : Relation) → 0 < n → IsLossless n ds (schemes_of_tables tables) → IsLegal n ds r
     → GivesNone n (table_beyond_view name tables) r × GivesNone n (view_beyond_table name tables) r
-nothing_left n ds name tables r some lossless legal = (
-  λ u given. given.gives.1 (legal_gives n ds tables r given.tuple some lossless given.gives.0),
+nothing_left n ds name tables r not_empty lossless legal = (
+  λ u given. given.gives.1 (legal_gives n ds tables r given.tuple not_empty lossless given.gives.0),
   λ u given. given.gives.1 (gives_legal n ds tables r given.tuple lossless legal given.over given.gives.0),
 )

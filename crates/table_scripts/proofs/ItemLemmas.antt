@@ -6,32 +6,32 @@ use Rattle.std.proofs.lemmas.List.{take_more, flat_map_more, length-drop}
 use Rattle.attr_sets.specs.Attributes.{Attributes}
 use Rattle.dep_model.specs.Projections.{members_below}
 use Rattle.dep_model.proofs.SchemeLemmas.{members_below-member, members_below-outside}
-use Rattle.sql_names.specs.Names.{separator, comma_list, has_some}
-use Rattle.sql_names.proofs.ListLemmas.{comma_list-push, some_pushed, some_before}
+use Rattle.sql_names.specs.Names.{separator, comma_list, is_not_empty}
+use Rattle.sql_names.proofs.ListLemmas.{comma_list-push, not_empty_pushed, not_empty_before}
 use Rattle.table_scripts.specs.Checking.{null_test, null_tests}
 
 -- ---- columns
-pub listed_more : (f : ℕ → List ℕ) (x : Attributes) (n : ℕ) (some : Bool) (text next piece : List ℕ) → x n ≡ true
-    → text ≡ comma_list f (members_below n x) → some ≡ has_some (members_below n x) → piece ≡ f n
-    → next ≡ text ++ (if some then separator ++ piece else piece)
+pub listed_more : (f : ℕ → List ℕ) (x : Attributes) (n : ℕ) (any_written : Bool) (text next piece : List ℕ) → x n ≡ true
+    → text ≡ comma_list f (members_below n x) → any_written ≡ is_not_empty (members_below n x) → piece ≡ f n
+    → next ≡ text ++ (if any_written then separator ++ piece else piece)
     → next ≡ comma_list f (members_below (n + 1) x)
-listed_more f x n some text next piece inside so_far is_some is added =
-    added ∙ ap (λ (t : List ℕ). t ++ (if some then separator ++ piece else piece)) so_far
-    ∙ ap (λ (p : List ℕ). comma_list f (members_below n x) ++ (if some then separator ++ p else p)) is
+listed_more f x n any_written text next piece inside so_far is_some is added =
+    added ∙ ap (λ (t : List ℕ). t ++ (if any_written then separator ++ piece else piece)) so_far
+    ∙ ap (λ (p : List ℕ). comma_list f (members_below n x) ++ (if any_written then separator ++ p else p)) is
     ∙ ap (λ (b : Bool). comma_list f (members_below n x) ++ (if b then separator ++ f n else f n)) is_some
     ∙ sym (comma_list-push f (members_below n x) n)
     ∙ ap (comma_list f) (sym (rw add-one (members_below-member n x inside)))
 
-pub some_more : (x : Attributes) (n : ℕ) → x n ≡ true → true ≡ has_some (members_below (n + 1) x)
-some_more x n inside =
-    sym (ap (λ (ks : List ℕ). has_some ks) (rw add-one (members_below-member n x inside)) ∙ some_pushed (members_below n x) n)
+pub not_empty_more : (x : Attributes) (n : ℕ) → x n ≡ true → true ≡ is_not_empty (members_below (n + 1) x)
+not_empty_more x n inside =
+    sym (ap (λ (ks : List ℕ). is_not_empty ks) (rw add-one (members_below-member n x inside)) ∙ not_empty_pushed (members_below n x) n)
 
 pub members_passed : (x : Attributes) (n : ℕ) → x n ≡ false → members_below (n + 1) x ≡ members_below n x
 members_passed x n outside = rw add-one (members_below-outside n x outside)
 
 -- ---- missing values
 null_push : (xs : List (List ℕ)) (x : List ℕ)
-    → null_tests (xs ++ x ∷ []) ≡ null_tests xs ++ (if has_some xs then codes " OR " ++ null_test x else null_test x)
+    → null_tests (xs ++ x ∷ []) ≡ null_tests xs ++ (if is_not_empty xs then codes " OR " ++ null_test x else null_test x)
 null_push [] x = append-nil (null_test x)
 null_push (y ∷ xs) x = sym (flat_map_more (λ z. codes " OR " ++ null_test z) (null_test y) xs x)
 
@@ -42,7 +42,7 @@ pub null_more : (names : List (List ℕ)) (n : ℕ) (text next piece : List ℕ)
 null_more names n text next piece lt so_far is added =
     added ∙ ap (λ (t : List ℕ). t ++ (if nat_lt 0 n then codes " OR " ++ piece else piece)) so_far
     ∙ ap (λ (p : List ℕ). null_tests (take n names) ++ (if nat_lt 0 n then codes " OR " ++ p else p)) is
-    ∙ ap (λ (b : Bool). null_tests (take n names) ++ (if b then codes " OR " ++ null_test (get_or names n []) else null_test (get_or names n []))) (sym (some_before names n lt))
+    ∙ ap (λ (b : Bool). null_tests (take n names) ++ (if b then codes " OR " ++ null_test (get_or names n []) else null_test (get_or names n []))) (sym (not_empty_before names n lt))
     ∙ sym (null_push (take n names) (get_or names n []))
     ∙ ap null_tests (sym (take_more names n [] lt))
 

@@ -89,15 +89,15 @@ sources_more s t first designs i design seen shared text next piece source lt at
 
 -- ---- the whole join
 pub split_first : (designs : List TableDesign) (d : TableDesign) → 0 < length designs → designs ≡ get_or designs 0 d ∷ drop 1 designs
-split_first [] d some = absurd (omega (arith, some))
-split_first (first ∷ designs) d some = refl
+split_first [] d not_empty = absurd (omega (arith, not_empty))
+split_first (first ∷ designs) d not_empty = refl
 
 pub all_joined : (s : Schema) (t : List ℕ) (designs : List TableDesign) (first : TableDesign) (set : Attributes) → 0 < length designs
     → first ≡ get_or designs 0 first → set ≡ attributes_of (width_of s) (plan_join (stored_tables designs))
     → select_text (name_list s set) (text_at s t left (joined_with (stored_query (stored_of first)) (stored_tables (drop 1 designs))))
     ≡ text_at s t alone (plan_join (stored_tables designs))
-all_joined s t designs first set some at is =
-    let split : designs ≡ first ∷ drop 1 designs = split_first designs first some ∙ ap (λ (d : TableDesign). d ∷ drop 1 designs) (sym at) in
+all_joined s t designs first set not_empty at is =
+    let split : designs ≡ first ∷ drop 1 designs = split_first designs first not_empty ∙ ap (λ (d : TableDesign). d ∷ drop 1 designs) (sym at) in
     let sources = text_at s t left (joined_with (stored_query (stored_of first)) (stored_tables (drop 1 designs))) in
     ap (λ (z : Attributes). select_text (name_list s z) sources) is
     ∙ ap (λ (ds : List TableDesign). select_text (name_list s (attributes_of (width_of s) (plan_join (stored_tables ds)))) sources) split

@@ -4,13 +4,13 @@ use Rattle.std.proofs.lemmas.Bool.{cases_Bool}
 use Rattle.std.proofs.lemmas.Bool.Decides.{nat_tests}
 use Rattle.std.specs.Prelude.{◌-◌, if◌then◌else◌, codes, nat_le, slice_index_or}
 use Rattle.std.specs.List.{flat_map, list_all, position_or_len}
-use Rattle.table_scripts.specs.Naming.{byte_in_front, parts_of, is_part, is_taken, last_of, are_parts, dotted_name, byte_between_quotes, quoted_table}
+use Rattle.table_scripts.specs.Naming.{byte_in_front, dotted_parts, is_part, is_taken, last_of, are_parts, dotted_name, byte_between_quotes, quoted_table}
 
 abbrev pub is_dot : ℕ → Bool
 is_dot b = b == 46
 
 -- ---- the first part and the rest
-pub no_dot : (bytes : List ℕ) → position_or_len is_dot bytes ≡ length bytes → parts_of bytes ≡ bytes ∷ []
+pub no_dot : (bytes : List ℕ) → position_or_len is_dot bytes ≡ length bytes → dotted_parts bytes ≡ bytes ∷ []
 no_dot [] e = refl
 no_dot (b ∷ bytes) e = elim (cases_Bool (b == 46)) [
   | inl dot ↦
@@ -19,38 +19,38 @@ no_dot (b ∷ bytes) e = elim (cases_Bool (b == 46)) [
   | inr other ↦
       let later : position_or_len is_dot (b ∷ bytes) ≡ 1 + position_or_len is_dot bytes = ap (λ (d : Bool). cond (not d) (1 + position_or_len is_dot bytes) 0) other in
       let rest = no_dot bytes (omega (arith, e, later)) in
-      ap (λ (d : Bool). if d then [] ∷ parts_of bytes else byte_in_front b (parts_of bytes)) other
+      ap (λ (d : Bool). if d then [] ∷ dotted_parts bytes else byte_in_front b (dotted_parts bytes)) other
       ∙ ap (byte_in_front b) rest
 ]
 
 pub at_dot : (bytes : List ℕ) (n : ℕ) → n ≡ position_or_len is_dot bytes → n < length bytes
-    → parts_of bytes ≡ take n bytes ∷ parts_of (drop (n + 1) bytes)
+    → dotted_parts bytes ≡ take n bytes ∷ dotted_parts (drop (n + 1) bytes)
 at_dot [] n e lt = absurd (omega (arith, lt))
 at_dot (b ∷ bytes) n e lt = elim (cases_Bool (b == 46)) [
   | inl dot ↦
       let first : n ≡ 0 = e ∙ ap (λ (d : Bool). cond (not d) (1 + position_or_len is_dot bytes) 0) dot in
-      ap (λ (d : Bool). if d then [] ∷ parts_of bytes else byte_in_front b (parts_of bytes)) dot
-      ∙ sym (ap (λ (m : ℕ). take m (b ∷ bytes) ∷ parts_of (drop (m + 1) (b ∷ bytes))) first)
+      ap (λ (d : Bool). if d then [] ∷ dotted_parts bytes else byte_in_front b (dotted_parts bytes)) dot
+      ∙ sym (ap (λ (m : ℕ). take m (b ∷ bytes) ∷ dotted_parts (drop (m + 1) (b ∷ bytes))) first)
   | inr other ↦
       let m = position_or_len is_dot bytes in
       let later' : n ≡ 1 + m = e ∙ ap (λ (d : Bool). cond (not d) (1 + m) 0) other in
       let later : n ≡ suc m = omega (arith, later') in
       let short : m < length bytes = omega (arith, lt, later) in
       let next : suc m + 1 ≡ suc (m + 1) = omega arith in
-      ap (λ (d : Bool). if d then [] ∷ parts_of bytes else byte_in_front b (parts_of bytes)) other
+      ap (λ (d : Bool). if d then [] ∷ dotted_parts bytes else byte_in_front b (dotted_parts bytes)) other
       ∙ ap (byte_in_front b) (at_dot bytes m refl short)
-      ∙ sym (ap (λ (k : ℕ). take k (b ∷ bytes) ∷ parts_of (drop (k + 1) (b ∷ bytes))) later
-      ∙ ap (λ (k : ℕ). (b ∷ take m bytes) ∷ parts_of (drop k (b ∷ bytes))) next)
+      ∙ sym (ap (λ (k : ℕ). take k (b ∷ bytes) ∷ dotted_parts (drop (k + 1) (b ∷ bytes))) later
+      ∙ ap (λ (k : ℕ). (b ∷ take m bytes) ∷ dotted_parts (drop k (b ∷ bytes))) next)
 ]
 
 -- a name has a part
-pub first_part : (bytes : List ℕ) → (part : List ℕ) × (parts : List (List ℕ)) × (parts_of bytes ≡ part ∷ parts)
+pub first_part : (bytes : List ℕ) → (part : List ℕ) × (parts : List (List ℕ)) × (dotted_parts bytes ≡ part ∷ parts)
 first_part [] = ([], [], refl)
 first_part (b ∷ bytes) = elim (cases_Bool (b == 46)) [
-  | inl dot ↦ ([], parts_of bytes, ap (λ (d : Bool). if d then [] ∷ parts_of bytes else byte_in_front b (parts_of bytes)) dot)
+  | inl dot ↦ ([], dotted_parts bytes, ap (λ (d : Bool). if d then [] ∷ dotted_parts bytes else byte_in_front b (dotted_parts bytes)) dot)
   | inr other ↦
       let rest = first_part bytes in
-      (b ∷ rest.0, rest.1, ap (λ (d : Bool). if d then [] ∷ parts_of bytes else byte_in_front b (parts_of bytes)) other ∙ ap (byte_in_front b) rest.2)
+      (b ∷ rest.0, rest.1, ap (λ (d : Bool). if d then [] ∷ dotted_parts bytes else byte_in_front b (dotted_parts bytes)) other ∙ ap (byte_in_front b) rest.2)
 ]
 
 -- ---- the tests
@@ -82,7 +82,7 @@ no_parts part parts =
     ap (λ (b : Bool). b && list_all is_part (part ∷ parts) && not (is_taken (last_of (part ∷ parts)))) none
 
 pub end_parts : (most : ℕ) (bytes : List ℕ) → position_or_len is_dot bytes ≡ length bytes
-    → are_parts (suc most) (parts_of bytes) ≡ (is_part bytes && not (is_taken bytes))
+    → are_parts (suc most) (dotted_parts bytes) ≡ (is_part bytes && not (is_taken bytes))
 end_parts most bytes e = ap (are_parts (suc most)) (no_dot bytes e) ∙ one_part most bytes
 
 within_length : (bytes : List ℕ) → position_or_len is_dot bytes ≤ length bytes
@@ -97,7 +97,7 @@ within_length (b ∷ bytes) = elim (cases_Bool (b == 46)) [
 ]
 
 pub cut_parts : (most : ℕ) (bytes : List ℕ) (n : ℕ) → n ≡ position_or_len is_dot bytes → (n ≡ length bytes → ⊥)
-    → are_parts (suc most) (parts_of bytes) ≡ (is_part (take n bytes) && are_parts most (parts_of (drop (n + 1) bytes)))
+    → are_parts (suc most) (dotted_parts bytes) ≡ (is_part (take n bytes) && are_parts most (dotted_parts (drop (n + 1) bytes)))
 cut_parts most bytes n e apart =
     let differ : n ≢ length bytes = apart in
     let short : n < length bytes = omega (arith, e, differ, within_length bytes) in
@@ -107,7 +107,7 @@ cut_parts most bytes n e apart =
     ∙ more_parts most (take n bytes) rest.0 rest.1
     ∙ ap (λ (parts : List (List ℕ)). is_part (take n bytes) && are_parts most parts) (sym rest.2)
 
-pub cut_none : (bytes : List ℕ) (n : ℕ) → n ≡ position_or_len is_dot bytes → (n ≡ length bytes → ⊥) → are_parts 1 (parts_of bytes) ≡ false
+pub cut_none : (bytes : List ℕ) (n : ℕ) → n ≡ position_or_len is_dot bytes → (n ≡ length bytes → ⊥) → are_parts 1 (dotted_parts bytes) ≡ false
 cut_none bytes n e apart =
     let rest = first_part (drop (n + 1) bytes) in
     cut_parts 0 bytes n e apart
@@ -121,21 +121,21 @@ front_dotted_name : (b : ℕ) (part : List ℕ) (parts : List (List ℕ)) (rest 
     → dotted_name ((b ∷ part) ∷ parts) ≡ 34 ∷ b ∷ rest
 front_dotted_name b part parts rest e = ap (λ (text : List ℕ). 34 ∷ b ∷ drop 1 text) e
 
-pub dotted_is : (bytes : List ℕ) → dotted_name (parts_of bytes) ≡ 34 ∷ (flat_map byte_between_quotes bytes ++ 34 ∷ [])
+pub dotted_is : (bytes : List ℕ) → dotted_name (dotted_parts bytes) ≡ 34 ∷ (flat_map byte_between_quotes bytes ++ 34 ∷ [])
 dotted_is [] = refl
 dotted_is (b ∷ bytes) =
-    let some = first_part bytes in
-    let rest : dotted_name (some.0 ∷ some.1) ≡ 34 ∷ (flat_map byte_between_quotes bytes ++ 34 ∷ []) = ap dotted_name (sym some.2) ∙ dotted_is bytes in
+    let not_empty = first_part bytes in
+    let rest : dotted_name (not_empty.0 ∷ not_empty.1) ≡ 34 ∷ (flat_map byte_between_quotes bytes ++ 34 ∷ []) = ap dotted_name (sym not_empty.2) ∙ dotted_is bytes in
     elim (cases_Bool (b == 46)) [
       | inl dot ↦
-          ap (λ (d : Bool). dotted_name (if d then [] ∷ parts_of bytes else byte_in_front b (parts_of bytes))) dot
-          ∙ ap (λ (parts : List (List ℕ)). dotted_name ([] ∷ parts)) some.2
+          ap (λ (d : Bool). dotted_name (if d then [] ∷ dotted_parts bytes else byte_in_front b (dotted_parts bytes))) dot
+          ∙ ap (λ (parts : List (List ℕ)). dotted_name ([] ∷ parts)) not_empty.2
           ∙ ap (λ (text : List ℕ). 34 ∷ 34 ∷ 46 ∷ text) rest
           ∙ sym (ap (λ (d : Bool). 34 ∷ ((if d then codes "\".\"" else b ∷ []) ++ flat_map byte_between_quotes bytes ++ 34 ∷ [])) dot)
       | inr other ↦
-          ap (λ (d : Bool). dotted_name (if d then [] ∷ parts_of bytes else byte_in_front b (parts_of bytes))) other
-          ∙ ap (λ (parts : List (List ℕ)). dotted_name (byte_in_front b parts)) some.2
-          ∙ front_dotted_name b some.0 some.1 (flat_map byte_between_quotes bytes ++ 34 ∷ []) rest
+          ap (λ (d : Bool). dotted_name (if d then [] ∷ dotted_parts bytes else byte_in_front b (dotted_parts bytes))) other
+          ∙ ap (λ (parts : List (List ℕ)). dotted_name (byte_in_front b parts)) not_empty.2
+          ∙ front_dotted_name b not_empty.0 not_empty.1 (flat_map byte_between_quotes bytes ++ 34 ∷ []) rest
           ∙ sym (ap (λ (d : Bool). 34 ∷ ((if d then codes "\".\"" else b ∷ []) ++ flat_map byte_between_quotes bytes ++ 34 ∷ [])) other)
     ]
 

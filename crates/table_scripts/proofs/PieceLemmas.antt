@@ -32,8 +32,8 @@ link_crosswise s shared source empty =
 pub link_using : (s : Schema) (shared : AttrSet) (source : List ℕ) → (IsEmpty (attributes shared) → ⊥)
     → codes " JOIN " ++ source ++ codes " USING (" ++ name_list s (attributes shared) ++ codes ")" ≡ link_text s (attributes shared) source
 unfolding link_text
-link_using s shared source some =
-    sym (ap (λ (b : Bool). if b then codes " CROSS JOIN " ++ source else codes " JOIN " ++ source ++ codes " USING (" ++ name_list s (attributes shared) ++ codes ")") (empty_fails shared some))
+link_using s shared source not_empty =
+    sym (ap (λ (b : Bool). if b then codes " CROSS JOIN " ++ source else codes " JOIN " ++ source ++ codes " USING (" ++ name_list s (attributes shared) ++ codes ")") (empty_fails shared not_empty))
 
 -- ---- several values
 pub several_counted : (s : Schema) (t : List ℕ) (x y : Attributes) → IsEmpty x → counted_text (values_text s t y) ≡ several_text s t x y
@@ -42,8 +42,8 @@ several_counted s t x y empty =
 
 pub several_grouped : (s : Schema) (t : List ℕ) (x : AttrSet) (y : Attributes) → (IsEmpty (attributes x) → ⊥)
     → grouped_text (name_list s (attributes x)) (values_text s t y) ≡ several_text s t (attributes x) y
-several_grouped s t x y some =
-    sym (ap (λ (b : Bool). if b then counted_text (values_text s t y) else grouped_text (name_list s (attributes x)) (values_text s t y)) (empty_fails x some))
+several_grouped s t x y not_empty =
+    sym (ap (λ (b : Bool). if b then counted_text (values_text s t y) else grouped_text (name_list s (attributes x)) (values_text s t y)) (empty_fails x not_empty))
 
 -- ---- rules
 abbrev pub line_of : List ℕ → List ℕ
@@ -61,13 +61,13 @@ beyond_of left right = except (join (values_on left) (values_on right)) whole
 pub mvd_text : (s : Schema) (t : List ℕ) (x y universe both outside rest : Attributes) → universe ≡ below (width_of s) → both ≡ union x y
     → outside ≡ difference universe both → rest ≡ union x outside → is_subset y x ≡ false → is_subset universe both ≡ false
     → line_of (query_text s t (beyond_of both rest)) ≡ breaches_text s t (breaches_of_mvd (width_of s) x y)
-mvd_text s t x y universe both outside rest is_universe is_both is_outside is_rest beyond some =
+mvd_text s t x y universe both outside rest is_universe is_both is_outside is_rest beyond not_empty =
     let n = width_of s in
     let to_rest : rest ≡ union x (difference (below n) (union x y)) =
     is_rest ∙ ap (λ (z : Attributes). union x z) (is_outside
     ∙ ap (λ (z : Attributes). difference z both) is_universe ∙ ap (λ (z : Attributes). difference (below n) z) is_both) in
     let not_all : is_subset (below n) (union x y) ≡ false =
-    ap (λ (z : Attributes). is_subset (below n) z) (sym is_both) ∙ ap (λ (z : Attributes). is_subset z both) (sym is_universe) ∙ some in
+    ap (λ (z : Attributes). is_subset (below n) z) (sym is_both) ∙ ap (λ (z : Attributes). is_subset z both) (sym is_universe) ∙ not_empty in
     ap (λ (z : Attributes). line_of (query_text s t (beyond_of z rest))) is_both
     ∙ ap (λ (z : Attributes). line_of (query_text s t (beyond_of (union x y) z))) to_rest
     ∙ sym (ap (λ (b : Bool). breaches_text s t (if b || is_subset (below n) (union x y) then None else Some (beyond_of (union x y) (union x (difference (below n) (union x y)))))) beyond

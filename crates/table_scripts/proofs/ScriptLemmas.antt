@@ -20,13 +20,13 @@ use Rattle.table_scripts.specs.Migrating.{stored_tables, view_name, FillsTables,
 -- ---- rules
 GivesNone-from_meaning : (n : ℕ) (r : Relation) (found : Option Query) (A : Type 0) → MatchOption found A (λ q. GivesNone n q r ↔ A) → A
     → MatchOption found ⊤ (λ q. GivesNone n q r)
-GivesNone-from_meaning n r None A tells holds = tt
-GivesNone-from_meaning n r (Some q) A tells holds = tells.1 holds
+GivesNone-from_meaning n r None A query_exact holds = tt
+GivesNone-from_meaning n r (Some q) A query_exact holds = query_exact.1 holds
 
 meaning-from_GivesNone : (n : ℕ) (r : Relation) (found : Option Query) (A : Type 0) → MatchOption found A (λ q. GivesNone n q r ↔ A)
     → MatchOption found ⊤ (λ q. GivesNone n q r) → A
-meaning-from_GivesNone n r None A tells none = tells
-meaning-from_GivesNone n r (Some q) A tells none = tells.0 none
+meaning-from_GivesNone n r None A query_exact none = query_exact
+meaning-from_GivesNone n r (Some q) A query_exact none = query_exact.0 none
 
 pub nothing_breaks : (s : Schema) (r : Relation) → IsOver (width_of s) r → LegalFor s r ↔ NothingBreaks s r
 nothing_breaks s r over = (to, from)
@@ -34,20 +34,20 @@ nothing_breaks s r over = (to, from)
     within : All (IsWithin (below (width_of s))) (theory_of s)
     within = dependencies_all-from (IsWithin (below (width_of s))) (deps_of s) s.valid.deps_within
 
-    tells : (i : ℕ) (d : Dependency) → i < length (theory_of s)
+    query_exact : (i : ℕ) (d : Dependency) → i < length (theory_of s)
         → MatchOption (breaches_of (width_of s) (get_or (theory_of s) i d)) (Obeys (width_of s) (get_or (theory_of s) i d) r)
         (λ q. GivesNone (width_of s) q r ↔ Obeys (width_of s) (get_or (theory_of s) i d) r)
-    tells i d lt = breaches_tell (width_of s) (get_or (theory_of s) i d) r s.valid.few_names (within i d lt) over
+    query_exact i d lt = breaches_tell (width_of s) (get_or (theory_of s) i d) r s.valid.names_within_limit (within i d lt) over
 
     to : LegalFor s r → NothingBreaks s r
     to legal i d lt =
-        GivesNone-from_meaning (width_of s) r (breaches_of (width_of s) (get_or (theory_of s) i d)) (Obeys (width_of s) (get_or (theory_of s) i d) r) (tells i d lt) (legal.obeys i d lt)
+        GivesNone-from_meaning (width_of s) r (breaches_of (width_of s) (get_or (theory_of s) i d)) (Obeys (width_of s) (get_or (theory_of s) i d) r) (query_exact i d lt) (legal.obeys i d lt)
 
     from : NothingBreaks s r → LegalFor s r
     from none = record {
       over = over;
       obeys = λ i d lt.
-          meaning-from_GivesNone (width_of s) r (breaches_of (width_of s) (get_or (theory_of s) i d)) (Obeys (width_of s) (get_or (theory_of s) i d) r) (tells i d lt) (none i d lt);
+          meaning-from_GivesNone (width_of s) r (breaches_of (width_of s) (get_or (theory_of s) i d)) (Obeys (width_of s) (get_or (theory_of s) i d) r) (query_exact i d lt) (none i d lt);
     }
 
 -- ---- plans
@@ -63,9 +63,9 @@ view_is_table s designs lossless r legal =
     let n = width_of s in
     let tables = stored_tables designs in
     let lossless' = subst (λ (plan : List Attributes). IsLossless n (theory_of s) plan) (sym (schemes_are designs)) lossless in
-    let left = nothing_left n (theory_of s) view_name tables r s.valid.some_names lossless' legal in
+    let left = nothing_left n (theory_of s) view_name tables r s.valid.names_not_empty lossless' legal in
     record {
-      rows = join_given n (theory_of s) tables r s.valid.some_names lossless' legal;
+      rows = join_given n (theory_of s) tables r s.valid.names_not_empty lossless' legal;
       table_lacks = left.1;
       view_lacks = left.0;
     }

@@ -42,7 +42,7 @@ view_text s table designs =
     codes "CREATE VIEW " ++ quoted_name view_name ++ codes " AS "
     ++ statement_text (query_text s table (plan_join (stored_tables designs)))
 
--- what tells whether the view is the table
+-- what says whether the view is the table
 unfoldable pub difference_queries_text : Schema → List ℕ → List TableDesign → List ℕ
 difference_queries_text s table designs =
     codes "-- rows of the table that the view lacks: none\n"

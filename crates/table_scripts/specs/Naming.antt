@@ -12,9 +12,9 @@ byte_in_front b [] = (b ∷ []) ∷ []
 byte_in_front b (part ∷ parts) = (b ∷ part) ∷ parts
 
 -- the parts of a name, with a dot between two
-abbrev pub parts_of : List ℕ → List (List ℕ)
-parts_of [] = [] ∷ []
-parts_of (b ∷ bytes) = if b == 46 then [] ∷ parts_of bytes else byte_in_front b (parts_of bytes)
+abbrev pub dotted_parts : List ℕ → List (List ℕ)
+dotted_parts [] = [] ∷ []
+dotted_parts (b ∷ bytes) = if b == 46 then [] ∷ dotted_parts bytes else byte_in_front b (dotted_parts bytes)
 
 -- a letter or `_`, followed by letters, digits and `_`, at most `MOST_PART_BYTES` bytes
 abbrev pub is_part : List ℕ → Bool
@@ -41,7 +41,7 @@ are_parts most parts = nat_le (length parts) most && list_all is_part parts && n
 
 -- from one to `MOST_PARTS` parts
 unfoldable pub is_table_name : List ℕ → Bool
-is_table_name bytes = are_parts MOST_PARTS (parts_of bytes)
+is_table_name bytes = are_parts MOST_PARTS (dotted_parts bytes)
 
 -- parts in double quotes, with a dot between two
 abbrev pub dotted_name : List (List ℕ) → List ℕ
@@ -54,4 +54,4 @@ byte_between_quotes b = if b == 46 then codes "\".\"" else b ∷ []
 
 -- a table, by its name
 unfoldable pub quoted_table : List ℕ → List ℕ
-quoted_table bytes = dotted_name (parts_of bytes)
+quoted_table bytes = dotted_name (dotted_parts bytes)

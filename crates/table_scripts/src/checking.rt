@@ -16,7 +16,7 @@ use std::alloc::Global;
 pub fn check_script(alloc: Global, schema: &Schema, table: &[u8]) -> Result<Vec<u8>, OutOfMemory>
     requires name { IsTrue (is_table_name table.now) }
     ensures text { IfOk result (λ text. text.items ≡ check_text schema.now (quoted_table table.now)) }
-    ensures tells { (r : Relation) → IsOver (width_of schema.now) r
+    ensures exact { (r : Relation) → IsOver (width_of schema.now) r
         → LegalFor schema.now r ↔ NothingBreaks schema.now r }
 {
     check_text(alloc, schema, table)

@@ -31,11 +31,15 @@ pub fn columns_text(alloc: Global, schema: &Schema, set: AttrSet) -> Result<Vec<
     ensures text { IfOk result (λ text. text.items ≡ column_list schema.now (attributes set)) }
 {
     let mut text = Vec::new(alloc);
-    let mut some = false;
+    let mut any_written = false;
     for attribute in 0..schema.width() {
         if set.contains(attribute) {
-            add_listed(&mut text, some, &column_item(alloc, schema, attribute)?)?;
-            some = true;
+            add_listed(
+                &mut text,
+                any_written,
+                &column_item(alloc, schema, attribute)?,
+            )?;
+            any_written = true;
         }
     }
     Ok(text)

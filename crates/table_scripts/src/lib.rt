@@ -3,7 +3,7 @@
 //! `check_script` asks for the rows that break each rule, `migrate_script` makes the tables of a
 //! design from the table and compares their join with it. Each query of a script is the text of a
 //! term of `table_queries`, whose laws say what it gives; nothing is claimed of an engine.
-//! `is_table_name` tells the names that a script may hold.
+//! `is_table_name` says the names that a script may hold.
 #![tactic(auto)]
 
 mod checking;

@@ -122,7 +122,7 @@ fn view_text(
     Ok(text)
 }
 
-// What tells whether the view is the table.
+// What says whether the view is the table.
 #[tactic(auto, unfolding(crate::specs::Migrating::difference_queries_text))]
 fn difference_queries_text(
     alloc: Global,

@@ -40,11 +40,11 @@ fn null_tests(alloc: Global, schema: &Schema) -> Result<Vec<u8>, OutOfMemory>
 }
 
 // Adds a test; after `OR` where another one stands before it.
-fn add_test(text: &mut Vec<u8>, some: bool, test: &[u8]) -> Result<(), OutOfMemory>
+fn add_test(text: &mut Vec<u8>, any_written: bool, test: &[u8]) -> Result<(), OutOfMemory>
     ensures added { OnOk result (text.new.items
-        ≡ text.old.items ++ (if some then codes " OR " ++ test.now else test.now)) }
+        ≡ text.old.items ++ (if any_written then codes " OR " ++ test.now else test.now)) }
 {
-    if some {
+    if any_written {
         add(text, b" OR ")?;
     }
     add(text, test)

@@ -2,7 +2,7 @@ ghost use Rattle.std.specs.Prelude.{◌≡◌, ◌==◌, ◌++◌, ◌&&◌, ◌
 ghost use Rattle.std.specs.List.{list_all, position_or_len};
 ghost use Rattle.std.specs.Char.{is_ascii_alphabetic, is_ascii_digit};
 ghost use Rattle.dep_model.specs.Names.{is_name_byte};
-ghost use Rattle.table_scripts.specs.Naming.{parts_of, is_part, is_numbered, is_taken, are_parts, is_table_name, quoted_table, byte_between_quotes};
+ghost use Rattle.table_scripts.specs.Naming.{dotted_parts, is_part, is_numbered, is_taken, are_parts, is_table_name, quoted_table, byte_between_quotes};
 
 use dep_model::OutOfMemory;
 use schema_printer::add;
@@ -30,7 +30,7 @@ pub fn is_table_name(bytes: &[u8]) -> bool
 
 // Whether the bytes are at most two parts.
 fn are_two_parts(bytes: &[u8]) -> bool
-    ensures parts { result ≡ are_parts 2 (parts_of bytes.now) }
+    ensures parts { result ≡ are_parts 2 (dotted_parts bytes.now) }
 {
     let end = part_end(bytes);
     if end == bytes.len() {
@@ -41,7 +41,7 @@ fn are_two_parts(bytes: &[u8]) -> bool
 
 // Whether the bytes are one part.
 fn is_one_part(bytes: &[u8]) -> bool
-    ensures parts { result ≡ are_parts 1 (parts_of bytes.now) }
+    ensures parts { result ≡ are_parts 1 (dotted_parts bytes.now) }
 {
     part_end(bytes) == bytes.len() && is_last_part(bytes)
 }

@@ -32,23 +32,23 @@ pub record IsRound (n : ℕ) (ds : List Dependency) (plan : List Attributes) (li
   pub in_rounds : InRounds n ds plan round rows
   pub reached : ReachesTableau n ds plan rows
   pub differ : AllPairs (λ p q. p ≡ q → ⊥) rows
-  pub few : length rows ≤ limit
+  pub within_limit : length rows ≤ limit
   pub earlier : (r : ℕ) (t : Tableau) → r ≤ round → InRounds n ds plan r t → HasMoreThan limit t → ⊥
 
 pub round_over : (n : ℕ) (ds : List Dependency) (plan : List Attributes) (limit : ℕ) (rows : Tableau) → IsRound n ds plan limit rows → IsTableauOver n rows
 round_over n ds plan limit rows round k d l = reached-over n ds plan rows round.reached (get_or rows k d) (Contains-get_or rows k d l)
 
 pub first_round : (n : ℕ) (ds : List Dependency) (plan : List Attributes) (limit : ℕ) (rows : Tableau) → SameTableau (plan_tableau n plan) rows → AllPairs (λ p q. p ≡ q → ⊥) rows → length rows ≤ limit → IsRound n ds plan limit rows
-first_round n ds plan limit rows same differ few = record {
+first_round n ds plan limit rows same differ within_limit = record {
   round = 0;
   in_rounds = same;
   reached = (0, same);
   differ = differ;
-  few = few;
+  within_limit = within_limit;
   earlier = λ r t le in_rounds more.
       let none : r ≡ 0 = omega arith in
       let first : InRounds n ds plan 0 t = subst (λ (i : ℕ). InRounds n ds plan i t) none in_rounds in
-      no_more limit t rows (Same-trans t (plan_tableau n plan) rows (Same-sym (plan_tableau n plan) t first) same) few more;
+      no_more limit t rows (Same-trans t (plan_tableau n plan) rows (Same-sym (plan_tableau n plan) t first) same) within_limit more;
 }
 
 pub first_exceeds : (n : ℕ) (ds : List Dependency) (plan : List Attributes) (limit : ℕ) → HasMoreThan limit (plan_tableau n plan) → RoundsExceed n ds plan limit
@@ -67,11 +67,11 @@ module _ (n : ℕ) (ds : List Dependency) (plan : List Attributes) (limit : ℕ)
     functionally_closed = functionally_closed-same ds s t same closes.functionally_closed;
   }
 
-  pub reached_settled : ReachesTableau n ds plan t
-  reached_settled = reaches_functionally_closed n ds settles_to.leads.0 round.reached.0 (plan_tableau n plan) rows t round.reached.1 settles_to.leads.1
+  pub reached_closed : ReachesTableau n ds plan t
+  reached_closed = reaches_functionally_closed n ds settles_to.leads.0 round.reached.0 (plan_tableau n plan) rows t round.reached.1 settles_to.leads.1
 
-  pub settled_over : IsTableauOver n t
-  settled_over k d l = reached-over n ds plan t reached_settled (get_or t k d) (Contains-get_or t k d l)
+  pub closed_over : IsTableauOver n t
+  closed_over k d l = reached-over n ds plan t reached_closed (get_or t k d) (Contains-get_or t k d l)
 
   -- where it ends the rounds, none had too many rows
   pub ended : EndsRounds n ds t → RoundsExceed n ds plan limit → ⊥
@@ -98,12 +98,12 @@ module _ (n : ℕ) (ds : List Dependency) (plan : List Attributes) (limit : ℕ)
 
   -- where a next tableau has too many rows, it is one of the rounds
   pub next_exceeds : (Contains t (distinguished_row n) → ⊥) → length t ≤ limit → Overflows (IsMadeOf n ds t) limit t → RoundsExceed n ds plan limit
-  next_exceeds lacks few over =
+  next_exceeds lacks within_limit over =
       let next = next_exists n ds t in
       record {
         round = suc round.round;
         tableau = next.0;
-        in_rounds = (rows, t, round.in_rounds, settles_to, (λ ends. ⊎_elim lacks (λ closed. no_more limit t t (Same-refl t) few (over t (λ p h. h) (closed_made closed))) ends), next.1);
+        in_rounds = (rows, t, round.in_rounds, settles_to, (λ ends. ⊎_elim lacks (λ closed. no_more limit t t (Same-refl t) within_limit (over t (λ p h. h) (closed_made closed))) ends), next.1);
         more = over next.0 (λ p h. (next.1 p).1 (inl h)) (λ p h. (next.1 p).1 (inr h));
       }
 
@@ -116,7 +116,7 @@ module _ (n : ℕ) (ds : List Dependency) (plan : List Attributes) (limit : ℕ)
       differ inside.0 (length t) [] inside.1 grows is
 
   -- ---- the next round
-  module _ (u : Tableau) (adds : AddsAll (IsMadeOf n ds t) t u) (differ : AllPairs (λ p q. p ≡ q → ⊥) u) (few : length u ≤ limit) where
+  module _ (u : Tableau) (adds : AddsAll (IsMadeOf n ds t) t u) (differ : AllPairs (λ p q. p ≡ q → ⊥) u) (within_limit : length u ≤ limit) where
     -- the rows that were added, one by one
     reached_by : (rest front : Tableau) → u ≡ (t ++ front) ++ rest → ReachesTableau n ds plan (t ++ front) → ReachesTableau n ds plan u
     reached_by [] front is reached = subst (λ (v : Tableau). ReachesTableau n ds plan v) (sym (is ∙ append-nil (t ++ front))) reached
@@ -166,7 +166,7 @@ module _ (n : ℕ) (ds : List Dependency) (plan : List Attributes) (limit : ℕ)
         reached_by rest (front ++ row ∷ []) (longer ∙ ap (λ (v : Tableau). v ++ rest) joined) step
 
     pub next_reached : ReachesTableau n ds plan u
-    next_reached = reached_by adds.extends.0 [] (adds.extends.1 ∙ ap (λ (v : Tableau). v ++ adds.extends.0) (sym (append-nil t))) (subst (λ (v : Tableau). ReachesTableau n ds plan v) (sym (append-nil t)) reached_settled)
+    next_reached = reached_by adds.extends.0 [] (adds.extends.1 ∙ ap (λ (v : Tableau). v ++ adds.extends.0) (sym (append-nil t))) (subst (λ (v : Tableau). ReachesTableau n ds plan v) (sym (append-nil t)) reached_closed)
 
     pub next_round : (Contains t (distinguished_row n) → ⊥) → length t < length u → IsRound n ds plan limit u
     next_round lacks grows =
@@ -176,20 +176,20 @@ module _ (n : ℕ) (ds : List Dependency) (plan : List Attributes) (limit : ℕ)
           in_rounds = here;
           reached = next_reached;
           differ = differ;
-          few = few;
+          within_limit = within_limit;
           earlier = λ r v le in_rounds more. elim (cases_eq r (suc round.round)) [
-            | inl equal ↦ no_more limit v u (rounds_unique n ds plan (suc round.round) v u (subst (λ (i : ℕ). InRounds n ds plan i v) equal in_rounds) here) few more
+            | inl equal ↦ no_more limit v u (rounds_unique n ds plan (suc round.round) v u (subst (λ (i : ℕ). InRounds n ds plan i v) equal in_rounds) here) within_limit more
             | inr other ↦ round.earlier r v (omega arith) in_rounds more
           ];
         }
 
     pub next_lower : length t < length u → what_is_left n (length plan) limit u < what_is_left n (length plan) limit rows
-    next_lower grows = round_lowers n (length plan) limit ds rows t u (reached-over n ds plan rows round.reached) (reached-most n ds plan rows round.reached) settles_to.leads (next_of u adds) round.differ grows few
+    next_lower grows = round_lowers n (length plan) limit ds rows t u (reached-over n ds plan rows round.reached) (reached-most n ds plan rows round.reached) settles_to.leads (next_of u adds) round.differ grows within_limit
 
 -- ---- the answers
 pub closed_rows : (n : ℕ) (ds : List Dependency) (plan : List Attributes) (limit : ℕ) (rows t : Tableau) (texts : Relation) → IsRound n ds plan limit rows → ClosesFunctionallyTo ds rows t → ReachesTableau n ds plan t → IsClosed n ds t → length t ≤ limit
     → AreTextsOf t texts → IsClosedTableau n ds plan limit texts
-closed_rows n ds plan limit rows t texts round closes reached closed few are = record {
+closed_rows n ds plan limit rows t texts round closes reached closed within_limit are = record {
   symbols = are.symbols;
   texts = are.texts;
   round = round.round;
@@ -201,19 +201,19 @@ closed_rows n ds plan limit rows t texts round closes reached closed few are = r
   };
   reached = (reached.0, step_leads_end n ds reached.0 (plan_tableau n plan) t are.symbols reached.1 are.same);
   closed = closed-same n ds t are.symbols are.same closed;
-  few = omega (arith, few, are.count);
+  within_limit = omega (arith, within_limit, are.count);
   ascending = are.ascending;
 }
 
 pub closed_gains : (n : ℕ) (ds : List Dependency) (plan : List Attributes) (t : Tableau) (texts : Relation) → length plan < 2 ^ 32 → ReachesTableau n ds plan t → IsClosed n ds t → AreTextsOf t texts → (Contains t (distinguished_row n) → ⊥)
     → IsGaining n ds plan texts
-closed_gains n ds plan t texts few reached closed are lacks =
+closed_gains n ds plan t texts within_limit reached closed are lacks =
     subst (λ (r : Relation). IsGaining n ds plan r) (sym are.texts)
-    (closed_gaining n ds plan are.symbols few (reached.0, step_leads_end n ds reached.0 (plan_tableau n plan) t are.symbols reached.1 are.same) (closed-same n ds t are.symbols are.same closed) (λ h. lacks ((are.same (distinguished_row n)).1 h)))
+    (closed_gaining n ds plan are.symbols within_limit (reached.0, step_leads_end n ds reached.0 (plan_tableau n plan) t are.symbols reached.1 are.same) (closed-same n ds t are.symbols are.same closed) (λ h. lacks ((are.same (distinguished_row n)).1 h)))
 
 pub closed_typed : (schema : Schema) (plan : List Attributes) (limit : ℕ) (texts : Relation) → length plan < 2 ^ 32 → IsClosedTableau (width_of schema) (theory_of schema) plan limit texts → TypedFor schema texts
-closed_typed schema plan limit texts few closed =
-    subst (λ (r : Relation). TypedFor schema r) (sym closed.texts) (reached_typed (width_of schema) (types_of schema) (theory_of schema) plan closed.symbols schema.typed.one_each few closed.reached)
+closed_typed schema plan limit texts within_limit closed =
+    subst (λ (r : Relation). TypedFor schema r) (sym closed.texts) (reached_typed (width_of schema) (types_of schema) (theory_of schema) plan closed.symbols schema.typed.one_each within_limit closed.reached)
 
 -- what is said of the texts of the rows, where the rounds end at a closed tableau
 pub record EndsLossy (n : ℕ) (ds : List Dependency) (plan : List Attributes) (limit : ℕ) (texts : Relation) : Type 0 where
@@ -223,13 +223,13 @@ pub record EndsLossy (n : ℕ) (ds : List Dependency) (plan : List Attributes) (
 
 pub ends_lossy : (n : ℕ) (ds : List Dependency) (plan : List Attributes) (limit : ℕ) (rows s t u : Tableau) (texts : Relation) → length plan < 2 ^ 32 → IsRound n ds plan limit rows → ClosesFunctionallyTo ds rows s → SameTableau s t
     → length t ≤ limit → (Contains t (distinguished_row n) → ⊥) → AddsAll (IsMadeOf n ds t) t u → length u ≡ length t → AreTextsOf u texts → EndsLossy n ds plan limit texts
-ends_lossy n ds plan limit rows s t u texts small round closes same few lacks adds count are =
+ends_lossy n ds plan limit rows s t u texts small round closes same within_limit lacks adds count are =
     let closed : IsClosed n ds t = closed_when n ds plan limit rows s t round closes same u adds count in
-    let reached : ReachesTableau n ds plan t = reached_settled n ds plan limit rows s t round closes same in
+    let reached : ReachesTableau n ds plan t = reached_closed n ds plan limit rows s t round closes same in
     let texts_are : AreTextsOf t texts = subst (λ (v : Tableau). AreTextsOf v texts) (no_more_rows t adds.extends.0 u adds.extends.1 count) are in
     record {
       within = ended n ds plan limit rows s t round closes same (inr closed);
-      closed = closed_rows n ds plan limit rows t texts round (settles_to n ds plan limit rows s t round closes same) reached closed few texts_are;
+      closed = closed_rows n ds plan limit rows t texts round (settles_to n ds plan limit rows s t round closes same) reached closed within_limit texts_are;
       gains = closed_gains n ds plan t texts small reached closed texts_are lacks;
     }
 

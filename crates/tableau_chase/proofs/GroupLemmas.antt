@@ -116,8 +116,8 @@ known_by_key n x done row number over len at =
       λ j lt agree. at.first j lt (key_of n x done j (omega (arith, lt, low)) ∙ keys_from_agree n x (symbol_row_at done j) row agree),
     )
 
-pub take_over : (n i : ℕ) (rows : Tableau) → IsTableauOver n rows → IsTableauOver n (take i rows)
-take_over n i rows over = All-take (λ (row : SymbolRow). length row ≡ n) i rows over
+pub take_is_over : (n i : ℕ) (rows : Tableau) → IsTableauOver n rows → IsTableauOver n (take i rows)
+take_is_over n i rows over = All-take (λ (row : SymbolRow). length row ≡ n) i rows over
 
 -- ---- followers among the first rows, as `AreFollowers` has them of all
 pub record AreFollowersUpTo (leaders seconds : List ℕ) (upto : ℕ) (groups : List (List ℕ)) : Type 0 where

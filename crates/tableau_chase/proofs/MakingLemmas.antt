@@ -204,14 +204,14 @@ exchanged_with_front n z t m front first seconds row first_is seconds_are made =
     (made.0, made.1, made.2 ∙ ap (λ (r : SymbolRow). exchange_rows n z r (symbol_row_at m made.0)) first_is ∙ ap (λ (r : SymbolRow). exchange_rows n z (symbol_row_at front first) r) (seconds_are made.0 made.1))
 
 pub front_row : (t m : Tableau) (count i : ℕ) → Extends t m → i < count → count ≤ length t → symbol_row_at m i ≡ symbol_row_at (take count t) i
-front_row t m count i extends low few = extends_row t m i extends (omega (arith, low, few)) ∙ sym (get_or-take count t i [] low)
+front_row t m count i extends low within_limit = extends_row t m i extends (omega (arith, low, within_limit)) ∙ sym (get_or-take count t i [] low)
 
 pub product_longer : (n : ℕ) (z : Attributes) (t : Tableau) (agreeing firsts : List ℕ) (groups : List (List ℕ)) (upto next : ℕ) (row : SymbolRow) → upto ≤ next → IsProductOf n z t agreeing firsts groups upto row → IsProductOf n z t agreeing firsts groups next row
 product_longer n z t agreeing firsts groups upto next row le p = record { first = p.first; second = p.second; low = omega (arith, p.low, le); leads = p.leads; member = p.member; row_is = p.row_is }
 
 -- ---- what the parts of the first rows make, with the sets as the code has them
 pub record AreParts (n : ℕ) (x y z : Attributes) (t : Tableau) (count : ℕ) (agreeing firsts : List ℕ) (groups : List (List ℕ)) : Type 0 where
-  pub few : count ≤ length t
+  pub within_limit : count ≤ length t
   pub over : IsTableauOver n (take count t)
   pub z_is : z ≡ union x y
   pub seconds : List ℕ
@@ -222,7 +222,7 @@ pub record AreParts (n : ℕ) (x y z : Attributes) (t : Tableau) (count : ℕ) (
 
 module _ (n : ℕ) (x y z : Attributes) (t : Tableau) (count : ℕ) (agreeing firsts : List ℕ) (groups : List (List ℕ)) (parts : AreParts n x y z t count agreeing firsts groups) where
   front_length : length (take count t) ≡ count
-  front_length = length-take-le count t parts.few
+  front_length = length-take-le count t parts.within_limit
 
   pub parts_to : (upto : ℕ) (row : SymbolRow) → upto ≤ count → IsProductOf n z (take count t) agreeing firsts groups upto row → IsExchangedRow n x y (take count t) row
   parts_to upto row le p =
@@ -252,7 +252,7 @@ module _ (n : ℕ) (x y z : Attributes) (t : Tableau) (count : ℕ) (agreeing fi
 
   module _ (m : Tableau) (extends : Extends t m) (i : ℕ) (low : i < count) (group : List ℕ) (group_is : group ≡ get_or groups (get_or agreeing i 0) []) where
     in_front : (j : ℕ) → j < count → symbol_row_at m j ≡ symbol_row_at (take count t) j
-    in_front j j_low = front_row t m count j extends j_low parts.few
+    in_front j j_low = front_row t m count j extends j_low parts.within_limit
 
     group_at : (j : ℕ) → Contains group j → j < count
     group_at j h = group_low (get_or agreeing i 0) j (subst (λ (js : List ℕ). Contains js j) group_is h)
@@ -264,7 +264,7 @@ module _ (n : ℕ) (x y z : Attributes) (t : Tableau) (count : ℕ) (agreeing fi
     with_from row made = exchanged_with_front n z t (take count t) m i group row (sym (in_front i low)) (λ j h. sym (in_front j (group_at j h))) (subst (λ (js : List ℕ). IsExchangedWith n z (take count t) i js row) (sym group_is) made)
 
     pub group_within : (k d : ℕ) → k < length group → get_or group k d < length m
-    group_within k d l = omega (arith, group_at (get_or group k d) (Contains-get_or group k d l), parts.few, extends_length t m extends)
+    group_within k d l = omega (arith, group_at (get_or group k d) (Contains-get_or group k d l), parts.within_limit, extends_length t m extends)
 
     pub group_over : (k d : ℕ) → k < length group → length (symbol_row_at m (get_or group k d)) ≡ n
     group_over k d l =
@@ -287,13 +287,13 @@ module _ (n : ℕ) (x y z : Attributes) (t : Tableau) (count : ℕ) (agreeing fi
         (λ p h. parts_to i p (omega (arith, low)) h)
         (λ p h. parts_to (i + 1) p (omega (arith, low)) (product_new n z (take count t) agreeing firsts groups i (i + 1) refl p leads (with_to p h))) before over
 
-pub parts_of : (n count : ℕ) (x y both less rest full : Attributes) (t t1 t2 t3 : Tableau) (agreeing firsts seconds ls ss : List ℕ) (groups : List (List ℕ)) → count ≤ length t → IsTableauOver n (take count t) → both ≡ union x y → less ≡ difference full both
+pub product_parts : (n count : ℕ) (x y both less rest full : Attributes) (t t1 t2 t3 : Tableau) (agreeing firsts seconds ls ss : List ℕ) (groups : List (List ℕ)) → count ≤ length t → IsTableauOver n (take count t) → both ≡ union x y → less ≡ difference full both
     → rest ≡ union less x → full ≡ below n → t1 ≡ t → t2 ≡ t → t3 ≡ t → ls ≡ agreeing → ss ≡ seconds → AreSymbolLeaders x (take count t1) agreeing → AreSymbolLeaders both (take count t2) firsts → AreSymbolLeaders rest (take count t3) seconds → AreFollowers ls ss groups
     → AreParts n x y both t count agreeing firsts groups
-parts_of n count x y both less rest full t t1 t2 t3 agreeing firsts seconds ls ss groups few over both_is less_is rest_is full_is e1 e2 e3 le se agree first second are =
+product_parts n count x y both less rest full t t1 t2 t3 agreeing firsts seconds ls ss groups within_limit over both_is less_is rest_is full_is e1 e2 e3 le se agree first second are =
     let rest_path : rest ≡ union (difference (below n) (union x y)) x = fun_ext (λ (k : ℕ). grind (arith, same_at both_is k, same_at less_is k, same_at rest_is k, same_at full_is k)) in
     record {
-      few = few;
+      within_limit = within_limit;
       over = over;
       z_is = both_is;
       seconds = seconds;

@@ -1,4 +1,4 @@
--- The numbers of lists of symbols: what a look-up tells, and a list more.
+-- The numbers of lists of symbols: what a look-up says, and a list more.
 use Rattle.std.proofs.Common.{◌≡◌, ℕ, ◌<◌, Bool, true, false, cond, List, [], ◌∷◌, ◌++◌, length, Some, None, refl, sym, ap, subst, ◌∙◌, inl, inr, ⊎_elim, arith, length-append, Vec, Global}
 use Rattle.std.proofs.lemmas.Bool.{cases_Bool, true≢false}
 use Rattle.std.proofs.lemmas.Bool.Decides.{Decides-eqb}
@@ -38,7 +38,7 @@ numbering_known keys numbers key number before at = record {
 
 -- none has it
 pub numbering_fresh : (keys : List (List ℕ)) (numbers : RowNumbers) (key : Vec ℕ Global) → IsNumbering keys numbers → number_of numbers key ≡ None → Contains keys key.items → ⊥
-numbering_fresh keys numbers key before none h = let some : IsSome {T = ℕ} None = subst (λ (o : Option ℕ). IsSome o) none (before.complete key h) in true≢false (sym some)
+numbering_fresh keys numbers key before none h = let not_empty : IsSome {T = ℕ} None = subst (λ (o : Option ℕ). IsSome o) none (before.complete key h) in true≢false (sym not_empty)
 
 same_items : (key q : Vec ℕ Global) → pointwise nat_eq key.items q.items ≡ true → key.items ≡ q.items
 same_items key q h = (slice_eq-Decides Decides-eqb key.items q.items (pointwise nat_eq key.items q.items) refl).0 h
@@ -59,7 +59,7 @@ module _ (keys : List (List ℕ)) (old new : RowNumbers) (key : Vec ℕ Global) 
     | inr differ ↦ first_longer keys key.items q.items number (before.sound q number (sym (elsewhere q differ) ∙ e))
     | inl same ↦
         let items : key.items ≡ q.items = same_items key q same in
-        let some : Some (length keys) ≡ Some number = sym (at_key q items) ∙ e in
+        let not_empty : Some (length keys) ≡ Some number = sym (at_key q items) ∙ e in
         let is : length keys ≡ number = cc in
         record {
           low = omega (arith, is, length-append keys (key.items ∷ []));

@@ -1,4 +1,4 @@
--- Rows that are made symbol by symbol, and the keys by which rows are told apart.
+-- Rows that are made symbol by symbol, and the keys by which rows are distinguished.
 use Rattle.std.proofs.Common.{◌≡◌, ℕ, ◌+◌, ◌<◌, zero, suc, true, cond, List, [], ◌∷◌, ◌++◌, length, map, get_or, refl, sym, ap, subst, ◌∙◌, inl, inr, arith}
 use Rattle.std.proofs.lemmas.Bool.{cases_Bool, cases_lt}
 use Rattle.std.proofs.lemmas.List.{get_or-map, map-append, get_or_append_left, get_or_push, length_push}

@@ -8,7 +8,7 @@ use Rattle.tableau_chase.specs.Numbers.{IsNumbering}
 pub record IsPool (limit : ℕ) (pool : Pool) : Type 0 where
   pub differ : AllPairs (λ p q. p ≡ q → ⊥) pool.rows.items
   pub numbered : IsNumbering pool.rows.items pool.numbers
-  pub few : length pool.rows.items ≤ limit
+  pub within_limit : length pool.rows.items ≤ limit
 
 -- a row is there after, at the end if it was not there before
 abbrev pub IsAdded : Tableau → SymbolRow → Tableau → Type 0

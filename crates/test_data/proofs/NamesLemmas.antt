@@ -65,7 +65,7 @@ names_differ i j before last = false_from_ne_true (same_name (attribute_name i) 
         absurd (omega (arith, one, before))
 
 pub attribute_names_differ : (n : ℕ) → n ≤ 128 → AllPairs (λ a b. same_name a b ≡ false) (attribute_names n)
-attribute_names_differ n few i j d before within =
+attribute_names_differ n within_limit i j d before within =
     let count = length-map-range_with_len attribute_name 0 n in
     let low : j < n = omega (arith, within, count) in
     let first : get_or (attribute_names n) i d ≡ attribute_name i =
@@ -77,8 +77,8 @@ attribute_names_differ n few i j d before within =
     (names_differ i j before (omega arith)))
 
 pub attribute_names_bare : (n : ℕ) → n ≤ 128 → All (λ name. IsTrue (is_bare_name name)) (attribute_names n)
-attribute_names_bare n few i d within =
+attribute_names_bare n within_limit i d within =
     let low : i < n = omega (arith, within, length-map-range_with_len attribute_name 0 n) in
     let is : get_or (attribute_names n) i d ≡ attribute_name i =
     get_or-map-range_with_len attribute_name 0 n i i d low (omega arith) in
-    subst (λ (x : List ℕ). IsTrue (is_bare_name x)) (sym is) (is_attribute_name i (omega (arith, low, few)))
+    subst (λ (x : List ℕ). IsTrue (is_bare_name x)) (sym is) (is_attribute_name i (omega (arith, low, within_limit)))

@@ -27,9 +27,9 @@ attribute_names width = map attribute_name (range_with_len 0 width)
 
 -- some schema has so many attributes and these dependencies
 pub record Fit (width : ℕ) (deps : List Dep) : Type 0 where
-  pub some_names : 0 < width
-  pub few_names : width ≤ MOST_ATTRIBUTES
-  pub few_deps : length deps ≤ MOST_DEPENDENCIES
+  pub names_not_empty : 0 < width
+  pub names_within_limit : width ≤ MOST_ATTRIBUTES
+  pub deps_within_limit : length deps ≤ MOST_DEPENDENCIES
   pub deps_within : All (IsDepWithin (below width)) deps
 
 -- each column of a schema is a text

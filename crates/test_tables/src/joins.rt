@@ -12,7 +12,7 @@ use table_join::{JoinRefusal, join};
 use test_data::{TIMETABLE, TIMETABLE_ROWS};
 
 // The part of each text.
-fn parts_of(alloc: Global, schema: &Schema, texts: &[&str]) -> Result<Vec<PartialRows>, Fail>
+fn read_parts(alloc: Global, schema: &Schema, texts: &[&str]) -> Result<Vec<PartialRows>, Fail>
     ensures tables { IfOk result (λ v. All (IsTable (width_of schema.now)) (tables_of v.items)) }
 {
     let mut parts = Vec::new(alloc);
@@ -31,7 +31,7 @@ fn check(rt: &(impl Alloc<A = Global> + Abort), case: Case) -> Result<(), Fail> 
     let alloc = rt.alloc();
     assert!(rt; schema.len() <= MOST_TEXT_BYTES);
     let schema = read_schema(alloc, schema.as_bytes()).expect(rt, "a schema");
-    let parts = parts_of(alloc, &schema, texts)?;
+    let parts = read_parts(alloc, &schema, texts)?;
     assert!(rt; parts.len() < 10);
     let rows = join(alloc, &schema, &parts, 200_000).expect(rt, "rows");
     let text = print_rows(alloc, &schema, &rows)?;
@@ -122,7 +122,7 @@ fn check_refused(rt: &(impl Alloc<A = Global> + Abort), case: Refused) -> Result
     let alloc = rt.alloc();
     assert!(rt; schema.len() <= MOST_TEXT_BYTES);
     let schema = read_schema(alloc, schema.as_bytes()).expect(rt, "a schema");
-    let parts = parts_of(alloc, &schema, texts)?;
+    let parts = read_parts(alloc, &schema, texts)?;
     assert!(rt; parts.len() < 10);
     let failure = join(alloc, &schema, &parts, limit).err();
     assert_eq!(rt; failure, Some(Failure::Refused(want)));
@@ -187,7 +187,7 @@ fn refusals(rt: HostRuntime) -> Result<(), Fail> {
 fn as_many_as_the_limit(rt: HostRuntime) -> Result<(), Fail> {
     let alloc = rt.alloc();
     let schema = read_schema(alloc, b"attributes A B\n").expect(&rt, "a schema");
-    let parts = parts_of(alloc, &schema, &["A\n1\n2\n3\n", "B\n1\n2\n"])?;
+    let parts = read_parts(alloc, &schema, &["A\n1\n2\n3\n", "B\n1\n2\n"])?;
     assert!(rt; parts.len() < 10);
     let rows = join(alloc, &schema, &parts, 6).expect(&rt, "rows");
     assert_eq!(rt; rows.len(), 6);

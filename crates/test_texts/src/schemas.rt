@@ -98,8 +98,8 @@ fn typed_schemas_are_printed_in_one_form(rt: HostRuntime) -> Result<(), Fail> {
 #[test]
 fn sets_are_printed_in_ascending_order(rt: HostRuntime) -> Result<(), Fail> {
     let schema = schema(&rt, b"attributes C B A");
-    let some = print_set(rt.alloc(), &schema, AttrSet::full(schema.width()))?;
-    assert_eq!(rt; some.as_slice(), b"C B A".as_slice());
+    let set_text = print_set(rt.alloc(), &schema, AttrSet::full(schema.width()))?;
+    assert_eq!(rt; set_text.as_slice(), b"C B A".as_slice());
     let none = print_set(rt.alloc(), &schema, AttrSet::empty())?;
     assert_eq!(rt; none.as_slice(), b"()".as_slice());
     Ok(())

@@ -114,7 +114,7 @@ fn lists_all_keys_of_schemes(rt: HostRuntime) {
     }
 }
 
-// How many keys of a scheme were listed, or told as too many; nothing of another failure.
+// How many keys of a scheme were listed, or refused as too many; nothing of another failure.
 fn counted_of_scheme(found: Result<Vec<AttrSet>, Failure<SchemeKeyRefusal>>) -> (bool, usize) {
     match found {
         Ok(found) => (true, found.len()),

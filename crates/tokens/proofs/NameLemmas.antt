@@ -47,13 +47,13 @@ longer_is_other word text short long =
     )))
 
 -- a word of fewer bytes than any reserved one
-pub short_is_free : (f : Format) (word : List ℕ) → length word < 4 → is_reserved f word ≡ false
+pub short_not_reserved : (f : Format) (word : List ℕ) → length word < 4 → is_reserved f word ≡ false
 unfolding is_reserved
-short_is_free format.Plain word short =
+short_not_reserved format.Plain word short =
     let other = λ (text : List ℕ) (long : 4 ≤ length text). longer_is_other word text short long in
     rw (other (codes "attributes") (omega arith), other (codes "scheme") (omega arith))
     (rw (other (codes "version") (omega arith)) refl)
-short_is_free format.Typed word short =
+short_not_reserved format.Typed word short =
     let other = λ (text : List ℕ) (long : 4 ≤ length text). longer_is_other word text short long in
     rw (
       other (codes "attributes") (omega arith),

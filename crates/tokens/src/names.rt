@@ -48,7 +48,7 @@ pub fn look_up(
 }
 
 /// Whether a token is a reserved word, which no quoted name is.
-#[tactic(auto, using(crate::proofs::NameLemmas::short_is_free))]
+#[tactic(auto, using(crate::proofs::NameLemmas::short_not_reserved))]
 pub fn is_reserved_token(format: Format, kind: TokenKind, word: &[u8]) -> bool
     ensures reserved { result ≡ is_reserved_token format kind word.now }
 {

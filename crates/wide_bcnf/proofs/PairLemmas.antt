@@ -94,9 +94,9 @@ first_from n ds scheme a b c before pair least = record {
   least_second = least;
 }
 
-pub none_past : (n : ℕ) (ds : List Dependency) (scheme : Attributes) (a b : ℕ) → IsSubset scheme (below n) → n ≤ a
+pub no_pair_past_width : (n : ℕ) (ds : List Dependency) (scheme : Attributes) (a b : ℕ) → IsSubset scheme (below n) → n ≤ a
     → NoneBefore n ds scheme a b → HasPair n ds scheme → ⊥
-none_past n ds scheme a b low past before has =
+no_pair_past_width n ds scheme a b low past before has =
     let first = ltb-true has.0 n (low has.0 has.2.first) in
     ⊎_elim (λ (later : a < has.0). omega arith) (λ same. omega (arith, same.0)) (before has.0 has.1 has.2)
 
@@ -115,18 +115,18 @@ none_before_part n ds scheme part a b inside none c d pair = none c d (pair_of_p
 tell_closed : (n : ℕ) (ds : List Dep) (x : Attributes) (a : ℕ) → n ≤ MOST_ATTRIBUTES → All (IsDepWithin (below n)) ds
     → IsSubset x (below n) → a < n
     → Implies n (dependencies_of ds) (fd x (only a)) ⊎ (Implies n (dependencies_of ds) (fd x (only a)) → ⊥)
-tell_closed n ds x a few within x_in low = ⊎_elim
+tell_closed n ds x a within_limit within x_in low = ⊎_elim
     (λ closed. inl closed.1)
     (λ block. inr (λ implied. block.1.outside a block.2 (low, implied)))
-    (block_at n ds x a few within x_in low)
+    (block_at n ds x a within_limit within x_in low)
 
 -- each attribute of a part of the scheme is determined, or some is not
 tell_all : (n : ℕ) (ds : List Dep) (x scheme : Attributes) → n ≤ MOST_ATTRIBUTES → All (IsDepWithin (below n)) ds
     → IsSubset x (below n) → (m : ℕ) → m ≤ n
     → ((a : ℕ) → a < m → scheme a ≡ true → Implies n (dependencies_of ds) (fd x (only a)))
     ⊎ ((a : ℕ) × (scheme a ≡ true) × (Implies n (dependencies_of ds) (fd x (only a)) → ⊥))
-tell_all n ds x scheme few within x_in zero low = inl (λ a lt m. absurd (omega arith))
-tell_all n ds x scheme few within x_in (suc m) low = ⊎_elim
+tell_all n ds x scheme within_limit within x_in zero low = inl (λ a lt m. absurd (omega arith))
+tell_all n ds x scheme within_limit within x_in (suc m) low = ⊎_elim
     (λ all. ⊎_elim
     (λ (member : scheme m ≡ true). ⊎_elim
     (λ closed. inl (λ a lt h. elim (cases_eq a m) [
@@ -134,19 +134,19 @@ tell_all n ds x scheme few within x_in (suc m) low = ⊎_elim
       | inr other ↦ all a (omega arith) h
     ]))
     (λ not. inr (m, member, not))
-    (tell_closed n ds x m few within x_in (omega arith)))
+    (tell_closed n ds x m within_limit within x_in (omega arith)))
     (λ (outside : scheme m ≡ false). inl (λ a lt h. elim (cases_eq a m) [
       | inl same ↦ absurd (true≢false (sym h ∙ subst (λ (i : ℕ). scheme i ≡ false) (sym same) outside))
       | inr other ↦ all a (omega arith) h
     ]))
     (cases_Bool (scheme m)))
     (λ found. inr found)
-    (tell_all n ds x scheme few within x_in m (omega arith))
+    (tell_all n ds x scheme within_limit within x_in m (omega arith))
 
 pub without_pair_bcnf : (n : ℕ) (ds : List Dep) (scheme : Attributes) → n ≤ MOST_ATTRIBUTES → All (IsDepWithin (below n)) ds
     → IsSubset scheme (below n)
     → (HasPair n (dependencies_of ds) scheme → ⊥) → IsBcnf n (dependencies_of ds) scheme
-without_pair_bcnf n ds scheme few within scheme_in none x a on lacks =
+without_pair_bcnf n ds scheme within_limit within scheme_in none x a on lacks =
     let theory = dependencies_of ds in
     let x_in : IsSubset x (below n) = λ (k : ℕ) m. scheme_in k (on.within.0 k m) in
     let determined : Implies n theory (fd x (only a)) = fd_on-to n theory scheme x (only a) on in
@@ -167,7 +167,7 @@ without_pair_bcnf n ds scheme few within scheme_in none x a on lacks =
             (beside x b (on.within.0) lacks found.2) determined;
       },
     )))
-    (tell_all n ds x scheme few within x_in n (omega arith))
+    (tell_all n ds x scheme within_limit within x_in n (omega arith))
   where
     beside : (x : Attributes) (b : ℕ) → IsSubset x scheme → x a ≡ false
         → (Implies n (dependencies_of ds) (fd x (only b)) → ⊥) → IsSubset x (difference scheme (union (only a) (only b)))

@@ -76,21 +76,21 @@ split_is_lossless n ds schemes split = lossless_after n ds [] (below n) schemes 
 -- ---- the schemes of a wide split: none has a pair, none is empty, together they have what the scheme has
 pub record AreParts (n : ℕ) (ds : List Dependency) (scheme : Attributes) (schemes : List Attributes) : Type 0 where
   pub within : All (λ s. IsSubset s scheme) schemes
-  pub some : All (λ s. IsEmpty s → ⊥) schemes
+  pub not_empty : All (λ s. IsEmpty s → ⊥) schemes
   pub none : All (λ s. HasPair n ds s → ⊥) schemes
   pub covers : (k : ℕ) → scheme k ≡ true → Any (λ (s : Attributes). s k ≡ true) schemes
-  pub few : length schemes ≤ count_below scheme n
+  pub one_an_attribute : length schemes ≤ count_below scheme n
 
 parts_alone : (n : ℕ) (ds : List Dependency) (scheme : Attributes) → IsSubset scheme (below n) → (IsEmpty scheme → ⊥)
     → (HasPair n ds scheme → ⊥) → AreParts n ds scheme (scheme ∷ [])
-parts_alone n ds scheme low some none = record {
+parts_alone n ds scheme low not_empty none = record {
   within = All-cons (λ (s : Attributes). IsSubset s scheme) scheme [] (λ k m. m) (All-nil (λ (s : Attributes). IsSubset s scheme));
-  some = All-cons (λ (s : Attributes). IsEmpty s → ⊥) scheme [] some (All-nil (λ (s : Attributes). IsEmpty s → ⊥));
+  not_empty = All-cons (λ (s : Attributes). IsEmpty s → ⊥) scheme [] not_empty (All-nil (λ (s : Attributes). IsEmpty s → ⊥));
   none = All-cons (λ (s : Attributes). HasPair n ds s → ⊥) scheme [] none (All-nil (λ (s : Attributes). HasPair n ds s → ⊥));
   covers = λ k m. Any-from (λ (s : Attributes). s k ≡ true) (scheme ∷ []) scheme (Contains-head scheme []) m;
-  few = ⊎_elim
+  one_an_attribute = ⊎_elim
       (λ found. omega (arith, count_below-pos n scheme found.0 found.1 found.2))
-      (λ empty. absurd (some empty))
+      (λ empty. absurd (not_empty empty))
       (tell_empty n scheme low);
 }
 
@@ -101,8 +101,8 @@ parts_cut n ds scheme q a later low core parts = record {
   within = All-cons (λ (s : Attributes). IsSubset s scheme) q later (core_within n ds scheme q a core)
       (All-weaker (λ (s : Attributes). IsSubset s (difference scheme (only a))) (λ (s : Attributes). IsSubset s scheme)
       (λ s inside k m. let h = inside k m in grind (arith, h)) later parts.within);
-  some = All-cons (λ (s : Attributes). IsEmpty s → ⊥) q later
-      (λ empty. true≢false (sym (core_member n ds scheme q a core) ∙ empty a)) parts.some;
+  not_empty = All-cons (λ (s : Attributes). IsEmpty s → ⊥) q later
+      (λ empty. true≢false (sym (core_member n ds scheme q a core) ∙ empty a)) parts.not_empty;
   none = All-cons (λ (s : Attributes). HasPair n ds s → ⊥) q later core.ends parts.none;
   covers = λ k m. elim (cases_eq k a) [
     | inl same ↦ Any-from (λ (s : Attributes). s k ≡ true) (q ∷ later) q (Contains-head q later)
@@ -112,22 +112,22 @@ parts_cut n ds scheme q a later low core parts = record {
         Any-from (λ (s : Attributes). s k ≡ true) (q ∷ later) found.1
         (Contains-later q later found.1 (found.0, found.2, found.3)) found.4
   ];
-  few =
+  within_limit =
       let count = count_below-difference_only n scheme a (ltb-true a n (low a (scheme_member n ds scheme q a core)))
       (scheme_member n ds scheme q a core) in
-      let least = parts.few in
+      let least = parts.one_an_attribute in
       omega arith;
 }
 
 pub split_parts : (n : ℕ) (ds : List Dependency) (scheme : Attributes) (schemes : List Attributes) → IsSubset scheme (below n)
     → (IsEmpty scheme → ⊥) → IsWideSplitOf n ds scheme schemes
     → AreParts n ds scheme schemes
-split_parts n ds scheme [] low some split = absurd split
-split_parts n ds scheme (q ∷ later) low some split = ⊎_elim
+split_parts n ds scheme [] low not_empty split = absurd split
+split_parts n ds scheme (q ∷ later) low not_empty split = ⊎_elim
     (λ alone.
     subst (λ (rest : List Attributes). AreParts n ds scheme (q ∷ rest)) (sym alone.2)
     (subst (λ (s : Attributes). AreParts n ds scheme (s ∷ [])) (sym alone.1)
-    (parts_alone n ds scheme low some alone.0)))
+    (parts_alone n ds scheme low not_empty alone.0)))
     (λ cut.
     let a = cut.0 in
     let other = scheme_other n ds scheme q a cut.1 in
@@ -142,7 +142,7 @@ pub split_is_plan : (n : ℕ) (ds : List Dependency) (schemes : List Attributes)
     → IsPlan n schemes
 split_is_plan n ds schemes parts = record {
   within = parts.within;
-  some = parts.some;
+  not_empty = parts.not_empty;
   covers = λ k low. parts.covers k (lt-ltb k n low);
 }
 
@@ -151,7 +151,7 @@ length-without_contained_after : (earlier later : List AttrSet) → length (with
 length-without_contained_after earlier [] = omega arith
 length-without_contained_after earlier (x ∷ later) =
     let rest = without_contained_after (earlier ++ x ∷ []) later in
-    let few : length rest ≤ length later = length-without_contained_after (earlier ++ x ∷ []) later in
+    let within_limit : length rest ≤ length later = length-without_contained_after (earlier ++ x ∷ []) later in
     ⊎_elim
     (λ spare. subst (λ (b : Bool). length (if b then rest else (x ∷ rest)) ≤ length (x ∷ later)) (sym spare)
     (omega arith))
@@ -176,14 +176,14 @@ module _ (s : Schema) (all : List AttrSet)
   pub schema_parts : AreParts (width_of s) (theory_of s) (universe_of s) (schemes_of all)
   schema_parts =
       split_parts (width_of s) (theory_of s) (universe_of s) (schemes_of all) (λ k m. m)
-      (λ empty. true≢false (sym (lt-ltb 0 (width_of s) s.valid.some_names) ∙ empty 0)) split
+      (λ empty. true≢false (sym (lt-ltb 0 (width_of s) s.valid.names_not_empty) ∙ empty 0)) split
 
   pub schema_plan : IsPlan (width_of s) (schemes_of all)
   schema_plan = split_is_plan (width_of s) (theory_of s) (schemes_of all) schema_parts
 
-  pub schema_few : length all ≤ width_of s
-  schema_few =
-      let few = schema_parts.few in
+  pub schema_within_limit : length all ≤ width_of s
+  schema_within_limit =
+      let within_limit = schema_parts.one_an_attribute in
       let whole : count_below (universe_of s) (width_of s)
       ≡ width_of s = count_below-below (width_of s) (width_of s) (omega arith) in
       let long : length (schemes_of all) ≡ length all = length-map all attributes in
@@ -193,6 +193,6 @@ module _ (s : Schema) (all : List AttrSet)
   schema_bcnf =
       All-weaker (λ (x : Attributes). IsSubset x (universe_of s) × (HasPair (width_of s) (theory_of s) x → ⊥))
       (IsBcnf (width_of s) (theory_of s))
-      (λ x is. without_pair_bcnf (width_of s) (deps_of s) x s.valid.few_names s.valid.deps_within is.0 is.1)
+      (λ x is. without_pair_bcnf (width_of s) (deps_of s) x s.valid.names_within_limit s.valid.deps_within is.0 is.1)
       (schemes_of all)
       (λ k d l. (schema_parts.within k d l, schema_parts.none k d l))

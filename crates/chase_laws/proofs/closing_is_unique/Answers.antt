@@ -1,3 +1,4 @@
+-- What is left to prove of `closing_is_unique`: what it ensures, by `closing_unique`.
 use Rattle.chase_laws.proofs.ClosingLemmas.{closing_unique}
 use Rattle.chase_laws.proofs.closing_is_unique.Goals as goal
 

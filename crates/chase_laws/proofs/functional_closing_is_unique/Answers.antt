@@ -1,3 +1,5 @@
+-- What is left to prove of `functional_closing_is_unique`: what it ensures, by
+-- `functional_closing_unique`.
 use Rattle.std.proofs.lemmas.List.Elements.{All-contains}
 use Rattle.chase_laws.specs.Tableaux.{SymbolRow}
 use Rattle.chase_laws.proofs.TableauLemmas.{Same-refl}

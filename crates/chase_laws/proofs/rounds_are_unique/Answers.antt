@@ -1,3 +1,4 @@
+-- What is left to prove of `rounds_are_unique`: what it ensures, by `rounds_unique`.
 use Rattle.chase_laws.proofs.RoundLemmas.{rounds_unique}
 use Rattle.chase_laws.proofs.rounds_are_unique.Goals as goal
 

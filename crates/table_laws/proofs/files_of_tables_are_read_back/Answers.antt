@@ -8,10 +8,10 @@ use Rattle.table_laws.proofs.files_of_tables_are_read_back.Goals as goal
 
 pub returns : goal.returns
 returns c = record {
-  whole = λ s table proper columns over typed few.
+  whole = λ s table proper columns over typed within_limit.
       subst (λ (names : List (List ℕ)). RowsOf s (rows_text names table.rows) (Ok table.rows)) (sym columns)
-      (printed_back s table.rows proper over typed few);
-  part = λ s x table proper some columns over typed few.
+      (printed_back s table.rows proper over typed within_limit);
+  part = λ s x table proper not_empty columns over typed within_limit.
       subst (λ (names : List (List ℕ)). PartOf s (rows_text names table.rows) (Ok table.rows)) (sym columns)
-      (part_back s x table.rows proper some over typed few);
+      (part_back s x table.rows proper not_empty over typed within_limit);
 }

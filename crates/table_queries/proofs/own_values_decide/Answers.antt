@@ -1,3 +1,4 @@
+-- What is left to prove of `own_values_decide`: what it ensures, by `own_values`.
 use Rattle.table_queries.proofs.CompatibleLemmas.{own_values}
 use Rattle.table_queries.proofs.own_values_decide.Goals as goal
 

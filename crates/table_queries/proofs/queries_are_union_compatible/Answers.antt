@@ -1,3 +1,5 @@
+-- What is left to prove of `queries_are_union_compatible`: what it ensures, by `breaches_even` and
+-- `differences_even`.
 use Rattle.table_queries.proofs.CompatibleLemmas.{breaches_even, differences_even}
 use Rattle.table_queries.proofs.queries_are_union_compatible.Goals as goal
 

@@ -1,3 +1,5 @@
+-- What is left to prove of `closures`: its clause `closures` and that the invariant of its loop
+-- holds at first and stays, by `FoundLemmas` and `NumberLemmas`.
 use Rattle.std.proofs.Common.{◌≡◌, ℕ, ◌+◌, ◌^◌, ◌<◌, List, sym, subst, arith}
 use Rattle.std.proofs.lemmas.Nat.{one_shl}
 use Rattle.attr_sets.specs.declared.set.AttrSet.{AttrSet}

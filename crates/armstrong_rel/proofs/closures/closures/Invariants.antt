@@ -1,3 +1,4 @@
+-- What the loop of `closures` keeps: `AreClosures`.
 use Rattle.dep_model.specs.Deps.{dependencies_of}
 use Rattle.armstrong_rel.specs.Closures.{AreClosures}
 use Rattle.armstrong_rel.proofs.closures.closures.Given as goal

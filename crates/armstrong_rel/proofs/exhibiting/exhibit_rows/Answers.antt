@@ -1,3 +1,5 @@
+-- What is left to prove of `exhibit_rows`: its clauses `rows`, `exact`, `legal` and `typed` and
+-- what `closures` requires, by `tuples_for_exhibit`.
 use Rattle.std.proofs.Common.{◌≡◌, ℕ, ◌^◌, ◌<◌, List, length, Vec, Global, sym, ap, subst, ◌∙◌, arith}
 use Rattle.std.specs.Prelude.{All}
 use Rattle.std.proofs.lemmas.List.{length-map}
@@ -39,9 +41,9 @@ schema_closures s n deps table same are = subst (λ (ds : List Dependency). AreC
 legal_exhibit_of_schema : (s : Schema) (n : ℕ) (sets : List Attributes) (r : Relation) → n ≡ width_of s
     → functional_part (theory_of s) ≡ theory_of s → AreIrreducible n (theory_of s) sets → length sets < 2 ^ 63
     → r ≡ tuples_for n sets → IsLegalExhibit s r
-legal_exhibit_of_schema s n sets r width functional are few rows =
+legal_exhibit_of_schema s n sets r width functional are within_limit rows =
     subst (λ (t : Relation). IsLegalExhibit s t) (sym (rows ∙ ap (λ (m : ℕ). tuples_for m sets) width))
-    (tuples_for_exhibit s sets functional (subst (λ (m : ℕ). AreIrreducible m (theory_of s) sets) width are) few)
+    (tuples_for_exhibit s sets functional (subst (λ (m : ℕ). AreIrreducible m (theory_of s) sets) width are) within_limit)
 
 pub returns : goal.returns
 returns c =
@@ -57,9 +59,9 @@ returns c =
     (λ (xs : List AttrSet). AreIrreducible n (theory_of s) (schemes_of xs)) (sym c.deref-2.ensures.value) listed in
     let room = c.deref-2.type_inv.1 in
     let long : length (schemes_of sets) ≡ length sets = length-map sets attributes in
-    let few : length (schemes_of sets) < 2 ^ 63 = omega arith in
+    let within_limit : length (schemes_of sets) < 2 ^ 63 = omega arith in
     let all : (rows : Vec Tuple Global) → rows.items ≡ tuples_for n (schemes_of sets) → IsLegalExhibit s rows.items =
-    λ rows is. legal_exhibit_of_schema s n (schemes_of sets) rows.items width c.requires.functional are few is in
+    λ rows is. legal_exhibit_of_schema s n (schemes_of sets) rows.items width c.requires.functional are within_limit is in
     let made : Vec Tuple Global → Type 0 = λ rows. rows.items ≡ tuples_for n (schemes_of sets) in
     record {
       rows = IfOk-weaker c.rows_for.result made (λ rows. IsExhibit (width_of s) (theory_of s) rows.items)

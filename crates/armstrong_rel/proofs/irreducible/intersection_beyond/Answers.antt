@@ -1,7 +1,9 @@
+-- What is left to prove of `intersection_beyond`: its clause `intersection` and that a round of its
+-- loop keeps the invariant, by `intersection_inside` and `intersection_outside`.
 use Rattle.std.proofs.Common.{◌≡◌, ℕ, ◌+◌, sym, subst, ◌∙◌, arith}
 use Rattle.attr_sets.specs.declared.set.AttrSet.{AttrSet}
 use Rattle.attr_sets.specs.Sets.{attributes}
-use Rattle.armstrong_rel.proofs.IntersectionLemmas.{IsMeetTo, intersection_inside, intersection_outside}
+use Rattle.armstrong_rel.proofs.IntersectionLemmas.{IsIntersectionBelow, intersection_inside, intersection_outside}
 use Rattle.armstrong_rel.proofs.irreducible.intersection_beyond.Goals.{then-not-contains, else-not-contains}
 use Rattle.armstrong_rel.proofs.irreducible.intersection_beyond.Goals as goal
 
@@ -17,17 +19,17 @@ loop-attribute-preserved c ds are =
           (attributes c.loop-attribute.intersection) (attributes w.intersection-intersection.result) a
           (sym c.contains.ensures.member ∙ w.if-not-contains.true) w.with.ensures.members
           (w.closure_of.ensures.closure ds are) w.intersection-intersection.ensures.members before in
-          subst (λ (s : AttrSet). IsMeetTo n ds set (a + 1) (attributes s)) (sym w.intersection-is) step
+          subst (λ (s : AttrSet). IsIntersectionBelow n ds set (a + 1) (attributes s)) (sym w.intersection-is) step
       | else-not-contains w ↦
           let step = intersection_inside n ds set (attributes c.loop-attribute.intersection) a
           (sym c.contains.ensures.member ∙ w.if-not-contains.false) before in
-          subst (λ (s : AttrSet). IsMeetTo n ds set (a + 1) (attributes s)) (sym w.intersection-is) step
+          subst (λ (s : AttrSet). IsIntersectionBelow n ds set (a + 1) (attributes s)) (sym w.intersection-is) step
     ]
 
 pub returns : goal.returns
 returns c = record {
   intersection = λ ds are.
       let most : c.loop-attribute.attribute ≡ c.args.width = omega arith in
-      subst (λ (m : ℕ). IsMeetTo c.args.width ds (attributes c.args.set) m (attributes c.loop-attribute.intersection)) most
+      subst (λ (m : ℕ). IsIntersectionBelow c.args.width ds (attributes c.args.set) m (attributes c.loop-attribute.intersection)) most
       (c.loop-attribute.invariant ds are);
 }

@@ -1,3 +1,5 @@
+-- What the loop of `irreducible_sets` keeps, in terms of `Dependency`, `AreClosures` and
+-- `AreFound`.
 use Rattle.std.proofs.Common.{List, ◌^◌}
 use Rattle.dep_model.specs.Dependencies.{Dependency}
 use Rattle.armstrong_rel.specs.Closures.{AreClosures}

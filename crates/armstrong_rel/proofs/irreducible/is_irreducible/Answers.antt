@@ -1,3 +1,5 @@
+-- What is left to prove of `is_irreducible`: what it answers, case by case, by `ClosedLemmas` and
+-- `FoundLemmas`.
 use Rattle.std.proofs.Common.{◌≡◌, ◌==◌, not, sym, subst, ap, ◌∙◌, arith}
 use Rattle.std.proofs.lemmas.Bool.{true≢false, false_from_ne_true}
 use Rattle.attr_sets.specs.Attributes.{Attributes}
@@ -14,7 +16,7 @@ returns-then-eq c =
     let set = attributes c.args.set in
     let found = attributes c.closure_of.result in
     let m = attributes c.intersection_beyond.result in
-    let told = same_number-decides c.intersection_beyond.result c.args.set (omega arith) (omega arith) in
+    let fact = same_number-decides c.intersection_beyond.result c.args.set (omega arith) (omega arith) in
     let same : found ≡ set = c.eq.ensures.same.0 c.if-eq.true in
     record {
       irreducible = λ ds are.
@@ -23,11 +25,11 @@ returns-then-eq c =
           (c.closure_of.ensures.closure ds are)) in
           let intersection = c.intersection_beyond.ensures.intersection ds are in (
             (λ yes. no_intersection_irreducible n ds set m closed intersection
-                (λ alike. true≢false (sym yes ∙ c.ne.ensures ∙ ap not (told.1 alike)))),
+                (λ alike. true≢false (sym yes ∙ c.ne.ensures ∙ ap not (fact.1 alike)))),
             (λ irreducible. let differ = irreducible_no_intersection n ds
                 (table_closures n ds c.args.table.now (omega (arith, c.requires.width)) are) set m intersection irreducible in
                 c.ne.ensures ∙ ap not (false_from_ne_true (c.intersection_beyond.result.0 == c.args.set.0)
-                (λ e. differ (told.0 e)))),
+                (λ e. differ (fact.0 e)))),
           );
     }
 

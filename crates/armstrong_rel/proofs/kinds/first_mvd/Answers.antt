@@ -1,3 +1,5 @@
+-- What is left to prove of `first_mvd`: its clauses `first` and `none` and that a round of its loop
+-- keeps the invariant.
 use Rattle.std.proofs.Common.{◌≡◌, true, take, take_all, List, sym, ◌∙◌, ap, subst}
 use Rattle.std.specs.Prelude.{All, Some, option_map}
 use Rattle.std.proofs.lemmas.Option.{slice_get-map, slice_get-get_or}

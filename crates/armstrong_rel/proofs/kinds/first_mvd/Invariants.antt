@@ -1,3 +1,4 @@
+-- What the loop of `first_mvd` keeps: `All`.
 use Rattle.std.proofs.Common.{◌≡◌, true, take}
 use Rattle.std.specs.Prelude.{All}
 use Rattle.dep_model.specs.Dependencies.{is_fd}

@@ -1,3 +1,4 @@
+-- The law `irreducible_where_no_intersection`, by `ClosedLemmas`.
 use Rattle.armstrong_rel.proofs.ClosedLemmas.{functional_closures, irreducible_no_intersection, no_intersection_irreducible}
 use Rattle.armstrong_rel.proofs.laws.irreducible_where_no_intersection.Goals as goal
 

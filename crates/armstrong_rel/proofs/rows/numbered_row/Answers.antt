@@ -1,3 +1,5 @@
+-- What is left to prove of `numbered_row`: that a round of its loop keeps the invariant, by
+-- `numbered_tuple-more`.
 use Rattle.std.proofs.Common.{◌≡◌, ℕ, Bool, cond, List, ◌∙◌, ◌++◌, [], ◌∷◌, sym, ap}
 use Rattle.std.specs.Fmt.{decimal}
 use Rattle.attr_sets.specs.Sets.{attributes}

@@ -1,3 +1,4 @@
+-- What the loop of `numbered_row` keeps, in terms of `numbered_tuple`.
 use Rattle.std.proofs.Common.{◌≡◌}
 use Rattle.attr_sets.specs.Sets.{attributes}
 use Rattle.armstrong_rel.specs.Exhibits.{numbered_tuple}

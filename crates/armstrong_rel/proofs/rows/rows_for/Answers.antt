@@ -1,3 +1,5 @@
+-- What is left to prove of `rows_for`: its clause `rows` and that the invariant of its loop holds
+-- at first and stays, by `zeros_numbered` and `tuples_more`.
 use Rattle.std.proofs.Common.{◌≡◌, ℕ, ◌+◌, List, ◌∙◌, ◌++◌, [], ◌∷◌, length, take, get_or, sym, ap, take_all, arith}
 use Rattle.std.proofs.lemmas.List.{take_more, map-append, length-map, length-take-le}
 use Rattle.attr_sets.specs.declared.set.AttrSet.{AttrSet}

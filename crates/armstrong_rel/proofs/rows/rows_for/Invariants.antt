@@ -1,3 +1,4 @@
+-- What the loop of `rows_for` keeps, in terms of `schemes_of` and `tuples_for`.
 use Rattle.std.proofs.Common.{◌≡◌, take}
 use Rattle.dep_model.specs.Plans.{schemes_of}
 use Rattle.armstrong_rel.specs.Exhibits.{tuples_for}

@@ -1,3 +1,4 @@
+-- What the loop of `columns` keeps: `names`.
 use Rattle.std.proofs.Common.{◌≡◌, take}
 use Rattle.attr_sets.specs.Sets.{attributes}
 use Rattle.dep_model.specs.Schemas.{names_of}

@@ -1,3 +1,5 @@
+-- What is left to prove of `table`: its clause `value` and the invariant of its type, by
+-- `MigrationLemmas` and `ProjectionLemmas`.
 use Rattle.attr_sets.specs.Sets.{attributes}
 use Rattle.dep_model.specs.Schemas.{names_of, width_of}
 use Rattle.csv_rows.specs.Interning.{groups_of, firsts_of}

@@ -1,3 +1,5 @@
+-- What is left to prove of `tables`: its clause `joins` and that a round of its loop keeps the
+-- invariant, by `MigrationLemmas`.
 use Rattle.std.proofs.Common.{◌≡◌, List, sym, subst, arith}
 use Rattle.dep_model.specs.Schemas.{width_of, theory_of}
 use Rattle.plans.specs.Plans.{plan_of, scheme_sets}

@@ -1,3 +1,4 @@
+-- What the loop of `tables` keeps: `tables` and `schemes`.
 use Rattle.std.proofs.Common.{◌≡◌, take}
 use Rattle.plans.specs.Plans.{plan_of, scheme_sets}
 use Rattle.named_tables.specs.Tables.{table_values}

@@ -1,3 +1,4 @@
+-- What the loop of `project_row` keeps, in terms of `values_below` and `row_at`.
 use Rattle.std.proofs.Common.{◌≡◌}
 use Rattle.attr_sets.specs.Sets.{attributes}
 use Rattle.csv_migrate.proofs.ProjectionLemmas.{values_below}

@@ -1,3 +1,4 @@
+-- What the loop of `project_rows` keeps: `rows`.
 use Rattle.std.proofs.Common.{◌≡◌, map, take}
 use Rattle.attr_sets.specs.Sets.{attributes}
 use Rattle.dep_model.specs.Projections.{project_tuple}

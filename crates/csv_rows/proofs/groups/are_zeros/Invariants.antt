@@ -1,3 +1,4 @@
+-- What the loop of `are_zeros` keeps, in terms of `number_at`.
 use Rattle.std.proofs.Common.{◌≡◌, ◌<◌, ℕ}
 use Rattle.csv_rows.specs.Numberings.{number_at}
 use Rattle.csv_rows.proofs.groups.are_zeros.Given as goal

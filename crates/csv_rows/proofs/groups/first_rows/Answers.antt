@@ -1,3 +1,5 @@
+-- What is left to prove of `first_rows`: that a round of its loop keeps the invariant, by
+-- `new_first` and `old_first`.
 use Rattle.std.proofs.Common.{arith, ◌≡◌, length}
 use Rattle.csv_rows.proofs.NumberingLemmas.{new_first, old_first}
 use Rattle.csv_rows.proofs.groups.first_rows.Goals as goal

@@ -1,3 +1,4 @@
+-- What the loop of `first_rows` keeps: `so_far`.
 use Rattle.csv_rows.specs.Numberings.{AreInOrder}
 use Rattle.csv_rows.proofs.NumberingLemmas.{FirstsBefore}
 use Rattle.csv_rows.proofs.groups.first_rows.Given as goal

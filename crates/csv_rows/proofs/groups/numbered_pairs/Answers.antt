@@ -1,3 +1,5 @@
+-- What is left to prove of `numbered_pairs`: its clause `numbered` and that a round of its loop
+-- keeps the invariant, by `pair_step`.
 use Rattle.std.proofs.Common.{arith, ◌≡◌, ℕ, map, length, subst, refl}
 use Rattle.csv_rows.specs.Numberings.{AreNumbered, number_at}
 use Rattle.csv_rows.proofs.NumberingLemmas.{pair_step}

@@ -1,3 +1,4 @@
+-- What the loop of `numbered_pairs` keeps: `numbered`.
 use Rattle.std.proofs.Common.{ℕ, map}
 use Rattle.csv_rows.specs.Numberings.{AreNumbered, number_at}
 use Rattle.csv_rows.proofs.groups.numbered_pairs.Given as goal

@@ -1,3 +1,5 @@
+-- What is left to prove of `refine_groups`: its clauses `groups` and `count`, by `single_group` and
+-- `pair_groups`.
 use Rattle.std.proofs.Common.{arith, sym, subst}
 use Rattle.attr_sets.specs.Attributes.{union, only}
 use Rattle.csv_rows.specs.Numberings.{AreGroups}

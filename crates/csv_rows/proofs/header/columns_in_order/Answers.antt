@@ -1,3 +1,5 @@
+-- What is left to prove of `columns_in_order`: that the invariant of its loop holds at first and
+-- stays, by `order_more` and `order_same`.
 use Rattle.std.proofs.Common.{sym, ◌∙◌}
 use Rattle.dep_model.specs.Projections.{members_below}
 use Rattle.csv_rows.proofs.HeaderLemmas.{order_more, order_same}

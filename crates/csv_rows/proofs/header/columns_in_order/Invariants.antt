@@ -1,3 +1,4 @@
+-- What the loop of `columns_in_order` keeps, in terms of `order_of`.
 use Rattle.std.proofs.Common.{◌≡◌}
 use Rattle.csv_rows.specs.Columns.{order_of}
 use Rattle.csv_rows.proofs.header.columns_in_order.Given as goal

@@ -1,3 +1,5 @@
+-- What is left to prove of `field`: what it answers in the cases `Some` and `None`, by
+-- `field_at-slice_index`.
 use Rattle.std.proofs.Common.{ℕ, List, Option, [], unwrap_or, ap, ◌∙◌}
 use Rattle.csv_rows.proofs.RecordLemmas.{field_at-slice_index}
 use Rattle.csv_rows.proofs.header.field.Goals as goal

@@ -1,3 +1,4 @@
+-- What the loop of `column_numbers` keeps: `numbered`.
 use Rattle.std.proofs.Common.{ℕ, List, map, Bor}
 use Rattle.dep_model.specs.Tuples.{value_at}
 use Rattle.csv_rows.specs.Numberings.{AreNumbered}

@@ -1,3 +1,4 @@
+-- What is left to prove of `one_reading`: its clauses `rows` and `part`, by `UniqueRows`.
 use Rattle.std.proofs.Common.{◌≡◌}
 use Rattle.csv_rows.specs.Columns.{columns_of_header, IsHeaderOf}
 use Rattle.csv_rows.specs.Records.{records_of}

@@ -1,3 +1,5 @@
+-- What is left to prove of `read_part`: its clauses `err`, `rows` and `scheme` and what `read_body`
+-- requires, by `refused_part` and `part_rows`.
 use Rattle.std.proofs.Common.{Err}
 use Rattle.dep_model.proofs.FailureLemmas.{refuses_also}
 use Rattle.csv_rows.proofs.ReadingLemmas.{refused_part, part_rows}

@@ -1,3 +1,5 @@
+-- What is left to prove of `print_rows`: that a round of its loop keeps the invariant, by
+-- `rows_text_next`.
 use Rattle.std.proofs.Common.{arith, ◌<◌, length}
 use Rattle.csv_rows.proofs.RowLemmas.{rows_text_next}
 use Rattle.csv_rows.proofs.printing.print_rows.Goals as goal

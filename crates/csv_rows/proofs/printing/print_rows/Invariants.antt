@@ -1,3 +1,4 @@
+-- What the loop of `print_rows` keeps: `HasWritten`.
 use Rattle.std.proofs.Common.{Some, take}
 use Rattle.csv_text.specs.Rows.{HasWritten, rows_text}
 use Rattle.dep_model.specs.Schemas.{names_of}

@@ -1,3 +1,4 @@
+-- What the loop of `take_names` keeps: `fields` and `partial`.
 use Rattle.std.proofs.Common.{◌≡◌, [], take}
 use Rattle.csv.specs.Records.{fields_of, partial_of}
 use Rattle.dep_model.specs.Schemas.{names_of}

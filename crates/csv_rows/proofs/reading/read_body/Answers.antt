@@ -1,3 +1,5 @@
+-- What is left to prove of `read_body`: its clauses `ok` and `err` and that a round of its loop
+-- keeps the invariant, by `ReadingLemmas`.
 use Rattle.std.proofs.Common.{arith, ◌≡◌, ◌≤◌, ◌+◌, ◌∷◌, [], length, ap, ◌∙◌}
 use Rattle.std.proofs.lemmas.List.{length-append}
 use Rattle.dep_model.proofs.FailureLemmas.{refuses_also}

@@ -1,3 +1,4 @@
+-- What is left to prove of `read_header`: its clauses `ok` and `err`, by `ReadingLemmas`.
 use Rattle.csv_rows.proofs.ReadingLemmas.{header_read, header_refused, no_header}
 use Rattle.csv_rows.proofs.reading.read_header.Goals as goal
 

@@ -1,3 +1,5 @@
+-- What is left to prove of `read_row`: its clauses `err` and `ok`, what `column` requires, and that
+-- the invariant of its loop holds at first and stays, by `ReadingLemmas`.
 use Rattle.std.proofs.Common.{arith, ◌≡◌, ◌≤◌, List, ℕ, Ok, true, false, length, sym, ap, subst, ◌∙◌}
 use Rattle.csv.specs.Records.{fields_of}
 use Rattle.dep_model.specs.Integers.{IsIntegerText}
@@ -17,8 +19,8 @@ returns-then-not-fits-clause-err c = λ columns kept.
     let at = entry_in _ columns _ c.deref-entry-items.result.now c.loop-entry.entry-index _ kept c.deref-entry-items.ensures.value c.loop-entry-test.true in
     let broken : c.fits.result ≡ false = grind (arith, c.if-not-fits.true) in
     let even : length (fields_of c.args.fields.now) ≡ c.args.header.now.columns = omega (arith, c.len.ensures, c.if-len-header.false) in
-    let few : c.args.row ≤ 100000 = omega (arith, c.if-row-gt-MOST_ROWS.false) in
-    not_integer _ columns _ _ _ _ _ _ c.field-value.result.now c.column.result kept (c.loop-entry.invariant.takes columns kept) at c.field-value.ensures.value c.column.ensures.column (c.fits.ensures.breaks broken) even few
+    let within_limit : c.args.row ≤ 100000 = omega (arith, c.if-row-gt-MOST_ROWS.false) in
+    not_integer _ columns _ _ _ _ _ _ c.field-value.result.now c.column.result kept (c.loop-entry.invariant.takes columns kept) at c.field-value.ensures.value c.column.ensures.column (c.fits.ensures.breaks broken) even within_limit
 
 pub loop-entry-preserved : goal.loop-entry-preserved
 loop-entry-preserved c = record {
@@ -33,6 +35,6 @@ loop-entry-preserved c = record {
 pub returns-clause-ok : goal.returns-clause-ok
 returns-clause-ok c = λ columns kept.
     let even : length (fields_of c.args.fields.now) ≡ c.args.header.now.columns = omega (arith, c.len.ensures, c.if-len-header.false) in
-    let few : c.args.row ≤ 100000 = omega (arith, c.if-row-gt-MOST_ROWS.false) in
+    let within_limit : c.args.row ≤ 100000 = omega (arith, c.if-row-gt-MOST_ROWS.false) in
     let end : c.loop-entry.entry-index ≡ length c.args.header.now.order.items = omega (arith, c.loop-entry-test.false, c.loop-entry.auto.entry-index-end, ap length c.deref-entry-items.ensures.value) in
-    takes_all _ columns _ _ _ _ _ kept (c.loop-entry.invariant.takes columns kept) end even few
+    takes_all _ columns _ _ _ _ _ kept (c.loop-entry.invariant.takes columns kept) end even within_limit

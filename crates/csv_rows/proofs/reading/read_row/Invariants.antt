@@ -1,3 +1,4 @@
+-- What the loop of `read_row` keeps: `takes`.
 use Rattle.std.proofs.Common.{ℕ, List}
 use Rattle.csv.specs.Records.{fields_of}
 use Rattle.dep_model.specs.Schemas.{width_of}

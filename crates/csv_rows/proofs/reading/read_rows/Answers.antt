@@ -1,3 +1,5 @@
+-- What is left to prove of `read_rows`: its clauses `err`, `ok`, `over` and `typed` and what
+-- `read_body` requires, by `ReadingLemmas`.
 use Rattle.std.proofs.Common.{refl}
 use Rattle.attr_sets.specs.Sets.{attributes}
 use Rattle.dep_model.proofs.FailureLemmas.{refuses_also}

@@ -1,3 +1,4 @@
+-- What the loop of `header_line` keeps: `fields` and `partial`.
 use Rattle.std.proofs.Common.{◌≡◌, [], take}
 use Rattle.csv.specs.Records.{fields_of, partial_of}
 use Rattle.csv_text.proofs.lines.header_line.Given as goal

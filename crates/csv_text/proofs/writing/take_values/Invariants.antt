@@ -1,3 +1,4 @@
+-- What the loop of `take_values` keeps: `fields` and `partial`.
 use Rattle.std.proofs.Common.{◌≡◌, [], take}
 use Rattle.csv.specs.Records.{fields_of, partial_of}
 use Rattle.row_store.specs.Rows.{row_at}

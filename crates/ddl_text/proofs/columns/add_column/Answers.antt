@@ -1,3 +1,4 @@
+-- What is left to prove of `add_column`: its clause `added`, by `column_added`.
 use Rattle.std.proofs.Common.{◌∙◌}
 use Rattle.attr_sets.proofs.AttributesLemmas.{same_at}
 use Rattle.ddl_text.proofs.TextLemmas.{column_added}

@@ -1,16 +1,18 @@
+-- What is left to prove of `add_columns`: that the invariant of its loop holds at first and stays,
+-- by `TextLemmas`.
 use Rattle.std.proofs.Common.{false, map, refl, sym, append-nil}
 use Rattle.attr_sets.specs.Sets.{attributes}
 use Rattle.dep_model.specs.Projections.{members_below}
 use Rattle.dep_model.proofs.SchemeLemmas.{members_below-none}
 use Rattle.ddl_text.specs.Ddl.{column_element}
 use Rattle.ddl_text.proofs.TextLemmas.{members_inside, members_outside, lines_more}
-use Rattle.sql_names.proofs.NameLemmas.{some_more}
+use Rattle.sql_names.proofs.NameLemmas.{not_empty_more}
 use Rattle.ddl_text.proofs.columns.add_columns.Goals as goal
 use Rattle.ddl_text.proofs.columns.add_columns.Goals.{then-contains+in_ok-add_opening+in_ok-add_column, else-contains}
 
 pub loop-attribute-init : goal.loop-attribute-init
 loop-attribute-init c = rw (members_below-none (attributes c.args.scheme))
-    (record { added = sym (append-nil c.args.text.now.items); some = refl })
+    (record { added = sym (append-nil c.args.text.now.items); any_before = refl })
 
 pub loop-attribute-preserved : goal.loop-attribute-preserved
 loop-attribute-preserved c =
@@ -20,13 +22,13 @@ loop-attribute-preserved c =
     let before = c.loop-attribute.invariant in
     elim c.if-contains.branch [
       | then-contains+in_ok-add_opening+in_ok-add_column w ↦
-          rw (members_inside (column_element s) n x (sym w.if-contains.ensures.member), w.text-is, w.some-is) (record {
-            added = lines_more false c.loop-attribute.some (map (column_element s) (members_below n x))
+          rw (members_inside (column_element s) n x (sym w.if-contains.ensures.member), w.text-is, w.any_before-is) (record {
+            added = lines_more false c.loop-attribute.any_before (map (column_element s) (members_below n x))
                 (column_element s n) c.args.text.now.items c.loop-attribute.text.items
-                w.add_opening.new.text.items w.add_column.new.text.items before.added before.some
+                w.add_opening.new.text.items w.add_column.new.text.items before.added before.any_before
                 w.in_ok-add_opening.ensures.added w.in_ok-add_column.ensures.added;
-            some = some_more false (map (column_element s) (members_below n x)) (column_element s n);
+            any_before = not_empty_more false (map (column_element s) (members_below n x)) (column_element s n);
           })
-      | else-contains w ↦ rw (members_outside (column_element s) n x (sym w.if-contains.ensures.member), w.text-is, w.some-is)
+      | else-contains w ↦ rw (members_outside (column_element s) n x (sym w.if-contains.ensures.member), w.text-is, w.any_before-is)
           before
     ]

@@ -1,3 +1,5 @@
+-- What is left to prove of `design`: its clauses `keys_hold` and `references_hold` and the
+-- invariant of its type, by `DesignLemmas`.
 use Rattle.std.proofs.Common.{ℕ, List, sym, subst}
 use Rattle.std.specs.Prelude.{All}
 use Rattle.attr_sets.specs.declared.set.AttrSet.{AttrSet}

@@ -1,3 +1,5 @@
+-- What is left to prove of `references`: that a round of its loop keeps the invariant, by
+-- `references_more` and `references_passed`.
 use Rattle.std.proofs.Common.{sym, subst, ◌∙◌}
 use Rattle.std.proofs.lemmas.Bool.{true≢false}
 use Rattle.attr_sets.specs.Sets.{attributes}

@@ -1,3 +1,4 @@
+-- What the loop of `references` keeps: `AreReferences`.
 use Rattle.std.proofs.Common.{take}
 use Rattle.attr_sets.specs.Sets.{attributes}
 use Rattle.ddl_text.specs.Designs.{AreReferences}

@@ -1,3 +1,5 @@
+-- What is left to prove of `tables_of`: that a round of its loop keeps the invariant, by
+-- `design_more`.
 use Rattle.std.proofs.Common.{List, get_or, subst}
 use Rattle.attr_sets.specs.declared.set.AttrSet.{AttrSet}
 use Rattle.ddl_text.specs.declared.table.TableDesign.{TableDesign}

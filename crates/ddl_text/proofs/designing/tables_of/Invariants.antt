@@ -1,3 +1,4 @@
+-- What the loop of `tables_of` keeps: `IsDesign`.
 use Rattle.std.proofs.Common.{take}
 use Rattle.ddl_text.specs.Designs.{IsDesign}
 use Rattle.ddl_text.proofs.designing.tables_of.Given as goal

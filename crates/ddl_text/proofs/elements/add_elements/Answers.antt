@@ -1,3 +1,4 @@
+-- What is left to prove of `add_elements`: its clause `added`, by `elements_added`.
 use Rattle.std.proofs.Common.{◌≡◌, ◌++◌, List, ℕ, subst}
 use Rattle.std.specs.Prelude.{OnOk}
 use Rattle.attr_sets.specs.Sets.{attributes}
@@ -10,14 +11,14 @@ returns c =
     let s = c.args.schema.now in
     let tables = c.args.tables.now in
     let table = c.args.table.now in
-    let one = c.in_ok-some.some in
-    let two = c.in_ok-some-2.some in
+    let one = c.in_ok-any_before.any_before in
+    let two = c.in_ok-any_before-2.any_before in
     let references = reference_elements s tables table.refs.items in
     record {
       added = elements_added c.add_references.result (column_elements s (attributes table.scheme))
           (key_elements s (attributes table.key)) references one two
           c.args.text.now.items c.add_columns.new.text.items c.add_key.new.text.items c.add_references.new.text.items
-          c.in_ok-some.ensures.added c.in_ok-some.ensures.any_written c.in_ok-some-2.ensures.added c.in_ok-some-2.ensures.any_written
+          c.in_ok-any_before.ensures.added c.in_ok-any_before.ensures.any_written c.in_ok-any_before-2.ensures.added c.in_ok-any_before-2.ensures.any_written
           (subst (λ (refs : List ℕ). OnOk c.add_references.result
           (c.add_references.new.text.items ≡ c.add_key.new.text.items ++ element_lines two
           (reference_elements s tables refs)))

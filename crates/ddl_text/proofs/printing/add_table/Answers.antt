@@ -1,3 +1,4 @@
+-- What is left to prove of `add_table`: its clause `added`, by `table_added`.
 use Rattle.ddl_text.proofs.TextLemmas.{table_added}
 use Rattle.ddl_text.proofs.printing.add_table.Goals as goal
 

@@ -1,3 +1,4 @@
+-- What the loop of `add_tables` keeps, in terms of `table_text`.
 use Rattle.std.proofs.Common.{◌≡◌, ◌++◌, take}
 use Rattle.std.specs.List.{flat_map}
 use Rattle.ddl_text.specs.Ddl.{table_text}

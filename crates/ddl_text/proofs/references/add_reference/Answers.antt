@@ -1,3 +1,4 @@
+-- What is left to prove of `add_reference`: its clause `added`, by `reference_added`.
 use Rattle.ddl_text.proofs.TextLemmas.{reference_added}
 use Rattle.ddl_text.proofs.references.add_reference.Goals as goal
 

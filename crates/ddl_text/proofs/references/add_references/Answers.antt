@@ -1,4 +1,6 @@
-use Rattle.ddl_text.proofs.TextLemmas.{references_more, references_some}
+-- What is left to prove of `add_references`: that a round of its loop keeps the invariant, by
+-- `references_more` and `references_not_empty`.
+use Rattle.ddl_text.proofs.TextLemmas.{references_more, references_not_empty}
 use Rattle.ddl_text.proofs.references.add_references.Goals as goal
 
 pub loop-j-preserved : goal.loop-j-preserved
@@ -9,10 +11,10 @@ loop-j-preserved c =
     let i = c.loop-j.j-index in
     let before = c.loop-j.invariant in
     record {
-      added = references_more s tables refs i 0 c.index-tables-j.result c.args.some c.loop-j.some
+      added = references_more s tables refs i 0 c.index-tables-j.result c.args.any_before c.loop-j.any_before
           c.args.text.now.items c.loop-j.text.items
           c.add_opening.new.text.items c.add_reference.new.text.items c.loop-j-test.true
           (c.requires.refs i 0 c.loop-j-test.true) c.index-tables-j.is
-          before.added before.some c.in_ok-add_opening.ensures.added c.in_ok-add_reference.ensures.added;
-      some = references_some s tables refs i 0 c.args.some c.loop-j-test.true;
+          before.added before.any_before c.in_ok-add_opening.ensures.added c.in_ok-add_reference.ensures.added;
+      any_before = references_not_empty s tables refs i 0 c.args.any_before c.loop-j-test.true;
     }

@@ -1,3 +1,4 @@
+-- What is left to prove of `basis`: what `basis_by` requires.
 use Rattle.dep_basis.proofs.bases.basis.Goals as goal
 
 pub basis_by-requires-clause-deps : goal.basis_by-requires-clause-deps

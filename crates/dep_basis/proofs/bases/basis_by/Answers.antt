@@ -1,3 +1,4 @@
+-- What is left to prove of `basis_by`: its clause `basis`, by `basis-from`.
 use Rattle.std.proofs.Common.{subst}
 use Rattle.attr_sets.specs.Attributes.{Attributes}
 use Rattle.attr_sets.specs.Sets.{attributes}

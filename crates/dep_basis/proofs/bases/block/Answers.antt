@@ -1,3 +1,4 @@
+-- What is left to prove of `block`: its clause `none` and what `block_by` requires.
 use Rattle.dep_basis.proofs.bases.block.Goals as goal
 
 pub block_by-requires-clause-deps : goal.block_by-requires-clause-deps

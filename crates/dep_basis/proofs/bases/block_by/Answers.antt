@@ -1,3 +1,4 @@
+-- What is left to prove of `block_by`: its clause `none`.
 use Rattle.std.proofs.Common.{refl}
 use Rattle.dep_basis.proofs.bases.block_by.Goals as goal
 

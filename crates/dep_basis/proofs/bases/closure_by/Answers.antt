@@ -1,3 +1,4 @@
+-- What is left to prove of `closure_by`: its clause `closure`, by `rest_closed`.
 use Rattle.std.proofs.Common.{sym, ◌∙◌}
 use Rattle.attr_sets.specs.Sets.{attributes}
 use Rattle.dep_model.specs.Deps.{dependencies_of}

@@ -1,3 +1,4 @@
+-- What is left to prove of `closure_of`: its clause `closure` and what `closure_by` requires.
 use Rattle.dep_basis.proofs.bases.closure_of.Goals as goal
 
 pub closure_by-requires-clause-deps : goal.closure_by-requires-clause-deps

@@ -1,3 +1,4 @@
+-- What is left to prove of `trace_basis`: what `trace_basis_by` requires.
 use Rattle.dep_basis.proofs.bases.trace_basis.Goals as goal
 
 pub trace_basis_by-requires-clause-deps : goal.trace_basis_by-requires-clause-deps

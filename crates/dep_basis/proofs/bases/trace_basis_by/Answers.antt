@@ -1,3 +1,4 @@
+-- What is left to prove of `trace_basis_by`: its clause `basis`, by `trace_basis-from`.
 use Rattle.attr_sets.specs.Sets.{attributes}
 use Rattle.dep_basis.proofs.BasisLemmas.{trace_basis-from}
 use Rattle.dep_basis.proofs.bases.trace_basis_by.Goals as goal

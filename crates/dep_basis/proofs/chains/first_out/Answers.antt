@@ -1,3 +1,5 @@
+-- What is left to prove of `first_out`: its clauses `first` and `none` and that a round of its loop
+-- keeps the invariant, by `lead_first`.
 use Rattle.std.proofs.Common.{◌<◌, ◌≤◌, List, get_or, length, take_all, subst, refl}
 use Rattle.std.specs.Prelude.{All}
 use Rattle.std.proofs.lemmas.List.Elements.{All-more}

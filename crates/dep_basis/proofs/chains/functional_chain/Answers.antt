@@ -1,3 +1,6 @@
+-- What is left to prove of `functional_chain`: its clauses `found_where_implied`, `chain`,
+-- `proves`, `node_bound` and one more, that the invariant of its loop holds at first and stays, and
+-- that its loop ends.
 use Rattle.std.proofs.Common.{◌≡◌, suc, refl, ◌∙◌, ap, inl, inr, arith}
 use Rattle.std.proofs.lemmas.Bool.{false≢true}
 use Rattle.attr_sets.specs.declared.set.TheConstants.{MOST_ATTRIBUTES}
@@ -26,10 +29,10 @@ returns-in_default-clause-found_where_implied c =
     let closed = attributes c.loop-closed.closed in
     let stage : Stage = record { closed = closed; tree = tree_of c.loop-closed.chain.value } in
     let grows = reached_grows s x y c.loop-closed.invariant.0 stage c.loop-closed.invariant.1 in
-    let settled = c.in_default.ensures.none refl in (
+    let is_closed = c.in_default.ensures.none refl in (
       (λ none. absurd (false≢true none)),
       (λ implied. absurd (false≢true (c.loop-closed-test.ensures.subset.1
-          (functionally_closed_holds (width_of s) (deps_of s) x y closed s.valid.deps_within c.requires.lhs c.requires.rhs settled grows implied)))),
+          (functionally_closed_holds (width_of s) (deps_of s) x y closed s.valid.deps_within c.requires.lhs c.requires.rhs is_closed grows implied)))),
     )
 
 pub loop-closed-smaller : goal.loop-closed-smaller
@@ -78,8 +81,8 @@ returns-clause-chain c = whole c
 pub returns-clause-proves : goal.returns-clause-proves
 returns-clause-proves c = chain_proves c.args.schema.now (attributes c.args.lhs) (attributes c.args.rhs) (tree_of c.in_ok-new.field-0.value) c.requires.lhs (whole c)
 
-pub returns-clause-few_nodes : goal.returns-clause-few_nodes
-returns-clause-few_nodes c = (chain_small c.args.schema.now (attributes c.args.lhs) (attributes c.args.rhs) (tree_of c.in_ok-new.field-0.value) (whole c)).0
+pub returns-clause-node_bound : goal.returns-clause-node_bound
+returns-clause-node_bound c = (chain_small c.args.schema.now (attributes c.args.lhs) (attributes c.args.rhs) (tree_of c.in_ok-new.field-0.value) (whole c)).0
 
-pub returns-clause-few_levels : goal.returns-clause-few_levels
-returns-clause-few_levels c = (chain_small c.args.schema.now (attributes c.args.lhs) (attributes c.args.rhs) (tree_of c.in_ok-new.field-0.value) (whole c)).1
+pub returns-clause-level_bound : goal.returns-clause-level_bound
+returns-clause-level_bound c = (chain_small c.args.schema.now (attributes c.args.lhs) (attributes c.args.rhs) (tree_of c.in_ok-new.field-0.value) (whole c)).1

@@ -1,3 +1,5 @@
+-- What the loop of `functional_chain` keeps, in terms of `tree_of` and `Reaches`; and by what it
+-- ends.
 use Rattle.std.proofs.Common.{ℕ, ◌-◌}
 use Rattle.attr_sets.specs.Attributes.{count_below}
 use Rattle.attr_sets.specs.Sets.{attributes}

@@ -1,3 +1,5 @@
+-- What is left to prove of `best_cut`: its clauses `none` and `best` and that a round of its loop
+-- keeps the invariant, by `best_of_all`.
 use Rattle.std.proofs.Common.{ℕ, ◌<◌, length, get_or, take_all, refl, sym, subst, arith}
 use Rattle.std.proofs.lemmas.List.{get_or_default}
 use Rattle.std.proofs.lemmas.List.Elements.{All-more}

@@ -1,3 +1,4 @@
+-- What the loop of `best_cut` keeps: `none` and `best`.
 use Rattle.std.proofs.Common.{take}
 use Rattle.std.specs.Prelude.{All, IsNone}
 use Rattle.attr_sets.specs.Sets.{attributes}

@@ -1,3 +1,4 @@
+-- What is left to prove of `is_cutting`: its clause `cuts`.
 use Rattle.std.proofs.Common.{sym, ap, ◌∙◌, inr, ⊎_elim}
 use Rattle.std.proofs.lemmas.Bool.{true≢false, false_from_ne_true, not-true}
 use Rattle.attr_sets.specs.Attributes.{Attributes, Intersects}

@@ -1,3 +1,4 @@
+-- What is left to prove of `next_cut`: its clause `none`.
 use Rattle.std.proofs.Common.{take_all}
 use Rattle.attr_sets.specs.Sets.{attributes}
 use Rattle.dep_model.proofs.DepLemmas.{dependencies_all-from}

@@ -1,3 +1,6 @@
+-- What is left to prove of `block_beyond`: its clauses `none` and `block`, what `block_by`
+-- requires, that the invariant of its loop holds at first and stays, and that its loop ends, by
+-- `closure_between`.
 use Rattle.std.proofs.Common.{ℕ, refl, sym, subst, ◌∙◌, inl, inr, arith}
 use Rattle.std.proofs.lemmas.Bool.{true≢false, cases_eq, ltb-true}
 use Rattle.std.proofs.lemmas.Bool.Decides.{nat_tests}

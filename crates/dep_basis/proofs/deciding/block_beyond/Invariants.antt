@@ -1,3 +1,4 @@
+-- What the loop of `block_beyond` keeps: `within` and `closed`; and by what it ends.
 use Rattle.std.proofs.Common.{◌≡◌, ℕ, true, false}
 use Rattle.attr_sets.specs.Attributes.{IsSubset, count_below}
 use Rattle.attr_sets.specs.Sets.{attributes}

@@ -1,3 +1,4 @@
+-- What is left to prove of `block_split`: its clauses `none` and `block`, by `split_block`.
 use Rattle.std.proofs.Common.{◌≡◌, ℕ, subst, arith}
 use mathlib.Core.Path.{fun_ext}
 use Rattle.std.proofs.lemmas.Option.{IfSome_then}
@@ -22,14 +23,14 @@ returns-clause-none c =
     let decides = c.basis_by-found.ensures.basis.multivalued y c.requires.rhs in
     let blocks = blocks_of c.basis_by-found.result in
     let rest = rest_is ((goal.at.returns-clause-none c).After-difference) in (
-      (λ none. decides.1 (subst (λ (x : Attributes). All (λ (p : AttrSet). Intersects (attributes p) y × Intersects (attributes p) x → ⊥) blocks) rest (c.first_meeting.ensures.none.0 none))),
-      (λ implied. c.first_meeting.ensures.none.1 (rw rest (decides.0 implied))),
+      (λ none. decides.1 (subst (λ (x : Attributes). All (λ (p : AttrSet). Intersects (attributes p) y × Intersects (attributes p) x → ⊥) blocks) rest (c.first_intersecting.ensures.none.0 none))),
+      (λ implied. c.first_intersecting.ensures.none.1 (rw rest (decides.0 implied))),
     )
 
 pub returns-clause-block : goal.returns-clause-block
 returns-clause-block c =
     let y = attributes c.args.rhs in
     let rest = rest_is ((goal.at.returns-clause-block c).After-difference) in
-    IfSome_then c.first_meeting.result c.first_meeting.ensures.first (λ (p : AttrSet) first.
+    IfSome_then c.first_intersecting.result c.first_intersecting.ensures.first (λ (p : AttrSet) first.
     split_block c.args.width (dependencies_of c.args.deps.now) (attributes c.args.lhs) y c.basis_by-found.result c.basis_by-found.ensures.basis c.requires.rhs p
     (subst (λ (x : Attributes). IsFirstWith (λ (q : AttrSet). Intersects (attributes q) y × Intersects (attributes q) x) (blocks_of c.basis_by-found.result) p) rest first))

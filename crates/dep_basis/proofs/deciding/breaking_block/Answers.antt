@@ -1,3 +1,4 @@
+-- What is left to prove of `breaking_block`: its clause `none`.
 use Rattle.dep_basis.proofs.deciding.breaking_block.Goals as goal
 
 pub returns-in-Fd-clause-none : goal.returns-in-Fd-clause-none

@@ -1,3 +1,4 @@
+-- What is left to prove of `decide`: what `decide_by` requires.
 use Rattle.dep_basis.proofs.deciding.decide.Goals as goal
 
 pub decide_by-requires-clause-deps : goal.decide_by-requires-clause-deps

@@ -1,3 +1,4 @@
+-- What is left to prove of `decide_by`: its clause `decision`, by `breaking_broken`.
 use Rattle.std.proofs.Common.{arith}
 use mathlib.Core.Path.{fun_ext}
 use Rattle.attr_sets.specs.Sets.{attributes}

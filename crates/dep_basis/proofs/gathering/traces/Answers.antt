@@ -1,3 +1,6 @@
+-- What is left to prove of `traces`: its clause `traces`, that the invariant of its loop holds at
+-- first and stays, that its loop ends, and that its positions are within bounds, by
+-- `GatheringLemmas` and `PieceLemmas`.
 use Rattle.std.proofs.Common.{◌≡◌, ℕ, ◌+◌, ◌<◌, length, take, drop, true, refl, sym, ◌∙◌, arith}
 use mathlib.Core.Path.{fun_ext}
 use Rattle.std.proofs.lemmas.Bool.{false≢true, ltb-true}
@@ -71,15 +74,15 @@ loop-first-preserved c =
     let block = c.piece_with-block in
     let low = ltb-true c.in-Some.first n (c.requires.scheme c.in-Some.first (found.left_in c.in-Some.first c.in-Some.ensures.first.member)) in
     let piece = piece_is n ds (attributes c.args.lhs) c.all_pieces-found.result c.all_pieces-found.ensures.pieces c.in-Some.first block.result low block.ensures.none block.ensures.piece block.ensures.member in
-    let some = not_empty (attributes block.result) (attributes c.empty.result) (same_at c.empty.ensures.members) (λ same. false≢true (c.if-eq.ensures.same.1 same)) in
+    let not_none = not_empty (attributes block.result) (attributes c.empty.result) (same_at c.empty.ensures.members) (λ same. false≢true (c.if-eq.ensures.same.1 same)) in
     let count = c.loop-first.count in
     let blocks = c.loop-first.blocks in
-    let fewer = count_below-falls (attributes c.loop-first.left) (attributes c.difference-left.result) (attributes block.result) c.in-Some.first c.in-Some.ensures.attribute c.in-Some.ensures.first.member (piece.member some) c.difference-left.ensures.members in
+    let fewer = count_below-falls (attributes c.loop-first.left) (attributes c.difference-left.result) (attributes block.result) c.in-Some.first c.in-Some.ensures.attribute c.in-Some.ensures.first.member (piece.member not_none) c.difference-left.ensures.members in
     let short : count < length blocks = omega (arith, before.size, before.room, fewer) in
     record {
       found = rw (take_more_set blocks count c.intersection.result short)
           (found_block n ds (attributes c.args.scheme) (attributes c.args.lhs) (attributes c.loop-first.left) (attributes c.loop-first.closed) (take count blocks) found
-          (attributes block.result) (attributes c.difference-left.result) c.intersection.result c.in-Some.first c.in-Some.ensures.first (piece.block some) (piece.member some) c.intersection.ensures.members c.difference-left.ensures.members);
+          (attributes block.result) (attributes c.difference-left.result) c.intersection.result c.in-Some.first c.in-Some.ensures.first (piece.block not_none) (piece.member not_none) c.intersection.ensures.members c.difference-left.ensures.members);
       room = omega (arith, before.room, fewer);
       size = length-set blocks count c.intersection.result ∙ before.size;
       rest = rw (drop-set-lt (count + 1) blocks count c.intersection.result (omega arith), ← drop-drop 1 count blocks)

@@ -1,3 +1,4 @@
+-- What the loop of `traces` keeps: `found`, `room`, `size` and `rest`; and by what it ends.
 use Rattle.std.proofs.Common.{◌≡◌, ◌+◌, ◌≤◌, length, take, drop}
 use Rattle.std.specs.Prelude.{All}
 use Rattle.attr_sets.specs.Attributes.{IsEmpty, count_below}

@@ -1,3 +1,5 @@
+-- What is left to prove of `join_fd`: what `show_closed` requires, that the invariant of its loop
+-- holds at first and stays, and that its loop ends, by `JoiningLemmas` and `ShowingLemmas`.
 use Rattle.std.proofs.Common.{◌≡◌, ◌+◌, ◌*◌, true, refl, arith, sym}
 use mathlib.Core.Path.{fun_ext}
 use Rattle.std.proofs.lemmas.Bool.Decides.{nat_tests}
@@ -45,14 +47,14 @@ loop-first-preserved c =
     let before = c.loop-first.invariant in
     let g = tree_of c.in_ok-next.next.value in
     let u = tree_of c.in-Ok.more.value in
-    let shown = c.in_ok-next.ensures.shown in
+    let lossless = c.in_ok-next.ensures.proof in
     let in_left : left a ≡ true = c.in-Some.ensures.first.member in
     let alone = attributes c.single-only.result in
     let alone_is = c.single-only.ensures.members in
     record {
       left = left_next x y left rest (only a) a (tree_of c.loop-first.joined.value) g u before.left c.in-Some.ensures.attribute in_left (grind (arith, nat_tests)) c.without-left.ensures.members
-          (size_grows g (8 * MOST_ATTRIBUTES + 6) (5 * MOST_ATTRIBUTES + 6) (8 * MOST_ATTRIBUTES + 8) (5 * MOST_ATTRIBUTES + 8) (omega arith) (omega arith) shown.size) c.in-Ok.ensures.size;
+          (size_grows g (8 * MOST_ATTRIBUTES + 6) (5 * MOST_ATTRIBUTES + 6) (8 * MOST_ATTRIBUTES + 8) (5 * MOST_ATTRIBUTES + 8) (omega arith) (omega arith) lossless.size) c.in-Ok.ensures.size;
       proves = fd_restated s u x (union (difference y left) alone) x (difference y rest) refl
           (fun_ext (λ k. grind (arith, same_at alone_is k, same_at (right_next y left rest (only a) before.left.within (λ j m. grind (arith, nat_tests, m, before.left.within a in_left)) c.without-left.ensures.members) k)))
-          (c.in-Ok.ensures.concludes s (difference y left) before.proves (fd_restated s g x (only a) x alone refl (sym alone_is) shown.proves));
+          (c.in-Ok.ensures.concludes s (difference y left) before.proves (fd_restated s g x (only a) x alone refl (sym alone_is) lossless.proves));
     }

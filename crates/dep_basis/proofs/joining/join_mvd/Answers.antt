@@ -1,3 +1,5 @@
+-- What is left to prove of `join_mvd`: that the invariant of its loop holds at first and stays and
+-- that its loop ends, by `JoiningLemmas`.
 use Rattle.std.proofs.Common.{◌≡◌, true, refl, sym, arith}
 use mathlib.Core.Path.{fun_ext}
 use Rattle.attr_sets.specs.Attributes.{union, difference}
@@ -23,7 +25,7 @@ loop-first-init c =
 pub loop-first-smaller : goal.loop-first-smaller
 loop-first-smaller c =
     left_fewer (attributes c.loop-first.left) (attributes c.difference-left-in-Some.result) (attributes c.in_ok-next.next.part) c.in-Some.first c.in-Some.ensures.attribute c.in-Some.ensures.first.member
-    c.in_ok-next.ensures.shown.member c.difference-left-in-Some.ensures.members
+    c.in_ok-next.ensures.proof.member c.difference-left-in-Some.ensures.members
 
 pub loop-first-preserved : goal.loop-first-preserved
 loop-first-preserved c =
@@ -36,14 +38,14 @@ loop-first-preserved c =
     let before = c.loop-first.invariant in
     let next = c.in_ok-next.next in
     let u = tree_of c.in-Ok.more.value in
-    let shown = c.in_ok-next.ensures.shown in
+    let lossless = c.in_ok-next.ensures.proof in
     let in_left : left a ≡ true = c.in-Some.ensures.first.member in
     let done = attributes c.difference-done.result in
     let done_is = c.difference-done.ensures.members in
     record {
-      left = left_next x y left rest (attributes next.part) a (tree_of c.loop-first.joined.value) (tree_of next.deriv.value) u before.left c.in-Some.ensures.attribute in_left shown.member c.difference-left-in-Some.ensures.members
-          shown.size c.in-Ok.ensures.size;
+      left = left_next x y left rest (attributes next.part) a (tree_of c.loop-first.joined.value) (tree_of next.deriv.value) u before.left c.in-Some.ensures.attribute in_left lossless.member c.difference-left-in-Some.ensures.members
+          lossless.size c.in-Ok.ensures.size;
       proves = mvd_restated s u x (union done (attributes next.part)) x (difference y rest) refl
-          (fun_ext (λ k. grind (arith, same_at done_is k, same_at (right_next y left rest (attributes next.part) before.left.within (shown.within y c.requires.implied (before.left.within a in_left)) c.difference-left-in-Some.ensures.members) k)))
-          (c.in-Ok.ensures.concludes s (mvd_restated s (tree_of c.loop-first.joined.value) x (difference y left) x done refl (sym done_is) before.proves) shown.proves);
+          (fun_ext (λ k. grind (arith, same_at done_is k, same_at (right_next y left rest (attributes next.part) before.left.within (lossless.within y c.requires.implied (before.left.within a in_left)) c.difference-left-in-Some.ensures.members) k)))
+          (c.in-Ok.ensures.concludes s (mvd_restated s (tree_of c.loop-first.joined.value) x (difference y left) x done refl (sym done_is) before.proves) lossless.proves);
     }

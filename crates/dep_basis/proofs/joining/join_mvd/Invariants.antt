@@ -1,3 +1,4 @@
+-- What the loop of `join_mvd` keeps: `left` and `proves`; and by what it ends.
 use Rattle.attr_sets.specs.Attributes.{count_below, difference}
 use Rattle.attr_sets.specs.Sets.{attributes}
 use Rattle.attr_sets.specs.declared.set.TheConstants.{MOST_ATTRIBUTES}

@@ -1,3 +1,4 @@
+-- The law `two_parts`, by `parts_two`.
 use Rattle.dep_basis.proofs.PartLemmas.{parts_two}
 use Rattle.dep_basis.proofs.laws.two_parts.Goals as goal
 

@@ -1,3 +1,4 @@
+-- What is left to prove of `coalesce_with_given`: its clause `proves`.
 use Rattle.std.proofs.Common.{subst, sym, refl, arith}
 use Rattle.std.proofs.lemmas.Bool.Decides.{nat_tests}
 use Rattle.attr_sets.specs.Attributes.{only}

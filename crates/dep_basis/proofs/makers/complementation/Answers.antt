@@ -1,3 +1,4 @@
+-- What is left to prove of `complementation`: its clause `proves`.
 use Rattle.std.proofs.Common.{subst, sym, refl, arith}
 use mathlib.Core.Path.{fun_ext}
 use Rattle.attr_sets.specs.Attributes.{union, difference}

@@ -1,3 +1,4 @@
+-- What is left to prove of `reflexivity`: its clause `proves`.
 use Rattle.std.proofs.Common.{subst, sym}
 use Rattle.attr_sets.specs.Sets.{attributes}
 use Rattle.dep_model.specs.Dependencies.{fd}

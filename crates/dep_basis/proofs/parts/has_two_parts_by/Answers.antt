@@ -1,3 +1,6 @@
+-- What is left to prove of `has_two_parts_by`: what it answers, case by case, what `narrow_by_all`
+-- requires, that the invariant of its loop holds at first and stays, and that its loop ends, by
+-- `PartLemmas` and `PieceLemmas`.
 use Rattle.std.proofs.Common.{refl, sym, ◌∙◌, ⊎_elim, arith}
 use mathlib.Core.Path.{fun_ext}
 use Rattle.std.proofs.lemmas.Bool.{false≢true}

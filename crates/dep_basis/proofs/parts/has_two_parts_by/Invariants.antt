@@ -1,3 +1,4 @@
+-- What the loop of `has_two_parts_by` keeps: `can` and `beyond`; and by what it ends.
 use Rattle.attr_sets.specs.Attributes.{IsSubset, count_below}
 use Rattle.attr_sets.specs.Sets.{attributes}
 use Rattle.attr_sets.specs.declared.set.TheConstants.{MOST_ATTRIBUTES}

@@ -1,3 +1,5 @@
+-- What is left to prove of `narrow_by`: its clauses `refined` and `none`, by `PartLemmas`,
+-- `PieceLemmas` and `RefiningLemmas`.
 use Rattle.std.proofs.Common.{◌≡◌, true, sym, ap, subst, ◌∙◌, ⊎_elim}
 use Rattle.std.proofs.lemmas.Bool.{true≢false}
 use Rattle.attr_sets.specs.Attributes.{Attributes, intersection, difference, Disjoint, Intersects}

@@ -1,3 +1,6 @@
+-- What is left to prove of `narrow_by_all`: its clauses `none`, `smaller`, `beyond`, `refined` and
+-- one more, what `narrow_by` requires, and that the invariant of its loop holds at first and stays,
+-- by `all_LeavesWhole-kept`.
 use Rattle.std.proofs.Common.{◌<◌, length, get_or, refl, arith, take, take_all}
 use Rattle.std.proofs.lemmas.List.Elements.{All-more}
 use Rattle.attr_sets.specs.Sets.{attributes}

@@ -1,3 +1,4 @@
+-- What the loop of `narrow_by_all` keeps: `smaller`, `beyond`, `refined` and `whole`.
 use Rattle.std.proofs.Common.{ℕ, take}
 use Rattle.std.specs.Prelude.{All}
 use Rattle.attr_sets.specs.Attributes.{Attributes, IsSubset}

@@ -1,3 +1,5 @@
+-- What is left to prove of `refine`: what it answers in the cases `None`, `Fd` and `Mvd` and what
+-- `push` and `refine` require, by `PieceLemmas`.
 use Rattle.std.proofs.Common.{◌≡◌, ℕ, ◌<◌, List, length, get_or, refl, sym, subst, ◌∙◌, ⊎_elim, arith}
 use Rattle.std.proofs.lemmas.Bool.{false≢true}
 use Rattle.std.specs.Prelude.{All}
@@ -21,7 +23,7 @@ zero = Fd (record { 0 = 0 }) (record { 0 = 0 })
 
 -- a set that is not empty
 filled : (s : AttrSet) → (IsEmpty (attributes s) → ⊥) → 0 < count_below (attributes s) MOST_ATTRIBUTES
-filled s some = ⊎_elim (λ one. count_below-pos MOST_ATTRIBUTES (attributes s) one.0 one.1 one.2) (λ none. absurd (some none)) (tell_empty MOST_ATTRIBUTES (attributes s) (attributes_below s))
+filled s not_empty = ⊎_elim (λ one. count_below-pos MOST_ATTRIBUTES (attributes s) one.0 one.1 one.2) (λ none. absurd (not_empty none)) (tell_empty MOST_ATTRIBUTES (attributes s) (attributes_below s))
 
 -- ---- the dependency that cuts
 is_within : (deps : List Dep) (k : ℕ) (d : Dep) → k < length deps → get_or deps k zero ≡ d → (n : ℕ) → All (IsDepWithin (below n)) deps → IsDepWithin (below n) d
@@ -70,10 +72,10 @@ refine-requires-in-Mvd-2 t c =
 
 pub returns-in-None : goal.returns-in-None
 returns-in-None t c =
-    let some = λ (none : IsEmpty (attributes c.args.piece)). false≢true (sym c.if-is_empty.false ∙ c.is_empty.ensures.empty.1 none) in
+    let not_empty = λ (none : IsEmpty (attributes c.args.piece)). false≢true (sym c.if-is_empty.false ∙ c.is_empty.ensures.empty.1 none) in
     record {
       refined = block_refined c.args.deps.now c.args.piece c.args.found.now c.push.new.found c.push.ensures.size c.push.ensures.sets c.push.ensures.count
-          (filled c.args.piece some) some (c.in-None.ensures.none refl);
+          (filled c.args.piece not_empty) not_empty (c.in-None.ensures.none refl);
     }
 
 pub returns-in-Fd : goal.returns-in-Fd

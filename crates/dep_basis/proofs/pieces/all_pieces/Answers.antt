@@ -1,3 +1,5 @@
+-- What is left to prove of `all_pieces`: its clause `pieces` and what `refine` requires, by
+-- `BasisLemmas` and `PieceLemmas`.
 use Rattle.std.proofs.Common.{◌≡◌, refl, arith}
 use mathlib.Core.Path.{fun_ext}
 use Rattle.attr_sets.specs.Attributes.{below, difference}

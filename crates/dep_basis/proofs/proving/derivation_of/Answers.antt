@@ -1,3 +1,5 @@
+-- What is left to prove of `derivation_of`: what `derivation_of_fd` and `derivation_of_mvd`
+-- require.
 use Rattle.dep_basis.proofs.proving.derivation_of.Goals as goal
 
 pub derivation_of_fd-requires-clause-implied : goal.derivation_of_fd-requires-clause-implied

@@ -1,3 +1,4 @@
+-- What is left to prove of `derivation_of_fd`: its clause `direct`.
 use Rattle.std.proofs.Common.{refl}
 use Rattle.std.specs.Prelude.{IsSome}
 use Rattle.dep_basis.proofs.proving.derivation_of_fd.Goals as goal

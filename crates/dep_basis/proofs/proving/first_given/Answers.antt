@@ -1,3 +1,5 @@
+-- What is left to prove of `first_given`: its clauses `first` and `none` and that a round of its
+-- loop keeps the invariant, by `given_first` and `given_none`.
 use Rattle.std.proofs.Common.{◌≡◌, ◌<◌, ◌≤◌, List, get_or, length, take_all, subst, sym, ◌∙◌, refl}
 use Rattle.std.specs.Prelude.{All}
 use Rattle.std.proofs.lemmas.Bool.{true≢false}

@@ -1,3 +1,4 @@
+-- What the loop of `first_given` keeps: `All`.
 use Rattle.std.proofs.Common.{◌≡◌, take}
 use Rattle.std.specs.Prelude.{All}
 use Rattle.attr_sets.specs.Sets.{attributes}

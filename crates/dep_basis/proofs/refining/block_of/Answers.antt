@@ -1,3 +1,5 @@
+-- What is left to prove of `block_of`: what it answers, case by case, that the invariant of its
+-- loop holds at first and stays, and that its loop ends, by `BlockLemmas` and `RefiningLemmas`.
 use Rattle.std.proofs.Common.{◌≡◌, true, refl, sym, ◌∙◌, ⊎_elim, inl, inr, arith}
 use mathlib.Core.Path.{fun_ext}
 use Rattle.std.proofs.lemmas.Bool.{false≢true, true≢false, cases_Bool}
@@ -17,8 +19,8 @@ use Rattle.dep_basis.proofs.refining.block_of.Goals as goal
 pub returns-then-contains : goal.returns-then-contains
 returns-then-contains c = record {
   closed = ((λ _ r legal. reflexivity_obeyed (attributes c.args.lhs) (only c.args.attribute) r (λ k m. grind (arith, nat_tests, m, c.contains.ensures.member, c.if-contains.true))), (λ _. same_at c.empty.ensures.members));
-  block = λ some. absurd (some (same_at c.empty.ensures.members));
-  member = λ some. absurd (some (same_at c.empty.ensures.members));
+  block = λ not_empty. absurd (not_empty (same_at c.empty.ensures.members));
+  member = λ not_empty. absurd (not_empty (same_at c.empty.ensures.members));
 }
 
 pub loop-rest-init : goal.loop-rest-init
@@ -56,7 +58,7 @@ returns-then-eq c =
       }
       | inr out ↦ record {
         closed = ((λ _. candidate.closed out), (λ _. candidate.nothing out));
-        block = λ some. absurd (some (candidate.nothing out));
-        member = λ some. absurd (some (candidate.nothing out));
+        block = λ not_empty. absurd (not_empty (candidate.nothing out));
+        member = λ not_empty. absurd (not_empty (candidate.nothing out));
       }
     ]

@@ -1,3 +1,4 @@
+-- What the loop of `block_of` keeps: `IsCandidate`; and by what it ends.
 use Rattle.attr_sets.specs.Attributes.{count_below}
 use Rattle.attr_sets.specs.Sets.{attributes}
 use Rattle.attr_sets.specs.declared.set.TheConstants.{MOST_ATTRIBUTES}

@@ -1,3 +1,4 @@
+-- What is left to prove of `cut_by`: its clause `candidate`, by `RefiningLemmas`.
 use Rattle.std.proofs.Common.{◌≡◌, sym, ap, subst, ◌∙◌}
 use Rattle.std.proofs.lemmas.Bool.{true≢false}
 use Rattle.attr_sets.specs.Attributes.{Attributes, intersection, difference, Disjoint}

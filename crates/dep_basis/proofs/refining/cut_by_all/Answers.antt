@@ -1,3 +1,5 @@
+-- What is left to prove of `cut_by_all`: its clauses `smaller`, `candidate` and `leaves_whole` and
+-- that the invariant of its loop holds at first and stays, by `all_LeavesWhole-kept`.
 use Rattle.std.proofs.Common.{◌<◌, length, get_or, arith, take, take_all}
 use Rattle.std.proofs.lemmas.List.Elements.{All-more}
 use Rattle.attr_sets.specs.Sets.{attributes}

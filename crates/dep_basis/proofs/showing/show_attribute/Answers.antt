@@ -1,3 +1,5 @@
+-- What is left to prove of `show_attribute`: its clause `proof`, what `cut_part` requires, and that
+-- the invariant of its loop holds at first, by `part_first` and `part_last`.
 use Rattle.std.proofs.Common.{◌≡◌, ◌≤◌, ℕ, Some, List, get_or, refl, sym, ap, subst, ◌∙◌, arith}
 use mathlib.Core.Path.{fun_ext}
 use Rattle.std.proofs.lemmas.Option.{slice_get-get_or}
@@ -25,23 +27,23 @@ loop-k-init c =
     grind (arith, same_at c.difference.ensures.members k, whole)) in
     record {
       same_lhs = refl;
-      shown = part_first s x c.args.attribute (attributes c.difference.result) (tree_of c.in_ok-complementation.field-0.value) c.requires.attribute c.requires.outside is c.in_ok-complementation.ensures.proves c.in_ok-complementation.ensures.size;
+      proof = part_first s x c.args.attribute (attributes c.difference.result) (tree_of c.in_ok-complementation.field-0.value) c.requires.attribute c.requires.outside is c.in_ok-complementation.ensures.proves c.in_ok-complementation.ensures.size;
     }
 
-pub cut_shown-requires : goal.cut_shown-requires
-cut_shown-requires c =
+pub cut_part-requires : goal.cut_part-requires
+cut_part-requires c =
     let s = c.args.schema.now in
     let k = c.in-Some.k in
     let zero : Dep = Fd (record { 0 = 0 }) (record { 0 = 0 }) in
     let now = c.loop-k.invariant in
-    let few : width_of s ≤ 128 = s.valid.few_names in
+    let within_limit : width_of s ≤ 128 = s.valid.names_within_limit in
     record {
       cut = record {
         given = subst (λ (ds : List Dep). slice_get ds k ≡ Some (get_or c.deps-deps.result.now k zero)) c.deps-deps.ensures.deps (slice_get-get_or c.deps-deps.result.now k zero c.in-Some.ensures.best.within);
         cutting = c.in-Some.ensures.best.cutting zero;
         lhs = subst (λ (l : AttrSet). IsSubset (attributes l) (universe_of s)) (sym now.same_lhs) c.requires.lhs;
         attribute = omega (arith, c.requires.attribute);
-        shown = subst (λ (l : AttrSet). IsPartProof s (attributes l) c.args.attribute (attributes c.loop-k.from.part) (tree_of c.loop-k.from.deriv.value)) (sym now.same_lhs) now.shown;
+        proof = subst (λ (l : AttrSet). IsPartProof s (attributes l) c.args.attribute (attributes c.loop-k.from.part) (tree_of c.loop-k.from.deriv.value)) (sym now.same_lhs) now.proof;
       };
     }
 
@@ -49,6 +51,6 @@ pub returns : goal.returns
 returns c =
     let s = c.args.schema.now in
     let w = attributes c.loop-k.from.part in
-    let shown = c.loop-k.invariant.shown in
+    let lossless = c.loop-k.invariant.proof in
     let whole : All (LeavesWhole w w) (dependencies_of (deps_of s)) = subst (λ (ds : List Dep). All (LeavesWhole w w) (dependencies_of ds)) c.deps-deps.ensures.deps (c.in_default.ensures.none refl) in
-    record { shown = (shown, part_last s (attributes c.args.lhs) c.args.attribute w (tree_of c.loop-k.from.deriv.value) c.requires.lhs shown whole) }
+    record { proof = (lossless, part_last s (attributes c.args.lhs) c.args.attribute w (tree_of c.loop-k.from.deriv.value) c.requires.lhs lossless whole) }

@@ -1,3 +1,4 @@
+-- What the loop of `show_attribute` keeps: `same_lhs` and `proof`; and by what it ends.
 use Rattle.std.proofs.Common.{◌≡◌}
 use Rattle.attr_sets.specs.Attributes.{count_below}
 use Rattle.attr_sets.specs.Sets.{attributes}
@@ -9,7 +10,7 @@ use Rattle.dep_basis.proofs.showing.show_attribute.Given as goal
 abbrev pub invariant-loop-k : goal.invariant-loop-k
 invariant-loop-k l = record {
   same_lhs : l.from.lhs ≡ l.fn.lhs;
-  shown : IsPartProof l.schema (attributes l.fn.lhs) l.attribute (attributes l.from.part) (tree_of l.from.deriv.value);
+  proof : IsPartProof l.schema (attributes l.fn.lhs) l.attribute (attributes l.from.part) (tree_of l.from.deriv.value);
 }
 
 abbrev pub decreases-loop-k : goal.decreases-loop-k

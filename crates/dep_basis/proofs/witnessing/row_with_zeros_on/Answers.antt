@@ -1,3 +1,5 @@
+-- What is left to prove of `row_with_zeros_on`: that the invariant of its loop holds at first and
+-- stays, by `zeros_on-none` and `zeros_on-more`.
 use Rattle.std.proofs.Common.{◌≡◌, ℕ, Bool, cond, List, ◌∙◌, ◌++◌, [], ◌∷◌, sym, ap}
 use Rattle.attr_sets.specs.Sets.{attributes}
 use Rattle.dep_model.specs.Tuples.{Tuple}

@@ -1,3 +1,4 @@
+-- What the loop of `row_with_zeros_on` keeps, in terms of `zeros_on`.
 use Rattle.std.proofs.Common.{◌≡◌}
 use Rattle.attr_sets.specs.Sets.{attributes}
 use Rattle.dep_model.specs.TwoTuples.{zeros_on}

@@ -1,3 +1,5 @@
+-- What is left to prove of `witness`: its clauses `rows` and `typed`, by `zeros_on-all` and
+-- `two_tuples-typed`.
 use Rattle.std.proofs.Common.{◌≡◌, ℕ, ◌∙◌, [], ◌∷◌, sym, ap, subst}
 use Rattle.std.proofs.lemmas.Bool.{lt-ltb}
 use Rattle.attr_sets.specs.Sets.{attributes}

@@ -1,3 +1,4 @@
+-- What is left to prove of `pad_with_zeros`: its clause `padded`.
 use Rattle.std.proofs.Common.{◌++◌, length, ap}
 use Rattle.std.proofs.lemmas.List.{drop-replicate}
 use Rattle.dep_model.specs.declared.held_bytes.TheConstants.{MOST_HELD_BYTES}

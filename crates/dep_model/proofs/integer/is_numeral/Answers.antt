@@ -1,3 +1,5 @@
+-- What is left to prove of `is_numeral`: what it answers in one case and that a round of its loop
+-- keeps the invariant, by `digits_value-take` and `digits_value-next`.
 use Rattle.std.proofs.Common.{◌+◌, ◌∙◌, sym, arith, refl}
 use Rattle.std.proofs.lemmas.Bool.{false≢true}
 use Rattle.dep_model.specs.Integers.{IsNumeral}
@@ -14,7 +16,7 @@ loop-b-preserved c =
     record {
       digits = rw (all, c.loop-b.invariant.digits) digit;
       value = rw (next, ← c.loop-b.invariant.value) refl;
-      few = c.if-value-most.false;
+      within_limit = c.if-value-most.false;
       most = c.loop-b.invariant.most;
     }
 

@@ -1,3 +1,4 @@
+-- The law `augmentation`, by `augmentation_obeyed`.
 use Rattle.dep_model.proofs.RuleLemmas.{augmentation_obeyed}
 use Rattle.dep_model.proofs.laws.augmentation.Goals as goal
 

@@ -1,3 +1,4 @@
+-- The law `coalescence`, by `coalescence_obeyed`.
 use Rattle.dep_model.proofs.RuleLemmas.{coalescence_obeyed}
 use Rattle.dep_model.proofs.laws.coalescence.Goals as goal
 

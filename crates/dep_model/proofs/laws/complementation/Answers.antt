@@ -1,3 +1,4 @@
+-- The law `complementation`, by `complementation_obeyed`.
 use Rattle.dep_model.proofs.RuleLemmas.{complementation_obeyed}
 use Rattle.dep_model.proofs.laws.complementation.Goals as goal
 

@@ -1,3 +1,4 @@
+-- The law `greedy_key_is_key`, by `greedy_is_key`.
 use Rattle.dep_model.proofs.KeyLemmas.{greedy_is_key}
 use Rattle.dep_model.proofs.laws.greedy_key_is_key.Goals as goal
 

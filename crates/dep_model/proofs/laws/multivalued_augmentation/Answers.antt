@@ -1,3 +1,4 @@
+-- The law `multivalued_augmentation`, by `maugmentation_obeyed`.
 use Rattle.dep_model.proofs.RuleLemmas.{maugmentation_obeyed}
 use Rattle.dep_model.proofs.laws.multivalued_augmentation.Goals as goal
 

@@ -1,3 +1,4 @@
+-- The law `multivalued_reflexivity`, by `mreflexivity_obeyed`.
 use Rattle.dep_model.proofs.RuleLemmas.{mreflexivity_obeyed}
 use Rattle.dep_model.proofs.laws.multivalued_reflexivity.Goals as goal
 

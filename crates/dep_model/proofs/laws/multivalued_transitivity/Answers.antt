@@ -1,3 +1,4 @@
+-- The law `multivalued_transitivity`, by `mtransitivity_obeyed`.
 use Rattle.dep_model.proofs.RuleLemmas.{mtransitivity_obeyed}
 use Rattle.dep_model.proofs.laws.multivalued_transitivity.Goals as goal
 

@@ -1,3 +1,4 @@
+-- The law `no_tuple_obeys`, by `no_tuple_obeys`.
 use Rattle.dep_model.proofs.LawLemmas.{no_tuple_obeys}
 use Rattle.dep_model.proofs.laws.no_tuple_obeys.Goals as goal
 

@@ -1,3 +1,4 @@
+-- The law `one_tuple_obeys`, by `one_tuple_obeys`.
 use Rattle.dep_model.proofs.LawLemmas.{one_tuple_obeys}
 use Rattle.dep_model.proofs.laws.one_tuple_obeys.Goals as goal
 

@@ -1,3 +1,4 @@
+-- The law `reflexivity`, by `reflexivity_obeyed`.
 use Rattle.dep_model.proofs.RuleLemmas.{reflexivity_obeyed}
 use Rattle.dep_model.proofs.laws.reflexivity.Goals as goal
 

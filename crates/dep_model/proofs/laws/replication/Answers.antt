@@ -1,3 +1,4 @@
+-- The law `replication`, by `replication_obeyed`.
 use Rattle.dep_model.proofs.RuleLemmas.{replication_obeyed}
 use Rattle.dep_model.proofs.laws.replication.Goals as goal
 

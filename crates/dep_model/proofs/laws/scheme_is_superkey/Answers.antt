@@ -1,3 +1,4 @@
+-- The law `scheme_is_superkey`, by `scheme_superkey`.
 use Rattle.dep_model.proofs.KeyLemmas.{scheme_superkey}
 use Rattle.dep_model.proofs.laws.scheme_is_superkey.Goals as goal
 

@@ -1,3 +1,4 @@
+-- The law `superkey_grows`, by `superkey_more`.
 use Rattle.dep_model.proofs.KeyLemmas.{superkey_more}
 use Rattle.dep_model.proofs.laws.superkey_grows.Goals as goal
 

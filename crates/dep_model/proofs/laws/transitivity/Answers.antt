@@ -1,3 +1,4 @@
+-- The law `transitivity`, by `transitivity_obeyed`.
 use Rattle.dep_model.proofs.RuleLemmas.{transitivity_obeyed}
 use Rattle.dep_model.proofs.laws.transitivity.Goals as goal
 

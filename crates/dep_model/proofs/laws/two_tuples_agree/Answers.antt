@@ -1,3 +1,4 @@
+-- The law `two_tuples_agree`, by `two_tuples-agree`.
 use Rattle.dep_model.proofs.TwoTupleLemmas.{two_tuples-agree}
 use Rattle.dep_model.proofs.laws.two_tuples_agree.Goals as goal
 

@@ -1,3 +1,4 @@
+-- The law `two_tuples_functional`, by `fd_two-to` and `fd_two-from`.
 use Rattle.dep_model.proofs.TwoRowLemmas.{fd_two-to, fd_two-from}
 use Rattle.dep_model.proofs.laws.two_tuples_functional.Goals as goal
 

@@ -1,3 +1,4 @@
+-- The law `two_tuples_multivalued`, by `mvd_two-to` and `mvd_two-from`.
 use Rattle.dep_model.proofs.TwoRowLemmas.{mvd_two-to, mvd_two-from}
 use Rattle.dep_model.proofs.laws.two_tuples_multivalued.Goals as goal
 

@@ -1,3 +1,4 @@
+-- The law `universe_is_lossless`, by `whole_lossless`.
 use Rattle.dep_model.proofs.SchemeLemmas.{whole_lossless}
 use Rattle.dep_model.proofs.laws.universe_is_lossless.Goals as goal
 

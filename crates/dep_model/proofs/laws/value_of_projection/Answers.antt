@@ -1,3 +1,4 @@
+-- The law `value_of_projection`, by `value_in-project_tuple`.
 use Rattle.dep_model.proofs.SchemeLemmas.{value_in-project_tuple}
 use Rattle.dep_model.proofs.laws.value_of_projection.Goals as goal
 

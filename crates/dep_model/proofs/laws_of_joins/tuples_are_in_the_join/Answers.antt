@@ -1,3 +1,4 @@
+-- The law `tuples_are_in_the_join`, by `tuple_in_join`.
 use Rattle.dep_model.proofs.JoinLemmas.{tuple_in_join}
 use Rattle.dep_model.proofs.laws_of_joins.tuples_are_in_the_join.Goals as goal
 

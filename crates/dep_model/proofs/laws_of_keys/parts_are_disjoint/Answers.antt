@@ -1,3 +1,4 @@
+-- The law `parts_are_disjoint`, by `parts_same`.
 use Rattle.dep_model.proofs.PartLemmas.{parts_same}
 use Rattle.dep_model.proofs.laws_of_keys.parts_are_disjoint.Goals as goal
 

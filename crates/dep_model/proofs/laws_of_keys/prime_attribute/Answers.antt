@@ -1,3 +1,4 @@
+-- The law `prime_attribute`, by `prime-to` and `prime-from`.
 use Rattle.dep_model.proofs.KeyLemmas.{prime-to, prime-from}
 use Rattle.dep_model.proofs.laws_of_keys.prime_attribute.Goals as goal
 

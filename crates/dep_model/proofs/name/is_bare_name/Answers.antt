@@ -1,3 +1,4 @@
+-- What is left to prove of `is_bare_name`: its clause `name`, by `bare_name_is_name`.
 use Rattle.dep_model.proofs.NameLemmas.{bare_name_is_name}
 use Rattle.dep_model.proofs.name.is_bare_name.Goals as goal
 

@@ -1,3 +1,4 @@
+-- What the loop of `agreement_of` keeps: `equal` and `within`.
 use Rattle.std.proofs.Common.{◌≡◌, ℕ, ◌<◌, ◌↔◌, true}
 use Rattle.attr_sets.specs.Attributes.{below, IsSubset}
 use Rattle.attr_sets.specs.Sets.{attributes}

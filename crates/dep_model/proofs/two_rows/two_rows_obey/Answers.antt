@@ -1,3 +1,5 @@
+-- What is left to prove of `two_rows_obey`: what it answers in one case, by `mvd_two-to` and
+-- `mvd_two-from`.
 use Rattle.std.proofs.Common.{inr, refl, ⊎_elim, arith}
 use Rattle.std.proofs.lemmas.Bool.{false≢true}
 use Rattle.attr_sets.specs.Attributes.{below, difference, union, IsSubset}

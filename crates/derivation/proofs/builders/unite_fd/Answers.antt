@@ -1,3 +1,5 @@
+-- What is left to prove of `unite_fd`: its clause `concludes`, by `BuilderLemmas` and
+-- `WithinLemmas`.
 use Rattle.std.proofs.Common.{refl}
 use Rattle.attr_sets.specs.Sets.{attributes}
 use Rattle.dep_model.specs.Dependencies.{fd}

@@ -1,3 +1,5 @@
+-- What is left to prove of `unite_mvd`: its clause `concludes`, by `BuilderLemmas` and
+-- `WithinLemmas`.
 use Rattle.std.proofs.Common.{refl, arith}
 use mathlib.Core.Path.{fun_ext}
 use Rattle.attr_sets.specs.Sets.{attributes}

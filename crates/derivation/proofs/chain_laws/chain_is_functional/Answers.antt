@@ -1,3 +1,4 @@
+-- The law `chain_is_functional`, by `chain_obeyed`.
 use Rattle.derivation.proofs.ChainLemmas.{chain_obeyed}
 use Rattle.derivation.proofs.chain_laws.chain_is_functional.Goals as goal
 

@@ -1,3 +1,4 @@
+-- What is left to prove of `chain_is_small`: its clauses `nodes` and `levels`, by `chain_small`.
 use Rattle.derivation.proofs.ChainLemmas.{chain_small}
 use Rattle.derivation.proofs.chain_laws.chain_is_small.Goals as goal
 

@@ -1,3 +1,4 @@
+-- The law `one_chain`, by `chain_one`.
 use Rattle.derivation.proofs.ChainLemmas.{chain_one}
 use Rattle.derivation.proofs.chain_laws.one_chain.Goals as goal
 

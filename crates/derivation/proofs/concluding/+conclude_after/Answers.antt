@@ -1,3 +1,4 @@
+-- What is left to prove of `conclude_after`: what `conclude_after` requires, by `DerivLemmas`.
 use Rattle.std.proofs.Common.{arith}
 use Rattle.derivation.proofs.DerivLemmas.{same_nodes, step_nodes, pair_nodes}
 use Rattle.derivation.proofs.concluding.+conclude_after.Goals as goal

@@ -1,3 +1,5 @@
+-- What is left to prove of `conclude`: its clauses `proves`, `only`, `implied` and `within`, by
+-- `ConclusionLemmas`, `SoundnessLemmas` and `WithinLemmas`.
 use Rattle.std.proofs.Common.{◌≡◌, sym, ◌∙◌}
 use Rattle.std.specs.Prelude.{Result, Ok, Err, IfOk}
 use Rattle.dep_model.specs.declared.dep.Dep.{Dep}

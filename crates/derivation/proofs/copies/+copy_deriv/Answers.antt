@@ -1,3 +1,5 @@
+-- What is left to prove of `copy_deriv`: what `copy_deriv` requires, by `DerivLemmas` and
+-- `TreeLemmas`.
 use Rattle.std.proofs.Common.{arith}
 use Rattle.derivation.specs.Derivs.{tree_of}
 use Rattle.derivation.proofs.TreeLemmas.{nodes-pos}

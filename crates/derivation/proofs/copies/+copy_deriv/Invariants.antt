@@ -1,3 +1,4 @@
+-- What grows less at each call of `copy_deriv`.
 use Rattle.derivation.specs.Trees.{nodes}
 use Rattle.derivation.specs.Derivs.{tree_of}
 use Rattle.derivation.proofs.copies.+copy_deriv.Given as goal

@@ -1,3 +1,4 @@
+-- The law `conclusion_is_proved`, by `conclusion_after-proves` and `conclusion_after-from`.
 use Rattle.derivation.proofs.ConclusionLemmas.{conclusion_after-proves, conclusion_after-from}
 use Rattle.derivation.proofs.laws.conclusion_is_proved.Goals as goal
 

@@ -1,3 +1,4 @@
+-- The law `soundness`, by `proved_is_implied`.
 use Rattle.derivation.proofs.SoundnessLemmas.{proved_is_implied}
 use Rattle.derivation.proofs.laws.soundness.Goals as goal
 

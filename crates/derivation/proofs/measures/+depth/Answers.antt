@@ -1,3 +1,5 @@
+-- What is left to prove of `depth`: what `depth` requires and that its sums fit, by `DerivLemmas`
+-- and `TreeLemmas`.
 use Rattle.std.proofs.Common.{arith}
 use Rattle.derivation.specs.Derivs.{tree_of}
 use Rattle.derivation.proofs.TreeLemmas.{depth-le-nodes}

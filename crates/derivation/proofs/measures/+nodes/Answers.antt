@@ -1,3 +1,4 @@
+-- What is left to prove of `nodes`: what `nodes` requires, by `DerivLemmas`.
 use Rattle.std.proofs.Common.{arith}
 use Rattle.derivation.proofs.DerivLemmas.{same_nodes, step_nodes, pair_nodes}
 use Rattle.derivation.proofs.measures.+nodes.Goals as goal

@@ -1,3 +1,4 @@
+-- What grows less at each call of `nodes`.
 use Rattle.derivation.specs.Trees.{nodes}
 use Rattle.derivation.specs.Derivs.{tree_of}
 use Rattle.derivation.proofs.measures.+nodes.Given as goal

@@ -1,3 +1,5 @@
+-- What is left to prove of `seek`: what it answers in the cases `Leaf`, `Step` and `Pair` and what
+-- `seek` and `seek_pair` require, by `nodes-pos` and `part-nodes`.
 use Rattle.std.proofs.Common.{◌≡◌, ◌<◌, ap, sym, ◌∙◌, arith}
 use Rattle.std.specs.Prelude.{◌^◌}
 use Rattle.dep_model.specs.declared.schema.Schema.{Schema}
@@ -20,9 +22,9 @@ pair_whole : (t : _) (c : In-Pair t) → tree_of c.args.deriv.value ≡ pair (pa
 pair_whole t c = ap tree_of (sym (c.replace.ensures.value ∙ c.deref_mut.ensures.value) ∙ c.in-Pair.is)
 
 -- what is found in a tree is no larger
-few_found : (s : Schema) (t : Tree) (d : Dependency) (r : Sought) → nodes t < 2 ^ 32 → IsSought s t d r → NodesFit r
-few_found s t d (Found b) few found = omega (arith, few, part-nodes (tree_of b.value) t found.part)
-few_found s t d (Whole whole) few found = let same : nodes (tree_of whole.deriv.value) ≡ nodes t = ap nodes found.0.same in omega (arith, few, same)
+found_within_limit : (s : Schema) (t : Tree) (d : Dependency) (r : Sought) → nodes t < 2 ^ 32 → IsSought s t d r → NodesFit r
+found_within_limit s t d (Found b) within_limit found = omega (arith, within_limit, part-nodes (tree_of b.value) t found.part)
+found_within_limit s t d (Whole whole) within_limit found = let same : nodes (tree_of whole.deriv.value) ≡ nodes t = ap nodes found.0.same in omega (arith, within_limit, same)
 
 pub seek-from-requires : goal.seek-from-requires
 seek-from-requires t c = let all = ap nodes (step_whole t c) in (omega (arith, all), omega (arith, all, c.requires.fits_u32))
@@ -40,12 +42,12 @@ seek-right-requires t c =
 pub seek_pair-requires-clause-left_fits_u32 : goal.seek_pair-requires-clause-left_fits_u32
 seek_pair-requires-clause-left_fits_u32 t c =
     let all = ap nodes (pair_whole t ((goal.at.seek_pair-requires-clause-left_fits_u32 t c).In-Pair)) in
-    few_found c.args.schema.now (tree_of c.in-Pair.first.value) (dependency_of c.args.sought) c.seek-left.result (omega (arith, all, c.requires.fits_u32)) c.seek-left.ensures.sought
+    found_within_limit c.args.schema.now (tree_of c.in-Pair.first.value) (dependency_of c.args.sought) c.seek-left.result (omega (arith, all, c.requires.fits_u32)) c.seek-left.ensures.sought
 
 pub seek_pair-requires-clause-right_fits_u32 : goal.seek_pair-requires-clause-right_fits_u32
 seek_pair-requires-clause-right_fits_u32 t c =
     let all = ap nodes (pair_whole t ((goal.at.seek_pair-requires-clause-right_fits_u32 t c).In-Pair)) in
-    few_found c.args.schema.now (tree_of c.in-Pair.second.value) (dependency_of c.args.sought) c.seek-right.result (omega (arith, all, c.requires.fits_u32)) c.seek-right.ensures.sought
+    found_within_limit c.args.schema.now (tree_of c.in-Pair.second.value) (dependency_of c.args.sought) c.seek-right.result (omega (arith, all, c.requires.fits_u32)) c.seek-right.ensures.sought
 
 pub returns-in-Leaf : goal.returns-in-Leaf
 returns-in-Leaf t c =

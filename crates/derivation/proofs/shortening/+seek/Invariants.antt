@@ -1,3 +1,4 @@
+-- What grows less at each call of `seek`.
 use Rattle.derivation.specs.Trees.{nodes}
 use Rattle.derivation.specs.Derivs.{tree_of}
 use Rattle.derivation.proofs.shortening.+seek.Given as goal

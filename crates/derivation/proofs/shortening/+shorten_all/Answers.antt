@@ -1,3 +1,5 @@
+-- What is left to prove of `shorten_all`: what it answers in the cases `Step` and `Pair` and what
+-- `shorten_all` requires, by `ShorteningLemmas` and `TreeLemmas`.
 use Rattle.std.proofs.Common.{◌≡◌, ap, sym, ◌∙◌, arith}
 use Rattle.derivation.specs.Trees.{step, pair, nodes}
 use Rattle.derivation.specs.Derivs.{tree_of, step_of, pair_of}
@@ -33,7 +35,7 @@ least_of-requires-in-Pair t c =
     let all = ap nodes (pair_whole t ((goal.at.least_of-requires-in-Pair t c).In-Pair)) in
     let made = c.conclude_pair.ensures.concluded s (tree_of first.result.deriv.value) (tree_of second.result.deriv.value)
     (as_concluded s (tree_of c.in-Pair.first.value) first.result first.ensures.shortened) (as_concluded s (tree_of c.in-Pair.second.value) second.result second.ensures.shortened) in
-    record { fits_u32 = omega (arith, all, ap nodes made.same, first.ensures.shortened.few_nodes, second.ensures.shortened.few_nodes, c.requires.fits_u32) }
+    record { fits_u32 = omega (arith, all, ap nodes made.same, first.ensures.shortened.node_bound, second.ensures.shortened.node_bound, c.requires.fits_u32) }
 
 pub returns-in-Step : goal.returns-in-Step
 returns-in-Step t c =

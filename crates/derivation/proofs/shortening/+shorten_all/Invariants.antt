@@ -1,3 +1,4 @@
+-- What grows less at each call of `shorten_all`.
 use Rattle.derivation.specs.Trees.{nodes}
 use Rattle.derivation.specs.Derivs.{tree_of}
 use Rattle.derivation.proofs.shortening.+shorten_all.Given as goal

@@ -1,3 +1,4 @@
+-- What is left to prove of `conclude_pair`: its clause `concluded`.
 use Rattle.std.proofs.Common.{ap, ◌∙◌}
 use Rattle.derivation.specs.Trees.{Tree, pair}
 use Rattle.derivation.specs.Derivs.{tree_of, pair_of}

@@ -1,3 +1,4 @@
+-- What is left to prove of `conclude_step`: its clause `concluded`.
 use Rattle.std.proofs.Common.{ap}
 use Rattle.derivation.specs.Trees.{Tree, step}
 use Rattle.derivation.specs.Derivs.{step_of}

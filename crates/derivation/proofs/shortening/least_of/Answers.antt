@@ -1,3 +1,4 @@
+-- What is left to prove of `least_of`: what it answers in the case `Found`, by `least_part`.
 use Rattle.std.proofs.Common.{refl}
 use Rattle.std.specs.Prelude.{Some}
 use Rattle.derivation.specs.Derivs.{tree_of}

@@ -1,3 +1,4 @@
+-- What is left to prove of `pair_dep`: what it answers in the case `Err`, by `pair_only`.
 use Rattle.std.proofs.Common.{refl}
 use Rattle.std.specs.Prelude.{None, Err}
 use Rattle.derivation.specs.Derivs.{pair_of}

@@ -1,3 +1,4 @@
+-- What is left to prove of `seek_pair`: its clause `sought`, by `found_first` and `found_second`.
 use Rattle.std.proofs.Common.{⊎_elim, ap, ◌∙◌, arith}
 use Rattle.dep_model.specs.Deps.{dependency_of}
 use Rattle.derivation.specs.Trees.{pair, nodes}

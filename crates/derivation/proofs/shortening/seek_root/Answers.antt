@@ -1,3 +1,4 @@
+-- What is left to prove of `seek_root`: what it answers in one case, by `none_found`.
 use Rattle.std.proofs.Common.{sym, ◌∙◌}
 use Rattle.std.proofs.lemmas.Bool.{false≢true}
 use Rattle.dep_model.specs.Deps.{dependency_of}

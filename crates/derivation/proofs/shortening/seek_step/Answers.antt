@@ -1,3 +1,5 @@
+-- What is left to prove of `seek_step`: what it answers in the cases `Found` and `Whole`, by
+-- `found_step`.
 use Rattle.dep_model.specs.Deps.{dependency_of}
 use Rattle.derivation.specs.Trees.{step}
 use Rattle.derivation.specs.Derivs.{tree_of, step_of}

@@ -1,3 +1,4 @@
+-- What is left to prove of `is_disjoint`: its clause `apart`.
 use Rattle.std.proofs.Common.{◌≡◌, ℕ, not, sym, refl, ap, ◌∙◌, arith}
 use Rattle.std.specs.Prelude.{Bool, Option, None, Some, IsNone, is_some, ◌↔◌}
 use Rattle.std.proofs.lemmas.Bool.{true≢false, not-false}

@@ -1,3 +1,4 @@
+-- What the loop of `put_blocks` keeps, in terms of `blocks_text` and `printed_names_of`.
 use Rattle.std.proofs.Common.{◌≡◌, ◌++◌, take}
 use Rattle.desk_cli.specs.Bases.{blocks_text}
 use Rattle.desk_cli.proofs.bases.put_blocks.Given as goal

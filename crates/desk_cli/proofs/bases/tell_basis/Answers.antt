@@ -1,3 +1,4 @@
+-- What is left to prove of `tell_basis`: its clause `response` and what `basis_lines` requires.
 use Rattle.std.proofs.Common.{ℕ, List, subst}
 use Rattle.std.proofs.lemmas.List.Elements.{All-weaker}
 use Rattle.attr_sets.specs.declared.set.AttrSet.{AttrSet}

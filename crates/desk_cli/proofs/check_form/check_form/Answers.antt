@@ -1,3 +1,4 @@
+-- What is left to prove of `check_form`: its clause `response`.
 use Rattle.std.proofs.Common.{List, subst}
 use Rattle.attr_sets.specs.declared.set.AttrSet.{AttrSet}
 use Rattle.plans.specs.Plans.{plan_of}

@@ -1,3 +1,5 @@
+-- What is left to prove of `judge_schemes`: its clause `response` and that a round of its loop
+-- keeps the invariant, by `first_failing`.
 use Rattle.std.proofs.Common.{inl, inr, get_or, take_all}
 use Rattle.std.proofs.lemmas.List.Elements.{All-more, All-map}
 use Rattle.std.specs.Prelude.{All}

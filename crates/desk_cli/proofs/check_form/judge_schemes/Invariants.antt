@@ -1,3 +1,4 @@
+-- What the loop of `judge_schemes` keeps, in terms of `PassesForm`.
 use Rattle.std.proofs.Common.{take}
 use Rattle.std.specs.Prelude.{All}
 use Rattle.attr_sets.specs.Sets.{attributes}

@@ -1,3 +1,4 @@
+-- What is left to prove of `test_scheme`: its clause `ends`.
 use Rattle.std.proofs.Common.{inr, Option, subst}
 use Rattle.std.proofs.lemmas.Bool.{false≢true}
 use Rattle.std.specs.Prelude.{IfSome}
@@ -10,10 +11,10 @@ use Rattle.desk_cli.proofs.check_form.test_scheme.Goals as goal
 pub returns-in-Ok-Some-clause-ends : goal.returns-in-Ok-Some-clause-ends
 returns-in-Ok-Some-clause-ends c = λ response is.
     let s = c.args.schema.now in
-    let some = c.in-Ok-Some in
+    let not_empty = c.in-Ok-Some in
     let chosen = subst (λ (found : Option Breach). IfSome found (λ breach. IsChosenViolation (width_of s) (theory_of s) c.args.form (attributes c.args.scheme) (attributes breach.lhs) (attributes breach.rhs)))
-    some.field-0-is some.ensures.chosen in
+    not_empty.field-0-is not_empty.ensures.chosen in
     inr (
-      (λ wide. false≢true (some.ensures.too_wide.1 wide)),
-      (attributes some.breach.lhs, attributes some.breach.rhs, chosen, c.violation_exit.ensures.says response is),
+      (λ wide. false≢true (not_empty.ensures.too_wide.1 wide)),
+      (attributes not_empty.breach.lhs, attributes not_empty.breach.rhs, chosen, c.violation_exit.ensures.says response is),
     )

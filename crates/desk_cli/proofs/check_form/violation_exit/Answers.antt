@@ -1,3 +1,4 @@
+-- What is left to prove of `violation_exit`: its clause `says`.
 use Rattle.desk_cli.proofs.check_form.violation_exit.Goals as goal
 
 pub returns : goal.returns

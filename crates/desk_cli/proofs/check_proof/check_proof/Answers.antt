@@ -1,3 +1,4 @@
+-- What is left to prove of `check_proof`: its clause `response`.
 use Rattle.std.proofs.Common.{inl}
 use Rattle.derivation.specs.Derivs.{tree_of}
 use Rattle.derivation.specs.Trees.{Tree}

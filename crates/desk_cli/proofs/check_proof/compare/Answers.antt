@@ -1,3 +1,4 @@
+-- What is left to prove of `compare`: its clause `response`.
 use Rattle.std.proofs.Common.{inl, inr}
 use Rattle.dep_model.specs.Deps.{dependency_of}
 use Rattle.desk_cli.proofs.check_proof.compare.Goals as goal

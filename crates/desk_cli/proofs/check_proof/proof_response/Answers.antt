@@ -1,3 +1,4 @@
+-- What is left to prove of `proof_response`: its clause `response`.
 use Rattle.std.proofs.Common.{inl, inr, ℕ, List, ap, sym, ◌∙◌, subst}
 use Rattle.std.proofs.lemmas.Bool.{false≢true}
 use Rattle.derivation.proofs.ConclusionLemmas.{Proves-one}

@@ -1,3 +1,4 @@
+-- What is left to prove of `check_rows`: its clause `response`.
 use Rattle.std.proofs.Common.{inl, inr, subst}
 use Rattle.dep_model.specs.Schemas.{LegalFor}
 use Rattle.dep_model.specs.Tuples.{Relation}

@@ -1,3 +1,4 @@
+-- What the loop of `offence_lines` keeps, in terms of `offences_text`.
 use Rattle.std.proofs.Common.{◌≡◌, take}
 use Rattle.desk_cli.specs.Legality.{offences_text}
 use Rattle.desk_cli.proofs.check_rows.offence_lines.Given as goal

@@ -1,3 +1,4 @@
+-- What is left to prove of `offences_exit`: its clause `says`.
 use Rattle.desk_cli.proofs.check_rows.offences_exit.Goals as goal
 
 pub returns : goal.returns

@@ -1,3 +1,4 @@
+-- What is left to prove of `test_rows`: its clause `exit`.
 use Rattle.std.proofs.Common.{◌≡◌, [], List, length, ap, subst, arith}
 use Rattle.std.proofs.lemmas.Bool.{false≢true}
 use Rattle.std.proofs.lemmas.Bool.Decides.{nat_tests}

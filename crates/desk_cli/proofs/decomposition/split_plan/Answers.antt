@@ -1,3 +1,5 @@
+-- What is left to prove of `split_plan`: its clause `exit` and what `too_wide_exit` requires, by
+-- `stuck_within`.
 use Rattle.std.proofs.Common.{inl, inr, subst}
 use Rattle.attr_sets.specs.Sets.{attributes}
 use Rattle.dep_model.specs.Schemas.{width_of, theory_of}
@@ -13,7 +15,7 @@ too_wide_exit-requires c =
     let s = c.args.schema.now in
     let refused = refused_is _ _ _ c.in-Err-Refused.field-0-is c.in-Err-Refused.ensures.refused in
     let wide = subst (λ (e : SplitRefusal). IsRefusedSplit (width_of s) (theory_of s) c.args.form MOST_SPLIT_SCHEMES e) c.in-TooWide.is refused in
-    record { within = stuck_within (width_of s) (theory_of s) c.args.form MOST_SPLIT_SCHEMES (attributes c.in-TooWide.scheme) s.valid.some_names c.requires.form wide.0 }
+    record { within = stuck_within (width_of s) (theory_of s) c.args.form MOST_SPLIT_SCHEMES (attributes c.in-TooWide.scheme) s.valid.names_not_empty c.requires.form wide.0 }
 
 pub returns-in-TooWide-clause-exit : goal.returns-in-TooWide-clause-exit
 returns-in-TooWide-clause-exit c = λ response is.

@@ -1,3 +1,4 @@
+-- What is left to prove of `too_many_schemes_exit`: its clause `says`.
 use Rattle.desk_cli.proofs.decomposition.too_many_schemes_exit.Goals as goal
 
 pub returns : goal.returns

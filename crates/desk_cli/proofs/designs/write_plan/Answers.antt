@@ -1,3 +1,4 @@
+-- What is left to prove of `write_plan`: its clause `response` and what `test_loss` requires.
 use Rattle.std.proofs.Common.{inl, inr, refl, List, sym, subst}
 use Rattle.attr_sets.specs.declared.set.AttrSet.{AttrSet}
 use Rattle.plans.specs.Plans.{plan_of, scheme_sets}

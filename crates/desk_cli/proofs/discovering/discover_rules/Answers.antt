@@ -1,3 +1,4 @@
+-- What is left to prove of `discover_rules`: its clause `response`.
 use Rattle.std.proofs.Common.{inr}
 use Rattle.desk_cli.proofs.discovering.discover_rules.Goals as goal
 

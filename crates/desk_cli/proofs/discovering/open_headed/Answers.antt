@@ -1,3 +1,4 @@
+-- What is left to prove of `open_headed`: its clauses `ok` and `exit`, by `headed_stop`.
 use Rattle.std.proofs.Common.{ℕ, List, subst}
 use Rattle.csv_rows.specs.Records.{records_of}
 use Rattle.fd_discovery.specs.Headings.{IsHeaded, IsRefusedDiscovery}

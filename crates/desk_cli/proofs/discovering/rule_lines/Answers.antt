@@ -1,3 +1,5 @@
+-- What is left to prove of `rule_lines`: its clause `text` and what `new` and `print_deps` require,
+-- by `RuleLemmas`.
 use Rattle.std.proofs.Common.{◌≡◌, ℕ, List, length, sym, subst, ap, ◌∙◌}
 use Rattle.std.specs.Prelude.{All, IfOk}
 use Rattle.attr_sets.specs.Attributes.{below}

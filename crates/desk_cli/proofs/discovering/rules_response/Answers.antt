@@ -1,3 +1,4 @@
+-- What is left to prove of `rules_response`: its clause `response` and what `rule_lines` requires.
 use Rattle.std.proofs.Common.{◌≡◌, ℕ, List, length, sym, subst, ap, ◌∙◌, arith}
 use Rattle.std.specs.Prelude.{All}
 use Rattle.attr_sets.specs.Attributes.{below}

@@ -1,3 +1,4 @@
+-- What is left to prove of `draw_plan`: its clause `response`.
 use Rattle.std.proofs.Common.{inr, refl}
 use Rattle.plans.specs.Plans.{plan_of, scheme_sets}
 use Rattle.desk_cli.proofs.drawings.draw_plan.Goals as goal

@@ -1,3 +1,5 @@
+-- What is left to prove of `exhibit_relation`: what it answers in the cases `Ok`, `TooWide` and
+-- `NotFunctional`.
 use Rattle.std.proofs.Common.{◌≡◌, inl, inr, subst, ap, ◌∙◌}
 use Rattle.armstrong_rel.specs.declared.refusal.ExhibitRefusal.{ExhibitRefusal}
 use Rattle.armstrong_rel.specs.Refusals.{IsRefusedExhibit}

@@ -1,3 +1,4 @@
+-- What is left to prove of `multivalued_exit`: its clause `says`.
 use Rattle.desk_cli.proofs.exhibits.multivalued_exit.Goals as goal
 
 pub returns : goal.returns

@@ -1,3 +1,5 @@
+-- What is left to prove of `failures`: its clause `lines` and that a round of its loop keeps the
+-- invariant, by `failures_next` and `failures_all`.
 use Rattle.std.proofs.Common.{arith}
 use Rattle.desk_cli.proofs.EndingLemmas.{failures_next, failures_all}
 use Rattle.desk_cli.proofs.finish.failures.Goals as goal

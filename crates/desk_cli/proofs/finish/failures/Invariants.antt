@@ -1,3 +1,4 @@
+-- What the loop of `failures` keeps: `lines`, `short` and `has_room`.
 use Rattle.std.proofs.Common.{◌≡◌, ◌≤◌, ◌++◌, ◌+◌, ◌*◌, length, drop}
 use Rattle.std.specs.Prelude.{vec_capacity}
 use Rattle.desk_cli.specs.declared.finish.TheConstants.{LINE}

@@ -1,3 +1,4 @@
+-- What is left to prove of `hand_over`: its clause `ends`.
 use Rattle.std.proofs.Common.{refl}
 use Rattle.named_tables.specs.Tables.{table_values}
 use Rattle.desk_cli.proofs.finish.hand_over.Goals as goal

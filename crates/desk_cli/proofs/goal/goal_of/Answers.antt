@@ -1,3 +1,4 @@
+-- What is left to prove of `goal_of`: its clause `exit`.
 use Rattle.std.proofs.Common.{inl}
 use Rattle.desk_cli.proofs.goal.goal_of.Goals as goal
 

@@ -1,3 +1,4 @@
+-- What is left to prove of `help`: what it answers in the case `Ok`.
 use Rattle.std.proofs.Common.{ℕ, List, ap, ◌∙◌}
 use Rattle.desk_cli.specs.declared.status.Status.TheVariants.{Yes}
 use Rattle.desk_cli.specs.ResponseValues.{text_only}

@@ -1,3 +1,4 @@
+-- What is left to prove of `counterexample_response`: what `print_rows` requires.
 use Rattle.attr_sets.specs.Sets.{attributes}
 use Rattle.dep_model.specs.Schemas.{width_of}
 use Rattle.dep_model.proofs.TwoTupleLemmas.{two_tuples-over}

@@ -1,3 +1,4 @@
+-- What is left to prove of `check_join`: its clause `response` and what `test_loss` requires.
 use Rattle.std.proofs.Common.{inl, inr, List, sym, subst}
 use Rattle.attr_sets.specs.declared.set.AttrSet.{AttrSet}
 use Rattle.plans.specs.Plans.{plan_of}

@@ -1,3 +1,4 @@
+-- What is left to prove of `lossy_exit`: its clause `says`.
 use Rattle.desk_cli.proofs.join.lossy_exit.Goals as goal
 
 pub returns : goal.returns

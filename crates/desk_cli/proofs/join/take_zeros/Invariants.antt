@@ -1,3 +1,4 @@
+-- What the loop of `take_zeros` keeps: `fields` and `partial`.
 use Rattle.std.proofs.Common.{◌≡◌, [], replicate}
 use Rattle.csv.specs.Records.{fields_of, partial_of}
 use Rattle.dep_model.specs.TwoTuples.{zero_text}

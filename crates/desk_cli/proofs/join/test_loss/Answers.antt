@@ -1,3 +1,4 @@
+-- What is left to prove of `test_loss`: its clause `exit`.
 use Rattle.std.proofs.Common.{◌≡◌, inl, subst}
 use Rattle.std.specs.Prelude.{Vec}
 use Rattle.std.specs.declared.alloc.Global.{Global}

@@ -1,3 +1,4 @@
+-- What is left to prove of `too_many_rows_exit`: its clause `says`.
 use Rattle.desk_cli.proofs.join.too_many_rows_exit.Goals as goal
 
 pub returns : goal.returns

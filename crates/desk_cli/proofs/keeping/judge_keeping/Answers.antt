@@ -1,3 +1,5 @@
+-- What is left to prove of `judge_keeping`: its clause `response` and what `losses_lines` requires,
+-- by `losses_within` and `split_first`.
 use Rattle.std.proofs.Common.{◌≡◌, ◌<◌, ℕ, List, [], ◌∷◌, ◌++◌, inr, length, drop, get_or, sym, subst, ap, ◌∙◌, arith}
 use Rattle.std.specs.List.{flat_map}
 use Rattle.dep_model.specs.Plans.{schemes_of}
@@ -5,7 +7,7 @@ use Rattle.dep_model.specs.Schemas.{width_of, theory_of}
 use Rattle.preservation.specs.Keeping.{LossesOf}
 use Rattle.preservation.specs.declared.losing.Loss.{Loss}
 use Rattle.desk_cli.specs.ResponseValues.{Says}
-use Rattle.desk_cli.specs.Keeping.{loss_text, shown_text}
+use Rattle.desk_cli.specs.Keeping.{loss_text, two_tuples_text}
 use Rattle.desk_cli.specs.Responses.{response_value}
 use Rattle.desk_cli.specs.declared.status.Status.TheVariants.{No}
 use Rattle.desk_cli.proofs.LossLemmas.{losses_within, split_first}
@@ -28,17 +30,17 @@ returns c =
     let plan = schemes_of c.args.schemes.now in
     let xs = c.as_slice.result.now in
     let items = c.in_ok-losses.losses.items in
-    let some : 0 < length xs = omega (arith, c.in-len1-up.len_at_least) in
+    let not_empty : 0 < length xs = omega (arith, c.in-len1-up.len_at_least) in
     let first = get_or xs 0 nothing in
     let more = drop 1 xs in
-    let are : items ≡ first ∷ more = sym c.as_slice.ensures.value ∙ split_first xs nothing some in
-    let text = c.in_ok-losses_lines-in-len1-up.ensures.text ∙ ap (λ (l : List Loss). flat_map (loss_text s) l ++ shown_text s first) (c.deref.ensures.value ∙ are) in
+    let are : items ≡ first ∷ more = sym c.as_slice.ensures.value ∙ split_first xs nothing not_empty in
+    let text = c.in_ok-losses_lines-in-len1-up.ensures.text ∙ ap (λ (l : List Loss). flat_map (loss_text s) l ++ two_tuples_text s first) (c.deref.ensures.value ∙ are) in
     record {
       response = inr (
         (λ keeps.
             let none : xs ≡ [] = c.as_slice.ensures.value ∙ c.in_ok-losses.ensures.keeps.1 keeps in
             let count : length xs ≡ 0 = ap length none in
-            absurd (omega (arith, some, count))),
+            absurd (omega (arith, not_empty, count))),
         (
           first,
           more,

@@ -1,3 +1,4 @@
+-- What the loop of `losses_lines` keeps, in terms of `loss_text`.
 use Rattle.std.proofs.Common.{◌≡◌, take}
 use Rattle.std.specs.List.{flat_map}
 use Rattle.desk_cli.specs.Keeping.{loss_text}

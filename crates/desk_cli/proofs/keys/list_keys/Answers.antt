@@ -1,3 +1,5 @@
+-- What is left to prove of `list_keys`: what it answers, case by case and what `sets_response`
+-- requires.
 use Rattle.std.proofs.Common.{◌≡◌, List, sym, subst, ap, ◌∙◌, inl, inr}
 use Rattle.std.specs.Prelude.{All}
 use Rattle.std.proofs.lemmas.List.Elements.{All-weaker}

@@ -1,3 +1,4 @@
+-- What the loop of `set_lines` keeps, in terms of `sets_text` and `printed_names_of`.
 use Rattle.std.proofs.Common.{◌≡◌, take}
 use Rattle.desk_cli.specs.Keys.{sets_text}
 use Rattle.desk_cli.proofs.keys.set_lines.Given as goal

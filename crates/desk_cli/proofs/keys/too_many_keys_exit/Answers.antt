@@ -1,3 +1,4 @@
+-- What is left to prove of `too_many_keys_exit`: its clause `says`.
 use Rattle.desk_cli.proofs.keys.too_many_keys_exit.Goals as goal
 
 pub returns : goal.returns

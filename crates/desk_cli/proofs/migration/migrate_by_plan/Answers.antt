@@ -1,3 +1,5 @@
+-- What is left to prove of `migrate_by_plan`: its clause `response` and what `test_loss` and
+-- `migrate_rows` require.
 use Rattle.std.proofs.Common.{inl, inr, List, sym, subst}
 use Rattle.attr_sets.specs.declared.set.AttrSet.{AttrSet}
 use Rattle.attr_sets.specs.Attributes.{Attributes}
@@ -42,8 +44,8 @@ returns-in-Err-test_loss-clause-response g c = λ r shows response is.
 
 pub migrate_rows-requires-clause-lossless : goal.migrate_rows-requires-clause-lossless
 migrate_rows-requires-clause-lossless g c =
-    let shown = subst (λ (schemes : List AttrSet). IsShownLossless c.args.schema.now (schemes_of schemes)) c.schemes.ensures.schemes c.in-Ok-test_loss.ensures.ok in
-    shown.lossless
+    let proof = subst (λ (schemes : List AttrSet). IsShownLossless c.args.schema.now (schemes_of schemes)) c.schemes.ensures.schemes c.in-Ok-test_loss.ensures.ok in
+    proof.lossless
 
 pub returns-clause-response : goal.returns-clause-response
 returns-clause-response g c = λ r shows.
@@ -51,10 +53,10 @@ returns-clause-response g c = λ r shows.
     let plan = plan_of c.in-Ok.plan in
     let rows = c.in-Ok-open_rows.rows in
     let after = Shows-later g.F.FileSource.files g.F.FileSource.faults g.F.FileSource.taken c.args.source.now c.open_plan.new.source c.open_rows.new.source r shows c.in-Ok.ensures.files c.in-Ok.ensures.later in
-    let shown = subst (λ (schemes : List AttrSet). IsShownLossless s (schemes_of schemes)) c.schemes.ensures.schemes c.in-Ok-test_loss.ensures.ok in
+    let proof = subst (λ (schemes : List AttrSet). IsShownLossless s (schemes_of schemes)) c.schemes.ensures.schemes c.in-Ok-test_loss.ensures.ok in
     let replies = c.migrate_rows.ensures.response in
     With-found (PlanStops r s c.args.plan.now) (IsPlanFile r s c.args.plan.now) (λ (plan : List Attributes). WithRows r s c.args.file.now (λ rows. WithoutLoss s plan (MigratesRows s plan rows)))
     plan c.migrate_rows.result (c.in-Ok.ensures.ok r shows.same)
     (With-found (RowStops r s c.args.file.now) (IsRowsFile r s c.args.file.now) (λ (rows : Relation). WithoutLoss s plan (MigratesRows s plan rows)) rows c.migrate_rows.result
     (c.in-Ok-open_rows.ensures.ok r after.same)
-    (Unless-passed (LossStops s plan) (IsShownLossless s plan) (MigratesRows s plan rows) c.migrate_rows.result shown replies))
+    (Unless-passed (LossStops s plan) (IsShownLossless s plan) (MigratesRows s plan rows) c.migrate_rows.result proof replies))

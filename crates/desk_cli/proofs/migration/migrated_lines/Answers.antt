@@ -1,3 +1,4 @@
+-- What is left to prove of `migrated_lines`: its clause `text`, by `lines_of`.
 use Rattle.std.proofs.Common.{◌≡◌, ℕ, List, ◌++◌, ap, subst, ◌∙◌}
 use Rattle.std.specs.Prelude.{codes}
 use Rattle.std.specs.Fmt.{decimal}

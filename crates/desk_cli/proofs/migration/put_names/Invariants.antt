@@ -1,3 +1,4 @@
+-- What the loop of `put_names` keeps, in terms of `words_text`.
 use Rattle.std.proofs.Common.{◌≡◌, ◌++◌, take}
 use Rattle.schema_printer.specs.Printing.{words_text}
 use Rattle.desk_cli.proofs.migration.put_names.Given as goal

@@ -1,3 +1,4 @@
+-- What the loop of `put_tables` keeps, in terms of `table_value` and `table_line`.
 use Rattle.std.proofs.Common.{◌≡◌, ◌++◌, take}
 use Rattle.std.specs.List.{flat_map}
 use Rattle.named_tables.specs.Tables.{table_value}

@@ -1,3 +1,5 @@
+-- What is left to prove of `open_plan`: its clauses `ok`, `within_limit`, `covers` and `exit`, by
+-- `plan_stop`.
 use Rattle.std.proofs.Common.{ℕ, List, subst}
 use Rattle.plans.specs.Plans.{plan_of}
 use Rattle.dep_model.proofs.FailureLemmas.{refused_is}

@@ -1,3 +1,4 @@
+-- What is left to prove of `cannot_read_exit`: its clause `says`.
 use Rattle.desk_cli.proofs.read.cannot_read_exit.Goals as goal
 
 pub returns : goal.returns

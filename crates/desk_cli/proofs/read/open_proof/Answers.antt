@@ -1,3 +1,5 @@
+-- What is left to prove of `open_proof`: its clauses `ok` and `exit` and what `proof_refusal_exit`
+-- requires, by `proof_stop`.
 use Rattle.std.proofs.Common.{ℕ, List, subst}
 use Rattle.derivation.specs.Derivs.{tree_of}
 use Rattle.dep_model.proofs.FailureLemmas.{refused_is}

@@ -1,3 +1,4 @@
+-- What is left to prove of `open_schema`: its clauses `ok` and `exit`, by `schema_stop`.
 use Rattle.std.proofs.Common.{ℕ, List, subst}
 use Rattle.std.specs.Prelude.{codes}
 use Rattle.dep_model.proofs.FailureLemmas.{refused_is}

@@ -1,3 +1,4 @@
+-- What is left to prove of `proof_refusal_exit`: its clause `says`.
 use Rattle.desk_cli.proofs.read.proof_refusal_exit.Goals as goal
 
 pub returns : goal.returns

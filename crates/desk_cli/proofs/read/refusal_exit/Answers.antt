@@ -1,3 +1,4 @@
+-- What is left to prove of `refusal_exit`: its clause `says`.
 use Rattle.desk_cli.proofs.read.refusal_exit.Goals as goal
 
 pub returns : goal.returns

@@ -1,3 +1,4 @@
+-- What is left to prove of `too_long_exit`: its clause `says`.
 use Rattle.desk_cli.proofs.read.too_long_exit.Goals as goal
 
 pub returns : goal.returns

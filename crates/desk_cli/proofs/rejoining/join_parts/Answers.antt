@@ -1,3 +1,4 @@
+-- What is left to prove of `join_parts`: what it answers, case by case.
 use Rattle.csv_text.specs.Rows.{rows_text}
 use Rattle.dep_model.proofs.FailureLemmas.{refused_is}
 use Rattle.std.proofs.Common.{inl, inr}

@@ -1,3 +1,4 @@
+-- What is left to prove of `join_refusal_exit`: its clause `says`.
 use Rattle.desk_cli.proofs.rejoining.join_refusal_exit.Goals as goal
 
 pub returns : goal.returns

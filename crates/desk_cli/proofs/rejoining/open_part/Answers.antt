@@ -1,3 +1,4 @@
+-- What is left to prove of `open_part`: its clauses `ok`, `table` and `exit`, by `part_stop`.
 use Rattle.std.proofs.Common.{ℕ, List, Ok, Err, subst}
 use Rattle.csv_rows.specs.Reading.{PartOf, HasScheme}
 use Rattle.dep_model.proofs.FailureLemmas.{refused_is}

@@ -1,3 +1,5 @@
+-- What is left to prove of `open_parts`: its clause `exit` and that a round of its loop keeps the
+-- invariant, by `read_more` and `tables_more`.
 use Rattle.std.proofs.Common.{◌≡◌, ◌<◌, ◌+◌, ℕ, List, [], ◌∷◌, ◌++◌, length, take, sym, subst, refl, ◌∙◌, arith}
 use Rattle.std.proofs.lemmas.Grind.{common_steps}
 use Rattle.std.proofs.lemmas.Option.{slice_get_read}

@@ -1,3 +1,4 @@
+-- What the loop of `open_parts` keeps: `files`, `later`, `read`, `tables` and `one_each`.
 use Rattle.std.proofs.Common.{◌≡◌, ◌≤◌, length, take}
 use Rattle.std.specs.Prelude.{All}
 use Rattle.dep_model.specs.Schemas.{width_of}

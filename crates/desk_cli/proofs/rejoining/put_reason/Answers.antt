@@ -1,3 +1,4 @@
+-- What is left to prove of `put_reason`: what it answers in the case `NotCovered`.
 use Rattle.desk_cli.proofs.rejoining.put_reason.Goals as goal
 
 pub returns-in-NotCovered : goal.returns-in-NotCovered

@@ -1,3 +1,4 @@
+-- What is left to prove of `rejoin`: its clause `response` and what `join_parts` requires.
 use Rattle.std.proofs.Common.{List, sym, subst}
 use Rattle.std.specs.Prelude.{All}
 use Rattle.csv_rows.specs.declared.part.PartialRows.{PartialRows}

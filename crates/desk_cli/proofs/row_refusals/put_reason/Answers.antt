@@ -1,3 +1,5 @@
+-- What is left to prove of `put_reason`: what it answers in the cases `UnknownColumn`,
+-- `MissingColumn` and `NotInteger`.
 use Rattle.desk_cli.proofs.row_refusals.put_reason.Goals as goal
 
 pub returns-in-UnknownColumn : goal.returns-in-UnknownColumn

@@ -1,3 +1,4 @@
+-- What is left to prove of `open_rows`: its clauses `ok` and `exit`, by `rows_stop`.
 use Rattle.std.proofs.Common.{ℕ, List, Ok, Err, subst}
 use Rattle.csv_rows.specs.Reading.{RowsOf}
 use Rattle.dep_model.proofs.FailureLemmas.{refused_is}

@@ -1,3 +1,4 @@
+-- What is left to prove of `rows_refusal_exit`: its clause `says`.
 use Rattle.desk_cli.proofs.rows.rows_refusal_exit.Goals as goal
 
 pub returns : goal.returns

@@ -1,3 +1,4 @@
+-- What is left to prove of `check_same`: its clause `response`.
 use Rattle.dep_model.specs.declared.schema.Schema.{Schema}
 use Rattle.desk_cli.specs.Inputs.{SchemaStops, IsSchemaFile}
 use Rattle.desk_cli.specs.Sameness.{Compares, WithSameNames}

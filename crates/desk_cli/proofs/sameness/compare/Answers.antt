@@ -1,3 +1,5 @@
+-- What is left to prove of `compare`: its clause `response`, by `say_the_same` and
+-- `differences_differ`.
 use Rattle.std.proofs.Common.{◌≡◌, ◌++◌, ℕ, List, inl, inr, sym, subst, ap, ◌∙◌, append_assoc}
 use Rattle.std.specs.Prelude.{codes}
 use Rattle.std.proofs.lemmas.Bool.{false≢true}

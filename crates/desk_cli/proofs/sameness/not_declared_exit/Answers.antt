@@ -1,3 +1,4 @@
+-- What is left to prove of `not_declared_exit`: its clause `says`.
 use Rattle.desk_cli.proofs.sameness.not_declared_exit.Goals as goal
 
 pub returns : goal.returns

@@ -1,3 +1,4 @@
+-- What the loop of `put_differences` keeps, in terms of `differences_text`.
 use Rattle.std.proofs.Common.{◌≡◌, ◌++◌, take}
 use Rattle.desk_cli.specs.Sameness.{differences_text}
 use Rattle.desk_cli.proofs.sameness.put_differences.Given as goal

@@ -1,3 +1,4 @@
+-- What is left to prove of `test_names`: its clause `exit`.
 use Rattle.std.proofs.Common.{inl, inr, refl}
 use Rattle.desk_cli.proofs.sameness.test_names.Goals as goal
 

@@ -1,3 +1,4 @@
+-- What is left to prove of `migrate_sample`: its clause `response`, by `sample_response`.
 use Rattle.std.proofs.Common.{inl, List, subst, ◌∙◌}
 use Rattle.attr_sets.specs.declared.set.AttrSet.{AttrSet}
 use Rattle.plans.specs.Plans.{plan_of, scheme_sets}

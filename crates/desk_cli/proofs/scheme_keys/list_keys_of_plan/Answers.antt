@@ -1,3 +1,4 @@
+-- What is left to prove of `list_keys_of_plan`: its clause `response`.
 use Rattle.std.proofs.Common.{List, subst}
 use Rattle.attr_sets.specs.declared.set.AttrSet.{AttrSet}
 use Rattle.plans.specs.Plans.{plan_of}
@@ -12,5 +13,5 @@ pub returns-clause-response : goal.returns-clause-response
 returns-clause-response g c = λ r shows.
     let s = c.args.schema.now in
     let file = c.args.file.now in
-    let told = subst (λ (schemes : List AttrSet). RespondsAs (TellsKeys s (schemes_of schemes)) c.tell_keys.result) c.schemes.ensures.schemes c.tell_keys.ensures.response in
-    With-found (PlanStops r s file) (IsPlanFile r s file) (TellsKeys s) (plan_of c.in-Ok.plan) c.tell_keys.result (c.in-Ok.ensures.ok r shows.same) told
+    let fact = subst (λ (schemes : List AttrSet). RespondsAs (TellsKeys s (schemes_of schemes)) c.tell_keys.result) c.schemes.ensures.schemes c.tell_keys.ensures.response in
+    With-found (PlanStops r s file) (IsPlanFile r s file) (TellsKeys s) (plan_of c.in-Ok.plan) c.tell_keys.result (c.in-Ok.ensures.ok r shows.same) fact

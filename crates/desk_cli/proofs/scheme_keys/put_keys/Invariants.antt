@@ -1,3 +1,4 @@
+-- What the loop of `put_keys` keeps, in terms of `keys_text` and `printed_names_of`.
 use Rattle.std.proofs.Common.{◌≡◌, ◌++◌, take}
 use Rattle.desk_cli.specs.Keys.{keys_text}
 use Rattle.desk_cli.proofs.scheme_keys.put_keys.Given as goal

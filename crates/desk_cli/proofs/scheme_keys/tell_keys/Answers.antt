@@ -1,3 +1,5 @@
+-- What is left to prove of `tell_keys`: its clause `response`, what `put_keyed` requires, and that
+-- the invariant of its loop holds at first and stays, by `FormLemmas` and `KeyLemmas`.
 use Rattle.std.proofs.Common.{◌++◌, ℕ, List, inl, inr, get_or, take_all, sym, subst, ap, ◌∙◌}
 use Rattle.std.proofs.lemmas.List.Elements.{All-weaker}
 use Rattle.std.specs.Prelude.{All}
@@ -12,14 +14,14 @@ use Rattle.desk_cli.specs.Keys.{IsListed, keyed_text}
 use Rattle.desk_cli.specs.Responses.{response_value}
 use Rattle.desk_cli.specs.declared.status.Status.TheVariants.{Yes}
 use Rattle.desk_cli.proofs.FormLemmas.{first_failing}
-use Rattle.desk_cli.proofs.KeyLemmas.{Told, told_nothing, told_more, keyed_scheme}
+use Rattle.desk_cli.proofs.KeyLemmas.{Told, keys_of_none, keys_of_next, keyed_scheme}
 use Rattle.desk_cli.proofs.scheme_keys.tell_keys.Goals as goal
 
 abbrev nothing : AttrSet
 nothing = record { 0 = 0 }
 
 pub loop-scheme-init : goal.loop-scheme-init
-loop-scheme-init c = told_nothing c.args.schema.now c.new-text.result.items c.new-text.ensures.items
+loop-scheme-init c = keys_of_none c.args.schema.now c.new-text.result.items c.new-text.ensures.items
 
 pub put_keyed-requires-clause-keys : goal.put_keyed-requires-clause-keys
 put_keyed-requires-clause-keys c =
@@ -33,7 +35,7 @@ pub loop-scheme-preserved : goal.loop-scheme-preserved
 loop-scheme-preserved c =
     let s = c.args.schema.now in
     let i = c.loop-scheme.scheme-index in
-    told_more s c.args.schemes.now i nothing c.in-Ok.keys.items c.loop-scheme.text.items c.put_keyed.new.text.items c.loop-scheme.invariant c.loop-scheme-test.true c.in-Ok.ensures.ok
+    keys_of_next s c.args.schemes.now i nothing c.in-Ok.keys.items c.loop-scheme.text.items c.put_keyed.new.text.items c.loop-scheme.invariant c.loop-scheme-test.true c.in-Ok.ensures.ok
     (c.in_ok-put_keyed.ensures.added ∙ ap (λ (keys : List AttrSet). c.loop-scheme.text.items ++ keyed_text (printed_names_of s) (keyed_scheme (get_or c.args.schemes.now i nothing) keys)) c.deref.ensures.value)
 
 pub returns-in-Err : goal.returns-in-Err
@@ -51,13 +53,13 @@ pub returns : goal.returns
 returns c =
     let s = c.args.schema.now in
     let text = c.loop-scheme.text.items in
-    let told : Told s c.args.schemes.now text =
+    let fact : Told s c.args.schemes.now text =
     subst (λ (schemes : List AttrSet). Told s schemes text) (take_all c.loop-scheme.scheme-index c.args.schemes.now c.loop-scheme-test.false) c.loop-scheme.invariant in
     record {
       response = inl (
-        told.listed,
-        told.schemes_are,
-        told.keys,
-        subst (λ (t : List ℕ). Says Yes t (response_value c.with_text.result)) told.is c.with_text.ensures.says,
+        fact.listed,
+        fact.schemes_are,
+        fact.keys,
+        subst (λ (t : List ℕ). Says Yes t (response_value c.with_text.result)) fact.is c.with_text.ensures.says,
       );
     }

@@ -1,3 +1,4 @@
+-- What is left to prove of `bad_name_exit`: its clause `says`.
 use Rattle.desk_cli.proofs.scripts.bad_name_exit.Goals as goal
 
 pub returns : goal.returns

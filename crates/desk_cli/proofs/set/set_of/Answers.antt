@@ -1,3 +1,4 @@
+-- What is left to prove of `set_of`: its clause `exit`.
 use Rattle.std.proofs.Common.{inl}
 use Rattle.desk_cli.proofs.set.set_of.Goals as goal
 

@@ -1,3 +1,4 @@
+-- What is left to prove of `desk_over`: its clause `desk`, by `EndingLemmas` and `StepLemmas`.
 use Rattle.desk_cli.specs.Desk.{source_in_call, sink_in_call}
 use Rattle.desk_cli.specs.Outcomes.{destinations_in_call}
 use Rattle.desk_cli.specs.Readings.{known_files}

@@ -1,3 +1,4 @@
+-- What is left to prove of `over_schema`: its clause `response`.
 use Rattle.desk_words.specs.Commands.{task_form}
 use Rattle.desk_cli.specs.Inputs.{SchemaStops, IsSchemaFile}
 use Rattle.desk_cli.specs.Performs.{Does}

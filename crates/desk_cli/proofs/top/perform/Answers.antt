@@ -1,3 +1,4 @@
+-- What is left to prove of `perform`: its clause `response`.
 use Rattle.std.proofs.Common.{subst, sym}
 use Rattle.desk_words.specs.declared.command.Command.{Command}
 use Rattle.desk_words.specs.Commands.{command_form}

@@ -1,3 +1,4 @@
+-- The law `answered_calls_end`, by `calls_end`.
 use Rattle.desk_laws.proofs.CompleteLaws.{calls_end}
 use Rattle.desk_laws.proofs.complete.answered_calls_end.Goals as goal
 

@@ -1,3 +1,4 @@
+-- The law `check_rows_is_answered`, by `rows_answered`.
 use Rattle.desk_laws.proofs.CompleteLaws.{rows_answered}
 use Rattle.desk_laws.proofs.complete.check_rows_is_answered.Goals as goal
 

@@ -1,3 +1,5 @@
+-- What is left to prove of `help_is_answered`: its clauses `help`, `long`, `dash_h` and `version`,
+-- by `CompleteLaws`.
 use Rattle.desk_laws.proofs.CompleteLaws.{help_answered, long_help_answered, short_help_answered, version_answered}
 use Rattle.desk_laws.proofs.complete.help_is_answered.Goals as goal
 

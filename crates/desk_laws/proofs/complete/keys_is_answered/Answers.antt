@@ -1,3 +1,4 @@
+-- The law `keys_is_answered`, by `keys_answered`.
 use Rattle.desk_laws.proofs.CompleteLaws.{keys_answered}
 use Rattle.desk_laws.proofs.complete.keys_is_answered.Goals as goal
 

@@ -1,3 +1,4 @@
+-- The law `synthesize_is_answered`, by `synthesize_answered`.
 use Rattle.desk_laws.proofs.CompleteLaws.{synthesize_answered}
 use Rattle.desk_laws.proofs.complete.synthesize_is_answered.Goals as goal
 

@@ -1,3 +1,4 @@
+-- The law `basis_is_answered`, by `basis_answered`.
 use Rattle.desk_laws.proofs.QuestionLaws.{basis_answered}
 use Rattle.desk_laws.proofs.complete_questions.basis_is_answered.Goals as goal
 

@@ -1,3 +1,4 @@
+-- The law `check_keeps_is_answered`, by `check_keeps_answered`.
 use Rattle.desk_laws.proofs.TableLaws.{check_keeps_answered}
 use Rattle.desk_laws.proofs.complete_tables.check_keeps_is_answered.Goals as goal
 

@@ -1,3 +1,4 @@
+-- The law `discover_is_answered`, by `discover_answered`.
 use Rattle.desk_laws.proofs.FileLaws.{discover_answered}
 use Rattle.desk_laws.proofs.complete_tables.discover_is_answered.Goals as goal
 

@@ -1,3 +1,5 @@
+-- What is left to prove of `migrate_is_answered`: its clauses `in_form` and `plan`, by
+-- `migrate_answered` and `migrate_plan_answered`.
 use Rattle.desk_laws.proofs.TableLaws.{migrate_answered, migrate_plan_answered}
 use Rattle.desk_laws.proofs.complete_tables.migrate_is_answered.Goals as goal
 

@@ -1,3 +1,4 @@
+-- What is left to prove of `position_of`: its clause `bytes`, by `bytes_of_file-drop`.
 use Rattle.std.proofs.Common.{sym, ap, ◌∙◌}
 use Rattle.std.specs.Str.{bytes_eq}
 use Rattle.desk_outside.proofs.HeldFacts.{bytes_of_file-drop}

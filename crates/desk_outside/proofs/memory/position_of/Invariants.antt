@@ -1,3 +1,4 @@
+-- What the loop of `position_of` keeps, in terms of `bytes_of_file` and `files_of`.
 use Rattle.std.proofs.Common.{◌≡◌, drop}
 use Rattle.desk_outside.specs.Files.{bytes_of_file, files_of}
 use Rattle.desk_outside.proofs.memory.position_of.Given as goal

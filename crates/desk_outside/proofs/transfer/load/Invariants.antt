@@ -1,3 +1,4 @@
+-- What the loop of `load` keeps, in terms of `all_left`; and by what it ends.
 use Rattle.std.proofs.Common.{◌≡◌, ◌+◌, ◌-◌, ◌≤◌, length}
 use Rattle.std.specs.Io.KnownBytes.{prepend_known}
 use Rattle.desk_outside.specs.Files.{all_left}

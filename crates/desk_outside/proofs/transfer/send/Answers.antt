@@ -1,3 +1,5 @@
+-- What is left to prove of `send`: that a round of its loop keeps the invariant, by
+-- `append_known-take`.
 use Rattle.std.proofs.Common.{arith, rules}
 use Rattle.desk_outside.proofs.ListFacts.{append_known-take}
 use Rattle.desk_outside.proofs.transfer.send.Goals as goal

@@ -1,3 +1,4 @@
+-- What the loop of `send` keeps; and by what it ends.
 use Rattle.std.proofs.Common.{◌≡◌, ◌-◌, ◌≤◌, length, take}
 use Rattle.std.specs.Io.KnownBytes.{append_known}
 use Rattle.desk_outside.proofs.transfer.send.Given as goal

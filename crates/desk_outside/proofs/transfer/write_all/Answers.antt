@@ -1,3 +1,5 @@
+-- What is left to prove of `write_all`: that a round of its loop keeps the invariant, by
+-- `with_bytes-take`.
 use Rattle.std.proofs.Common.{arith, rules}
 use Rattle.desk_outside.proofs.FolderFacts.{with_bytes-take}
 use Rattle.desk_outside.proofs.transfer.write_all.Goals as goal

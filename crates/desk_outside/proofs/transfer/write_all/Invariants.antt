@@ -1,3 +1,4 @@
+-- What the loop of `write_all` keeps, in terms of `with_bytes`; and by what it ends.
 use Rattle.std.proofs.Common.{◌≡◌, ◌-◌, ◌≤◌, IsTrue, length, take, option_map}
 use Rattle.desk_outside.specs.Folders.{with_bytes}
 use Rattle.desk_outside.proofs.transfer.write_all.Given as goal

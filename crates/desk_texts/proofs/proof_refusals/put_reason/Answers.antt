@@ -1,3 +1,4 @@
+-- What is left to prove of `put_reason`: what it answers in the cases `Unsound` and `EmptyProof`.
 use Rattle.desk_texts.proofs.proof_refusals.put_reason.Goals as goal
 
 pub returns-in-Unsound : goal.returns-in-Unsound

@@ -1,3 +1,5 @@
+-- What is left to prove of `value_of`: that a round of its loop keeps the invariant and that its
+-- sums fit, by `short_number`.
 use Rattle.std.proofs.Common.{arith}
 use Rattle.lexer.proofs.Digits.{digit_at, number-length, SoFar-next, fits_u32_below}
 use Rattle.desk_words.proofs.NumberLemmas.{short_number}

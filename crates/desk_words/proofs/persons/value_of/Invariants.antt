@@ -1,3 +1,4 @@
+-- What the loop of `value_of` keeps: `SoFar`.
 use Rattle.lexer.proofs.Digits.{SoFar}
 use Rattle.desk_words.proofs.persons.value_of.Given as goal
 

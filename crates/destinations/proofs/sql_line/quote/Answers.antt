@@ -1,3 +1,5 @@
+-- What is left to prove of `quote`: that a round of its loop keeps the invariant, by
+-- `escape_quote-next`.
 use Rattle.std.proofs.Common.{[], ◌∷◌, refl}
 use Rattle.destinations.proofs.SqlLemmas.{escape_quote-next}
 use Rattle.destinations.proofs.sql_line.quote.Goals as goal

@@ -1,3 +1,4 @@
+-- What the loop of `quote` keeps, in terms of `escape_quote`.
 use Rattle.std.proofs.Common.{◌≡◌, [], ◌∷◌, ◌++◌, take}
 use Rattle.std.specs.List.{flat_map}
 use Rattle.destinations.specs.Sql.{escape_quote}

@@ -1,3 +1,4 @@
+-- What the loop of `values_of` keeps, in terms of `sql_value`, `row_at` and `comma_list`.
 use Rattle.std.proofs.Common.{◌≡◌, take}
 use Rattle.destinations.specs.Sql.{sql_value}
 use Rattle.row_store.specs.Rows.{row_at}

@@ -1,3 +1,6 @@
+-- What is left to prove of `closure`: what it answers in one case, that the invariant of its loop
+-- holds at first and stays, and that its loop ends, by `functionally_closed_holds` and
+-- `fd_each-to`.
 use Rattle.std.proofs.Common.{⊎_elim, refl, arith}
 use Rattle.std.proofs.lemmas.Bool.{ltb-true, false≢true}
 use Rattle.std.proofs.lemmas.Bool.Decides.{nat_tests}
@@ -42,9 +45,9 @@ returns-then-eq c = record {
   closure = λ n within from_in a.
       let now = c.loop-more in
       let ds = functional_part (dependencies_of c.args.deps.now) in
-      let settled = c.with_right_sides-more.ensures.functionally_closed (IsSubset-same (attributes c.with_right_sides-more.result) (attributes now.closed) (c.if-eq.ensures.same.0 refl)) in (
+      let is_closed = c.with_right_sides-more.ensures.functionally_closed (IsSubset-same (attributes c.with_right_sides-more.result) (attributes now.closed) (c.if-eq.ensures.same.0 refl)) in (
         (λ m. (ltb-true a n (now.invariant.within (below n) within from_in a m), fd_each-to n ds (attributes c.args.from) (attributes now.closed) (now.invariant.implied n) a m)),
         (λ implied. functionally_closed_holds n c.args.deps.now (attributes c.args.from) (only a) (attributes now.closed) within from_in
-            (λ k m. grind (arith, nat_tests, m, implied.0)) settled now.invariant.grows implied.1 a (grind (arith, nat_tests))),
+            (λ k m. grind (arith, nat_tests, m, implied.0)) is_closed now.invariant.grows implied.1 a (grind (arith, nat_tests))),
       );
 }

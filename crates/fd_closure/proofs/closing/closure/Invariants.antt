@@ -1,3 +1,4 @@
+-- What the loop of `closure` keeps: `grows`, `within` and `implied`; and by what it ends.
 use Rattle.std.proofs.Common.{ℕ, ◌-◌}
 use Rattle.std.specs.Prelude.{All}
 use Rattle.attr_sets.specs.Attributes.{Attributes, IsSubset, count_below}

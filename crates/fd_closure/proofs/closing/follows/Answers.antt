@@ -1,3 +1,4 @@
+-- What is left to prove of `follows`: its clause `implied`, by `closure_decides`.
 use Rattle.attr_sets.specs.Sets.{attributes}
 use Rattle.dep_model.specs.Dependencies.{functional_part}
 use Rattle.dep_model.specs.Deps.{dependencies_of}

@@ -1,3 +1,4 @@
+-- What is left to prove of `with_right_side`: what it answers, case by case, by `fd_added`.
 use Rattle.std.proofs.Common.{◌∙◌, refl, sym, arith}
 use Rattle.std.proofs.lemmas.Bool.{false≢true}
 use Rattle.attr_sets.specs.Attributes.{IsSubset}

@@ -1,3 +1,6 @@
+-- What is left to prove of `with_right_sides`: its clauses `grows`, `within`, `implied` and
+-- `functionally_closed` and that the invariant of its loop holds at first and stays, by
+-- `all_IfFd-kept`.
 use Rattle.std.proofs.Common.{◌<◌, length, get_or, arith, take, take_all}
 use Rattle.std.proofs.lemmas.List.Elements.{All-more}
 use Rattle.attr_sets.specs.Attributes.{IsSubset}
@@ -16,7 +19,7 @@ loop-dep-init c = record {
   grows = λ k m. m;
   within = λ universe d_in now_in. now_in;
   implied = λ n r legal. reflexivity_obeyed (attributes c.args.closed) (attributes c.args.closed) r (λ k m. m);
-  settled = λ k d l. absurd (omega arith);
+  closed_so_far = λ k d l. absurd (omega arith);
 }
 
 pub loop-dep-preserved : goal.loop-dep-preserved
@@ -31,8 +34,8 @@ loop-dep-preserved c =
       within = λ universe d_in now_in. more.ensures.within universe (d_in i _ lt) (before.within universe d_in now_in);
       implied = λ n r legal. transitivity_obeyed (attributes c.args.closed) (attributes c.loop-dep.more) (attributes more.result) r (before.implied n r legal)
           (more.ensures.implied r (functional_legal-to n c.args.deps.now r legal i _ lt));
-      settled = All-more (IfFd (λ x y. IsSubset x (attributes c.args.closed) → IsSubset y (attributes more.result))) c.args.deps.now i first lt
-          (all_IfFd-kept (attributes c.args.closed) (attributes c.args.closed) (attributes c.loop-dep.more) (attributes more.result) (take i c.args.deps.now) (λ k m. m) more.ensures.grows before.settled)
+      closed_so_far = All-more (IfFd (λ x y. IsSubset x (attributes c.args.closed) → IsSubset y (attributes more.result))) c.args.deps.now i first lt
+          (all_IfFd-kept (attributes c.args.closed) (attributes c.args.closed) (attributes c.loop-dep.more) (attributes more.result) (take i c.args.deps.now) (λ k m. m) more.ensures.grows before.closed_so_far)
           (IfFd-kept (attributes c.args.closed) (attributes c.loop-dep.more) (attributes more.result) (attributes more.result) (get_or c.args.deps.now i first) before.grows (λ k m. m) more.ensures.functionally_closed);
     }
 
@@ -43,5 +46,5 @@ returns c = record {
   implied = c.loop-dep.invariant.implied;
   functionally_closed = λ same. functional_all-from (λ (d : Dependency). IsSubset (left_of d) (attributes c.args.closed) → IsSubset (right_of d) (attributes c.args.closed)) c.args.deps.now
       (all_IfFd-kept (attributes c.args.closed) (attributes c.args.closed) (attributes c.loop-dep.more) (attributes c.args.closed) c.args.deps.now (λ k m. m) same
-      (rw (take_all c.loop-dep.dep-index c.args.deps.now c.loop-dep-test.false) at c.loop-dep.invariant.settled));
+      (rw (take_all c.loop-dep.dep-index c.args.deps.now c.loop-dep-test.false) at c.loop-dep.invariant.closed_so_far));
 }

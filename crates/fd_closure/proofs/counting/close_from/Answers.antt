@@ -1,3 +1,5 @@
+-- What is left to prove of `close_from`: its clauses `grows` and `found`, that a round of its loop
+-- keeps the invariant, and that its loop ends, by `grows-further`.
 use Rattle.std.proofs.Common.{◌∙◌, ⊎_elim, inr, refl, sym, arith}
 use Rattle.std.proofs.lemmas.Bool.{false≢true, true≢false, false_from_ne_true}
 use Rattle.attr_sets.specs.Sets.{attributes}

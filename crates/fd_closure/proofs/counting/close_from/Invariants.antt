@@ -1,3 +1,4 @@
+-- What the loop of `close_from` keeps: `Grows`; and by what it ends.
 use Rattle.std.proofs.Common.{◌-◌}
 use Rattle.attr_sets.specs.Attributes.{count_below}
 use Rattle.attr_sets.specs.Sets.{attributes}

@@ -1,3 +1,5 @@
+-- What is left to prove of `closure_with`: its clause `closure`, by `ClosureLemmas` and
+-- `SwitchLemmas`.
 use Rattle.std.proofs.Common.{◌∙◌, ◌⊎◌, ⊎_elim, Bool, List, subst, arith}
 use Rattle.std.proofs.lemmas.Bool.{ltb-true}
 use Rattle.std.proofs.lemmas.Bool.Decides.{nat_tests}
@@ -21,7 +23,7 @@ returns-clause-closure c n within from_in a =
     let grows = subst (λ (on : List Bool). Grows (members_on on c.args.deps.now) x closed) c.deref.ensures.value c.close_from.ensures.grows in
     let found = subst (λ (on : List Bool). IsSubset (attributes c.full-all.result) closed ⊎ IsFunctionallyClosed (functional_part (dependencies_of (members_on on c.args.deps.now))) closed) c.deref.ensures.value c.close_from.ensures.found in
     let all = members_on-all (IsDepWithin (below n)) (switches_of c.args.counters.now) c.args.deps.now within in
-    let settled = ⊎_elim (λ full. full_functionally_closed ds closed (λ k m. full k (same_at c.full-all.ensures.members k ∙ m))) (λ stays. stays) found in (
+    let is_closed = ⊎_elim (λ full. full_functionally_closed ds closed (λ k m. full k (same_at c.full-all.ensures.members k ∙ m))) (λ stays. stays) found in (
       (λ m. (ltb-true a n (grows.within (below n) all from_in a m), fd_each-to n (functional_part (dependencies_of ds)) x closed (grows.implied n) a m)),
-      (λ implied. functionally_closed_holds n ds x (only a) closed all from_in (λ k m. grind (arith, nat_tests, m, implied.0)) settled grows.holds implied.1 a (grind (arith, nat_tests))),
+      (λ implied. functionally_closed_holds n ds x (only a) closed all from_in (λ k m. grind (arith, nat_tests, m, implied.0)) is_closed grows.holds implied.1 a (grind (arith, nat_tests))),
     )

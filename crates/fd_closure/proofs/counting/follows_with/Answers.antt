@@ -1,3 +1,5 @@
+-- What is left to prove of `follows_with`: its clause `implied`, by `functionally_closed_holds` and
+-- `members_on-all`.
 use Rattle.std.proofs.Common.{◌⊎◌, ⊎_elim, Bool, List, subst}
 use Rattle.attr_sets.specs.Attributes.{below, IsSubset}
 use Rattle.attr_sets.specs.Sets.{attributes}
@@ -23,6 +25,6 @@ returns-clause-implied c n within lhs_in rhs_in =
       (λ found r legal. fd_weaker_obeyed x closed x y r (λ k m. m) (c.is_subset.ensures.subset.0 found) (grows.implied n r legal)),
       (λ implied. ⊎_elim
           (λ found. c.is_subset.ensures.subset.1 found)
-          (λ settled. c.is_subset.ensures.subset.1 (functionally_closed_holds n ds x y closed all lhs_in rhs_in settled grows.holds implied))
+          (λ is_closed. c.is_subset.ensures.subset.1 (functionally_closed_holds n ds x y closed all lhs_in rhs_in is_closed grows.holds implied))
           found),
     )

@@ -1,3 +1,4 @@
+-- What the loop of `spread_by_counts` keeps: `Grows`.
 use Rattle.attr_sets.specs.Sets.{attributes}
 use Rattle.fd_closure.specs.Switches.{members_on, Grows}
 use Rattle.fd_closure.proofs.counting.spread_by_counts.Given as goal

@@ -1,3 +1,5 @@
+-- What is left to prove of `with_right_side_on`: what it answers in one case, by
+-- `members_on-member` and `grows-by_one`.
 use Rattle.std.proofs.Common.{arith}
 use Rattle.attr_sets.specs.Sets.{attributes}
 use Rattle.fd_closure.specs.Switches.{members_on}

@@ -1,3 +1,5 @@
+-- What is left to prove of `with_right_sides_on`: its clause `functionally_closed` and that a round
+-- of its loop keeps the invariant, by `ClosureLemmas` and `SwitchLemmas`.
 use Rattle.std.proofs.Common.{ℕ, ◌<◌, ◌∙◌, false, length, get_or, subst, sym, ap, inl, inr, arith}
 use Rattle.std.proofs.lemmas.Bool.{cases_eq, true≢false}
 use Rattle.std.proofs.lemmas.List.{get_or_default}
@@ -26,21 +28,21 @@ loop-k-preserved c =
       | then-on-k w ↦
           let next = attributes w.with_right_side-more.result in
           let more = w.with_right_side-more.ensures in
-          let settled : IfFd (λ x y. IsSubset x now → IsSubset y next) (get_or ds i first) = more.functionally_closed in
+          let is_closed : IfFd (λ x y. IsSubset x now → IsSubset y next) (get_or ds i first) = more.functionally_closed in
           rw w.more-is (record {
             grows = grows-further (members_on on ds) from now next before.grows
                 (grows-by_one (members_on on ds) (get_or ds i first) now next (members_on-member on ds c.requires.members i _ first lt w.if-on-k.true) more.grows more.within more.implied);
-            settled = λ k b d l is. elim (cases_eq k i) [
+            closed_so_far = λ k b d l is. elim (cases_eq k i) [
               | inl same ↦ subst (λ (j : ℕ). IfFd (λ x y. IsSubset x from → IsSubset y next) (get_or ds j d)) (sym same)
-                  (subst (IfFd (λ x y. IsSubset x from → IsSubset y next)) (get_or_default ds i first d lt) (IfFd-kept from now next next (get_or ds i first) before.grows.holds (λ j m. m) settled))
-              | inr other ↦ IfFd-kept from from now next (get_or ds k d) (λ j m. m) more.grows (before.settled k b d (omega arith) is)
+                  (subst (IfFd (λ x y. IsSubset x from → IsSubset y next)) (get_or_default ds i first d lt) (IfFd-kept from now next next (get_or ds i first) before.grows.holds (λ j m. m) is_closed))
+              | inr other ↦ IfFd-kept from from now next (get_or ds k d) (λ j m. m) more.grows (before.closed_so_far k b d (omega arith) is)
             ];
           })
       | else-on-k w ↦ rw w.more-is (record {
         grows = before.grows;
-        settled = λ k b d l is. elim (cases_eq k i) [
+        closed_so_far = λ k b d l is. elim (cases_eq k i) [
           | inl same ↦ absurd (true≢false (sym is ∙ ap (λ (j : ℕ). get_or on j b) same ∙ get_or_default on i b false (omega (arith, lt, c.requires.members)) ∙ w.if-on-k.false))
-          | inr other ↦ before.settled k b d (omega arith) is
+          | inr other ↦ before.closed_so_far k b d (omega arith) is
         ];
       })
     ]
@@ -49,4 +51,4 @@ pub returns-clause-functionally_closed : goal.returns-clause-functionally_closed
 returns-clause-functionally_closed c back =
     let from = attributes c.args.closed in
     functionally_closed_from_members c.args.on.now c.args.deps.now from
-    (λ k b d l is. IfFd-kept from from (attributes c.loop-k.more) from (get_or c.args.deps.now k d) (λ j m. m) back (c.loop-k.invariant.settled k b d (omega (arith, l, c.loop-k-test.false)) is))
+    (λ k b d l is. IfFd-kept from from (attributes c.loop-k.more) from (get_or c.args.deps.now k d) (λ j m. m) back (c.loop-k.invariant.closed_so_far k b d (omega (arith, l, c.loop-k-test.false)) is))

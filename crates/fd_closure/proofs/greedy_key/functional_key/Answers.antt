@@ -1,3 +1,5 @@
+-- What is left to prove of `functional_key`: its clause `greedy` and that the invariant of its loop
+-- holds at first and stays, by `GreedyKeyLemmas`.
 use Rattle.std.proofs.Common.{◌≡◌, ℕ, ◌-◌, ◌∙◌, refl, sym, arith}
 use Rattle.std.proofs.lemmas.Bool.{ltb-true, false≢true}
 use Rattle.attr_sets.specs.Attributes.{Attributes, below, only, difference, IsSubset}
@@ -6,7 +8,7 @@ use Rattle.attr_sets.specs.declared.set.TheConstants.{MOST_ATTRIBUTES}
 use Rattle.attr_sets.proofs.AttributesLemmas.{attributes_below, same_at}
 use Rattle.dep_model.specs.Dependencies.{functional_part}
 use Rattle.dep_model.specs.Deps.{dependencies_of}
-use Rattle.fd_closure.proofs.GreedyKeyLemmas.{IsTriedFrom, tried_none, tried_left_out, tried_kept, tried_outside, tried_settled}
+use Rattle.fd_closure.proofs.GreedyKeyLemmas.{IsTriedFrom, tried_none, tried_left_out, tried_kept, tried_outside, tried_greedy}
 use Rattle.fd_closure.proofs.greedy_key.functional_key.Goals as goal
 
 pub loop-i-init : goal.loop-i-init
@@ -43,9 +45,9 @@ loop-i-preserved c n within scheme_in =
 
 pub returns : goal.returns
 returns c = record {
-  settled = λ n within scheme_in.
+  greedy = λ n within scheme_in.
       let ds = functional_part (dependencies_of c.args.deps.now) in
       let first : c.loop-i.i ≡ 0 = omega arith in
       let all : IsTriedFrom n ds (attributes c.args.scheme) c.loop-i.i (attributes c.loop-i.key) = c.loop-i.invariant n within scheme_in in
-      tried_settled n ds (attributes c.args.scheme) (attributes c.loop-i.key) (rw first at all);
+      tried_greedy n ds (attributes c.args.scheme) (attributes c.loop-i.key) (rw first at all);
 }

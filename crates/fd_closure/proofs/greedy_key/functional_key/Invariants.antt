@@ -1,3 +1,5 @@
+-- What the loop of `functional_key` keeps, in terms of `functional_part`, `dependencies_of`,
+-- `IsDepWithin` and one more.
 use Rattle.std.proofs.Common.{ℕ}
 use Rattle.std.specs.Prelude.{All}
 use Rattle.attr_sets.specs.Attributes.{IsSubset, below}

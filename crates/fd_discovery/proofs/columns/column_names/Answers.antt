@@ -1,3 +1,4 @@
+-- What is left to prove of `column_names`: that a round of its loop keeps the invariant.
 use Rattle.std.proofs.Common.{arith, ◌≡◌, ◌<◌, ◌++◌, ◌∷◌, [], ℕ, List, length, take, slice_index_or, below_more, sym, ap, subst, ◌∙◌}
 use Rattle.std.proofs.lemmas.List.{take_more}
 use Rattle.csv.specs.Records.{fields_of}

@@ -1,3 +1,4 @@
+-- What the loop of `column_names` keeps: `names` and `named`.
 use Rattle.std.proofs.Common.{◌≡◌, take}
 use Rattle.csv.specs.Records.{fields_of}
 use Rattle.fd_discovery.specs.Headers.{NameColumns}

@@ -1,3 +1,5 @@
+-- What is left to prove of `discover`: its clauses `minimal`, `implied` and `within` and what
+-- `search_above` requires, by `LeaderLemmas` and `SearchLemmas`.
 use Rattle.std.proofs.Common.{◌≡◌, ℕ, List, replicate, sym, ap, subst}
 use Rattle.attr_sets.specs.Attributes.{below}
 use Rattle.attr_sets.specs.Sets.{attributes}

@@ -1,3 +1,5 @@
+-- What is left to prove of `read_body`: its clauses `records` and `err` and that a round of its
+-- loop keeps the invariant, by `HeadingLemmas`.
 use Rattle.std.proofs.Common.{arith, ◌≡◌, ◌≤◌, ◌+◌, ◌∷◌, [], length, sym, ap, subst, ◌∙◌}
 use Rattle.std.proofs.lemmas.List.{length-append}
 use Rattle.csv.specs.Records.{fields_of}

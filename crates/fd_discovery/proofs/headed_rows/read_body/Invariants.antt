@@ -1,3 +1,4 @@
+-- What the loop of `read_body` keeps: `within_limit`, `even` and `taken`; and by what it ends.
 use Rattle.std.proofs.Common.{◌≤◌, ◌-◌, ℕ, List, length}
 use Rattle.dep_model.specs.Tuples.{IsOver}
 use Rattle.csv_rows.specs.Records.{HasLeft}

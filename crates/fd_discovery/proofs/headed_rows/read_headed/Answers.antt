@@ -1,6 +1,8 @@
+-- What is left to prove of `read_headed`: its clauses `err`, `ok` and `any_name`, by `FieldLemmas`
+-- and `HeadingLemmas`.
 use Rattle.std.proofs.Common.{arith, ◌≡◌, length}
 use Rattle.dep_model.proofs.FailureLemmas.{refuses_also}
-use Rattle.fd_discovery.proofs.FieldLemmas.{header_some}
+use Rattle.fd_discovery.proofs.FieldLemmas.{header_not_empty}
 use Rattle.fd_discovery.proofs.HeadingLemmas.{header_refused, rows_refused, headed_of}
 use Rattle.fd_discovery.proofs.headed_rows.read_headed.Goals as goal
 
@@ -23,5 +25,5 @@ returns-clause-err c =
     (c.in-Err-read_body.ensures.err read.records read.left)
 
 pub returns-in-Ok-read_body-clause-any_name : goal.returns-in-Ok-read_body-clause-any_name
-returns-in-Ok-read_body-clause-any_name c = header_some c.args.text.now c.in-Ok.names.items c.in-Ok-read_body.rows
+returns-in-Ok-read_body-clause-any_name c = header_not_empty c.args.text.now c.in-Ok.names.items c.in-Ok-read_body.rows
     (returns-in-Ok-read_body-clause-ok c).all

@@ -1,3 +1,4 @@
+-- What is left to prove of `read_names`: its clauses `ok` and `err`, by `HeadingLemmas`.
 use Rattle.std.proofs.Common.{ℕ, List, Vec, Global}
 use Rattle.fd_discovery.proofs.HeadingLemmas.{names_read, names_refused, no_names}
 use Rattle.fd_discovery.proofs.headed_rows.read_names.Goals as goal

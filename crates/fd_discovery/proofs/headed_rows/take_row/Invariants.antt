@@ -1,3 +1,4 @@
+-- What the loop of `take_row` keeps, in terms of `fields_of`.
 use Rattle.std.proofs.Common.{◌≡◌, take}
 use Rattle.csv.specs.Records.{fields_of}
 use Rattle.fd_discovery.proofs.headed_rows.take_row.Given as goal

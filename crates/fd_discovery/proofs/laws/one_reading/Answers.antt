@@ -1,3 +1,5 @@
+-- What is left to prove of `one_reading`: its clauses `names`, `rows`, `refusal` and `never_both`,
+-- by `UniqueHeaded`.
 use Rattle.csv_rows.specs.Records.{records_of}
 use Rattle.fd_discovery.proofs.UniqueHeaded.{names_same, rows_same, refused_same, never_both}
 use Rattle.fd_discovery.proofs.laws.one_reading.Goals as goal

@@ -1,3 +1,4 @@
+-- What is left to prove of `determines`: its clause `obeys`, by `led_obeys`.
 use Rattle.std.proofs.Common.{arith, ◌≡◌, length, refl}
 use Rattle.fd_discovery.proofs.LeaderLemmas.{led_obeys}
 use Rattle.fd_discovery.proofs.leaders.determines.Goals as goal

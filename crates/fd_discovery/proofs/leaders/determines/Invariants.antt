@@ -1,3 +1,4 @@
+-- What the loop of `determines` keeps: `equal`.
 use Rattle.std.proofs.Common.{◌≡◌, ◌<◌, ℕ}
 use Rattle.csv_rows.specs.Numberings.{number_at}
 use Rattle.fd_discovery.proofs.leaders.determines.Given as goal

@@ -1,3 +1,5 @@
+-- What is left to prove of `refine_leaders`: its clause `leaders` and that a round of its loop
+-- keeps the invariant, by `LeaderLemmas`.
 use Rattle.std.proofs.Common.{inl, inr, arith, ◌≡◌, ◌<◌, ◌∙◌, ℕ, List, Vec, Global, length, set, ap, sym, subst}
 use Rattle.std.proofs.lemmas.Bool.{cases_eq}
 use Rattle.std.proofs.lemmas.Grind.{get_or_default_zero}

@@ -1,3 +1,4 @@
+-- What the loop of `refine_leaders` keeps: `latest_size`, `finer_size`, `latest_in` and `refines`.
 use Rattle.std.proofs.Common.{◌≡◌, ◌<◌, ℕ, length}
 use Rattle.attr_sets.specs.Attributes.{Attributes, only}
 use Rattle.dep_model.specs.Tuples.{Relation}

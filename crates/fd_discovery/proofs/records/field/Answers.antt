@@ -1,3 +1,4 @@
+-- What is left to prove of `field`: what it answers in the cases `Some` and `None`.
 use Rattle.std.proofs.Common.{ℕ, List, Option, [], unwrap_or, ap, ◌∙◌}
 use Rattle.csv_rows.proofs.RecordLemmas.{field_at-slice_index}
 use Rattle.fd_discovery.proofs.records.field.Goals as goal

@@ -1,3 +1,4 @@
+-- What is left to prove of `take_record`: its clause `record`.
 use Rattle.csv_rows.proofs.RecordLemmas.{TakesRecord-from}
 use Rattle.fd_discovery.proofs.records.take_record.Goals as goal
 

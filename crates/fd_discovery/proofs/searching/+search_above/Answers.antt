@@ -1,3 +1,6 @@
+-- What is left to prove of `search_above`: its clause `found`, what `add_minimal` and
+-- `search_above` require, and that the invariant of its loop holds at first and stays, by
+-- `LeaderLemmas` and `SearchLemmas`.
 use Rattle.std.proofs.Common.{arith, ◌≡◌, ◌<◌, ◌+◌, ℕ, List, Vec, Global, true, sym, subst}
 use Rattle.attr_sets.specs.Attributes.{Attributes, below, union}
 use Rattle.attr_sets.specs.Sets.{attributes}
@@ -53,10 +56,10 @@ search_above-requires t c =
         (
           omega (arith, low),
           (
-            larger_in n c.args.free i set c.requires.set c.requires.above c.requires.at_most_width c.loop-attribute-test.true
+            larger_in n c.args.bound i set c.requires.set c.requires.above c.requires.at_most_width c.loop-attribute-test.true
                 larger c.with-larger.ensures.members,
             (
-              larger_above n c.args.free i set c.requires.set c.requires.above c.requires.at_most_width c.loop-attribute-test.true
+              larger_above n c.args.bound i set c.requires.set c.requires.above c.requires.at_most_width c.loop-attribute-test.true
                   larger c.with-larger.ensures.members,
               (
                 r,
@@ -77,7 +80,7 @@ pub loop-attribute-preserved : goal.loop-attribute-preserved
 loop-attribute-preserved t c =
     let n : ℕ = c.args.table.now.width in
     let i : ℕ = c.loop-attribute.attribute in
-    let free : ℕ = c.args.free in
+    let bound : ℕ = c.args.bound in
     let set : Attributes = attributes c.args.set in
     let larger : Attributes = attributes c.with-larger.result in
     let wanted : Attributes = attributes c.attributes_not_given-wanted.result in
@@ -95,9 +98,9 @@ loop-attribute-preserved t c =
             w.index.result.now w.rows-order.result.now w.in_ok-finer.finer.items led.table low
             w.column-codes.ensures.codes w.rows-order.ensures.rows w.index.ensures c.with-larger.ensures.members
             (λ groups ordered. w.in_ok-finer.ensures.leaders r set i led.led groups ordered) in
-            let inside = larger_in n free i set c.requires.set c.requires.above c.requires.at_most_width c.loop-attribute-test.true
+            let inside = larger_in n bound i set c.requires.set c.requires.above c.requires.at_most_width c.loop-attribute-test.true
             larger c.with-larger.ensures.members in
-            let here = found_at_larger n free i set c.requires.set c.requires.above c.requires.at_most_width
+            let here = found_at_larger n bound i set c.requires.set c.requires.above c.requires.at_most_width
             c.loop-attribute-test.true larger c.with-larger.ensures.members r (dependencies_of old) before in
             let added = w.in_ok-add_minimal.ensures.found r
             (record {
@@ -115,7 +118,7 @@ loop-attribute-preserved t c =
             }) added in
             subst (λ (v : Vec Dep Global). AreFound n r (union set (below (i + 1))) n (dependencies_of v.items))
             (sym w.found-is)
-            (found_through n free i set c.requires.set c.requires.above c.requires.at_most_width c.loop-attribute-test.true larger
+            (found_through n bound i set c.requires.set c.requires.above c.requires.at_most_width c.loop-attribute-test.true larger
             c.with-larger.ensures.members r _ through);
       }
       | else-not-is_empty w ↦
@@ -126,7 +129,7 @@ loop-attribute-preserved t c =
                 c.loop-attribute.invariant.found r led start in
                 subst (λ (v : Vec Dep Global). AreFound n r (union set (below (i + 1))) n (dependencies_of v.items))
                 (sym w.found-is)
-                (found_past n free i set c.requires.set c.requires.above c.requires.at_most_width c.loop-attribute-test.true larger
+                (found_past n bound i set c.requires.set c.requires.above c.requires.at_most_width c.loop-attribute-test.true larger
                 c.with-larger.ensures.members r (dependencies_of old) wanted before given
                 (c.is_empty.ensures.empty.0 yes));
           }
@@ -135,7 +138,7 @@ loop-attribute-preserved t c =
 pub returns : goal.returns
 returns t c = record {
   found = λ r led start.
-      let end : c.loop-attribute.attribute ≡ c.args.free =
+      let end : c.loop-attribute.attribute ≡ c.args.bound =
       omega (arith, c.loop-attribute-test.false, c.loop-attribute.auto.attribute-end) in
       let all = c.loop-attribute.invariant.found r led start in
       subst (λ (i : ℕ). AreFound c.args.table.now.width r (union (attributes c.args.set) (below i)) c.args.table.now.width

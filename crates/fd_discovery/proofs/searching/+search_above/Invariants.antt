@@ -1,3 +1,4 @@
+-- What the loop of `search_above` keeps: `found`; and by what it ends.
 use Rattle.attr_sets.specs.Attributes.{union, below}
 use Rattle.attr_sets.specs.Sets.{attributes}
 use Rattle.dep_model.specs.Tuples.{Relation}
@@ -6,7 +7,7 @@ use Rattle.fd_discovery.specs.Searching.{AreFoundUpTo}
 use Rattle.fd_discovery.proofs.searching.+search_above.Given as goal
 
 abbrev pub decreases-search_above : goal.decreases-search_above
-decreases-search_above l = l.free
+decreases-search_above l = l.bound
 
 -- the sets with further members below the attribute are tried
 abbrev pub invariant-loop-attribute : goal.invariant-loop-attribute

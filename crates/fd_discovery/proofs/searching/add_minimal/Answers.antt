@@ -1,3 +1,5 @@
+-- What is left to prove of `add_minimal`: its clause `found` and that the invariant of its loop
+-- holds at first and stays, by `LeaderLemmas` and `SearchLemmas`.
 use Rattle.std.proofs.Common.{arith, ◌≡◌, ◌+◌, ◌∷◌, [], ◌++◌, ℕ, List, Vec, Global, true, sym, ap, subst, ◌∙◌}
 use Rattle.std.proofs.lemmas.Bool.{false≢true}
 use Rattle.std.proofs.lemmas.List.{map-append}

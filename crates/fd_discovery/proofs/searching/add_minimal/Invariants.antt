@@ -1,3 +1,4 @@
+-- What the loop of `add_minimal` keeps: `added`.
 use Rattle.attr_sets.specs.Attributes.{IsSubset, below}
 use Rattle.attr_sets.specs.Sets.{attributes}
 use Rattle.dep_model.specs.Deps.{dependencies_of}

@@ -1,3 +1,5 @@
+-- What is left to prove of `attributes_not_given`: its clause `rest` and that the invariant of its
+-- loop holds at first and stays, by `GivenLemmas`.
 use Rattle.std.proofs.Common.{◌≡◌, ℕ, List, [], ◌∷◌, ◌++◌, get_or, take, take_all, sym, subst, ◌∙◌}
 use Rattle.std.proofs.lemmas.Bool.{false≢true}
 use Rattle.attr_sets.specs.Attributes.{Attributes, IsSubset, union}

@@ -1,3 +1,4 @@
+-- What the loop of `attributes_not_given` keeps: `so_far`.
 use Rattle.std.proofs.Common.{take}
 use Rattle.attr_sets.specs.Sets.{attributes}
 use Rattle.dep_model.specs.Deps.{dependencies_of}

@@ -1,3 +1,6 @@
+-- What is left to prove of `add_exchanged`: its clauses `keys`, `kept` and `exchanged`, what
+-- `add_key_within` requires, and that the invariant of its loop holds at first and stays, by
+-- `FoundLemmas` and `ListLemmas`.
 use Rattle.std.proofs.Common.{◌≡◌, ℕ, ◌<◌, true, List, take, take_all, length, get_or, sym, ◌∙◌, ap, subst, arith}
 use mathlib.Core.Path.{fun_ext}
 use Rattle.std.proofs.lemmas.Bool.{true≢false}
@@ -20,7 +23,7 @@ use Rattle.key_listing.proofs.exchanging.add_exchanged.Goals as goal
 
 pub loop-dep-init : goal.loop-dep-init
 loop-dep-init c = record {
-  some = c.requires.keys;
+  listed = c.requires.keys;
   kept = grows_none c.args.found.now.items;
   exchanged = exchanged_none (deps_of c.args.schema.now) c.args.found.now.items (attributes c.args.key);
 }
@@ -57,7 +60,7 @@ loop-dep-preserved c =
           fun_ext (λ (j : ℕ). grind (arith, same_at w.union.ensures.members j, same_at w.difference.ensures.members j)) in
           let held = subst (λ (v : Attributes). HoldsAnyUnlessMany w.add_key_within.new.found.items v) is w.in_ok-add_key_within.ensures.held in
           rw w.found-is (record {
-            some = w.in_ok-add_key_within.ensures.keys;
+            listed = w.in_ok-add_key_within.ensures.keys;
             kept = grows_again c.args.found.now.items c.loop-dep.found.items w.add_key_within.new.found.items before.kept w.in_ok-add_key_within.ensures.kept;
             exchanged = exchanged_more (deps_of s) i _ (Fd w.in-Fd.lhs w.in-Fd.rhs) c.loop-dep.found.items w.add_key_within.new.found.items k lt at w.in_ok-add_key_within.ensures.kept before.exchanged held;
           })
@@ -73,7 +76,7 @@ returns c =
     let all : take c.loop-dep.dep-index (deps_of s) ≡ deps_of s =
     take_all c.loop-dep.dep-index (deps_of s) (omega (arith, c.loop-dep-test.false, ap (λ (ds : List Dep). length ds) c.deps-dep-items.ensures.deps)) in
     record {
-      keys = c.loop-dep.invariant.some;
+      keys = c.loop-dep.invariant.listed;
       kept = c.loop-dep.invariant.kept;
       exchanged = subst (λ (ds : List Dep). IsExchangedUnlessMany (dependencies_of ds) c.loop-dep.found.items (attributes c.args.key)) all c.loop-dep.invariant.exchanged;
     }

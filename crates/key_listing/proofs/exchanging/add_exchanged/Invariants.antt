@@ -1,3 +1,4 @@
+-- What the loop of `add_exchanged` keeps: `listed`, `kept` and `exchanged`.
 use Rattle.std.proofs.Common.{◌≡◌, take, length}
 use Rattle.attr_sets.specs.Sets.{attributes}
 use Rattle.dep_model.specs.Deps.{dependencies_of}
@@ -7,7 +8,7 @@ use Rattle.key_listing.proofs.exchanging.add_exchanged.Given as goal
 
 abbrev pub invariant-loop-dep : goal.invariant-loop-dep
 invariant-loop-dep l = record {
-  some : AreSomeKeys (width_of l.schema) (theory_of l.schema) (universe_of l.schema) l.found.items;
+  listed : AreSomeKeys (width_of l.schema) (theory_of l.schema) (universe_of l.schema) l.found.items;
   kept : take (length l.initial.found.items) l.found.items ≡ l.initial.found.items;
   exchanged : IsExchangedUnlessMany (dependencies_of (take l.dep-index (deps_of l.schema))) l.found.items (attributes l.key);
 }

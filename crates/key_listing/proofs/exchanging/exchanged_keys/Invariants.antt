@@ -1,3 +1,5 @@
+-- What the loop of `exchanged_keys` keeps: `listed`, `one`, `tried_in` and `tried`; and by what it
+-- ends.
 use Rattle.std.proofs.Common.{ℕ, ◌+◌, ◌-◌, ◌<◌, ◌≤◌, length}
 use Rattle.std.specs.Prelude.{slice_index_or}
 use Rattle.attr_sets.specs.declared.set.AttrSet.{AttrSet}
@@ -9,7 +11,7 @@ use Rattle.key_listing.proofs.exchanging.exchanged_keys.Given as goal
 
 abbrev pub invariant-loop-tried : goal.invariant-loop-tried
 invariant-loop-tried l = record {
-  some : AreSomeKeys (width_of l.schema) (theory_of l.schema) (universe_of l.schema) l.found.items;
+  listed : AreSomeKeys (width_of l.schema) (theory_of l.schema) (universe_of l.schema) l.found.items;
   one : 0 < length l.found.items;
   tried_in : l.tried ≤ length l.found.items;
   tried : (i : ℕ) (d : AttrSet) → i < l.tried → IsExchangedUnlessMany (theory_of l.schema) l.found.items (attributes (slice_index_or l.found.items i d));

@@ -1,3 +1,5 @@
+-- What is left to prove of `held_key`: its clauses `none`, `found` and `within` and that the
+-- invariant of its loop holds at first and stays, by `ListLemmas`.
 use Rattle.std.proofs.Common.{◌+◌, List, take_all, sym, ◌∙◌, subst}
 use Rattle.std.proofs.lemmas.Bool.{false≢true}
 use Rattle.std.specs.Prelude.{All, Option}

@@ -1,3 +1,4 @@
+-- What the loop of `held_key` keeps: `IsHeldSoFar`.
 use Rattle.attr_sets.specs.Sets.{attributes}
 use Rattle.key_listing.proofs.ListLemmas.{IsHeldSoFar}
 use Rattle.key_listing.proofs.holding.held_key.Given as goal

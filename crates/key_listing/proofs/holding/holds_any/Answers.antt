@@ -1,3 +1,5 @@
+-- What is left to prove of `holds_any`: its clause `holds` and that the invariant of its loop holds
+-- at first and stays.
 use Rattle.std.proofs.Common.{get_or, take_all, refl, sym, ◌∙◌, subst, arith}
 use Rattle.std.proofs.lemmas.Bool.{false≢true}
 use Rattle.std.proofs.lemmas.List.{get_or_default}

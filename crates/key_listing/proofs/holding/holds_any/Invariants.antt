@@ -1,3 +1,4 @@
+-- What the loop of `holds_any` keeps: `All`.
 use Rattle.std.proofs.Common.{take}
 use Rattle.std.specs.Prelude.{All}
 use Rattle.attr_sets.specs.Attributes.{IsSubset}

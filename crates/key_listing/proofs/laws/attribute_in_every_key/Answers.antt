@@ -1,3 +1,4 @@
+-- The law `attribute_in_every_key`, by `in_every_key_in_superkey`.
 use Rattle.key_listing.proofs.NarrowingLemmas.{in_every_key_in_superkey}
 use Rattle.key_listing.proofs.laws.attribute_in_every_key.Goals as goal
 

@@ -1,3 +1,5 @@
+-- What is left to prove of `is_too_wide`: its clause `too_wide`, by `some_multivalued` and
+-- `none_multivalued`.
 use Rattle.std.proofs.Common.{◌≡◌, sym, ◌∙◌, subst, arith}
 use Rattle.std.proofs.lemmas.Bool.{false≢true}
 use Rattle.std.proofs.lemmas.Bool.Decides.{nat_tests}
@@ -19,6 +21,6 @@ returns-then-is_functional c =
 pub returns : goal.returns
 returns c =
     let ds = theory_of c.args.schema.now in
-    let some = some_multivalued ds (λ same. false≢true (sym c.if-is_functional.false ∙ c.is_functional.ensures.functional.1
+    let not_empty = some_multivalued ds (λ same. false≢true (sym c.if-is_functional.false ∙ c.is_functional.ensures.functional.1
     (subst (λ (es : List Dep). functional_part (dependencies_of es) ≡ dependencies_of es) (sym c.deps.ensures.deps) same))) in
-    record { too_wide = ((λ e. (some, grind (arith, nat_tests, e, c.width.ensures.count))), (λ wide. grind (arith, nat_tests, wide.1, c.width.ensures.count))) }
+    record { too_wide = ((λ e. (not_empty, grind (arith, nat_tests, e, c.width.ensures.count))), (λ wide. grind (arith, nat_tests, wide.1, c.width.ensures.count))) }

@@ -1,3 +1,4 @@
+-- What is left to prove of `keys`: its clauses `refused` and `not_too_wide`.
 use Rattle.std.proofs.Common.{sym, ◌∙◌, arith}
 use Rattle.std.proofs.lemmas.Bool.{false≢true}
 use Rattle.std.proofs.lemmas.Result.{err_from_is_err_and}
@@ -17,7 +18,7 @@ returns-then-many-clause-refused c = (
   record {
     each = c.in_ok-found.ensures.keys.each;
     ascending = c.in_ok-found.ensures.keys.ascending;
-    count = omega (arith, c.in_ok-found.ensures.keys.few, c.if-many.true, c.len-many.ensures, c.in_ok-found.found.ok.0);
+    count = omega (arith, c.in_ok-found.ensures.keys.within_limit, c.if-many.true, c.len-many.ensures, c.in_ok-found.found.ok.0);
   },
 )
 

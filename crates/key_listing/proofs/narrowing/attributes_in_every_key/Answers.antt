@@ -1,10 +1,12 @@
+-- What is left to prove of `attributes_in_every_key`: that a round of its loop keeps the invariant,
+-- by `member_added` and `member_left_out`.
 use Rattle.std.proofs.Common.{◌≡◌, ◌+◌, ◌<◌, ◌↔◌, ℕ, true, sym, ◌∙◌, subst}
 use Rattle.std.proofs.lemmas.Bool.{false≢true}
 use Rattle.attr_sets.specs.Sets.{attributes}
 use Rattle.attr_sets.specs.declared.set.AttrSet.{AttrSet}
 use Rattle.dep_model.specs.Schemas.{width_of, theory_of}
 use Rattle.key_listing.specs.Narrowing.{IsInEveryKey}
-use Rattle.key_listing.proofs.NarrowingLemmas.{told_more, told_no_more}
+use Rattle.key_listing.proofs.NarrowingLemmas.{member_added, member_left_out}
 use Rattle.key_listing.proofs.narrowing.attributes_in_every_key.Goals.{then-is_in_every_key, else-is_in_every_key}
 use Rattle.key_listing.proofs.narrowing.attributes_in_every_key.Goals as goal
 
@@ -15,7 +17,7 @@ loop-i-preserved c =
     let P : ℕ → Type 0 = IsInEveryKey (width_of s) (theory_of s) (attributes c.args.scheme) in
     elim c.if-is_in_every_key.branch [
       | then-is_in_every_key w ↦ subst (λ (set : AttrSet). (a : ℕ) → (attributes set a ≡ true) ↔ ((a < i + 1) × P a)) (sym w.in_every_key-is)
-          (told_more P (attributes c.loop-i.in_every_key) (attributes w.with-in_every_key.result) i c.loop-i.invariant w.with-in_every_key.ensures.members (c.is_in_every_key.ensures.in_every_key.0 w.if-is_in_every_key.true))
+          (member_added P (attributes c.loop-i.in_every_key) (attributes w.with-in_every_key.result) i c.loop-i.invariant w.with-in_every_key.ensures.members (c.is_in_every_key.ensures.in_every_key.0 w.if-is_in_every_key.true))
       | else-is_in_every_key w ↦ subst (λ (set : AttrSet). (a : ℕ) → (attributes set a ≡ true) ↔ ((a < i + 1) × P a)) (sym w.in_every_key-is)
-          (told_no_more P (attributes c.loop-i.in_every_key) i c.loop-i.invariant (λ in_every_key. false≢true (sym w.if-is_in_every_key.false ∙ c.is_in_every_key.ensures.in_every_key.1 in_every_key)))
+          (member_left_out P (attributes c.loop-i.in_every_key) i c.loop-i.invariant (λ in_every_key. false≢true (sym w.if-is_in_every_key.false ∙ c.is_in_every_key.ensures.in_every_key.1 in_every_key)))
     ]

@@ -1,3 +1,5 @@
+-- What the loop of `attributes_in_every_key` keeps, in terms of `width_of`, `theory_of` and
+-- `IsInEveryKey`.
 use Rattle.std.proofs.Common.{◌≡◌, ◌<◌, ℕ, true}
 use Rattle.std.specs.Prelude.{◌↔◌}
 use Rattle.attr_sets.specs.Sets.{attributes}

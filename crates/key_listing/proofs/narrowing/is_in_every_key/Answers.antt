@@ -1,3 +1,4 @@
+-- What is left to prove of `is_in_every_key`: what it answers in one case.
 use Rattle.std.proofs.Common.{◌↔◌, sym, ◌∙◌, subst, arith}
 use Rattle.std.proofs.lemmas.Bool.{false_from_ne_true}
 use Rattle.std.specs.Prelude.{IsTrue}
@@ -16,7 +17,7 @@ returns-then-contains c =
     subst (λ (x : Attributes). IsTrue c.is_superkey.result ↔ IsSuperkey (width_of s) (theory_of s) scheme x) c.without.ensures.members c.is_superkey.ensures.superkey in
     record {
       in_every_key = (
-        (λ e. record { member = sym c.contains.ensures.member ∙ c.if-contains.true; others = λ holds. let told = superkey.1 holds in absurd (grind (arith, e, told)) }),
-        (λ in_every_key. let told = false_from_ne_true c.is_superkey.result (λ e. in_every_key.others (superkey.0 e)) in grind (arith, told)),
+        (λ e. record { member = sym c.contains.ensures.member ∙ c.if-contains.true; others = λ holds. let fact = superkey.1 holds in absurd (grind (arith, e, fact)) }),
+        (λ in_every_key. let fact = false_from_ne_true c.is_superkey.result (λ e. in_every_key.others (superkey.0 e)) in grind (arith, fact)),
       );
     }

@@ -1,3 +1,5 @@
+-- What is left to prove of `without_attributes_in_no_key`: its clause `rest`, by
+-- `without_attributes_in_no_key-is`.
 use Rattle.std.proofs.Common.{◌≡◌, ℕ, ◌↔◌, true, List, subst}
 use Rattle.attr_sets.specs.Attributes.{Attributes, intersection, difference}
 use Rattle.attr_sets.specs.Sets.{attributes}
@@ -23,4 +25,4 @@ returns c =
     subst (λ (x : Attributes). (a : ℕ) → (determined a ≡ true) ↔ InClosure n (theory_of s) x a) c.intersection.ensures.members c.closure_of-determined.ensures.closure in
     let left : rest ≡ difference scheme (difference determined used) =
     subst (λ (x : Attributes). rest ≡ difference scheme x) c.difference.ensures.members c.difference-2.ensures.members in
-    record { rest = without_attributes_in_no_key-is n (deps_of s) s.valid.few_names s.valid.deps_within scheme c.requires.scheme used determined rest sides closed left }
+    record { rest = without_attributes_in_no_key-is n (deps_of s) s.valid.names_within_limit s.valid.deps_within scheme c.requires.scheme used determined rest sides closed left }

@@ -1,3 +1,5 @@
+-- What is left to prove of `add_keys`: its clause `all_keys` and what `add_keys` requires, by
+-- `SearchLemmas`.
 use Rattle.std.proofs.Common.{◌≡◌, true, refl, sym, ◌∙◌, subst, arith}
 use Rattle.std.specs.Prelude.{Option, IfSome, Contains}
 use Rattle.attr_sets.specs.declared.set.AttrSet.{AttrSet}

@@ -1,3 +1,4 @@
+-- What is left to prove of `key_within`: its clause `keys`, by `keys_more`.
 use Rattle.std.proofs.Common.{List, sym, subst, arith}
 use Rattle.attr_sets.specs.declared.set.AttrSet.{AttrSet}
 use Rattle.attr_sets.specs.Attributes.{IsSubset, below}
@@ -6,7 +7,7 @@ use Rattle.dep_model.specs.Keys.{IsSuperkey, IsKey}
 use Rattle.dep_model.specs.Schemas.{width_of, theory_of}
 use Rattle.dep_model.proofs.KeyLemmas.{greedy_is_key, key_of_superkey}
 use Rattle.key_listing.specs.Listing.{AreSomeKeys, HoldsAny}
-use Rattle.key_listing.proofs.FoundLemmas.{some_more}
+use Rattle.key_listing.proofs.FoundLemmas.{keys_more}
 use Rattle.key_listing.proofs.searching.key_within.Goals as goal
 
 pub returns-clause-keys : goal.returns-clause-keys
@@ -23,4 +24,4 @@ returns-clause-keys c =
     let key : IsKey n ds scheme (attributes k) = key_of_superkey n ds scheme set (attributes k) superkey (greedy_is_key n ds set (attributes k) low c.one_key-key.ensures.greedy) in
     let none : HoldsAny found set → ⊥ = subst (λ (fs : List AttrSet). HoldsAny fs set → ⊥) c.deref.ensures.value (c.in_default.ensures.none (grind (arith, c.in_default.is))) in
     subst (λ (fs : List AttrSet). AreSomeKeys n ds scheme fs) (sym c.in_ok-push.ensures.items)
-    (some_more n ds scheme set found k c.requires.keys c.requires.within_limit key c.one_key-key.ensures.greedy.within none (omega arith))
+    (keys_more n ds scheme set found k c.requires.keys c.requires.within_limit key c.one_key-key.ensures.greedy.within none (omega arith))

@@ -1,3 +1,5 @@
+-- What is left to prove of `searched_keys`: its clause `keys` and what `keys_with` requires, by
+-- `in_every_key_in_superkey` and `found_of_rest`.
 use Rattle.std.proofs.lemmas.Result.{IfOk-weaker}
 use Rattle.attr_sets.specs.Sets.{attributes}
 use Rattle.dep_model.specs.Schemas.{width_of, theory_of, deps_of}
@@ -19,5 +21,5 @@ returns c =
     let rest = attributes c.without_attributes_in_no_key-rest.result in
     record {
       keys = IfOk-weaker c.keys_with.result (λ found. AreFoundKeys n ds rest found.items) (λ found. AreFoundKeys n ds scheme found.items)
-          (λ found. found_of_rest n (deps_of s) s.valid.few_names s.valid.deps_within scheme c.requires.scheme rest c.without_attributes_in_no_key-rest.ensures.rest found.items) c.keys_with.ensures.keys;
+          (λ found. found_of_rest n (deps_of s) s.valid.names_within_limit s.valid.deps_within scheme c.requires.scheme rest c.without_attributes_in_no_key-rest.ensures.rest found.items) c.keys_with.ensures.keys;
     }

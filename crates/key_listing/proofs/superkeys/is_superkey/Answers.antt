@@ -1,3 +1,5 @@
+-- What is left to prove of `is_superkey`: what it answers in the cases `Implied` and `Broken` and
+-- what `decide` requires.
 use Rattle.std.proofs.Common.{Bool, true, false, refl, sym, ◌∙◌, ap}
 use Rattle.std.proofs.lemmas.Bool.{false≢true, true≢false}
 use Rattle.attr_sets.specs.Sets.{attributes}

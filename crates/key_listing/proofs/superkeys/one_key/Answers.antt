@@ -1,3 +1,5 @@
+-- What is left to prove of `one_key`: its clause `greedy`, what `is_superkey` requires, and that
+-- the invariant of its loop holds at first and stays.
 use Rattle.std.proofs.Common.{◌≡◌, ℕ, ◌+◌, ◌-◌, sym, ◌∙◌, arith}
 use Rattle.std.proofs.lemmas.Bool.{ltb-true, false≢true}
 use Rattle.attr_sets.specs.Attributes.{Attributes, only, difference, IsSubset}
@@ -6,7 +8,7 @@ use Rattle.attr_sets.specs.declared.set.TheConstants.{MOST_ATTRIBUTES}
 use Rattle.attr_sets.proofs.AttributesLemmas.{attributes_below, same_at}
 use Rattle.dep_model.specs.Schemas.{width_of, theory_of}
 use Rattle.dep_model.proofs.KeyLemmas.{superkey-from, fd_on-to}
-use Rattle.fd_closure.proofs.GreedyKeyLemmas.{IsTriedFrom, tried_none, tried_left_out, tried_kept, tried_outside, tried_settled}
+use Rattle.fd_closure.proofs.GreedyKeyLemmas.{IsTriedFrom, tried_none, tried_left_out, tried_kept, tried_outside, tried_greedy}
 use Rattle.key_listing.proofs.superkeys.one_key.Goals.{else-contains-via-then-contains+else-is_superkey, else-contains-via-else-contains}
 use Rattle.key_listing.proofs.superkeys.one_key.Goals as goal
 
@@ -54,4 +56,4 @@ returns c =
     let n = width_of c.args.schema.now in
     let ds = theory_of c.args.schema.now in
     let all : IsTriedFrom n ds (attributes c.args.scheme) c.loop-i.i (attributes c.loop-i.key) = c.loop-i.invariant in
-    record { greedy = tried_settled n ds (attributes c.args.scheme) (attributes c.loop-i.key) (rw first at all) }
+    record { greedy = tried_greedy n ds (attributes c.args.scheme) (attributes c.loop-i.key) (rw first at all) }

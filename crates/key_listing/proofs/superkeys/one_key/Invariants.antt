@@ -1,3 +1,4 @@
+-- What the loop of `one_key` keeps: `IsTriedFrom`.
 use Rattle.attr_sets.specs.Sets.{attributes}
 use Rattle.dep_model.specs.Schemas.{width_of, theory_of}
 use Rattle.fd_closure.proofs.GreedyKeyLemmas.{IsTriedFrom}

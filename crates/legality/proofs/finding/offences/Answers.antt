@@ -1,3 +1,5 @@
+-- What is left to prove of `offences`: its clause `legal`, what `least_pair` requires, and that the
+-- invariant of its loop holds at first and stays, by `OffenceLemmas`.
 use Rattle.std.proofs.Common.{◌<◌, List, length, subst, sym, refl, ◌∙◌}
 use Rattle.dep_model.specs.declared.dep.Dep.{Dep}
 use Rattle.dep_model.specs.declared.dep.Dep.TheVariants.{Fd}

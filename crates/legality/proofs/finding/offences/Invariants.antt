@@ -1,3 +1,4 @@
+-- What the loop of `offences` keeps: `offences`.
 use Rattle.std.proofs.Common.{take}
 use Rattle.dep_model.specs.Schemas.{theory_of, width_of}
 use Rattle.legality.specs.Offences.{OffencesOf}

@@ -1,3 +1,5 @@
+-- What is left to prove of `least_functional_pair`: its clause `pair` and that the invariant of its
+-- loop holds at first and stays, by `PairLemmas`.
 use Rattle.std.proofs.Common.{arith, ◌≡◌, ℕ, List, length, ap, subst, refl, ◌∙◌}
 use Rattle.attr_sets.specs.Sets.{attributes}
 use Rattle.csv_rows.specs.Interning.{groups_of, firsts_of}

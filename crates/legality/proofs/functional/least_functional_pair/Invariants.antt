@@ -1,3 +1,4 @@
+-- What the loop of `least_functional_pair` keeps: `least`.
 use Rattle.attr_sets.specs.Sets.{attributes}
 use Rattle.csv_rows.specs.Interning.{groups_of, firsts_of}
 use Rattle.legality.proofs.PairLemmas.{Leads, leader}

@@ -1,3 +1,4 @@
+-- What the loop of `rows_agree` keeps: `agree`.
 use Rattle.std.proofs.Common.{◌≡◌, ◌<◌, ℕ, true}
 use Rattle.attr_sets.specs.Sets.{attributes}
 use Rattle.dep_model.specs.Tuples.{value_at}

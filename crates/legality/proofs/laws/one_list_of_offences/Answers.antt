@@ -1,3 +1,4 @@
+-- The law `one_list_of_offences`, by `one_list`.
 use Rattle.legality.proofs.OffenceLaws.{one_list}
 use Rattle.legality.proofs.laws.one_list_of_offences.Goals as goal
 

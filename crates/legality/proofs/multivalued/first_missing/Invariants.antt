@@ -1,3 +1,4 @@
+-- What the loop of `first_missing` keeps: `beside`.
 use Rattle.std.proofs.Common.{◌≡◌, ◌<◌, ℕ, true}
 use Rattle.csv_rows.specs.Numberings.{number_at}
 use Rattle.legality.specs.Parts.{flag_at}

@@ -1,3 +1,5 @@
+-- What is left to prove of `least_multivalued_pair`: its clause `pair` and what `rests_beside` and
+-- `first_missing` require, by `PartLemmas`.
 use Rattle.std.proofs.Common.{◌≡◌, ◌<◌, ℕ, Some, None, length, ap, subst, sym, ◌∙◌}
 use Rattle.attr_sets.specs.Sets.{attributes}
 use Rattle.dep_model.specs.Tuples.{Relation}

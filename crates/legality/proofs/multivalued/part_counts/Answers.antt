@@ -1,3 +1,5 @@
+-- What is left to prove of `part_counts`: that the invariant of its loop holds at first and stays
+-- and that its sums fit, by `PartLemmas`.
 use Rattle.std.proofs.Common.{arith, ◌≡◌, ◌<◌, ◌≤◌, ◌+◌, ◌==◌, ℕ, List, length, slice_index_or, slice_set, Fits, w64, ap, subst, sym, ◌∙◌}
 use Rattle.std.proofs.lemmas.List.{length-set, length-replicate}
 use Rattle.attr_sets.specs.Attributes.{count_below}
@@ -25,10 +27,10 @@ overflow_add-index_mut c =
     let is : c.index_mut.result.now ≡ number_at c.loop-row.counts.items (value i) =
     c.index_mut.ensures.value ∙ ap (λ (m : ℕ). slice_index_or c.loop-row.counts.items m c.index_mut.result.now) row ∙ same_default c.loop-row.counts.items (value i) c.index_mut.result.now 0 low in
     let count : c.index_mut.result.now ≡ count_below (λ g. value g == value i) i = is ∙ c.loop-row.invariant.count (value i) low in
-    let few : count_below (λ g. value g == value i) i ≤ i = count_below-le i (λ g. value g == value i) in
+    let within_limit : count_below (λ g. value g == value i) i ≤ i = count_below-le i (λ g. value g == value i) in
     let end : i < length c.firsts-row-items.result.now = c.loop-row-test.true in
     let fits : length c.firsts-row-items.result.now < 18446744073709551616 = c.firsts-row-items.type_inv.0 in
-    omega (arith, count, few, end, fits)
+    omega (arith, count, within_limit, end, fits)
 
 pub loop-row-preserved : goal.loop-row-preserved
 loop-row-preserved c =

@@ -1,3 +1,4 @@
+-- What the loop of `part_counts` keeps: `one_each` and `count`.
 use Rattle.std.proofs.Common.{◌≡◌, ◌<◌, ◌==◌, ℕ, length}
 use Rattle.attr_sets.specs.Attributes.{count_below}
 use Rattle.csv_rows.specs.Interning.{groups_of, firsts_of}

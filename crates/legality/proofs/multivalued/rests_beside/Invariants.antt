@@ -1,3 +1,4 @@
+-- What the loop of `rests_beside` keeps: `count` and `beside`.
 use Rattle.std.proofs.Common.{◌≡◌, length}
 use Rattle.legality.specs.Parts.{AreBeside}
 use Rattle.legality.proofs.multivalued.rests_beside.Given as goal

@@ -1,3 +1,5 @@
+-- What is left to prove of `number_of`: that a round of its loop keeps the invariant and that its
+-- sums fit, by `Digits`.
 use Rattle.std.proofs.Common.{arith}
 use Rattle.lexer.proofs.Digits.{digit_at, number-length, SoFar-next, fits_u32_below}
 use Rattle.lexer.proofs.bytes.number_of.Goals as goal

@@ -1,3 +1,4 @@
+-- What the loop of `number_of` keeps: `SoFar`.
 use Rattle.lexer.proofs.Digits.{SoFar}
 use Rattle.lexer.proofs.bytes.number_of.Given as goal
 

@@ -1,3 +1,4 @@
+-- The law `names_are_tested`, by `name_test`.
 use Rattle.lexer.proofs.Quoting.{name_test}
 use Rattle.lexer.proofs.laws.names_are_tested.Goals as goal
 

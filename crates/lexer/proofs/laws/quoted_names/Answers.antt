@@ -1,3 +1,4 @@
+-- The law `quoted_names`, by `quoted_lexed`.
 use Rattle.lexer.proofs.QuotedNames.{quoted_lexed}
 use Rattle.lexer.proofs.laws.quoted_names.Goals as goal
 

@@ -1,3 +1,4 @@
+-- What is left to prove of `cut_line`: what it answers, case by case, by `cuts_at` and `last_line`.
 use Rattle.lexer.proofs.Cuts.{cuts_at, last_line}
 use Rattle.lexer.proofs.line.cut_line.Goals as goal
 

@@ -1,3 +1,4 @@
+-- What is left to prove of `line_length`: what it answers in the cases `Some` and `None`.
 use Rattle.std.proofs.Common.{length, sym, arith}
 use Rattle.std.proofs.lemmas.Bool.{false_from_ne_true}
 use Rattle.std.proofs.lemmas.List.Sums.{position_or_len_is}

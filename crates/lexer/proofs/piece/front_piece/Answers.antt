@@ -1,3 +1,4 @@
+-- What is left to prove of `front_piece`: what `split_at` and `run_piece` require, by `run_passes`.
 use Rattle.std.proofs.Common.{◌∙◌, ap, take, arith}
 use Rattle.std.proofs.lemmas.List.Sums.{prefix_len-le-length}
 use Rattle.std.specs.List.{list_all}

@@ -1,3 +1,5 @@
+-- What is left to prove of `closing_quote`: its clause `end` and that a round of its loop keeps the
+-- invariant, by `Quoting` and `Steps`.
 use Rattle.std.proofs.Common.{sym}
 use Rattle.lexer.proofs.Steps.{is_some, is_none}
 use Rattle.lexer.proofs.Quoting.{pass_doubled, pass_other, passed_all, passed_to}

@@ -1,3 +1,4 @@
+-- What the loop of `closing_quote` keeps: `IsPassed`; and by what it ends.
 use Rattle.std.proofs.Common.{length}
 use Rattle.lexer.proofs.Quoting.{IsPassed}
 use Rattle.lexer.proofs.quotes.closing_quote.Given as goal

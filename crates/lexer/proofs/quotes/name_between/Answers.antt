@@ -1,3 +1,5 @@
+-- What is left to prove of `name_between`: its clauses `name` and `value` and that a round of its
+-- loop keeps the invariant, by `Quoting` and `Steps`.
 use Rattle.std.proofs.Common.{arith, sym}
 use Rattle.lexer.proofs.Steps.{is_some, is_none}
 use Rattle.lexer.proofs.Quoting.{spell_two, spell_one, too_long, spelled_all, name_test}

@@ -1,3 +1,4 @@
+-- What the loop of `name_between` keeps: `IsSpelled`; and by what it ends.
 use Rattle.std.proofs.Common.{length}
 use Rattle.lexer.proofs.Quoting.{IsSpelled}
 use Rattle.lexer.proofs.quotes.name_between.Given as goal

@@ -1,3 +1,5 @@
+-- What is left to prove of `next_token`: its clauses `exact` and `advances`, that a round of its
+-- loop keeps the invariant, and that its sums fit, by `Steps`.
 use Rattle.std.proofs.Common.{arith, sym, ◌∙◌, ap, ◌+◌}
 use Rattle.lexer.specs.Tokens.{tokens_after}
 use Rattle.lexer.proofs.Steps.{is_some, is_none, after_gap, at_comment, at_end, at_flaw, lies_in, flaw_lies_in, token_leads, token_after, quoted_at, quoted_leads}
@@ -5,8 +7,8 @@ use Rattle.lexer.proofs.token.next_token.Goals as goal
 
 pub pieces-preserved : goal.pieces-preserved
 pieces-preserved c =
-    let some = is_some _ c.pieces-test.ensures in
-    let step = after_gap _ c.pieces.column c.pieces.rest.now some c.in-Gap.ensures.exact in
+    let not_empty = is_some _ c.pieces-test.ensures in
+    let step = after_gap _ c.pieces.column c.pieces.rest.now not_empty c.in-Gap.ensures.exact in
     record {
       same = c.pieces.invariant.same ∙ step ∙ ap (λ t. tokens_after c.args.mode 0 (c.pieces.column + 1) t) (sym c.split_at.ensures.back);
       from_on = omega (arith, c.pieces.invariant.from_on);

@@ -1,3 +1,4 @@
+-- What the loop of `next_token` keeps: `IsReached`; and by what it ends.
 use Rattle.std.proofs.Common.{length}
 use Rattle.lexer.proofs.Steps.{IsReached}
 use Rattle.lexer.proofs.token.next_token.Given as goal

@@ -1,3 +1,5 @@
+-- What is left to prove of `minimal_cover`: its clauses `fixed`, `minimal` and `within` and what
+-- `nonredundant_from` requires, by `fixed_is_minimal`.
 use Rattle.std.proofs.Common.{[], inl, arith}
 use Rattle.std.proofs.lemmas.Result.{IfOk-weaker}
 use Rattle.attr_sets.specs.Attributes.{below}
@@ -10,7 +12,7 @@ use Rattle.min_cover.proofs.CoverLemmas.{fixed_is_minimal}
 use Rattle.min_cover.proofs.covering.minimal_cover.Goals as goal
 
 pub nonredundant_from-requires-clause-width : goal.nonredundant_from-requires-clause-width
-nonredundant_from-requires-clause-width c = omega (arith, c.width.ensures.count, c.args.schema.now.valid.few_names)
+nonredundant_from-requires-clause-width c = omega (arith, c.width.ensures.count, c.args.schema.now.valid.names_within_limit)
 
 pub nonredundant_from-requires-clause-within : goal.nonredundant_from-requires-clause-within
 nonredundant_from-requires-clause-within c = rw c.width.ensures.count c.in_ok-members.ensures.left_reduced.within

@@ -1,3 +1,5 @@
+-- What is left to prove of `whole_cover`: its clauses `fixed`, `whole_cover`, `minimal` and
+-- `within` and what `nonredundant_from` requires, by `CoverLemmas` and `ThinningLemmas`.
 use Rattle.std.proofs.Common.{◌≡◌, ℕ, List, ◌++◌, length, take, drop, sym, ap, subst, arith}
 use Rattle.std.proofs.lemmas.List.{length-take}
 use Rattle.std.proofs.lemmas.Result.{IfOk-weaker}
@@ -14,7 +16,7 @@ use Rattle.min_cover.proofs.CoverLemmas.{fixed_is_whole, whole_is_minimal}
 use Rattle.min_cover.proofs.covering.whole_cover.Goals as goal
 
 pub nonredundant_from-requires-clause-width : goal.nonredundant_from-requires-clause-width
-nonredundant_from-requires-clause-width c = omega (arith, c.width.ensures.count, c.args.schema.now.valid.few_names)
+nonredundant_from-requires-clause-width c = omega (arith, c.width.ensures.count, c.args.schema.now.valid.names_within_limit)
 
 pub nonredundant_from-requires-clause-from : goal.nonredundant_from-requires-clause-from
 nonredundant_from-requires-clause-from c =

@@ -1,3 +1,5 @@
+-- What is left to prove of `add_members`: its clause `left_reduced` and that the invariant of its
+-- loop holds at first and stays, by `shortened_more`.
 use Rattle.std.proofs.Common.{◌≡◌, ℕ, ◌+◌, ◌<◌, true, false, List, [], ◌∷◌, ◌++◌, map, refl, sym, ◌∙◌, ap, subst, arith, append-nil, append_assoc}
 use Rattle.std.proofs.lemmas.Bool.Decides.{nat_tests}
 use Rattle.std.proofs.lemmas.List.{map_push}

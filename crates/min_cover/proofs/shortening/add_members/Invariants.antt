@@ -1,3 +1,5 @@
+-- What the loop of `add_members` keeps, in terms of `Dependency`, `fd`, `members_below` and three
+-- more.
 use Rattle.std.proofs.Common.{ℕ, List, ◌++◌}
 use Rattle.std.specs.Prelude.{map}
 use Rattle.attr_sets.specs.Attributes.{only, difference}

@@ -1,3 +1,5 @@
+-- What is left to prove of `left_reduced`: its clause `left_reduced` and that the invariant of its
+-- loop holds at first and stays, by `ShorteningLemmas`.
 use Rattle.std.proofs.Common.{◌≡◌, ℕ, ◌+◌, refl, sym, ◌∙◌, arith}
 use Rattle.std.proofs.lemmas.Bool.{ltb-true, false≢true}
 use Rattle.attr_sets.specs.Attributes.{Attributes, below, only, difference, IsSubset}

@@ -1,3 +1,5 @@
+-- What the loop of `left_reduced` keeps, in terms of `dependencies_of`, `IsDepWithin` and
+-- `IsTriedTo`.
 use Rattle.std.proofs.Common.{ℕ}
 use Rattle.std.specs.Prelude.{All}
 use Rattle.attr_sets.specs.Attributes.{below, IsSubset}

@@ -1,3 +1,4 @@
+-- What is left to prove of `left_reduced_members`: what `add_members` requires.
 use Rattle.std.proofs.Common.{subst}
 use Rattle.dep_model.specs.declared.dep.Dep.{Dep}
 use Rattle.dep_model.specs.declared.dep.Dep.TheVariants.{Fd}

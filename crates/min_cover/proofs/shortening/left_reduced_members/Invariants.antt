@@ -1,3 +1,5 @@
+-- What the loop of `left_reduced_members` keeps, in terms of `dependencies_of`, `width_of`,
+-- `theory_of` and three more.
 use Rattle.std.proofs.Common.{take}
 use Rattle.std.specs.List.{flat_map}
 use Rattle.dep_model.specs.Deps.{dependencies_of}

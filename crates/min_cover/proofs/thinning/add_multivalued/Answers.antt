@@ -1,3 +1,5 @@
+-- What is left to prove of `add_multivalued`: its clauses `added`, `front` and `within` and that
+-- the invariant of its loop holds at first and stays, by `ThinningLemmas`.
 use Rattle.std.proofs.Common.{◌≡◌, false, true, List, [], ◌∷◌, ◌++◌, length, get_or, take, take_all, sym, ◌∙◌, ap, arith, append-nil, append_assoc}
 use Rattle.std.proofs.lemmas.List.{map_push}
 use Rattle.std.proofs.lemmas.List.Elements.{All-push}

@@ -1,3 +1,4 @@
+-- What the loop of `add_multivalued` keeps: `added`, `front` and `within`.
 use Rattle.std.proofs.Common.{◌≡◌, ℕ, ◌++◌, length, take}
 use Rattle.std.specs.Prelude.{All}
 use Rattle.attr_sets.specs.Attributes.{below}

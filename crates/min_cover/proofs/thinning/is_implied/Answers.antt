@@ -1,3 +1,4 @@
+-- What is left to prove of `is_implied`: what it answers in the case `Fd`.
 use Rattle.std.proofs.Common.{refl}
 use Rattle.min_cover.proofs.thinning.is_implied.Goals as goal
 use Rattle.dep_model.proofs.DepLemmas.{functional_list}

@@ -1,3 +1,5 @@
+-- What is left to prove of `is_implied_by_blocks`: what it answers in the cases `Implied` and
+-- `Broken`.
 use Rattle.std.proofs.Common.{Bool, true, false, refl, sym, ◌∙◌, ap}
 use Rattle.std.proofs.lemmas.Bool.{false≢true, true≢false}
 use Rattle.dep_basis.specs.declared.deciding.Decision.{Decision}

@@ -1,3 +1,6 @@
+-- What is left to prove of `nonredundant_from`: its clauses `thinned` and `within`, what
+-- `is_implied` requires, and that the invariant of its loop holds at first and stays, by
+-- `ThinningLemmas`.
 use Rattle.std.proofs.Common.{◌≡◌, ◌+◌, ◌<◌, ◌↔◌, List, [], ◌∷◌, ◌++◌, length, set, take, drop, refl, sym, ◌∙◌, subst, ap, arith}
 use Rattle.std.proofs.lemmas.Bool.{false≢true}
 use Rattle.std.proofs.lemmas.List.{length-set}

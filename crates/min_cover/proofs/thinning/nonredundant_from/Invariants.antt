@@ -1,3 +1,5 @@
+-- What the loop of `nonredundant_from` keeps: `long`, `kinds`, `within`, `kept_within` and
+-- `thinned`.
 use Rattle.std.proofs.Common.{◌≡◌, length, take, drop}
 use Rattle.std.specs.Prelude.{All}
 use Rattle.attr_sets.specs.Attributes.{below}

@@ -1,3 +1,4 @@
+-- What is left to prove of `breaks`: what it answers, case by case, by `BreakLemmas`.
 use Rattle.std.proofs.Common.{◌≡◌, ℕ, ◌↔◌, true, not, List, sym, subst, ◌∙◌}
 use Rattle.std.proofs.lemmas.Bool.{false≢true}
 use Rattle.std.specs.Prelude.{IsTrue}
@@ -24,9 +25,9 @@ returns-then-functional c =
     let same = c.requires.functional c.if-functional.true in
     let by_part = closure_of_schema s c.deps.result.now c.deps.ensures.deps x closed (λ k m. c.requires.scheme k (c.requires.lhs k m)) c.closure.ensures.closure in
     let exact = subst (λ (ds : List Dependency). (a : ℕ) → (closed a ≡ true) ↔ InClosure n ds x a) same by_part in
-    let told = c.determines_some.ensures.breaks n (theory_of s) c.requires.scheme exact in
+    let fact = c.determines_some.ensures.breaks n (theory_of s) c.requires.scheme exact in
     let both = functional_breaks n (theory_of s) c.args.form scheme x c.requires.form (dependencies_all-from (IsWithin (below n)) (deps_of s) s.valid.deps_within) same c.requires.scheme in
-    record { breaks = ((λ e. both.0 (told.0 e)), (λ b. told.1 (both.1 b))) }
+    record { breaks = ((λ e. both.0 (fact.0 e)), (λ b. fact.1 (both.1 b))) }
 
 pub returns-then-not-has_two_parts : goal.returns-then-not-has_two_parts
 returns-then-not-has_two_parts c =
@@ -48,10 +49,10 @@ returns-in-Fourth c =
     let scheme = attributes c.args.scheme in
     let closed = attributes c.closure_of-found.result in
     let exact = c.closure_of-found.ensures.closure in
-    let told : IsTrue (not c.is_subset.result) ↔ Breaks n ds Fourth scheme x = IsTrue-not c.is_subset.result (IsSubset scheme closed) (Breaks n ds Fourth scheme x) c.is_subset.ensures.subset
+    let fact : IsTrue (not c.is_subset.result) ↔ Breaks n ds Fourth scheme x = IsTrue-not c.is_subset.result (IsSubset scheme closed) (Breaks n ds Fourth scheme x) c.is_subset.ensures.subset
     (λ all b. b.0 (closed_superkey n ds scheme x closed c.requires.lhs exact all))
-    (λ some. ((λ superkey. some (superkey_closed n ds scheme x closed c.requires.scheme exact superkey)), c.has_two_parts.ensures.parts.0 c.if-not-has_two_parts.false)) in
-    record { breaks = subst (λ (f : Form). IsTrue (not c.is_subset.result) ↔ Breaks n ds f scheme x) (sym c.in-Fourth.is) told }
+    (λ not_empty. ((λ superkey. not_empty (superkey_closed n ds scheme x closed c.requires.scheme exact superkey)), c.has_two_parts.ensures.parts.0 c.if-not-has_two_parts.false)) in
+    record { breaks = subst (λ (f : Form). IsTrue (not c.is_subset.result) ↔ Breaks n ds f scheme x) (sym c.in-Fourth.is) fact }
 
 pub returns-in-Third : goal.returns-in-Third
 returns-in-Third c =
@@ -60,5 +61,5 @@ returns-in-Third c =
     let ds = theory_of s in
     let x = attributes c.args.lhs in
     let scheme = attributes c.args.scheme in
-    let told = c.determines_some-in-Third.ensures.breaks n ds c.requires.scheme c.closure_of-found.ensures.closure in
-    record { breaks = subst (λ (f : Form). IsTrue c.determines_some-in-Third.result ↔ Breaks n ds f scheme x) (sym (is_bcnf c.args.form c.requires.form c.in-Third.is)) told }
+    let fact = c.determines_some-in-Third.ensures.breaks n ds c.requires.scheme c.closure_of-found.ensures.closure in
+    record { breaks = subst (λ (f : Form). IsTrue c.determines_some-in-Third.result ↔ Breaks n ds f scheme x) (sym (is_bcnf c.args.form c.requires.form c.in-Third.is)) fact }

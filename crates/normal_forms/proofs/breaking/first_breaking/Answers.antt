@@ -1,3 +1,6 @@
+-- What is left to prove of `first_breaking`: its clauses `first` and `none`, what `breaks` and
+-- `next_subset` require, that the invariant of its loop holds at first and stays, and that its loop
+-- ends, by `SearchLemmas`.
 use Rattle.std.proofs.Common.{sym, subst, ◌∙◌, arith}
 use Rattle.std.proofs.lemmas.Bool.{false≢true}
 use Rattle.std.specs.Prelude.{Option, Some}

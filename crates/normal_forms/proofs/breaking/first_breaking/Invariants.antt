@@ -1,3 +1,4 @@
+-- What the loop of `first_breaking` keeps: `IsSearched`; and by what it ends.
 use Rattle.attr_sets.specs.Sets.{attributes}
 use Rattle.dep_model.specs.Schemas.{width_of, theory_of}
 use Rattle.normal_forms.specs.Breaking.{Breaks}

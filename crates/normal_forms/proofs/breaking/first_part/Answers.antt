@@ -1,3 +1,5 @@
+-- What is left to prove of `first_part`: its clauses `first` and `part`, by `part_of_block` and
+-- `part_of_one`.
 use Rattle.std.proofs.Common.{◌≡◌, ℕ, true, refl, sym, subst, ◌∙◌, arith}
 use Rattle.std.proofs.lemmas.Bool.{true≢false}
 use Rattle.std.proofs.lemmas.Bool.Decides.{nat_tests}
@@ -14,7 +16,7 @@ pub returns-in_default-clause-first : goal.returns-in_default-clause-first
 returns-in_default-clause-first c a least = absurd (true≢false (sym (same_at c.difference.ensures.members a ∙ least.member) ∙ c.in_default.ensures.none.0 refl a))
 
 pub returns-in_default-clause-part : goal.returns-in_default-clause-part
-returns-in_default-clause-part c some = absurd (some (λ k. sym (same_at c.difference.ensures.members k) ∙ c.in_default.ensures.none.0 refl k))
+returns-in_default-clause-part c not_empty = absurd (not_empty (λ k. sym (same_at c.difference.ensures.members k) ∙ c.in_default.ensures.none.0 refl k))
 
 pub returns-in-Some-block-clause-first : goal.returns-in-Some-block-clause-first
 returns-in-Some-block-clause-first c a least =

@@ -1,3 +1,5 @@
+-- What is left to prove of `right_side`: what it answers in the cases `Fourth` and `Third`, by
+-- `BreakLemmas`.
 use Rattle.std.proofs.Common.{sym, subst, ◌∙◌}
 use Rattle.std.proofs.lemmas.Bool.{true≢false}
 use Rattle.attr_sets.specs.Sets.{attributes}
@@ -6,7 +8,7 @@ use Rattle.normal_forms.specs.declared.forms.Form.{Form}
 use Rattle.normal_forms.specs.declared.forms.Form.TheVariants.{Bcnf, Fourth}
 use Rattle.normal_forms.specs.Violations.{ViolatesBcnf, ViolatesFourth, Violates}
 use Rattle.normal_forms.specs.Breaking.{Breaks}
-use Rattle.normal_forms.proofs.BreakLemmas.{bcnf_violated, fourth_violated, right_told, is_bcnf}
+use Rattle.normal_forms.proofs.BreakLemmas.{bcnf_violated, fourth_violated, right_side_at, is_bcnf}
 use Rattle.normal_forms.proofs.breaking.right_side.Goals as goal
 
 pub returns-in-Fourth : goal.returns-in-Fourth
@@ -18,8 +20,8 @@ returns-in-Fourth c =
     let x = attributes c.args.lhs in
     let y = attributes c.first_part.result in
     let b : Breaks n ds Fourth scheme x = subst (λ (f : Form). Breaks n ds f scheme x) c.in-Fourth.is c.requires.breaks in
-    let part = c.first_part.ensures.part (λ nothing. true≢false (sym b.1.some.1 ∙ nothing b.1.some.0)) in
-    let violated : ViolatesFourth n ds scheme x y = fourth_violated n (deps_of s) scheme x y s.valid.few_names s.valid.deps_within c.requires.scheme b part c.first_part.ensures.first in
+    let part = c.first_part.ensures.part (λ nothing. true≢false (sym b.1.not_empty.1 ∙ nothing b.1.not_empty.0)) in
+    let violated : ViolatesFourth n ds scheme x y = fourth_violated n (deps_of s) scheme x y s.valid.names_within_limit s.valid.deps_within c.requires.scheme b part c.first_part.ensures.first in
     record { violates = subst (λ (f : Form). Violates n ds f scheme x y) (sym c.in-Fourth.is) violated }
 
 pub returns-in-Third : goal.returns-in-Third
@@ -32,6 +34,6 @@ returns-in-Third c =
     let y = attributes c.difference.result in
     let is = is_bcnf c.args.form c.requires.form c.in-Third.is in
     let b : Breaks n ds Bcnf scheme x = subst (λ (f : Form). Breaks n ds f scheme x) is c.requires.breaks in
-    let right = right_told n ds scheme x (attributes c.closure_of.result) (attributes c.intersection.result) y c.requires.scheme c.requires.lhs c.closure_of.ensures.closure c.intersection.ensures.members c.difference.ensures.members in
+    let right = right_side_at n ds scheme x (attributes c.closure_of.result) (attributes c.intersection.result) y c.requires.scheme c.requires.lhs c.closure_of.ensures.closure c.intersection.ensures.members c.difference.ensures.members in
     let violated : ViolatesBcnf n ds scheme x y = bcnf_violated n ds scheme x y b right in
     record { violates = subst (λ (f : Form). Violates n ds f scheme x y) (sym is) violated }

@@ -1,3 +1,4 @@
+-- The law `one_visible_violation`, by `one_visible`.
 use Rattle.normal_forms.proofs.UniqueLemmas.{one_visible}
 use Rattle.normal_forms.proofs.laws.one_visible_violation.Goals as goal
 

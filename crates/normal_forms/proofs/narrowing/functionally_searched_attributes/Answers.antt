@@ -1,3 +1,5 @@
+-- What is left to prove of `functionally_searched_attributes`: its clauses `within` and `added`, by
+-- `AddedLemmas`.
 use Rattle.std.proofs.Common.{◌≡◌, ℕ, ◌↔◌, true, List, subst, arith}
 use Rattle.attr_sets.specs.Sets.{attributes}
 use Rattle.dep_model.specs.declared.dep.Dep.{Dep}

@@ -1,3 +1,5 @@
+-- What is left to prove of `searched_attributes`: what it answers, case by case, by `all_enough`
+-- and `functional_enough`.
 use Rattle.std.proofs.Common.{◌≡◌, ◌↔◌, ℕ, true, List, subst, arith}
 use Rattle.attr_sets.specs.Attributes.{below, IsSubset}
 use Rattle.attr_sets.specs.Sets.{attributes}
@@ -36,5 +38,5 @@ returns-else-functional c =
     let each = dependencies_all-to (λ (d : Dependency). IsSubset (left_of d) lefts) (deps_of s) (left_sides_each (theory_of s) lefts (λ a h. (members a).1 h)) in
     record {
       within = λ k m. grind (arith, same_at c.intersection.ensures.members k, m);
-      enough = all_enough n (deps_of s) c.args.form scheme lefts (attributes c.intersection.result) c.requires.form s.valid.few_names s.valid.deps_within c.requires.scheme each c.intersection.ensures.members;
+      enough = all_enough n (deps_of s) c.args.form scheme lefts (attributes c.intersection.result) c.requires.form s.valid.names_within_limit s.valid.deps_within c.requires.scheme each c.intersection.ensures.members;
     }

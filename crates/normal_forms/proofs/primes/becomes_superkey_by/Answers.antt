@@ -1,3 +1,4 @@
+-- What is left to prove of `becomes_superkey_by`: what it answers, case by case.
 use Rattle.std.proofs.Common.{sym, subst, ◌∙◌}
 use Rattle.std.proofs.lemmas.Bool.{false≢true}
 use Rattle.attr_sets.specs.Attributes.{Attributes}

@@ -1,3 +1,4 @@
+-- What is left to prove of `is_superkey`: its clause `superkey`.
 use Rattle.std.proofs.Common.{◌↔◌}
 use Rattle.std.specs.Prelude.{IsTrue}
 use Rattle.attr_sets.specs.Attributes.{below, IsSubset}

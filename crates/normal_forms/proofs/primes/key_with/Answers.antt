@@ -1,3 +1,6 @@
+-- What is left to prove of `key_with`: its clause `none`, what it answers in one case, what
+-- `becomes_superkey_by` and `next_subset` require, that the invariant of its loop holds at first
+-- and stays, and that its loop ends, by `PrimeLemmas` and `SearchLemmas`.
 use Rattle.std.proofs.Common.{◌≡◌, sym, subst, ◌∙◌, inl, inr, arith}
 use mathlib.Core.Path.{fun_ext}
 use Rattle.std.proofs.lemmas.Bool.{true≢false, false≢true, or_cases}
@@ -23,8 +26,8 @@ Turns c y =
     BecomesSuperkeyBy (width_of c.args.schema.now) (functional_part (theory_of c.args.schema.now)) (attributes c.args.scheme) (union y (attributes c.without-rest.result)) c.args.attribute
 
 -- the subsets before the one that is tried
-searched : (c : In-Some) → IsSearched (Turns c) (attributes c.without-free.result) (Some c.in-Some.set)
-searched c = subst (λ (o : Option AttrSet). IsSearched (Turns c) (attributes c.without-free.result) o) c.in-Some.is c.loop-next.invariant
+searched : (c : In-Some) → IsSearched (Turns c) (attributes c.without-others.result) (Some c.in-Some.set)
+searched c = subst (λ (o : Option AttrSet). IsSearched (Turns c) (attributes c.without-others.result) o) c.in-Some.is c.loop-next.invariant
 
 -- the rest is the scheme without the whole and the attribute
 rest_is : (c : In-Some) → attributes c.without-rest.result ≡ difference (difference (attributes c.args.scheme) (attributes c.args.whole)) (only c.args.attribute)
@@ -34,14 +37,14 @@ rest_is c = fun_ext (λ j. grind (arith, same_at c.without-rest.ensures.members 
 tried_in : (c : In-Some) → IsSubset (union (attributes c.in-Some.set) (attributes c.without-rest.result)) (attributes c.args.scheme)
 tried_in c =
     let s = c.args.schema.now in
-    beside_in (width_of s) (functional_part (theory_of s)) (attributes c.args.scheme) (attributes c.args.whole) (attributes c.without-free.result) (attributes c.without-rest.result) c.args.attribute
-    c.requires.scheme c.requires.added c.without-free.ensures.members (rest_is c) (attributes c.in-Some.set) c.requires.within_scheme (searched c).within
+    beside_in (width_of s) (functional_part (theory_of s)) (attributes c.args.scheme) (attributes c.args.whole) (attributes c.without-others.result) (attributes c.without-rest.result) c.args.attribute
+    c.requires.scheme c.requires.added c.without-others.ensures.members (rest_is c) (attributes c.in-Some.set) c.requires.within_scheme (searched c).within
 
 pub loop-next-init : goal.loop-next-init
 loop-next-init c =
     let s = c.args.schema.now in
     let P = λ (y : Attributes). BecomesSuperkeyBy (width_of s) (functional_part (theory_of s)) (attributes c.args.scheme) (union y (attributes c.without-rest.result)) c.args.attribute in
-    search_start P (attributes c.without-free.result) c.empty.result c.empty.ensures.members
+    search_start P (attributes c.without-others.result) c.empty.result c.empty.ensures.members
 
 pub becomes_superkey_by-requires-clause-set : goal.becomes_superkey_by-requires-clause-set
 becomes_superkey_by-requires-clause-set c k m = tried_in (goal.at.becomes_superkey_by-requires-clause-set c).In-Some k (sym (same_at c.union-before.ensures.members k) ∙ m)
@@ -61,7 +64,7 @@ returns-then-becomes_superkey_by c =
       | inr is_a ↦ c.requires.scheme k (grind (arith, nat_tests, is_a, c.requires.attribute))
     ] in
     let greedy = of_functional_part s c.deps.result.now c.deps.ensures.deps (λ m ds. IsSubset (attributes c.with.result) (below m) → IsGreedyKey m ds (attributes c.with.result) (attributes c.functional_key.result))
-    c.functional_key.ensures.settled with_low in
+    c.functional_key.ensures.greedy with_low in
     let turned = c.becomes_superkey_by.ensures.turned.0 c.if-becomes_superkey_by.true in
     let key = attributes c.functional_key.result in
     record {
@@ -82,12 +85,12 @@ loop-next-preserved c =
     let n = width_of s in
     let fs = functional_part (theory_of s) in
     let scheme = attributes c.args.scheme in
-    let free = attributes c.without-free.result in
+    let others = attributes c.without-others.result in
     let a = c.args.attribute in
     let at = (goal.at.loop-next-preserved c).In-Some in
     let before = searched at in
     let same : union (attributes c.in-Some.set) (attributes c.without-rest.result) ≡ attributes c.union-before.result = sym c.union-before.ensures.members in
-    search_on n (Turns at) free c.in-Some.set c.next_subset-next.result (λ k m. c.requires.scheme k (c.requires.within_scheme k (without_in free (attributes c.args.whole) a c.without-free.ensures.members k m))) before
+    search_on n (Turns at) others c.in-Some.set c.next_subset-next.result (λ k m. c.requires.scheme k (c.requires.within_scheme k (without_in others (attributes c.args.whole) a c.without-others.ensures.members k m))) before
     (λ turned. false≢true (sym c.if-becomes_superkey_by.false ∙ c.becomes_superkey_by.ensures.turned.1 (subst (λ (v : Attributes). BecomesSuperkeyBy n fs scheme v a) same turned)))
     c.next_subset-next.ensures.none.0 c.next_subset-next.ensures.next
 
@@ -98,9 +101,9 @@ returns-clause-none c = λ _.
     let fs = functional_part (theory_of s) in
     let scheme = attributes c.args.scheme in
     let rest = attributes c.without-rest.result in
-    let free = attributes c.without-free.result in
+    let others = attributes c.without-others.result in
     let a = c.args.attribute in
     let P = λ (y : Attributes). BecomesSuperkeyBy n fs scheme (union y rest) a in
     let is : rest ≡ difference (difference scheme (attributes c.args.whole)) (only a) = fun_ext (λ j. grind (arith, same_at c.without-rest.ensures.members j, same_at c.difference.ensures.members j)) in
-    not_prime n fs scheme (attributes c.args.whole) free rest a c.requires.scheme c.requires.added c.without-free.ensures.members is c.requires.within_scheme
-    (search_end P free (subst (λ (o : Option AttrSet). IsSearched P free o) c.in_default.is c.loop-next.invariant))
+    not_prime n fs scheme (attributes c.args.whole) others rest a c.requires.scheme c.requires.added c.without-others.ensures.members is c.requires.within_scheme
+    (search_end P others (subst (λ (o : Option AttrSet). IsSearched P others o) c.in_default.is c.loop-next.invariant))

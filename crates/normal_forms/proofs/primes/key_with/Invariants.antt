@@ -1,3 +1,5 @@
+-- What the loop of `key_with` keeps, in terms of `functional_part`, `width_of`, `theory_of` and
+-- three more; and by what it ends.
 use Rattle.attr_sets.specs.Attributes.{union}
 use Rattle.attr_sets.specs.Sets.{attributes}
 use Rattle.dep_model.specs.Dependencies.{functional_part}
@@ -8,7 +10,7 @@ use Rattle.normal_forms.proofs.primes.key_with.Given as goal
 
 abbrev pub invariant-loop-next : goal.invariant-loop-next
 invariant-loop-next l =
-    IsSearched (λ y. BecomesSuperkeyBy (width_of l.schema) (functional_part (theory_of l.schema)) (attributes l.scheme) (union y (attributes l.rest)) l.attribute) (attributes l.free) l.next
+    IsSearched (λ y. BecomesSuperkeyBy (width_of l.schema) (functional_part (theory_of l.schema)) (attributes l.scheme) (union y (attributes l.rest)) l.attribute) (attributes l.others) l.next
 
 abbrev pub decreases-loop-next : goal.decreases-loop-next
 decreases-loop-next l = subsets_left l.next

@@ -1,3 +1,5 @@
+-- What is left to prove of `prime_or_not`: what it answers, case by case, that the invariant of its
+-- loop holds at first and stays, and that its loop ends, by `primes_more` and `candidates_less`.
 use Rattle.std.proofs.Common.{◌≡◌, true, refl, sym, ◌∙◌, inl, inr, arith}
 use Rattle.std.proofs.lemmas.Bool.{true≢false, cases_Bool}
 use Rattle.attr_sets.specs.Attributes.{difference}

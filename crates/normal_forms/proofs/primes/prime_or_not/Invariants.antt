@@ -1,3 +1,4 @@
+-- What the loop of `prime_or_not` keeps: `prime` and `grows`; and by what it ends.
 use Rattle.attr_sets.specs.declared.set.TheConstants.{MOST_ATTRIBUTES}
 use Rattle.attr_sets.specs.Attributes.{difference, IsSubset, count_below}
 use Rattle.attr_sets.specs.Sets.{attributes}

@@ -1,3 +1,5 @@
+-- What is left to prove of `first_violation`: its clauses `none` and `chosen`, by `FormLemmas` and
+-- `ViolationLemmas`.
 use Rattle.std.proofs.Common.{refl}
 use Rattle.std.proofs.lemmas.Bool.{true≢false}
 use Rattle.attr_sets.specs.Sets.{attributes}

@@ -1,3 +1,4 @@
+-- What is left to prove of `violation`: its clause `none`, by `none_in_form`.
 use Rattle.std.proofs.Common.{sym, subst}
 use Rattle.attr_sets.specs.Sets.{attributes}
 use Rattle.dep_model.specs.Schemas.{width_of, theory_of}

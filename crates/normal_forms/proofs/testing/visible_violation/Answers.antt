@@ -1,3 +1,5 @@
+-- What is left to prove of `visible_violation`: its clauses `none` and `visible` and that the
+-- invariant of its loop holds at first and stays, by `FormLemmas`.
 use Rattle.std.proofs.Common.{◌≡◌, ℕ, ◌<◌, ◌≤◌, List, length, get_or, take_all, refl, sym, ap, subst, ◌∙◌, arith}
 use Rattle.std.proofs.lemmas.Bool.{true≢false, false≢true}
 use Rattle.std.proofs.lemmas.List.{length-map}

@@ -1,3 +1,4 @@
+-- What is left to prove of `determined_beyond`: its clause `beyond`, by `BreakLemmas`.
 use Rattle.std.proofs.Common.{◌≡◌, ◌↔◌, ℕ, true, sym, ◌∙◌}
 use Rattle.std.proofs.lemmas.Bool.{true≢false, false≢true}
 use Rattle.attr_sets.specs.Sets.{attributes}
@@ -6,7 +7,7 @@ use Rattle.dep_model.specs.Keys.{InClosure}
 use Rattle.dep_model.specs.Schemas.{width_of, theory_of}
 use Rattle.attr_sets.proofs.AttributesLemmas.{same_at}
 use Rattle.fd_closure.proofs.SchemaLemmas.{closure_of_schema}
-use Rattle.normal_forms.proofs.BreakLemmas.{superkey_closed, closed_superkey, right_told}
+use Rattle.normal_forms.proofs.BreakLemmas.{superkey_closed, closed_superkey, right_side_at}
 use Rattle.normal_forms.proofs.third.determined_beyond.Goals as goal
 use Rattle.normal_forms.proofs.third.determined_beyond.Goals.{After-closure-found}
 
@@ -42,7 +43,7 @@ returns c =
     let x = attributes c.args.lhs in
     let closed = attributes c.closure-found.result in
     let exact = found_is (goal.at.returns c).After-closure-found in
-    let right = right_told n fs scheme x closed (attributes c.intersection.result) (attributes c.difference.result) c.requires.scheme c.requires.lhs exact c.intersection.ensures.members c.difference.ensures.members in
+    let right = right_side_at n fs scheme x closed (attributes c.intersection.result) (attributes c.difference.result) c.requires.scheme c.requires.lhs exact c.intersection.ensures.members c.difference.ensures.members in
     record {
       beyond = λ a. (
         (λ m. (

@@ -1,3 +1,7 @@
+-- What is left to prove of `third_violation`: its clauses `chosen` and `none`, what
+-- `determined_beyond`, `prime_or_not`, `single` and `next_subset` require, that the invariant of
+-- its loop holds at first and stays, and that its loop ends, by `AddedLemmas`, `FormLemmas` and
+-- `SearchLemmas`.
 use Rattle.std.proofs.Common.{sym, subst, ◌∙◌, arith}
 use Rattle.std.proofs.lemmas.Bool.{true≢false, false_from_ne_true, ltb-true}
 use Rattle.std.specs.Prelude.{Option, Some}

@@ -1,3 +1,4 @@
+-- What the loop of `third_violation` keeps: `prime` and `searched`; and by what it ends.
 use Rattle.attr_sets.specs.Sets.{attributes}
 use Rattle.dep_model.specs.Dependencies.{functional_part}
 use Rattle.dep_model.specs.Schemas.{width_of, theory_of}

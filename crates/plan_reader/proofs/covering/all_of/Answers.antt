@@ -1,3 +1,5 @@
+-- What is left to prove of `all_of`: its clause `members` and that a round of its loop keeps the
+-- invariant.
 use Rattle.std.proofs.Common.{◌≡◌, ℕ, ◌||◌, ◌+◌, ◌<◌, Bool, List, length, take, take_all, get_or, sym, ap, ◌∙◌}
 use mathlib.Core.Path.{fun_ext}
 use Rattle.std.specs.List.{list_any}

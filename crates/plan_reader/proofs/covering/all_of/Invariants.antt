@@ -1,3 +1,4 @@
+-- What the loop of `all_of` keeps, in terms of `schemes_of`.
 use Rattle.std.proofs.Common.{◌≡◌, take}
 use Rattle.std.specs.List.{list_any}
 use Rattle.attr_sets.specs.Sets.{attributes}

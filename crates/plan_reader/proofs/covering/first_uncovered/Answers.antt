@@ -1,3 +1,4 @@
+-- What is left to prove of `first_uncovered`: its clauses `covers` and `least`.
 use Rattle.std.proofs.Common.{◌≡◌, ◌&&◌, not, Bool, true, false, ap, subst, ◌∙◌}
 use Rattle.std.specs.Prelude.{IfSome}
 use Rattle.std.specs.List.{list_any}

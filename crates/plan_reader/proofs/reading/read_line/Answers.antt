@@ -1,3 +1,4 @@
+-- What is left to prove of `read_line`: its clauses `ok` and `err`, by `ReadingLemmas`.
 use Rattle.std.proofs.Common.{◌≡◌, [], ◌∷◌, length, Ok, sym, ap, ◌∙◌, arith}
 use Rattle.std.proofs.lemmas.Grind.{common_steps}
 use Rattle.std.proofs.lemmas.List.{map-append}

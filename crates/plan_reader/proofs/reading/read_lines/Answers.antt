@@ -1,3 +1,5 @@
+-- What is left to prove of `read_lines`: its clauses `err` and `ok` and that the invariant of its
+-- loop holds at first and stays, by `ReadingLemmas`.
 use Rattle.std.proofs.Common.{refl, ◌∙◌, arith}
 use Rattle.lexer.proofs.LineEnds.{CutsAt-any, cut_last, cut_more}
 use Rattle.dep_model.proofs.FailureLemmas.{refuses_also}

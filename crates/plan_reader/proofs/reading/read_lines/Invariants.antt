@@ -1,3 +1,4 @@
+-- What the loop of `read_lines` keeps: `Reads`; and by what it ends.
 use Rattle.std.proofs.Common.{length}
 use Rattle.dep_model.specs.Plans.{schemes_of}
 use Rattle.dep_model.specs.Schemas.{names_of}

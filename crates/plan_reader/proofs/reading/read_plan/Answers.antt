@@ -1,3 +1,4 @@
+-- What is left to prove of `read_plan`: its clauses `ok` and `err` and what `new` requires.
 use Rattle.std.proofs.Common.{◌≡◌, ℕ, ◌≤◌, [], List, length, Ok, Err, refl, sym, subst, inl, inr}
 use Rattle.attr_sets.specs.declared.set.AttrSet.{AttrSet}
 use Rattle.attr_sets.specs.Attributes.{Attributes, IsFirstFrom}
@@ -11,7 +12,7 @@ use Rattle.plan_grammar.specs.Diagnostics.{uncovered_attributes}
 use Rattle.plan_grammar.specs.Meanings.{MeansSchemeLines, MeansPlan}
 use Rattle.plan_grammar.specs.Reading.{read_scheme_lines}
 use Rattle.plan_grammar.proofs.LineLemmas.{read_means, refused_refuses}
-use Rattle.plan_grammar.proofs.PlanLaws.{lines_within, lines_some}
+use Rattle.plan_grammar.proofs.PlanLaws.{lines_within, lines_not_empty}
 use Rattle.plan_reader.proofs.reading.read_plan.Goals as goal
 
 meant : (names : List (List ℕ)) (text rest : List ℕ) (schemes : List Attributes) → rest ≡ without_mark text → read_scheme_lines names 1 [] (line_texts rest) ≡ Ok schemes
@@ -26,7 +27,7 @@ new-requires c =
     record {
       plan = record {
         within = lines_within names (line_texts (without_mark c.args.text.now)) (schemes_of c.in-Ok.schemes.items) is.0;
-        some = lines_some names (line_texts (without_mark c.args.text.now)) (schemes_of c.in-Ok.schemes.items) is.0;
+        not_empty = lines_not_empty names (line_texts (without_mark c.args.text.now)) (schemes_of c.in-Ok.schemes.items) is.0;
         covers = subst (λ (xs : List AttrSet). Covers (width_of c.args.schema.now) (schemes_of xs)) c.deref.ensures.value (c.in-None.ensures.covers refl);
       };
     }

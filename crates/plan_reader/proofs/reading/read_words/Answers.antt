@@ -1,3 +1,5 @@
+-- What is left to prove of `read_words`: its clauses `err` and `ok` and that the invariant of its
+-- loop holds at first and stays, by `ReadingLemmas`.
 use Rattle.std.proofs.Common.{true, false, Err, sym, ap, ◌∙◌}
 use Rattle.attr_sets.specs.Attributes.{Attributes}
 use Rattle.tokens.specs.Views.{names_in, rest_of}

@@ -1,3 +1,5 @@
+-- What the loop of `read_words` keeps, in terms of `read_words_rest`, `names_in`, `rest_of` and one
+-- more; and by what it ends.
 use Rattle.std.proofs.Common.{◌≡◌, true}
 use Rattle.attr_sets.specs.Attributes.{none}
 use Rattle.attr_sets.specs.Sets.{attributes}

@@ -1,3 +1,5 @@
+-- What is left to prove of `drop_contained`: its clauses `lossless`, `among` and `held` and what
+-- `new` requires, by `schemes_are_plan` and `kept_among_held`.
 use Rattle.std.proofs.Common.{◌≡◌, ℕ, true, List, sym, subst, ◌∙◌, ap}
 use Rattle.std.specs.Prelude.{All, Contains}
 use Rattle.std.specs.List.{list_any}

@@ -1,3 +1,4 @@
+-- What the loop of `without_contained` keeps: `within` and `tried`; and by what it ends.
 use Rattle.std.proofs.Common.{◌-◌, ◌≤◌, length}
 use Rattle.plans.proofs.LoopLemmas.{IsTriedTo}
 use Rattle.plans.proofs.containing.without_contained.Given as goal

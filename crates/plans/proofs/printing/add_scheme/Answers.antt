@@ -1,3 +1,4 @@
+-- What is left to prove of `add_scheme`: its clause `added`, by `scheme_line` and `line_added`.
 use Rattle.std.proofs.Common.{◌++◌, ◌∷◌, [], List, ℕ, length, sym, subst, ap, ◌∙◌}
 use Rattle.std.specs.Prelude.{codes}
 use Rattle.attr_sets.specs.Attributes.{IsSubset, below}

@@ -1,3 +1,5 @@
+-- What is left to prove of `add_schemes`: its clause `added` and that the invariant of its loop
+-- holds at first and stays, by `lines_more`.
 use Rattle.std.proofs.Common.{◌≡◌, ◌++◌, ◌∷◌, [], List, ℕ, take, take_all, get_or, sym, ap, subst, ◌∙◌, append_assoc}
 use Rattle.std.proofs.lemmas.List.{append-nil}
 use Rattle.attr_sets.specs.declared.set.AttrSet.{AttrSet}

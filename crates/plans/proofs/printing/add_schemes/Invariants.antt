@@ -1,3 +1,5 @@
+-- What the loop of `add_schemes` keeps, in terms of `schemes_of`, `printed_names_of` and
+-- `plan_text`.
 use Rattle.std.proofs.Common.{◌≡◌, ◌++◌, take}
 use Rattle.dep_model.specs.Plans.{schemes_of}
 use Rattle.schema_printer.specs.Spelling.{printed_names_of}

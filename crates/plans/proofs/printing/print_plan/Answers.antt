@@ -1,3 +1,4 @@
+-- What is left to prove of `print_plan`: what `add_schemes` requires.
 use Rattle.std.proofs.Common.{ℕ, List, sym, subst}
 use Rattle.std.specs.Prelude.{All}
 use Rattle.attr_sets.specs.declared.set.AttrSet.{AttrSet}
@@ -12,5 +13,5 @@ add_schemes-requires c =
     record {
       within = subst (λ (xs : List AttrSet). All (λ (s : AttrSet). IsSubset (attributes s) (below (width_of c.args.schema.now))) xs) (sym c.schemes.ensures.schemes)
           (subst (λ (m : ℕ). All (λ (s : AttrSet). IsSubset (attributes s) (below m)) plan.schemes.items) c.requires.universe plan.valid.within);
-      nonempty = subst (λ (xs : List AttrSet). All (λ (s : AttrSet). IsEmpty (attributes s) → ⊥) xs) (sym c.schemes.ensures.schemes) plan.valid.some;
+      nonempty = subst (λ (xs : List AttrSet). All (λ (s : AttrSet). IsEmpty (attributes s) → ⊥) xs) (sym c.schemes.ensures.schemes) plan.valid.not_empty;
     }

@@ -1,3 +1,4 @@
+-- What is left to prove of `closure_after`: what it answers in one case, by `kept_follows`.
 use Rattle.std.proofs.Common.{◌≡◌, Some, Option, inr, refl, subst}
 use Rattle.std.specs.Prelude.{IfSome}
 use Rattle.attr_sets.specs.Attributes.{Attributes}
@@ -14,12 +15,12 @@ returns-then-eq c =
     let n = width_of c.args.schema.now in
     let ds = theory_of c.args.schema.now in
     let plan = known_plan c.args.insides.now in
-    let told = c.in-Some.previous in
-    let known : IfSome (Some told) (TellsKeptClosure n ds plan) = subst (λ (last : Option Closed). IfSome last (TellsKeptClosure n ds plan)) c.in-Some.is c.requires.last in
-    let same : attributes told.from ≡ attributes c.args.from = c.if-eq.ensures.same.0 refl in
-    let all : IsKeptClosure n ds plan (attributes c.args.from) (attributes told.closed) = subst (λ (x : Attributes). IsKeptClosure n ds plan x (attributes told.closed)) same known in
+    let fact = c.in-Some.previous in
+    let known : IfSome (Some fact) (TellsKeptClosure n ds plan) = subst (λ (last : Option Closed). IfSome last (TellsKeptClosure n ds plan)) c.in-Some.is c.requires.last in
+    let same : attributes fact.from ≡ attributes c.args.from = c.if-eq.ensures.same.0 refl in
+    let all : IsKeptClosure n ds plan (attributes c.args.from) (attributes fact.closed) = subst (λ (x : Attributes). IsKeptClosure n ds plan x (attributes fact.closed)) same known in
     record {
-      follows = kept_follows n ds plan (attributes c.args.from) (attributes told.closed) all;
+      follows = kept_follows n ds plan (attributes c.args.from) (attributes fact.closed) all;
       found = inr all;
       known = c.requires.known;
       schemes = refl;

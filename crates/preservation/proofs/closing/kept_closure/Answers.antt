@@ -1,3 +1,6 @@
+-- What is left to prove of `kept_closure`: what it answers, case by case, what `with_schemes`
+-- requires, that the invariant of its loop holds at first and stays, and that its loop ends, by
+-- `KeepingLemmas` and `KnownLemmas`.
 use Rattle.std.proofs.Common.{inl, inr, ⊎_elim, refl, ◌∙◌, arith}
 use Rattle.std.specs.Prelude.{All}
 use Rattle.std.proofs.lemmas.Bool.{false≢true}
@@ -78,14 +81,14 @@ returns-then-eq c =
     let more = c.with_schemes-more in
     let schemes = known_schemes c.args.insides.now in
     let plan = known_plan c.args.insides.now in
-    let settled_then : All (λ (x : AttrSet). IsFunctionallyClosedIn n ds (attributes x) now now)
+    let closed_then : All (λ (x : AttrSet). IsFunctionallyClosedIn n ds (attributes x) now now)
     (known_schemes c.loop-wanted.insides) =
     more.ensures.functionally_closed (IsSubset-same (attributes more.result) now (c.if-eq.ensures.same.0 refl)) in
-    let settled : All (λ (x : AttrSet). IsFunctionallyClosedIn n ds (attributes x) now now) schemes =
-    rw before.schemes at settled_then in
+    let is_closed : All (λ (x : AttrSet). IsFunctionallyClosedIn n ds (attributes x) now now) schemes =
+    rw before.schemes at closed_then in
     let inside : ObeysInside n ds plan (two_tuples n now) =
     functionally_closed_inside n ds plan now (known_within n ds c.args.insides.now c.requires.known)
-    (All-map (λ (x : Attributes). IsFunctionallyClosedIn n ds x now now) attributes schemes settled) in
+    (All-map (λ (x : Attributes). IsFunctionallyClosedIn n ds x now now) attributes schemes is_closed) in
     record {
       follows = before.kept;
       found = inr (record {

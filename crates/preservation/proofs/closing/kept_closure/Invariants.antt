@@ -1,3 +1,5 @@
+-- What the loop of `kept_closure` keeps: `grows`, `within`, `kept`, `known`, `schemes` and
+-- `switches`; and by what it ends.
 use Rattle.std.proofs.Common.{◌≡◌, ◌-◌}
 use Rattle.std.specs.Prelude.{All}
 use Rattle.attr_sets.specs.Attributes.{IsSubset, count_below}

@@ -1,3 +1,5 @@
+-- What is left to prove of `with_schemes`: its clause `functionally_closed` and that the invariant
+-- of its loop holds at first and stays, by `KeepingLemmas` and `KnownLemmas`.
 use Rattle.std.proofs.Common.{◌<◌, ◌≤◌, length, get_or, inl, inr, refl, sym, subst, ◌∙◌, arith, take_all}
 use Rattle.std.proofs.lemmas.Bool.{cases_Bool}
 use Rattle.std.proofs.lemmas.List.{length-map}
@@ -20,7 +22,7 @@ loop-i-init c = record {
   grows = λ k m. m;
   within = c.requires.closed;
   kept = λ r inside. reflexivity_obeyed (attributes c.args.closed) (attributes c.args.closed) r (λ k m. m);
-  settled = λ k d l. absurd (omega arith);
+  closed_so_far = λ k d l. absurd (omega arith);
   known = c.requires.known;
   schemes = refl;
   switches = refl;
@@ -57,10 +59,10 @@ loop-i-preserved c =
           (attributes inside.result.closed) next r
           known inside.ensures.part c.union-more.ensures.members
           (scheme_at old c.loop-i.insides i nowhere before.schemes low) obeys);
-      settled = All-more (λ (scheme : AttrSet). IsFunctionallyClosedIn n ds (attributes scheme) from next)
+      closed_so_far = All-more (λ (scheme : AttrSet). IsFunctionallyClosedIn n ds (attributes scheme) from next)
           (known_schemes old) i nothing
           (omega (arith, low, length-map old (λ (inside : Inside). inside.scheme)))
-          (λ k d l x y within implied inside a m. grows a (before.settled k d l x y within implied inside a m))
+          (λ k d l x y within implied inside a m. grows a (before.closed_so_far k d l x y within implied inside a m))
           (subst (λ (scheme : AttrSet). IsFunctionallyClosedIn n ds (attributes scheme) from next)
           (sym (scheme_of old c.loop-i.insides i nowhere before.schemes))
           (λ x y within implied x_in. added_closes_functionally n ds scheme now (attributes inside.result.part)
@@ -76,5 +78,5 @@ returns-clause-functionally_closed c = λ same.
     let schemes = known_schemes c.args.insides.now in
     let long : length schemes ≤ c.loop-i.i =
     omega (arith, c.loop-i-test.false, length-map c.args.insides.now (λ (inside : Inside). inside.scheme)) in
-    let all = (rw (take_all c.loop-i.i schemes long) at c.loop-i.invariant.settled) in
+    let all = (rw (take_all c.loop-i.i schemes long) at c.loop-i.invariant.closed_so_far) in
     λ k d l x y within implied inside a m. same a (all k d l x y within implied inside a m)

@@ -1,3 +1,5 @@
+-- What the loop of `with_schemes` keeps: `grows`, `within`, `kept`, `closed_so_far`, `known`,
+-- `schemes` and one more.
 use Rattle.std.proofs.Common.{◌≡◌, take}
 use Rattle.std.specs.Prelude.{All}
 use Rattle.attr_sets.specs.Attributes.{IsSubset}
@@ -17,7 +19,7 @@ invariant-loop-i l = record {
   within : IsSubset (attributes l.more) (universe_of l.schema);
   kept : (r : Relation) → ObeysInside (width_of l.schema) (theory_of l.schema) (known_plan l.initial.insides) r
       → ObeysFd (attributes l.initial.more) (attributes l.more) r;
-  settled : All (λ scheme. IsFunctionallyClosedIn (width_of l.schema) (theory_of l.schema) (attributes scheme)
+  closed_so_far : All (λ scheme. IsFunctionallyClosedIn (width_of l.schema) (theory_of l.schema) (attributes scheme)
       (attributes l.initial.more) (attributes l.more)) (take l.i (known_schemes l.initial.insides));
   known : All (IsKnown (width_of l.schema) (theory_of l.schema)) l.insides;
   schemes : known_schemes l.insides ≡ known_schemes l.initial.insides;

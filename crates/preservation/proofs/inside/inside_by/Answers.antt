@@ -1,3 +1,4 @@
+-- What is left to prove of `inside_by`: its clauses `part` and `covers`, by `part_inside`.
 use Rattle.std.proofs.Common.{refl, ap, ◌∙◌, arith}
 use Rattle.attr_sets.specs.Sets.{attributes}
 use Rattle.attr_sets.specs.declared.set.AttrSet.{AttrSet}

@@ -1,3 +1,4 @@
+-- What is left to prove of `inside_of`: its clause `known`, by `closure_over`.
 use Rattle.std.proofs.Common.{◌≡◌, ℕ, ◌↔◌, true, arith}
 use Rattle.attr_sets.specs.Sets.{attributes}
 use Rattle.dep_model.specs.Dependencies.{functional_part}

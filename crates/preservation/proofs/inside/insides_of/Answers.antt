@@ -1,3 +1,5 @@
+-- What is left to prove of `insides_of`: its clause `schemes` and that a round of its loop keeps
+-- the invariant.
 use Rattle.std.proofs.Common.{◌++◌, [], ◌∷◌, List, take, take_all, ap, sym, subst, ◌∙◌}
 use Rattle.std.proofs.lemmas.List.{map-append, take_more}
 use Rattle.std.proofs.lemmas.List.Elements.{All-push}

@@ -1,3 +1,4 @@
+-- What the loop of `insides_of` keeps: `known`, `schemes` and `switches`.
 use Rattle.std.proofs.Common.{◌≡◌, take}
 use Rattle.std.specs.Prelude.{All}
 use Rattle.dep_model.specs.Schemas.{width_of, theory_of}

@@ -1,3 +1,4 @@
+-- What is left to prove of `loss_of`: its clauses `kept`, `lost` and `all`, by `KeepingLemmas`.
 use Rattle.std.proofs.Common.{refl}
 use Rattle.std.proofs.lemmas.Bool.{false≢true}
 use Rattle.attr_sets.specs.Sets.{attributes}

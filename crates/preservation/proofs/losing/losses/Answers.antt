@@ -1,3 +1,5 @@
+-- What is left to prove of `losses`: its clause `keeps`, what `loss_of` requires, and that the
+-- invariant of its loop holds at first and stays, by `KnownLemmas` and `LossLemmas`.
 use Rattle.std.proofs.Common.{◌≡◌, ◌<◌, true, List, length, replicate, subst, sym, refl, ap, ◌∙◌}
 use Rattle.std.specs.Prelude.{All}
 use Rattle.dep_model.specs.declared.dep.Dep.{Dep}

@@ -1,3 +1,4 @@
+-- What the loop of `losses` keeps: `losses`, `known`, `schemes`, `switches` and `last`.
 use Rattle.std.proofs.Common.{◌≡◌, take}
 use Rattle.std.specs.Prelude.{All, IfSome}
 use Rattle.dep_model.specs.Plans.{schemes_of}

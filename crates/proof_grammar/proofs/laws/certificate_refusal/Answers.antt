@@ -1,3 +1,4 @@
+-- The law `certificate_refusal`, by `refused_there` and `refused_back`.
 use Rattle.proof_grammar.proofs.TextRefusals.{refused_there, refused_back}
 use Rattle.proof_grammar.proofs.laws.certificate_refusal.Goals as goal
 

@@ -1,3 +1,4 @@
+-- The law `line_meaning`, by `line_there` and `line_back`.
 use Rattle.proof_grammar.proofs.LineLaws.{line_there, line_back}
 use Rattle.proof_grammar.proofs.laws.line_meaning.Goals as goal
 

@@ -1,3 +1,4 @@
+-- The law `line_refusal`, by `refusal_law`.
 use Rattle.proof_grammar.proofs.LineRefusals.{refusal_law}
 use Rattle.proof_grammar.proofs.laws.line_refusal.Goals as goal
 

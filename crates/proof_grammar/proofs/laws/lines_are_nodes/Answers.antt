@@ -1,3 +1,4 @@
+-- The law `lines_are_nodes`, by `lines_count`.
 use Rattle.proof_grammar.proofs.CountLaws.{lines_count}
 use Rattle.proof_grammar.proofs.laws.lines_are_nodes.Goals as goal
 

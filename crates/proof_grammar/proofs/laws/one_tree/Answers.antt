@@ -1,3 +1,4 @@
+-- The law `one_tree`, by `one_tree`.
 use Rattle.proof_grammar.proofs.OneTree.{one_tree}
 use Rattle.proof_grammar.proofs.laws.one_tree.Goals as goal
 

@@ -1,3 +1,4 @@
+-- The law `printed_line_means`, by `PrintedLines`.
 use Rattle.proof_grammar.proofs.PrintedLines.{text_of_line, line_text_is, printed_means}
 use Rattle.proof_grammar.proofs.laws.printed_line_means.Goals as goal
 

@@ -1,3 +1,4 @@
+-- The law `printed_nodes`, by `lines_count` and `printed_nodes`.
 use Rattle.derivation.specs.Derivs.{tree_of}
 use Rattle.proof_grammar.proofs.CountLaws.{lines_count}
 use Rattle.proof_grammar.proofs.PrintedNodes.{printed_nodes}

@@ -1,3 +1,5 @@
+-- What is left to prove of `printed_spells`: its clauses `printed` and `answered`, by
+-- `printed_spells`.
 use Rattle.std.proofs.Common.{true, false}
 use Rattle.proof_grammar.proofs.PrintedSpells.{printed_spells}
 use Rattle.proof_grammar.proofs.laws.printed_spells.Goals as goal

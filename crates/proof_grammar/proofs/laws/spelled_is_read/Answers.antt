@@ -1,3 +1,4 @@
+-- The law `spelled_is_read`, by `spelled_there` and `spelled_back`.
 use Rattle.proof_grammar.proofs.CertificateLaws.{spelled_there, spelled_back}
 use Rattle.proof_grammar.proofs.laws.spelled_is_read.Goals as goal
 

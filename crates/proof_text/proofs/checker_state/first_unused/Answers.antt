@@ -1,3 +1,4 @@
+-- What is left to prove of `first_unused`: its clause `first`, by `first_len`.
 use Rattle.std.specs.Prelude.{option_map}
 use Rattle.std.proofs.lemmas.List.{length-map}
 use Rattle.proof_text.specs.Views.{opened_of}

@@ -1,3 +1,4 @@
+-- What is left to prove of `same_dependency`: its clause `decides`.
 use Rattle.std.proofs.Common.{◌≡◌, ◌↔◌, IsTrue, Bool, sym, subst}
 use Rattle.dep_model.specs.Deps.{dependency_of}
 use Rattle.proof_grammar.proofs.SameLemmas.{decides_same}

@@ -1,3 +1,5 @@
+-- What is left to prove of `add_lines`: its clause `added` and what `add_node`, `add_lines`,
+-- `stated_by_step` and `stated_by_pair` require, by `PrintingLemmas`.
 use Rattle.std.proofs.Common.{ap, refl, arith}
 use Rattle.std.proofs.lemmas.Result.{on_ok_weaker}
 use Rattle.dep_model.specs.Deps.{dependency_of}

@@ -1,3 +1,4 @@
+-- What grows less at each call of `add_lines`.
 use Rattle.derivation.specs.Trees.{nodes}
 use Rattle.derivation.specs.Derivs.{tree_of}
 use Rattle.proof_text.proofs.printing.+add_lines.Given as goal

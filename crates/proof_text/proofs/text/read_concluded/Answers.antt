@@ -1,3 +1,6 @@
+-- What is left to prove of `read_concluded`: its clauses `err`, `within`, `ok`, `concludes` and two
+-- more, what `read_one` requires, that the invariant of its loop holds at first and stays, that its
+-- loop ends, and that its sums fit, by `stated_within` and `line_within`.
 use Rattle.std.proofs.Common.{ap, arith, drop, length, length-drop, refl, subst, sym, true, ◌+◌, ◌-◌, ◌∙◌, ◌≡◌, ◌≤◌}
 use Rattle.std.proofs.lemmas.Bool.{cond_both}
 use Rattle.derivation.specs.Derivs.{tree_of}
@@ -19,15 +22,15 @@ use Rattle.proof_text.proofs.text.read_concluded.Goals as goal
 pub lines-init : goal.lines-init
 unfolding read_proof
 lines-init c = record {
-  same = ap (λ book. read_certificate_lines c.args.schema.now true 1 book (line_texts (without_mark c.args.text.now))) (sym c.new-book.ensures.empty)
-      ∙ ap (λ text. read_certificate_lines c.args.schema.now true 1 (checker_state_of c.new-book.result) (line_texts text)) (sym c.without_mark-rest.ensures.text);
+  same = ap (λ state. read_certificate_lines c.args.schema.now true 1 state (line_texts (without_mark c.args.text.now))) (sym c.new-state.ensures.empty)
+      ∙ ap (λ text. read_certificate_lines c.args.schema.now true 1 (checker_state_of c.new-state.result) (line_texts text)) (sym c.without_mark-rest.ensures.text);
   room =
       let text = c.args.text.now in
       let short : length (without_mark text) ≤ length text =
       cond_both _ (drop 3 text) text (λ t. length t ≤ length text) (λ marked. omega (arith, length-drop 3 text))
       (λ bare. omega arith) in
       omega (arith, short, ap length c.without_mark-rest.ensures.text);
-  checker_state = subst (IsCheckerState c.args.schema.now) (sym c.new-book.ensures.empty) (record { stand = tt {0}; count = refl; lines_fit = omega arith });
+  checker_state = subst (IsCheckerState c.args.schema.now) (sym c.new-state.ensures.empty) (record { stand = tt {0}; count = refl; lines_fit = omega arith });
 }
 
 pub read_one-requires-clause-fits_u32 : goal.read_one-requires-clause-fits_u32
@@ -58,7 +61,7 @@ returns-in-Ok-finish-clause-concludes c =
     let s = c.args.schema.now in
     let read = c.in-Ok-finish.read in
     let checker_state = read_one_keeps s _ _ _ _ _ c.lines.invariant.checker_state c.in-Ok.ensures.ok in
-    root_proves s (checker_state_of c.read_one.new.book) (tree_of read.deriv.value) (dependency_of read.dep) checker_state c.in-Ok-finish.ensures.root
+    root_proves s (checker_state_of c.read_one.new.state) (tree_of read.deriv.value) (dependency_of read.dep) checker_state c.in-Ok-finish.ensures.root
 
 pub returns-in-Ok-finish-clause-checked : goal.returns-in-Ok-finish-clause-checked
 unfolding read_certificate_lines

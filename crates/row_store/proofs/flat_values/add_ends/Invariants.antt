@@ -1,3 +1,4 @@
+-- What the loop of `add_ends` keeps: `room` and `ends`.
 use Rattle.std.proofs.Common.{◌≡◌, ◌+◌, ◌≤◌, ◌-◌, ◌++◌, length, map, take, vec_capacity}
 use Rattle.row_store.proofs.flat_values.add_ends.Given as goal
 

@@ -1,3 +1,4 @@
+-- What the loop of `copy_row` keeps, in terms of `row_at`.
 use Rattle.std.proofs.Common.{◌≡◌, take}
 use Rattle.row_store.specs.Rows.{row_at}
 use Rattle.row_store.proofs.rows.copy_row.Given as goal

@@ -1,3 +1,5 @@
+-- What is left to prove of `sample_rows`: its clauses `count`, `legal` and `differ` and that a
+-- round of its loop keeps the invariant, by `SampleLemmas`.
 use Rattle.std.proofs.Common.{◌≡◌, length, ap, arith}
 use Rattle.sample_rows.specs.Sample.{sample_relation}
 use Rattle.sample_rows.proofs.SampleLemmas.{person_more, row_count, rows_legal, rows_differ}

@@ -1,3 +1,4 @@
+-- What the loop of `sample_rows` keeps, in terms of `sample_relation`.
 use Rattle.std.proofs.Common.{◌≡◌}
 use Rattle.sample_rows.specs.Sample.{sample_relation}
 use Rattle.sample_rows.proofs.rows.sample_rows.Given as goal

@@ -1,3 +1,4 @@
+-- What is left to prove of `sample_schema`: what `new` requires, by `SchemaLemmas`.
 use Rattle.std.proofs.Common.{◌≡◌, length, ap, arith}
 use Rattle.sample_rows.specs.Sample.{sample_names}
 use Rattle.sample_rows.proofs.SchemaLemmas.{one_within, schema_valid, names_bare}

@@ -1,3 +1,4 @@
+-- The law `goal_diagnostic`, by `goal-diagnostic-law`.
 use Rattle.schema_grammar.proofs.DiagnosticLaws.{goal-diagnostic-law}
 use Rattle.schema_grammar.proofs.laws.goal_diagnostic.Goals as goal
 

@@ -1,3 +1,4 @@
+-- The law `goal_refusal`, by `goal-refusal-law`.
 use Rattle.schema_grammar.proofs.OneTextRefusal.{goal-refusal-law}
 use Rattle.schema_grammar.proofs.laws.goal_refusal.Goals as goal
 

@@ -1,3 +1,4 @@
+-- The law `line_diagnostic`, by `line-law`.
 use Rattle.schema_grammar.proofs.LinesLaws.{line-law}
 use Rattle.schema_grammar.proofs.laws.line_diagnostic.Goals as goal
 

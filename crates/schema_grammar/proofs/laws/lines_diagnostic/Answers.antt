@@ -1,3 +1,4 @@
+-- The law `lines_diagnostic`, by `lines-law`.
 use Rattle.schema_grammar.proofs.LinesLaws.{lines-law}
 use Rattle.schema_grammar.proofs.laws.lines_diagnostic.Goals as goal
 

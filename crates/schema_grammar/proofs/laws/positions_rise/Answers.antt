@@ -1,3 +1,4 @@
+-- The law `positions_rise`, by `positions-law`.
 use Rattle.schema_grammar.proofs.RiseLemmas.{positions-law}
 use Rattle.schema_grammar.proofs.laws.positions_rise.Goals as goal
 

@@ -1,3 +1,4 @@
+-- The law `schema_diagnostic`, by `text-law`.
 use Rattle.schema_grammar.proofs.TextLaws.{text-law}
 use Rattle.schema_grammar.proofs.laws.schema_diagnostic.Goals as goal
 

@@ -1,3 +1,4 @@
+-- The law `schema_meaning`, by `schema-law`.
 use Rattle.schema_grammar.proofs.SchemaLaws.{schema-law}
 use Rattle.schema_grammar.proofs.laws.schema_meaning.Goals as goal
 

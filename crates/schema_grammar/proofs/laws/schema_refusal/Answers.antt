@@ -1,3 +1,4 @@
+-- The law `schema_refusal`, by `schema-refusal-law`.
 use Rattle.schema_grammar.proofs.OneTextRefusal.{schema-refusal-law}
 use Rattle.schema_grammar.proofs.laws.schema_refusal.Goals as goal
 

@@ -1,3 +1,4 @@
+-- The law `set_diagnostic`, by `set-diagnostic-law`.
 use Rattle.schema_grammar.proofs.SetLaws.{set-diagnostic-law}
 use Rattle.schema_grammar.proofs.laws.set_diagnostic.Goals as goal
 

@@ -1,3 +1,5 @@
+-- What is left to prove of `carry_dependency`: what it answers in the cases `Fd` and `Mvd`, by
+-- `carry_attributes-is`.
 use Rattle.std.proofs.Common.{ap, ◌∙◌}
 use Rattle.attr_sets.specs.Attributes.{Attributes}
 use Rattle.attr_sets.specs.Sets.{attributes}

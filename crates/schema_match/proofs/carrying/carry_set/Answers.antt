@@ -1,3 +1,5 @@
+-- What is left to prove of `carry_set`: that a round of its loop keeps the invariant, by
+-- `namesake_member` and `namesake_outside`.
 use Rattle.std.proofs.Common.{refl, sym, ◌∙◌}
 use Rattle.attr_sets.specs.Sets.{attributes}
 use Rattle.schema_match.proofs.CarryLemmas.{namesake_member, namesake_outside}

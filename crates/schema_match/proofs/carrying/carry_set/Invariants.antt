@@ -1,3 +1,4 @@
+-- What the loop of `carry_set` keeps, in terms of `IsNamesakeTo`.
 use Rattle.std.proofs.Common.{◌≡◌, ℕ, ◌↔◌, true}
 use Rattle.attr_sets.specs.Sets.{attributes}
 use Rattle.schema_match.proofs.CarryLemmas.{IsNamesakeTo}

@@ -1,3 +1,5 @@
+-- What is left to prove of `differences`: its clauses `differences`, `none` and `inside`, what
+-- `is_implied` requires, and that a round of its loop keeps the invariant, by `DifferenceLemmas`.
 use Rattle.std.proofs.Common.{ℕ, ◌+◌, ◌≤◌, List, length, sym, ◌∙◌, ap, subst}
 use Rattle.std.proofs.lemmas.Bool.{false≢true}
 use Rattle.dep_model.specs.declared.dep.Dep.{Dep}

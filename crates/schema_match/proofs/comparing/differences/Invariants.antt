@@ -1,3 +1,4 @@
+-- What the loop of `differences` keeps: `AreDifferencesTo`.
 use Rattle.schema_match.proofs.DifferenceLemmas.{AreDifferencesTo}
 use Rattle.schema_match.proofs.comparing.differences.Given as goal
 

@@ -1,3 +1,4 @@
+-- What is left to prove of `is_implied`: what it answers in the case `Fd`.
 use Rattle.std.proofs.lemmas.Bool.{ltb-true}
 use Rattle.attr_sets.specs.Sets.{attributes}
 use Rattle.dep_model.specs.Schemas.{width_of, theory_of}

@@ -1,3 +1,4 @@
+-- The law `implied_both_ways`, by `have_same_legal_relations`.
 use Rattle.schema_match.proofs.MatchLemmas.{have_same_legal_relations}
 use Rattle.schema_match.proofs.laws.implied_both_ways.Goals as goal
 

@@ -1,3 +1,4 @@
+-- The law `obeyed_by_names`, by `obeys_there` and `obeys_back`.
 use Rattle.schema_match.proofs.MatchLemmas.{obeys_there, obeys_back}
 use Rattle.schema_match.proofs.laws.obeyed_by_names.Goals as goal
 

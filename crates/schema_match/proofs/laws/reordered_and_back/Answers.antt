@@ -1,3 +1,4 @@
+-- The law `reordered_and_back`, by `relation_again`.
 use Rattle.schema_match.proofs.MatchLemmas.{relation_again}
 use Rattle.schema_match.proofs.laws.reordered_and_back.Goals as goal
 

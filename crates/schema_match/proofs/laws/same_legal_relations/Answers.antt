@@ -1,3 +1,5 @@
+-- What is left to prove of `same_legal_relations`: its clauses `forward` and `backward`, by
+-- `implied_there` and `implied_back`.
 use Rattle.schema_match.proofs.MatchLemmas.{implied_there, implied_back}
 use Rattle.schema_match.proofs.laws.same_legal_relations.Goals as goal
 

@@ -1,3 +1,5 @@
+-- What is left to prove of `first_undeclared`: its clauses `none` and `least` and that a round of
+-- its loop keeps the invariant, by `attribute_named-name` and `undeclared_is`.
 use Rattle.std.proofs.Common.{◌≡◌, ℕ, ◌<◌, true, false, ⊎_elim, sym, ◌∙◌, ap, arith}
 use Rattle.std.proofs.lemmas.Bool.{cases_eq, true≢false}
 use Rattle.std.specs.Prelude.{is_none}

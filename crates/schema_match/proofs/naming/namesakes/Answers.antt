@@ -1,3 +1,5 @@
+-- What is left to prove of `namesakes`: what `unreachable` requires and that a round of its loop
+-- keeps the invariant, by `CarryLemmas` and `NameLemmas`.
 use Rattle.std.proofs.Common.{ℕ, ◌+◌, ◌<◌, List, sym, ◌∙◌, subst, arith}
 use Rattle.dep_model.specs.Schemas.{width_of}
 use Rattle.schema_match.proofs.NameLemmas.{attribute_named-name, not_declared}

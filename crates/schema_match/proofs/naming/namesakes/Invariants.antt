@@ -1,3 +1,4 @@
+-- What the loop of `namesakes` keeps: `AreNamesakesTo`.
 use Rattle.schema_match.proofs.CarryLemmas.{AreNamesakesTo}
 use Rattle.schema_match.proofs.naming.namesakes.Given as goal
 

@@ -1,3 +1,5 @@
+-- What is left to prove of `add_after`: what it answers, case by case, by `PrintLemmas` and
+-- `SpellingLemmas`.
 use Rattle.std.proofs.Common.{◌≡◌, ◌++◌, ◌∷◌, ◌-◌, [], true, false, ap, sym, ◌∙◌}
 use Rattle.std.specs.Prelude.{slice_index_or, if◌then◌else◌}
 use Rattle.dep_model.specs.declared.column_type.ColumnType.TheVariants.{Text}

@@ -1,3 +1,4 @@
+-- What is left to prove of `add_digit`: its clause `added`.
 use Rattle.std.proofs.Common.{◌++◌, ◌∙◌, ap, sym}
 use Rattle.std.proofs.lemmas.Fmt.{decimal_digit}
 use Rattle.schema_printer.proofs.printing.add_digit.Goals as goal

@@ -1,3 +1,5 @@
+-- What is left to prove of `add_names`: its clause `added` and that a round of its loop keeps the
+-- invariant, by `PrintLemmas` and `SpellingLemmas`.
 use Rattle.std.proofs.lemmas.List.{drop_all}
 use Rattle.std.proofs.Common.{◌≤◌, length, arith, append-nil, sym, ◌∙◌, ap, Some, append_assoc, ◌++◌, ◌∷◌, []}
 use Rattle.schema_printer.specs.Spelling.{spelling, printed_names_of}

@@ -1,3 +1,4 @@
+-- What the loop of `add_names` keeps, in terms of `printed_names_of` and `words_text`.
 use Rattle.std.proofs.Common.{◌≡◌, ◌++◌, drop}
 use Rattle.schema_printer.specs.Spelling.{printed_names_of}
 use Rattle.schema_printer.specs.Printing.{words_text}

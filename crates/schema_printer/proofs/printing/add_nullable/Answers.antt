@@ -1,3 +1,5 @@
+-- What is left to prove of `add_nullable`: what it answers, case by case, by `PrintLemmas` and
+-- `SpellingLemmas`.
 use Rattle.std.proofs.Common.{◌++◌, ◌∙◌, ◌≡◌, ◌<◌, ap, sym, subst, append-nil, [], true, false, length}
 use Rattle.std.proofs.lemmas.Bool.{false≢true}
 use Rattle.attr_sets.specs.Attributes.{Attributes, IsEmpty, IsSubset, below}
@@ -25,10 +27,10 @@ returns-else-is_empty c =
     let names = printed_names_of s in
     let within : IsSubset set (below (length names)) =
     subst (λ n. IsSubset set (below n)) (sym (length_printed s)) (subst (λ x. IsSubset x (below (length s.names.items))) (sym is) s.typed.nullable_within) in
-    let some : members_from set 0 names ≡ [] → ⊥ = λ none.
+    let any_written : members_from set 0 names ≡ [] → ⊥ = λ none.
     false≢true (sym c.if-is_empty.false ∙ c.is_empty.ensures.empty.1 (empty_from_members set names within none)) in
     record {
       added = added_as _ c.args.text.now.items _ _ _
-          (nullable_printed set names some ∙ ap (λ x. lines_text (nullable_lines (members_from x 0 names))) is)
+          (nullable_printed set names any_written ∙ ap (λ x. lines_text (nullable_lines (members_from x 0 names))) is)
           c.add_nullable_line.ensures.added;
     }

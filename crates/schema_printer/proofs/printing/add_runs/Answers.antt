@@ -1,3 +1,5 @@
+-- What is left to prove of `add_runs`: its clause `added` and that the invariant of its loop holds
+-- at first and stays, by `PrintLemmas` and `SpellingLemmas`.
 use Rattle.std.proofs.Common.{◌≡◌, ◌<◌, ◌≤◌, ◌+◌, ◌-◌, ◌++◌, ◌∷◌, [], Some, length, map, drop, get_or, subst, ap, sym, ◌∙◌, arith, refl, append_assoc}
 use Rattle.std.specs.Prelude.{slice_get}
 use Rattle.std.proofs.lemmas.List.{drop_all}
@@ -15,8 +17,8 @@ loop-attribute-init c =
     let types = types_of s in
     let names = printed_names_of s in
     runs_begin types names _ _ (get_or types 0 Text) (get_or names 0 [])
-    (slice_get-get_or types 0 Text (omega (arith, s.valid.some_names, s.typed.one_each)))
-    (slice_get-get_or names 0 [] (omega (arith, s.valid.some_names, length_printed s)))
+    (slice_get-get_or types 0 Text (omega (arith, s.valid.names_not_empty, s.typed.one_each)))
+    (slice_get-get_or names 0 [] (omega (arith, s.valid.names_not_empty, length_printed s)))
     c.in_ok-add_typed.ensures.added
 
 pub loop-attribute-preserved : goal.loop-attribute-preserved

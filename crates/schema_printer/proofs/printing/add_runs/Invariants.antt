@@ -1,3 +1,4 @@
+-- What the loop of `add_runs` keeps: `PrintsRuns`.
 use Rattle.std.proofs.Common.{◌-◌, ◌<◌, get_or}
 use Rattle.dep_model.specs.Schemas.{types_of}
 use Rattle.dep_model.specs.declared.column_type.ColumnType.TheVariants.{Text}

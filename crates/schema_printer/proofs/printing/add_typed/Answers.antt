@@ -1,3 +1,4 @@
+-- What is left to prove of `add_typed`: its clause `added`, by `PrintLemmas` and `SpellingLemmas`.
 use Rattle.std.proofs.Common.{◌≡◌, ◌++◌, ◌∷◌, [], ap, sym, ◌∙◌}
 use Rattle.std.specs.Prelude.{slice_index_or}
 use Rattle.dep_model.specs.declared.column_type.ColumnType.TheVariants.{Text}

@@ -1,3 +1,5 @@
+-- What is left to prove of `has_integers`: what it answers in one case and that a round of its loop
+-- keeps the invariant.
 use Rattle.std.proofs.Common.{sym, ◌∙◌, ap}
 use Rattle.std.proofs.lemmas.List.Folds.{list_any_at, list_any_more}
 use Rattle.std.proofs.lemmas.Option.{get_or_from_slice_get, slice_get_within}

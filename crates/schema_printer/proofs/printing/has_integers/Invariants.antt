@@ -1,3 +1,4 @@
+-- What the loop of `has_integers` keeps, in terms of `types_of` and `is_integer`.
 use Rattle.std.proofs.Common.{◌≡◌, take, false}
 use Rattle.dep_model.specs.Schemas.{types_of}
 use Rattle.std.specs.List.{list_any}

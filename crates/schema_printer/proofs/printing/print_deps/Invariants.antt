@@ -1,3 +1,4 @@
+-- What the loop of `print_deps` keeps, in terms of `dependencies_of` and `schema_text`.
 use Rattle.std.proofs.Common.{◌≡◌, take}
 use Rattle.dep_model.specs.Deps.{dependencies_of}
 use Rattle.schema_printer.specs.Printing.{schema_text}

@@ -1,3 +1,5 @@
+-- What is left to prove of `follow`: its clause `err`, what it answers in the case `End`, and that
+-- a round of its loop keeps the invariant, by `FollowLemmas`.
 use Rattle.std.proofs.Common.{◌∙◌, refl}
 use Rattle.schema_grammar.proofs.RefusalLemmas.{ok_whole, err_whole}
 use Rattle.dep_model.specs.Deps.{dependency_of}

@@ -1,3 +1,5 @@
+-- What the loop of `follow` keeps, in terms of `follow_rest`, `reached_of`, `names_in` and two
+-- more; and by what it ends.
 use Rattle.std.proofs.Common.{◌≡◌}
 use Rattle.schema_grammar.specs.Reading.{follow_rest}
 use Rattle.schema_reader.specs.Views.{reached_of}

@@ -1,3 +1,4 @@
+-- What is left to prove of `read_goal`: its clauses `ok`, `err` and `within`.
 use Rattle.std.proofs.Common.{◌≡◌, ap, sym}
 use Rattle.dep_model.specs.Dependencies.{IsWithin}
 use Rattle.dep_model.specs.Deps.{dependency_of}

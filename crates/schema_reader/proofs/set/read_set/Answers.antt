@@ -1,3 +1,4 @@
+-- What is left to prove of `read_set`: what it answers in the cases `Ok` and `Err`.
 use Rattle.std.proofs.Common.{◌∙◌, ℕ, List, sym, subst, ap, Result, Ok}
 use Rattle.attr_sets.specs.Attributes.{Attributes, IsSubset}
 use Rattle.dep_model.specs.Dependencies.{Dependency, IsWithin, right_of}

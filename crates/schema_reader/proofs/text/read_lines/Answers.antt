@@ -1,3 +1,5 @@
+-- What is left to prove of `read_lines`: its clauses `err` and `ok` and that a round of its loop
+-- keeps the invariant.
 use Rattle.std.proofs.Common.{◌≡◌, ◌+◌, ◌-◌, refl, arith}
 use Rattle.schema_grammar.specs.Texts.{read_lines}
 use Rattle.schema_grammar.proofs.RefusalLemmas.{ok_at, refuses_whole, Refuses-whole}
@@ -36,6 +38,6 @@ lines-preserved c =
     record {
       same = rw (c.lines.invariant.same, cut.lines, c.in-Ok.ensures.ok) refl;
       sound = better;
-      few = better.few_names;
+      within_limit = better.names_within_limit;
       room = omega (arith, c.lines.invariant.room, cut.shorter);
     }

@@ -1,3 +1,4 @@
+-- What the loop of `read_lines` keeps: `Reads`; and by what it ends.
 use Rattle.std.proofs.Common.{length}
 use Rattle.schema_reader.specs.Views.{declarations_of_draft}
 use Rattle.schema_reader.proofs.TextLemmas.{Reads}

@@ -1,3 +1,5 @@
+-- What is left to prove of `read_opening`: what it answers, case by case and that a round of its
+-- loop keeps the invariant, by `TextLemmas`.
 use Rattle.std.proofs.Common.{◌+◌, ◌∙◌, [], sym, ap, refl, arith}
 use Rattle.schema_reader.specs.Views.{declarations_of_draft}
 use Rattle.schema_grammar.specs.Texts.{finish, read_opening}

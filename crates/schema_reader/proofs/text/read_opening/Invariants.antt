@@ -1,3 +1,4 @@
+-- What the loop of `read_opening` keeps: `Opens`; and by what it ends.
 use Rattle.std.proofs.Common.{length}
 use Rattle.schema_reader.proofs.TextLemmas.{Opens}
 use Rattle.schema_reader.proofs.text.read_opening.Given as goal

@@ -1,3 +1,5 @@
+-- What is left to prove of `read_schema`: its clauses `err`, `deps`, `ok` and `not_reserved` and
+-- what `with_columns` requires.
 use Rattle.std.specs.List.{All}
 use Rattle.schema_grammar.specs.Words.{is_reserved}
 use Rattle.schema_grammar.specs.declared.format.Format.TheVariants as format
@@ -13,7 +15,7 @@ use Rattle.schema_grammar.specs.Texts.{read_text, read_opening, declarations_of}
 use Rattle.schema_grammar.proofs.RefusalLemmas.{ok_at}
 use Rattle.schema_grammar.proofs.SchemaLaws.{schema-law}
 use Rattle.schema_grammar.proofs.TextLaws.{schema_refused}
-use Rattle.schema_grammar.proofs.SoundLemmas.{IsWhole, opening_whole, forms_schema, forms_columns, whole_free}
+use Rattle.schema_grammar.proofs.SoundLemmas.{IsWhole, opening_is_whole, forms_schema, forms_columns, whole_not_reserved}
 use Rattle.schema_reader.proofs.text.read_schema.Goals as goal
 
 pub returns-in-Err-clause-err : goal.returns-in-Err-clause-err
@@ -24,17 +26,17 @@ returns-in-Err-clause-err c =
 
 pub with_columns-requires-clause-schema : goal.with_columns-requires-clause-schema
 with_columns-requires-clause-schema c =
-    forms_schema (declarations_of_draft c.in-Ok.draft) _ (ok_at IsWhole _ _ c.in-Ok.ensures.ok (opening_whole _ _)) refl
+    forms_schema (declarations_of_draft c.in-Ok.draft) _ (ok_at IsWhole _ _ c.in-Ok.ensures.ok (opening_is_whole _ _)) refl
 
 pub with_columns-requires-clause-columns : goal.with_columns-requires-clause-columns
 with_columns-requires-clause-columns c =
-    let whole = ok_at IsWhole _ _ c.in-Ok.ensures.ok (opening_whole _ _) in
+    let whole = ok_at IsWhole _ _ c.in-Ok.ensures.ok (opening_is_whole _ _) in
     AreDeclared-bare _ _ _ whole.sound.proper (forms_columns (declarations_of_draft c.in-Ok.draft) whole) (same_at c.empty-nullable.ensures.members)
 
 pub returns-clause-deps : goal.returns-clause-deps
 returns-clause-deps c =
-    let whole = ok_at IsWhole _ _ c.in-Ok.ensures.ok (opening_whole _ _) in
-    omega (arith, whole.sound.few_deps, length-map c.in-Ok.draft.deps.items dependency_of, ap length c.with_columns.ensures.deps)
+    let whole = ok_at IsWhole _ _ c.in-Ok.ensures.ok (opening_is_whole _ _) in
+    omega (arith, whole.sound.deps_within_limit, length-map c.in-Ok.draft.deps.items dependency_of, ap length c.with_columns.ensures.deps)
 
 pub returns-clause-ok : goal.returns-clause-ok
 unfolding read_text
@@ -53,4 +55,4 @@ returns-clause-ok c =
 pub returns-clause-not_reserved : goal.returns-clause-not_reserved
 returns-clause-not_reserved c =
     let of : List (List ℕ) → Type 0 = λ names. All (λ name. is_reserved format.Plain name ≡ false) names in
-    subst of (sym c.with_columns.ensures.names) (whole_free (declarations_of_draft c.in-Ok.draft) (ok_at IsWhole _ _ c.in-Ok.ensures.ok (opening_whole _ _)))
+    subst of (sym c.with_columns.ensures.names) (whole_not_reserved (declarations_of_draft c.in-Ok.draft) (ok_at IsWhole _ _ c.in-Ok.ensures.ok (opening_is_whole _ _)))

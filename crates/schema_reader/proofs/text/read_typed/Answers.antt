@@ -1,3 +1,4 @@
+-- What is left to prove of `read_typed`: its clauses `ok` and `err`.
 use Rattle.std.proofs.Common.{◌≡◌, ◌+◌, ◌-◌, sym, ap, arith}
 use Rattle.schema_reader.specs.Views.{declarations_of_draft}
 use Rattle.schema_grammar.specs.Texts.{finish, read_lines}

@@ -1,3 +1,4 @@
+-- What is left to prove of `cut_at`: its clause `cut`, by `cut_list`.
 use Rattle.std.proofs.Common.{◌≡◌, subst}
 use Rattle.attr_sets.specs.Attributes.{difference}
 use Rattle.attr_sets.specs.Sets.{attributes}

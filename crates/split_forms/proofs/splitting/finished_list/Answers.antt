@@ -1,3 +1,6 @@
+-- What is left to prove of `finished_list`: its clauses `refused`, `finished` and `within_limits`,
+-- what `found_outcome` requires, that a round of its loop keeps the invariant, and that its loop
+-- ends, by `SplitLemmas` and `WalkLemmas`.
 use Rattle.std.proofs.Common.{◌<◌, ◌≤◌, length, sym, subst, arith}
 use Rattle.std.proofs.lemmas.List.{length-map}
 use Rattle.attr_sets.specs.Sets.{attributes}
@@ -7,13 +10,13 @@ use Rattle.dep_model.specs.Schemas.{width_of, theory_of}
 use Rattle.split_forms.specs.declared.outcome.Outcome.{Outcome}
 use Rattle.split_forms.specs.Outcomes.{IsOutcome}
 use Rattle.split_forms.specs.Splitting.{StaysWhole, IsCutBy, IsStuckScheme, IsTooWideAt, HasTooManySchemes}
-use Rattle.split_forms.proofs.SplitLemmas.{stuck_few, finished_few, finished_not_stuck}
+use Rattle.split_forms.proofs.SplitLemmas.{stuck_within_limit, finished_within_limit, finished_not_stuck}
 use Rattle.split_forms.proofs.WalkLemmas.{walk_on, walk_many, walk_cut, walk_stuck, walk_within, walk_end}
 use Rattle.split_forms.proofs.splitting.finished_list.Goals as goal
 use Rattle.split_forms.proofs.splitting.finished_list.Goals.{In-Cut}
 
-some_attributes : (s : Schema) → 0 < width_of s
-some_attributes s = s.valid.some_names
+attributes_not_empty : (s : Schema) → 0 < width_of s
+attributes_not_empty s = s.valid.names_not_empty
 
 -- the scheme is cut by what was found
 is_cut : (c : In-Cut) → IsCutBy (width_of c.args.schema.now) (theory_of c.args.schema.now) c.args.form (attributes c.index-scheme.result.now) (attributes c.in-Cut.breach.lhs) (attributes c.in-Cut.breach.rhs)
@@ -26,7 +29,7 @@ found_outcome-requires-clause-scheme c =
     let s = c.args.schema.now in
     walk_within (width_of s) (theory_of s) c.args.form c.loop-at.schemes.items c.loop-at.at c.index-scheme.result.now
     (omega arith) (sym c.index-scheme.ensures) c.loop-at.invariant.walked
-    (some_attributes s) c.requires.form
+    (attributes_not_empty s) c.requires.form
 
 pub loop-at-preserved-in-Whole : goal.loop-at-preserved-in-Whole
 loop-at-preserved-in-Whole c =
@@ -38,7 +41,7 @@ loop-at-preserved-in-Whole c =
     record {
       walked = walk_on (width_of s) (theory_of s) c.args.form c.loop-at.schemes.items c.loop-at.at scheme
           (omega arith) (sym c.index-scheme.ensures) c.loop-at.invariant.walked stays;
-      few = c.loop-at.invariant.few;
+      within_limit = c.loop-at.invariant.within_limit;
       tried = c.in_ok-found_outcome.ensures.tried;
     }
 
@@ -53,8 +56,8 @@ returns-in-Stuck-clause-refused c =
     c.in_ok-found_outcome.ensures.outcome in
     let wide : IsTooWideAt n ds c.args.form c.args.limit (attributes scheme) =
     walk_stuck n ds c.args.form c.loop-at.schemes.items c.loop-at.at scheme (omega arith) (sym c.index-scheme.ensures)
-    c.loop-at.invariant.walked c.args.limit c.loop-at.invariant.few stuck in
-    (wide, stuck_few n ds c.args.form (some_attributes s) c.requires.form c.args.limit (attributes scheme) wide)
+    c.loop-at.invariant.walked c.args.limit c.loop-at.invariant.within_limit stuck in
+    (wide, stuck_within_limit n ds c.args.form (attributes_not_empty s) c.requires.form c.args.limit (attributes scheme) wide)
 
 pub returns-then-len-most-clause-refused : goal.returns-then-len-most-clause-refused
 returns-then-len-most-clause-refused c =
@@ -67,8 +70,8 @@ returns-then-len-most-clause-refused c =
     let many : HasTooManySchemes n ds c.args.form c.args.limit =
     walk_many n ds c.args.form c.loop-at.schemes.items c.loop-at.at scheme (omega arith) (sym c.index-scheme.ensures)
     c.loop-at.invariant.walked (attributes breach.lhs) (attributes breach.rhs) cut c.args.limit
-    c.loop-at.invariant.few (omega arith) in
-    (many, λ other wide. stuck_few n ds c.args.form (some_attributes s) c.requires.form c.args.limit other wide many)
+    c.loop-at.invariant.within_limit (omega arith) in
+    (many, λ other wide. stuck_within_limit n ds c.args.form (attributes_not_empty s) c.requires.form c.args.limit other wide many)
 
 pub loop-at-preserved : goal.loop-at-preserved
 loop-at-preserved c =
@@ -83,7 +86,7 @@ loop-at-preserved c =
     c.cut_at.new.schemes.items c.in_ok-cut_at-in-Cut.ensures.cut in
     record {
       walked = made.0;
-      few = omega (arith, made.1, c.if-len-most.false, c.len-in-Cut.ensures);
+      within_limit = omega (arith, made.1, c.if-len-most.false, c.len-in-Cut.ensures);
       tried = c.in_ok-found_outcome.ensures.tried;
     }
 
@@ -103,7 +106,7 @@ loop-at-smaller c =
       made.1,
       c.if-len-most.false,
       c.len-in-Cut.ensures,
-      c.loop-at.invariant.few,
+      c.loop-at.invariant.within_limit,
       c.loop-at.invariant.walked.inside,
     )
 
@@ -120,9 +123,9 @@ returns-clause-within_limits c =
     let ds = theory_of s in
     let all = c.loop-at.schemes.items in
     let finished = walk_end n ds c.args.form all c.loop-at.at (omega arith) c.loop-at.invariant.walked in
-    let few : length (schemes_of all) ≤ c.args.limit = omega (arith, c.loop-at.invariant.few, length-map all attributes) in
+    let within_limit : length (schemes_of all) ≤ c.args.limit = omega (arith, c.loop-at.invariant.within_limit, length-map all attributes) in
     record {
-      narrow = λ scheme wide. finished_not_stuck n ds c.args.form (some_attributes s) c.requires.form (schemes_of all)
+      narrow = λ scheme wide. finished_not_stuck n ds c.args.form (attributes_not_empty s) c.requires.form (schemes_of all)
           c.args.limit scheme finished wide;
-      few = finished_few n ds c.args.form (some_attributes s) c.requires.form (schemes_of all) c.args.limit finished few;
+      within_limit = finished_within_limit n ds c.args.form (attributes_not_empty s) c.requires.form (schemes_of all) c.args.limit finished within_limit;
     }

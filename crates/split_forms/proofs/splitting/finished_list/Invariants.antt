@@ -1,3 +1,5 @@
+-- What the loop of `finished_list` keeps: `walked`, `within_limit` and `tried`; and by what it
+-- ends.
 use Rattle.std.proofs.Common.{◌+◌, ◌-◌, ◌*◌, ◌≤◌, length}
 use Rattle.dep_model.specs.Schemas.{width_of, theory_of}
 use Rattle.split_forms.specs.Outcomes.{AreTried}
@@ -7,7 +9,7 @@ use Rattle.split_forms.proofs.splitting.finished_list.Given as goal
 abbrev pub invariant-loop-at : goal.invariant-loop-at
 invariant-loop-at l = record {
   walked : IsWalkedTo (width_of l.schema) (theory_of l.schema) l.form l.schemes.items l.at;
-  few : length l.schemes.items ≤ l.limit;
+  within_limit : length l.schemes.items ≤ l.limit;
   tried : AreTried (width_of l.schema) (theory_of l.schema) l.form l.tried.items;
 }
 

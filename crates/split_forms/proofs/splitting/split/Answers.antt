@@ -1,3 +1,5 @@
+-- What is left to prove of `split`: its clauses `never_too_many`, `lossless` and `in_form` and what
+-- `new` requires, by `SplitLemmas` and `WalkLemmas`.
 use Rattle.std.proofs.Common.{◌≡◌, ℕ, ◌-◌, ◌^◌, ◌<◌, ◌≤◌, List, sym, subst, arith}
 use Rattle.std.specs.Prelude.{Result, Err, IfErr, All, Contains}
 use Rattle.std.proofs.lemmas.List.Elements.{All-weaker, All-contains, All-map}
@@ -24,28 +26,28 @@ use Rattle.split_forms.proofs.SplitLemmas.{lists_lossless, too_many_short}
 use Rattle.split_forms.proofs.WalkLemmas.{reached_plan}
 use Rattle.split_forms.proofs.splitting.split.Goals as goal
 
-some_attributes : (s : Schema) → 0 < width_of s
-some_attributes s = s.valid.some_names
+attributes_not_empty : (s : Schema) → 0 < width_of s
+attributes_not_empty s = s.valid.names_not_empty
 
 never : (n : ℕ) (ds : List Dependency) (form : Form) (limit : ℕ) (result : Result Plan (Failure SplitRefusal)) → 0 < n
     → (form ≡ Third → ⊥) → IfErr result (RefusesAs (IsRefusedSplit n ds form limit))
     → 2 ^ (n - 1) ≤ limit → result ≡ Err (Refused TooManySchemes) → ⊥
-never n ds form limit result some split refused large is =
+never n ds form limit result not_empty split refused large is =
     let many : IsRefusedSplit n ds form limit TooManySchemes =
     subst (λ (r : Result Plan (Failure SplitRefusal)). IfErr r (RefusesAs (IsRefusedSplit n ds form limit))) is refused in
-    absurd (omega (arith, too_many_short n ds form some split limit many.0, large))
+    absurd (omega (arith, too_many_short n ds form not_empty split limit many.0, large))
 
 pub returns-in-Err-clause-never_too_many : goal.returns-in-Err-clause-never_too_many
 returns-in-Err-clause-never_too_many c large is =
     let s = c.args.schema.now in
-    never (width_of s) (theory_of s) c.args.form c.args.limit (Err c.in-Err.failure) (some_attributes s) c.requires.form
+    never (width_of s) (theory_of s) c.args.form c.args.limit (Err c.in-Err.failure) (attributes_not_empty s) c.requires.form
     c.in-Err.ensures.refused large is
 
 pub new-requires : goal.new-requires
 new-requires c =
     let s = c.args.schema.now in
     record {
-      plan = reached_plan (width_of s) (theory_of s) c.args.form (schemes_of c.in-Ok.schemes.items) (some_attributes s)
+      plan = reached_plan (width_of s) (theory_of s) c.args.form (schemes_of c.in-Ok.schemes.items) (attributes_not_empty s)
           c.requires.form c.in-Ok.ensures.finished.reached;
     }
 
@@ -55,7 +57,7 @@ returns-in-Ok-clause-lossless c =
     let all = c.in-Ok.schemes.items in
     c.drop_contained.ensures.lossless (theory_of s)
     (subst (λ (xs : List AttrSet). IsLossless (width_of s) (theory_of s) (schemes_of xs)) (sym c.new.ensures.schemes)
-    (lists_lossless (width_of s) (theory_of s) c.args.form (some_attributes s) c.requires.form (schemes_of all)
+    (lists_lossless (width_of s) (theory_of s) c.args.form (attributes_not_empty s) c.requires.form (schemes_of all)
     c.in-Ok.ensures.finished.reached))
 
 pub returns-in-Ok-clause-in_form : goal.returns-in-Ok-clause-in_form

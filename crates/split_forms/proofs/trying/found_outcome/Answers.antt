@@ -1,3 +1,4 @@
+-- What is left to prove of `found_outcome`: its clause `outcome`.
 use Rattle.std.proofs.Common.{List, sym, subst}
 use Rattle.std.proofs.lemmas.List.Elements.{All-contains}
 use Rattle.attr_sets.specs.Attributes.{Attributes}

@@ -1,3 +1,5 @@
+-- What is left to prove of `hold_superkey`: its clause `superkey` and that the invariant of its
+-- loop holds at first and stays, by `none_more`.
 use Rattle.std.proofs.Common.{true, false, List, take_all, sym, subst, ◌∙◌, arith}
 use Rattle.std.proofs.lemmas.Bool.{false≢true}
 use Rattle.attr_sets.specs.declared.set.AttrSet.{AttrSet}
@@ -26,7 +28,7 @@ returns c =
     let s = c.args.schema.now in
     record {
       superkey = (
-        λ told. absurd (false≢true told),
+        λ fact. absurd (false≢true fact),
         λ found. absurd (c.loop-scheme.invariant (subst (λ (xs : List AttrSet). HoldSuperkey (width_of s) (theory_of s) (schemes_of xs)) (sym (take_all c.loop-scheme.scheme-index c.args.schemes.now c.loop-scheme-test.false)) found)),
       );
     }

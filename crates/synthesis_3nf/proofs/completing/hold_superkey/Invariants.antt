@@ -1,3 +1,4 @@
+-- What the loop of `hold_superkey` keeps: `HoldSuperkey`.
 use Rattle.std.proofs.Common.{take}
 use Rattle.dep_model.specs.Schemas.{width_of, theory_of}
 use Rattle.dep_model.specs.Plans.{schemes_of}

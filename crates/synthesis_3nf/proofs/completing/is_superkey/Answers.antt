@@ -1,3 +1,4 @@
+-- What is left to prove of `is_superkey`: its clause `superkey`.
 use Rattle.std.proofs.Common.{◌≡◌, ◌↔◌, List, sym, subst, ap, ◌∙◌}
 use Rattle.std.specs.Prelude.{All, IsTrue}
 use Rattle.attr_sets.specs.Attributes.{Attributes, below, IsSubset}
@@ -26,7 +27,7 @@ returns c =
     (c.follows.ensures.implied n within x_in u_in)) in
     record {
       superkey = (
-        λ told. superkey-from n ds (below n) x x_in (decides.0 told),
+        λ fact. superkey-from n ds (below n) x x_in (decides.0 fact),
         λ is. decides.1 (fd_on-to n ds (below n) x (below n) is),
       );
     }

@@ -1,3 +1,4 @@
+-- What is left to prove of `universe_key`: its clause `greedy`.
 use Rattle.std.proofs.Common.{◌≡◌, List, sym, subst, ap, ◌∙◌}
 use Rattle.std.specs.Prelude.{All}
 use Rattle.attr_sets.specs.Attributes.{Attributes, below, IsSubset}
@@ -20,5 +21,5 @@ returns c =
     record {
       greedy = subst (λ (u : Attributes). IsGreedyKey n (functional_part (theory_of s)) u key) universe
           (subst (λ (es : List Dep). IsGreedyKey n (functional_part (dependencies_of es)) (attributes c.full.result) key) c.deps.ensures.deps
-          (c.functional_key.ensures.settled n within u_in));
+          (c.functional_key.ensures.greedy n within u_in));
     }

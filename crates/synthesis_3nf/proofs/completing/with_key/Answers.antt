@@ -1,3 +1,4 @@
+-- What is left to prove of `with_key`: its clause `completed`.
 use Rattle.std.proofs.Common.{◌↔◌, true, false, List, [], ◌∷◌, sym, subst, ap, ◌∙◌, inl, inr}
 use Rattle.std.specs.Prelude.{IsTrue}
 use Rattle.std.proofs.lemmas.List.{map-append}
@@ -16,16 +17,16 @@ returns c =
     let n = width_of s in
     let ds = theory_of s in
     let old = c.args.schemes.items in
-    let told : IsTrue c.hold_superkey.result ↔ HoldSuperkey n ds (schemes_of old) =
+    let fact : IsTrue c.hold_superkey.result ↔ HoldSuperkey n ds (schemes_of old) =
     subst (λ (xs : List AttrSet). IsTrue c.hold_superkey.result ↔ HoldSuperkey n ds (schemes_of xs)) c.deref.ensures.value c.hold_superkey.ensures.superkey in
     record {
       completed = elim c.if-not-hold_superkey.branch [
         | then-not-hold_superkey+in_ok-push w ↦ inr (record {
-          none = λ holds. false≢true (sym w.if-not-hold_superkey.true ∙ told.1 holds);
+          none = λ holds. false≢true (sym w.if-not-hold_superkey.true ∙ fact.1 holds);
           key = attributes w.universe_key.result;
           greedy = w.universe_key.ensures.greedy;
           last = ap (λ v. schemes_of v.items) w.schemes-is ∙ ap (λ (xs : List AttrSet). schemes_of xs) w.in_ok-push.ensures.items ∙ map-append attributes old (w.universe_key.result ∷ []);
         })
-        | else-not-hold_superkey w ↦ inl (told.0 w.if-not-hold_superkey.false, ap (λ v. schemes_of v.items) w.schemes-is)
+        | else-not-hold_superkey w ↦ inl (fact.0 w.if-not-hold_superkey.false, ap (λ v. schemes_of v.items) w.schemes-is)
       ];
     }

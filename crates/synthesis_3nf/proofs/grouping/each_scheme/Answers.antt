@@ -1,3 +1,5 @@
+-- What is left to prove of `each_scheme`: its clause `schemes` and that the invariant of its loop
+-- holds at first and stays, by `schemes_more`.
 use Rattle.std.proofs.Common.{◌≡◌, ◌<◌, List, map, take_all, length, refl, subst}
 use Rattle.attr_sets.specs.declared.set.AttrSet.{AttrSet}
 use Rattle.dep_model.specs.Deps.{dependencies_of}

@@ -1,3 +1,5 @@
+-- What the loop of `each_scheme` keeps, in terms of `dependencies_of`, `schemes_of` and
+-- `group_scheme`.
 use Rattle.std.proofs.Common.{◌≡◌, map, take}
 use Rattle.dep_model.specs.Deps.{dependencies_of}
 use Rattle.dep_model.specs.Plans.{schemes_of}

@@ -1,3 +1,5 @@
+-- What is left to prove of `group_scheme`: its clause `scheme` and that the invariant of its loop
+-- holds at first and stays, by `group_scheme-take_next`.
 use Rattle.std.proofs.Common.{◌<◌, length, sym, take_all}
 use mathlib.Core.Path.{fun_ext}
 use Rattle.std.proofs.Math.Bool.{or-false}

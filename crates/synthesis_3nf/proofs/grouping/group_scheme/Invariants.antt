@@ -1,3 +1,4 @@
+-- What the loop of `group_scheme` keeps, in terms of `dependencies_of` and `group_scheme`.
 use Rattle.std.proofs.Common.{◌≡◌, take}
 use Rattle.attr_sets.specs.Sets.{attributes}
 use Rattle.dep_model.specs.Deps.{dependencies_of}

@@ -1,3 +1,4 @@
+-- What is left to prove of `group_schemes`: its clause `grouped`.
 use Rattle.std.proofs.Common.{◌≡◌, List, map, ap, ◌∙◌}
 use Rattle.std.proofs.lemmas.Result.{IfOk-weaker}
 use Rattle.attr_sets.specs.declared.set.AttrSet.{AttrSet}

@@ -1,3 +1,5 @@
+-- What is left to prove of `left_sides`: its clause `lefts` and that the invariant of its loop
+-- holds at first and stays, by `lefts_passed` and `lefts_added`.
 use Rattle.std.proofs.Common.{◌≡◌, ◌+◌, ◌<◌, suc, true, false, List, [], ◌++◌, length, drop, refl, sym, ap, subst, ◌∙◌, arith}
 use Rattle.std.proofs.lemmas.List.{drop_all, append-nil}
 use Rattle.std.specs.List.{list_any}
@@ -24,14 +26,14 @@ loop-dep-preserved c =
     let left = c.sides.result.0 in
     let lt : i < length deps = c.loop-dep-test.true in
     let next : i + 1 ≡ suc i = omega arith in
-    let told = subst (λ (xs : List AttrSet). c.is_among.result ≡ list_any (λ o. is_same (attributes o) (attributes left)) xs) c.deref.ensures.value c.is_among.ensures.among in
+    let fact = subst (λ (xs : List AttrSet). c.is_among.result ≡ list_any (λ o. is_same (attributes o) (attributes left)) xs) c.deref.ensures.value c.is_among.ensures.among in
     elim c.if-not-is_among.branch [
       | then-not-is_among+in_ok-push w ↦
           subst (λ (xs : List AttrSet). AreLeftsTo deps xs (i + 1)) (sym (ap (λ v. v.items) w.lefts-is ∙ w.in_ok-push.ensures.items))
-          (lefts_added deps lefts i (i + 1) first left next lt c.loop-dep.invariant c.sides.ensures.left (sym told ∙ w.if-not-is_among.true))
+          (lefts_added deps lefts i (i + 1) first left next lt c.loop-dep.invariant c.sides.ensures.left (sym fact ∙ w.if-not-is_among.true))
       | else-not-is_among w ↦
           subst (λ (xs : List AttrSet). AreLeftsTo deps xs (i + 1)) (sym (ap (λ v. v.items) w.lefts-is))
-          (lefts_passed deps lefts i (i + 1) first left next lt c.loop-dep.invariant c.sides.ensures.left (sym told ∙ w.if-not-is_among.false))
+          (lefts_passed deps lefts i (i + 1) first left next lt c.loop-dep.invariant c.sides.ensures.left (sym fact ∙ w.if-not-is_among.false))
     ]
 
 pub returns : goal.returns

@@ -1,3 +1,5 @@
+-- What the loop of `left_sides` keeps, in terms of `dependencies_of`, `schemes_of` and
+-- `left_sides_after`.
 use Rattle.std.proofs.Common.{◌≡◌, [], ◌++◌, drop}
 use Rattle.dep_model.specs.Deps.{dependencies_of}
 use Rattle.dep_model.specs.Plans.{schemes_of}

@@ -1,3 +1,5 @@
+-- What is left to prove of `synthesize`: its clauses `grouped`, `lossless`, `third` and `keeps` and
+-- what `with_key` and `new` require, by `CompleteLemmas` and `GroupLemmas`.
 use Rattle.std.proofs.Common.{◌≡◌, ◌≤◌, ◌<◌, true, List, sym, subst, ap, ◌∙◌}
 use Rattle.std.specs.Prelude.{All, Contains}
 use Rattle.std.specs.List.{list_any}
@@ -28,11 +30,11 @@ record IsCovered (s : Schema) (cover : List Dep) : Type 0 where
   minimal : IsMinimalCover (width_of s) (theory_of s) (dependencies_of cover)
   within : All (IsDepWithin (below (width_of s))) cover
 
-few_attributes : (s : Schema) → width_of s ≤ MOST_ATTRIBUTES
-few_attributes s = s.valid.few_names
+attributes_within_limit : (s : Schema) → width_of s ≤ MOST_ATTRIBUTES
+attributes_within_limit s = s.valid.names_within_limit
 
-some_attributes : (s : Schema) → 0 < width_of s
-some_attributes s = s.valid.some_names
+attributes_not_empty : (s : Schema) → 0 < width_of s
+attributes_not_empty s = s.valid.names_not_empty
 
 members_within : (s : Schema) (cover : List Dep) → IsCovered s cover → All (IsWithin (below (width_of s))) (dependencies_of cover)
 members_within s cover is = dependencies_all-from (IsWithin (below (width_of s))) cover is.within
@@ -41,7 +43,7 @@ members_within s cover is = dependencies_all-from (IsWithin (below (width_of s))
 groups_within : (s : Schema) (cover : List Dep) (groups : List AttrSet) → IsCovered s cover → schemes_of groups ≡ schemes_of_groups (dependencies_of cover) → All (λ scheme. IsSubset (attributes scheme) (below (width_of s))) groups
 groups_within s cover groups is are =
     All-weaker (λ (g : AttrSet). Contains groups g) (λ (g : AttrSet). IsSubset (attributes g) (below (width_of s)))
-    (λ g has. (groups_are (width_of s) (few_attributes s) (dependencies_of cover) is.minimal.single (members_within s cover is) (attributes g)
+    (λ g has. (groups_are (width_of s) (attributes_within_limit s) (dependencies_of cover) is.minimal.single (members_within s cover is) (attributes g)
     (subst (λ (xs : List Attributes). Contains xs (attributes g)) are (Contains-map attributes groups g has))).2)
     groups (All-contains_itself groups)
 
@@ -49,7 +51,7 @@ groups_within s cover groups is are =
 synthesized : (s : Schema) (cover : List Dep) (groups all : List AttrSet) → IsCovered s cover → schemes_of groups ≡ schemes_of_groups (dependencies_of cover)
     → IsWithKey (width_of s) (theory_of s) (schemes_of groups) (schemes_of all) → IsSynthesized (width_of s) (theory_of s) (dependencies_of cover) (schemes_of all)
 synthesized s cover groups all is are completed =
-    whole (width_of s) (theory_of s) (dependencies_of cover) (few_attributes s) (some_attributes s) is.minimal (members_within s cover is) (schemes_of all)
+    whole (width_of s) (theory_of s) (dependencies_of cover) (attributes_within_limit s) (attributes_not_empty s) is.minimal (members_within s cover is) (schemes_of all)
     (subst (λ (xs : List Attributes). IsWithKey (width_of s) (theory_of s) xs (schemes_of all)) are completed)
 
 pub with_key-requires : goal.with_key-requires
@@ -66,7 +68,7 @@ new-requires c =
     let covered : IsCovered s cover = record { minimal = c.in_ok-cover.ensures.minimal; within = c.in_ok-cover.ensures.within } in
     let are = c.in_ok-groups.ensures.grouped ∙ ap (λ (ds : List Dep). schemes_of_groups (dependencies_of ds)) c.deref.ensures.value in
     record {
-      plan = are_plan (width_of s) (theory_of s) (dependencies_of cover) (few_attributes s) (some_attributes s) covered.minimal (members_within s cover covered) (schemes_of c.in_ok-schemes.schemes.items)
+      plan = are_plan (width_of s) (theory_of s) (dependencies_of cover) (attributes_within_limit s) (attributes_not_empty s) covered.minimal (members_within s cover covered) (schemes_of c.in_ok-schemes.schemes.items)
           (synthesized s cover c.in_ok-groups.groups.items c.in_ok-schemes.schemes.items covered are c.in_ok-schemes.ensures.completed);
     }
 
@@ -90,7 +92,7 @@ returns-clause-lossless c =
     let are = c.in_ok-groups.ensures.grouped ∙ ap (λ (ds : List Dep). schemes_of_groups (dependencies_of ds)) c.deref.ensures.value in
     c.drop_contained.ensures.lossless (theory_of s)
     (subst (λ (xs : List AttrSet). IsLossless (width_of s) (theory_of s) (schemes_of xs)) (sym c.new.ensures.schemes)
-    (are_lossless (width_of s) (theory_of s) (dependencies_of cover) (few_attributes s) (some_attributes s) covered.minimal (members_within s cover covered) (schemes_of c.in_ok-schemes.schemes.items)
+    (are_lossless (width_of s) (theory_of s) (dependencies_of cover) (attributes_within_limit s) (attributes_not_empty s) covered.minimal (members_within s cover covered) (schemes_of c.in_ok-schemes.schemes.items)
     (synthesized s cover c.in_ok-groups.groups.items c.in_ok-schemes.schemes.items covered are c.in_ok-schemes.ensures.completed)))
 
 pub returns-clause-third : goal.returns-clause-third
@@ -101,7 +103,7 @@ returns-clause-third c =
     let are = c.in_ok-groups.ensures.grouped ∙ ap (λ (ds : List Dep). schemes_of_groups (dependencies_of ds)) c.deref.ensures.value in
     let all = c.in_ok-schemes.schemes.items in
     let kept = c.drop_contained.result.schemes.items in
-    kept_third (width_of s) (theory_of s) (dependencies_of cover) (few_attributes s) (some_attributes s) covered.minimal (members_within s cover covered) all kept
+    kept_third (width_of s) (theory_of s) (dependencies_of cover) (attributes_within_limit s) (attributes_not_empty s) covered.minimal (members_within s cover covered) all kept
     (synthesized s cover c.in_ok-groups.groups.items all covered are c.in_ok-schemes.ensures.completed)
     (subst (λ (xs : List AttrSet). All (λ (k : AttrSet). Contains xs k) kept) c.new.ensures.schemes c.drop_contained.ensures.among)
 
@@ -113,6 +115,6 @@ returns-clause-keeps c =
     let are = c.in_ok-groups.ensures.grouped ∙ ap (λ (ds : List Dep). schemes_of_groups (dependencies_of ds)) c.deref.ensures.value in
     let all = c.in_ok-schemes.schemes.items in
     let kept = c.drop_contained.result.schemes.items in
-    kept_keeps (width_of s) (theory_of s) (dependencies_of cover) (few_attributes s) (some_attributes s) covered.minimal (members_within s cover covered) all kept
+    kept_keeps (width_of s) (theory_of s) (dependencies_of cover) (attributes_within_limit s) (attributes_not_empty s) covered.minimal (members_within s cover covered) all kept
     (synthesized s cover c.in_ok-groups.groups.items all covered are c.in_ok-schemes.ensures.completed)
     (subst (λ (xs : List AttrSet). All (λ (old : AttrSet). list_any (lies_within old) kept ≡ true) xs) c.new.ensures.schemes c.drop_contained.ensures.held)

@@ -1,3 +1,4 @@
+-- What the loop of `add_edges` keeps, in terms of `edges_text`.
 use Rattle.std.proofs.Common.{◌≡◌, ◌++◌, take}
 use Rattle.std.specs.List.{flat_map}
 use Rattle.table_drawing.specs.Drawing.{edges_text}

@@ -1,3 +1,5 @@
+-- What is left to prove of `add_edges_to`: that a round of its loop keeps the invariant, by
+-- `edge_more`.
 use Rattle.std.proofs.Common.{◌∙◌}
 use Rattle.table_drawing.proofs.DrawingLemmas.{edge_more}
 use Rattle.table_drawing.proofs.edges.add_edges_to.Goals as goal

@@ -1,3 +1,4 @@
+-- What the loop of `add_edges_to` keeps, in terms of `edges_to`.
 use Rattle.std.proofs.Common.{◌≡◌, ◌++◌, take}
 use Rattle.table_drawing.specs.Drawing.{edges_to}
 use Rattle.table_drawing.proofs.edges.add_edges_to.Given as goal

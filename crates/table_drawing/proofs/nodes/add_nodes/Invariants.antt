@@ -1,3 +1,4 @@
+-- What the loop of `add_nodes` keeps, in terms of `node_text`.
 use Rattle.std.proofs.Common.{◌≡◌, ◌++◌, take}
 use Rattle.std.specs.List.{flat_map}
 use Rattle.table_drawing.specs.Drawing.{node_text}

@@ -1,3 +1,5 @@
+-- What is left to prove of `add_rows`: that the invariant of its loop holds at first and stays, by
+-- `row_more` and `row_passed`.
 use Rattle.std.proofs.Common.{sym, ◌∙◌, append-nil}
 use Rattle.attr_sets.specs.Sets.{attributes}
 use Rattle.dep_model.proofs.SchemeLemmas.{members_below-none}

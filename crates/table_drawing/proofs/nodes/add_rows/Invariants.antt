@@ -1,3 +1,4 @@
+-- What the loop of `add_rows` keeps, in terms of `members_below` and `row_text`.
 use Rattle.std.proofs.Common.{◌≡◌, ◌++◌}
 use Rattle.std.specs.List.{flat_map}
 use Rattle.attr_sets.specs.Sets.{attributes}

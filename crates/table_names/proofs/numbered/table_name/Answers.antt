@@ -1,3 +1,5 @@
+-- What is left to prove of `table_name`: its clause `name`, what `write_digits` and `unwrap`
+-- require, and that its sums fit, by `is_table_name` and `last_bytes`.
 use Rattle.std.proofs.Common.{◌≡◌, ℕ, ◌-◌, ◌≤◌, length, drop, take, List, Option, append-nil, arith, sym, subst, ◌∙◌, IsTrue}
 use Rattle.std.specs.Prelude.{IfSome}
 use Rattle.dep_model.specs.declared.name.Name.{Name}

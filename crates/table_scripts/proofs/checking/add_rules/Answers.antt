@@ -1,3 +1,5 @@
+-- What is left to prove of `add_rules`: its clause `added` and that a round of its loop keeps the
+-- invariant, by `zip_more` and `zip_all`.
 use Rattle.std.proofs.Common.{◌≡◌, ◌<◌, ◌≤◌, ◌+◌, ◌++◌, List, ℕ, length, take, get_or, sym, ap, ◌∙◌, arith}
 use Rattle.std.specs.List.{flat_map, zip}
 use Rattle.std.proofs.lemmas.List.{length-map, get_or-map}

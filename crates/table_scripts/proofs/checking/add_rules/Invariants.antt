@@ -1,3 +1,4 @@
+-- What the loop of `add_rules` keeps, in terms of `lines_of`, `theory_of` and `rule_text`.
 use Rattle.std.proofs.Common.{◌≡◌, ◌++◌, take}
 use Rattle.std.specs.List.{flat_map, zip}
 use Rattle.dep_model.specs.Schemas.{lines_of, theory_of}

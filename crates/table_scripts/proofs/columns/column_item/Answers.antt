@@ -1,3 +1,4 @@
+-- What is left to prove of `column_item`: its clause `text`, by `item_is`.
 use Rattle.std.proofs.Common.{List, ℕ, ◌≡◌, subst}
 use Rattle.std.specs.Prelude.{IfOk}
 use Rattle.table_scripts.proofs.PieceLemmas.{item_is}

@@ -1,7 +1,8 @@
+-- What the loop of `columns_text` keeps: `listed` and `any_written`.
 use Rattle.std.proofs.Common.{◌≡◌}
 use Rattle.attr_sets.specs.Sets.{attributes}
 use Rattle.dep_model.specs.Projections.{members_below}
-use Rattle.sql_names.specs.Names.{comma_list, has_some}
+use Rattle.sql_names.specs.Names.{comma_list, is_not_empty}
 use Rattle.table_scripts.specs.QueryTexts.{column_item}
 use Rattle.table_scripts.proofs.columns.columns_text.Given as goal
 
@@ -9,5 +10,5 @@ use Rattle.table_scripts.proofs.columns.columns_text.Given as goal
 abbrev pub invariant-loop-attribute : goal.invariant-loop-attribute
 invariant-loop-attribute l = record {
   listed : l.text.items ≡ comma_list (column_item l.schema) (members_below l.attribute (attributes l.set));
-  some : l.some ≡ has_some (members_below l.attribute (attributes l.set));
+  any_written : l.any_written ≡ is_not_empty (members_below l.attribute (attributes l.set));
 }

@@ -1,3 +1,5 @@
+-- What is left to prove of `attributes_of_tables`: that a round of its loop keeps the invariant, by
+-- `attributes_more`.
 use Rattle.attr_sets.specs.Sets.{attributes}
 use Rattle.table_scripts.proofs.JoiningLemmas.{attributes_more}
 use Rattle.table_scripts.proofs.joining.attributes_of_tables.Goals as goal

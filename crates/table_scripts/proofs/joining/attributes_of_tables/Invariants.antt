@@ -1,3 +1,5 @@
+-- What the loop of `attributes_of_tables` keeps, in terms of `attributes_of`, `plan_join` and
+-- `stored_tables`.
 use Rattle.std.proofs.Common.{◌≡◌, ℕ, take}
 use Rattle.attr_sets.specs.Sets.{attributes}
 use Rattle.table_queries.specs.Queries.{attributes_of, plan_join}

@@ -1,3 +1,5 @@
+-- What is left to prove of `side_by_side`: that a round of its loop keeps the invariant, by
+-- `seen_more` and `sources_more`.
 use Rattle.std.proofs.Common.{◌∙◌}
 use Rattle.attr_sets.specs.Sets.{attributes}
 use Rattle.dep_model.specs.Schemas.{width_of}

@@ -1,3 +1,4 @@
+-- What the loop of `side_by_side` keeps: `text` and `seen`.
 use Rattle.std.proofs.Common.{◌≡◌, take}
 use Rattle.attr_sets.specs.Sets.{attributes}
 use Rattle.dep_model.specs.Schemas.{width_of}

@@ -1,3 +1,4 @@
+-- What the loop of `add_fills` keeps, in terms of `fill_text`.
 use Rattle.std.proofs.Common.{◌≡◌, ◌++◌, take}
 use Rattle.std.specs.List.{flat_map}
 use Rattle.table_scripts.specs.Migrating.{fill_text}

@@ -1,3 +1,5 @@
+-- What is left to prove of `migrate_script`: its clauses `fills` and `view`, by `fills_tables` and
+-- `view_is_table`.
 use Rattle.table_scripts.proofs.ScriptLemmas.{fills_tables, view_is_table}
 use Rattle.table_scripts.proofs.migrating.migrate_script.Goals as goal
 

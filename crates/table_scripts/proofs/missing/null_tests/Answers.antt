@@ -1,3 +1,5 @@
+-- What is left to prove of `null_tests`: that a round of its loop keeps the invariant, by
+-- `null_more`.
 use Rattle.std.proofs.Common.{◌<◌, ◌∙◌, length, sym, ap, arith}
 use Rattle.dep_model.specs.Schemas.{names_of}
 use Rattle.sql_names.proofs.NameLemmas.{name_is}

@@ -1,3 +1,4 @@
+-- What the loop of `null_tests` keeps, in terms of `names_of` and `null_tests`.
 use Rattle.std.proofs.Common.{◌≡◌, take}
 use Rattle.dep_model.specs.Schemas.{names_of}
 use Rattle.table_scripts.specs.Checking.{null_tests}

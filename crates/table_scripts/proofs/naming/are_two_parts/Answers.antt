@@ -1,5 +1,7 @@
+-- What is left to prove of `are_two_parts`: what it answers, case by case, by `ItemLemmas` and
+-- `NamingLemmas`.
 use Rattle.std.proofs.Common.{◌≡◌, ◌+◌, Bool, true, false, ◌&&◌, List, ℕ, take, drop, sym, ap, ◌∙◌}
-use Rattle.table_scripts.specs.Naming.{is_part, are_parts, parts_of}
+use Rattle.table_scripts.specs.Naming.{is_part, are_parts, dotted_parts}
 use Rattle.table_scripts.proofs.ItemLemmas.{rest_slice}
 use Rattle.table_scripts.proofs.NamingLemmas.{end_parts, cut_parts}
 use Rattle.table_scripts.proofs.naming.are_two_parts.Goals as goal
@@ -14,11 +16,11 @@ returns-then-is_part c =
     let bytes = c.args.bytes.now in
     let n = c.part_end-end.result in
     let front : is_part (take n bytes) ≡ true = sym c.if-is_part.ensures.part in
-    let rest : c.is_one_part.result ≡ are_parts 1 (parts_of (drop (n + 1) bytes)) =
-    c.is_one_part.ensures.parts ∙ ap (λ (more : List ℕ). are_parts 1 (parts_of more)) (rest_slice bytes (n + 1)) in
+    let rest : c.is_one_part.result ≡ are_parts 1 (dotted_parts (drop (n + 1) bytes)) =
+    c.is_one_part.ensures.parts ∙ ap (λ (more : List ℕ). are_parts 1 (dotted_parts more)) (rest_slice bytes (n + 1)) in
     record {
       parts = rest ∙ sym (cut_parts 1 bytes n c.part_end-end.ensures.end c.if-end-bytes.false
-          ∙ ap (λ (b : Bool). b && are_parts 1 (parts_of (drop (n + 1) bytes))) front);
+          ∙ ap (λ (b : Bool). b && are_parts 1 (dotted_parts (drop (n + 1) bytes))) front);
     }
 
 pub returns-else-is_part : goal.returns-else-is_part
@@ -28,5 +30,5 @@ returns-else-is_part c =
     let front : is_part (take n bytes) ≡ false = sym c.if-is_part.ensures.part in
     record {
       parts = c.if-is_part.false ∙ sym (cut_parts 1 bytes n c.part_end-end.ensures.end c.if-end-bytes.false
-          ∙ ap (λ (b : Bool). b && are_parts 1 (parts_of (drop (n + 1) bytes))) front);
+          ∙ ap (λ (b : Bool). b && are_parts 1 (dotted_parts (drop (n + 1) bytes))) front);
     }

@@ -1,3 +1,5 @@
+-- What is left to prove of `is_one_part`: what it answers, case by case, by `end_parts` and
+-- `cut_none`.
 use Rattle.std.proofs.Common.{length, sym, ◌∙◌}
 use Rattle.std.specs.Prelude.{eqb}
 use Rattle.std.proofs.lemmas.Bool.{false_from_ne_true, eqb-true}

@@ -1,5 +1,7 @@
+-- What is left to prove of `is_table_name`: what it answers, case by case, by `ItemLemmas` and
+-- `NamingLemmas`.
 use Rattle.std.proofs.Common.{◌≡◌, ◌+◌, Bool, true, false, ◌&&◌, List, ℕ, take, drop, sym, ap, ◌∙◌}
-use Rattle.table_scripts.specs.Naming.{is_part, are_parts, parts_of, is_table_name}
+use Rattle.table_scripts.specs.Naming.{is_part, are_parts, dotted_parts, is_table_name}
 use Rattle.table_scripts.proofs.ItemLemmas.{rest_slice}
 use Rattle.table_scripts.proofs.NamingLemmas.{end_parts, cut_parts}
 use Rattle.table_scripts.proofs.naming.is_table_name.Goals as goal
@@ -16,11 +18,11 @@ returns-then-is_part c =
     let bytes = c.args.bytes.now in
     let n = c.part_end-end.result in
     let front : is_part (take n bytes) ≡ true = sym c.if-is_part.ensures.part in
-    let rest : c.are_two_parts.result ≡ are_parts 2 (parts_of (drop (n + 1) bytes)) =
-    c.are_two_parts.ensures.parts ∙ ap (λ (more : List ℕ). are_parts 2 (parts_of more)) (rest_slice bytes (n + 1)) in
+    let rest : c.are_two_parts.result ≡ are_parts 2 (dotted_parts (drop (n + 1) bytes)) =
+    c.are_two_parts.ensures.parts ∙ ap (λ (more : List ℕ). are_parts 2 (dotted_parts more)) (rest_slice bytes (n + 1)) in
     record {
       name = rest ∙ sym (cut_parts 2 bytes n c.part_end-end.ensures.end c.if-end-bytes.false
-          ∙ ap (λ (b : Bool). b && are_parts 2 (parts_of (drop (n + 1) bytes))) front);
+          ∙ ap (λ (b : Bool). b && are_parts 2 (dotted_parts (drop (n + 1) bytes))) front);
     }
 
 pub returns-else-is_part : goal.returns-else-is_part
@@ -31,5 +33,5 @@ returns-else-is_part c =
     let front : is_part (take n bytes) ≡ false = sym c.if-is_part.ensures.part in
     record {
       name = c.if-is_part.false ∙ sym (cut_parts 2 bytes n c.part_end-end.ensures.end c.if-end-bytes.false
-          ∙ ap (λ (b : Bool). b && are_parts 2 (parts_of (drop (n + 1) bytes))) front);
+          ∙ ap (λ (b : Bool). b && are_parts 2 (dotted_parts (drop (n + 1) bytes))) front);
     }

@@ -1,3 +1,4 @@
+-- What is left to prove of `quote_table`: its clause `text`, by `quoted_is`.
 use Rattle.std.proofs.Common.{List, ℕ, [], ◌∷◌, ◌++◌, take_all, sym, ap, ◌∙◌}
 use Rattle.std.specs.List.{flat_map}
 use Rattle.table_scripts.specs.Naming.{byte_between_quotes}

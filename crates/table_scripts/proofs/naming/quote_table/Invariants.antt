@@ -1,3 +1,4 @@
+-- What the loop of `quote_table` keeps, in terms of `byte_between_quotes`.
 use Rattle.std.proofs.Common.{◌≡◌, ◌∷◌, take}
 use Rattle.std.specs.List.{flat_map}
 use Rattle.table_scripts.specs.Naming.{byte_between_quotes}

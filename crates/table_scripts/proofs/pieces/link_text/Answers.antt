@@ -1,3 +1,5 @@
+-- What is left to prove of `link_text`: what it answers, case by case, by `link_crosswise` and
+-- `link_using`.
 use Rattle.std.proofs.Common.{List, ℕ, ◌≡◌, ◌++◌, sym, subst, ap, ◌∙◌}
 use Rattle.std.proofs.lemmas.Bool.{true≢false}
 use Rattle.std.specs.Prelude.{IfOk, codes}

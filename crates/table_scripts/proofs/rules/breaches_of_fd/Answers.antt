@@ -1,3 +1,4 @@
+-- What is left to prove of `breaches_of_fd`: its clause `text`, by `line_of` and `fd_text`.
 use Rattle.std.proofs.Common.{List, ℕ, ◌≡◌, sym, subst, ap, ◌∙◌}
 use Rattle.std.specs.Prelude.{IfOk}
 use Rattle.attr_sets.specs.Sets.{attributes}

@@ -1,3 +1,4 @@
+-- What is left to prove of `breaches_of_mvd`: its clause `text`, by `line_of` and `mvd_text`.
 use Rattle.std.proofs.Common.{List, ℕ, ◌≡◌, sym, subst, ap, ◌∙◌}
 use Rattle.std.specs.Prelude.{IfOk}
 use Rattle.attr_sets.specs.Attributes.{below}

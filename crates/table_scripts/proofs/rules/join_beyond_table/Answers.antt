@@ -1,3 +1,4 @@
+-- What is left to prove of `join_beyond_table`: its clause `text`.
 use Rattle.std.proofs.Common.{List, ℕ, ◌≡◌, subst, ap, ◌∙◌}
 use Rattle.std.specs.Prelude.{IfOk}
 use Rattle.attr_sets.specs.Attributes.{union}

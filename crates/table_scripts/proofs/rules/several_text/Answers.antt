@@ -1,3 +1,5 @@
+-- What is left to prove of `several_text`: its clause `text`, by `several_counted` and
+-- `several_grouped`.
 use Rattle.std.proofs.Common.{List, ℕ, ◌≡◌, sym, subst, ap, ◌∙◌}
 use Rattle.std.proofs.lemmas.Bool.{true≢false}
 use Rattle.std.specs.Prelude.{IfOk}

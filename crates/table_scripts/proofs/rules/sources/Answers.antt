@@ -1,3 +1,4 @@
+-- What is left to prove of `sources`: its clause `text`.
 use Rattle.std.proofs.Common.{List, ℕ, ◌++◌, ap, ◌∙◌}
 use Rattle.std.specs.Prelude.{codes}
 use Rattle.attr_sets.specs.Attributes.{Attributes, intersection}

@@ -1,3 +1,4 @@
+-- What the loop of `write_table` keeps, in terms of `KeepsFinished`.
 use Rattle.std.proofs.Common.{◌≡◌, length, take, Some}
 use Rattle.destinations.specs.Destinations.{KeepsFinished}
 use Rattle.table_writing.proofs.writing.write_table.Given as goal

@@ -1,3 +1,5 @@
+-- What is left to prove of `write_tables_to_each`: its clause `written` and that a round of its
+-- loop keeps the invariant, by `holds_next` and `holds_all`.
 use Rattle.std.proofs.Common.{rules, arith}
 use Rattle.named_tables.specs.Tables.{table_values}
 use Rattle.table_writing.specs.Writing.{WrittenDestination}

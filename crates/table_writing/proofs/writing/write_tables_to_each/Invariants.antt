@@ -1,3 +1,5 @@
+-- What the loop of `write_tables_to_each` keeps, in terms of `table_values`, `WrittenDestination`
+-- and `HoldsSoFar`.
 use Rattle.std.proofs.Common.{◌≤◌, length}
 use Rattle.std.specs.Prelude.{vec_capacity}
 use Rattle.named_tables.specs.Tables.{table_values}

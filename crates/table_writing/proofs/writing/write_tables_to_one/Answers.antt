@@ -1,3 +1,5 @@
+-- What is left to prove of `write_tables_to_one`: that a round of its loop keeps the invariant, by
+-- `tables_next`.
 use Rattle.std.proofs.Common.{rules, subst}
 use Rattle.table_writing.proofs.WriteLemmas.{tables_next}
 use Rattle.table_writing.proofs.writing.write_tables_to_one.Goals as goal

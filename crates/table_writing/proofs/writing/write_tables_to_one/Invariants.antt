@@ -1,3 +1,4 @@
+-- What the loop of `write_tables_to_one` keeps, in terms of `table_values` and `HasAll`.
 use Rattle.std.proofs.Common.{◌≡◌, take}
 use Rattle.named_tables.specs.Tables.{table_values}
 use Rattle.table_writing.specs.Writing.{HasAll}

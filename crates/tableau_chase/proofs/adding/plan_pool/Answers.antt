@@ -1,3 +1,5 @@
+-- What is left to prove of `plan_pool`: its clauses `too_many` and `same` and that the invariant of
+-- its loop holds at first and stays, by `PoolLemmas`.
 use Rattle.std.proofs.Common.{◌≡◌, ℕ, ◌+◌, ◌<◌, List, ◌∙◌, ◌++◌, [], ◌∷◌, length, map, take, get_or, sym, ap, subst, arith, take_all}
 use Rattle.std.proofs.lemmas.List.{take_more, take-map, map-append, length-map, length-take-le}
 use Rattle.std.proofs.lemmas.List.Elements.{Contains-push}

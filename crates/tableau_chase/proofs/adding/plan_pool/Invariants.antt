@@ -1,3 +1,4 @@
+-- What the loop of `plan_pool` keeps: `pool` and `same`.
 use Rattle.std.proofs.Common.{take}
 use Rattle.chase_laws.specs.Tableaux.{SameTableau, plan_tableau}
 use Rattle.tableau_chase.specs.Pools.{IsPool}

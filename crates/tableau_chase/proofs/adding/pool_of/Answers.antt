@@ -1,3 +1,5 @@
+-- What is left to prove of `pool_of`: its clauses `never_too_many` and `same` and that the
+-- invariant of its loop holds at first and stays, by `same_added` and `added_length`.
 use Rattle.std.proofs.Common.{◌≡◌, ◌+◌, ◌∙◌, ◌++◌, [], ◌∷◌, length, take, get_or, sym, ap, subst, arith, take_all}
 use Rattle.std.proofs.lemmas.List.{take_more, get_or_read}
 use Rattle.chase_laws.specs.Tableaux.{SymbolRow, Tableau, SameTableau}

@@ -1,3 +1,4 @@
+-- What the loop of `pool_of` keeps: `pool`, `same` and `count`.
 use Rattle.std.proofs.Common.{◌≤◌, length, take}
 use Rattle.chase_laws.specs.Tableaux.{SameTableau}
 use Rattle.tableau_chase.specs.Pools.{IsPool}

@@ -17,12 +17,12 @@ use Rattle.dep_model.specs.Projections.{IsLossless}
 use Rattle.dep_model.specs.Schemas.{width_of, theory_of}
 use Rattle.chase_laws.specs.Tableaux.{Tableau, SameTableau, IsTableauOver, distinguished_row}
 use Rattle.chase_laws.specs.Rounds.{ClosesFunctionallyTo, IsMadeOf, RoundsExceed}
-use Rattle.chase_laws.proofs.RoundLemmas.{functional_few}
+use Rattle.chase_laws.proofs.RoundLemmas.{functional_within_limit}
 use Rattle.chase_laws.proofs.SoundLemmas.{lossless_from_distinguished}
 use Rattle.chase_laws.proofs.ClosedLemmas.{gaining_lossy}
 use Rattle.dep_model.specs.Plans.{schemes_of}
 use Rattle.tableau_chase.specs.Making.{AddsAll, Overflows}
-use Rattle.tableau_chase.proofs.ChaseLemmas.{EndsLossy, first_round, first_exceeds, round_over, settled_over, reached_settled, next_round, next_lower, ended, next_exceeds, ends_lossy, closed_typed, functional_none}
+use Rattle.tableau_chase.proofs.ChaseLemmas.{EndsLossy, first_round, first_exceeds, round_over, closed_over, reached_closed, next_round, next_lower, ended, next_exceeds, ends_lossy, closed_typed, functional_none}
 use Rattle.tableau_chase.proofs.PoolLemmas.{extends_length}
 use Rattle.tableau_chase.proofs.chasing.chase.Goals as goal
 use Rattle.tableau_chase.proofs.chasing.chase.Goals.{In-Ok-pool_of, After-drop-rows-then-len-count}
@@ -35,7 +35,7 @@ refused_pool : (failure : Failure ChaseRefusal) → ◌≡◌ {A = Result Chased
 refused_pool failure e = let same : failure ≡ Refused TooManyRows = cc in ap {B = Result Pool (Failure ChaseRefusal)} (λ (f : Failure ChaseRefusal). Err f) same
 
 pub loop-rows-init : goal.loop-rows-init
-loop-rows-init c = first_round c.width-width.result (theory_of c.args.schema.now) (schemes_of c.args.schemes.now) c.args.limit c.in-Ok.pool.rows.items c.in-Ok.ensures.same c.in-Ok.ensures.pool.differ c.in-Ok.ensures.pool.few
+loop-rows-init c = first_round c.width-width.result (theory_of c.args.schema.now) (schemes_of c.args.schemes.now) c.args.limit c.in-Ok.pool.rows.items c.in-Ok.ensures.same c.in-Ok.ensures.pool.differ c.in-Ok.ensures.pool.within_limit
 
 pub close_functionally-requires-clause-over : goal.close_functionally-requires-clause-over
 close_functionally-requires-clause-over c =
@@ -67,7 +67,7 @@ has_distinguished-requires c =
     let s = c.close_functionally.new.rows in
     let t = c.in-Ok-pool_of.pool.rows.items in
     let at = (goal.at.has_distinguished-requires c).In-Ok-pool_of in
-    record { over = subst (λ (r : Tableau). IsTableauOver n r) (sym c.deref-in-loop-rows.ensures.value) (settled_over n ds plan limit rows s t round (closes at) (pooled at)) }
+    record { over = subst (λ (r : Tableau). IsTableauOver n r) (sym c.deref-in-loop-rows.ensures.value) (closed_over n ds plan limit rows s t round (closes at) (pooled at)) }
 
 pub add_next-requires-clause-over : goal.add_next-requires-clause-over
 add_next-requires-clause-over c =
@@ -80,7 +80,7 @@ add_next-requires-clause-over c =
     let s = c.close_functionally.new.rows in
     let t = c.in-Ok-pool_of.pool.rows.items in
     let at = (goal.at.add_next-requires-clause-over c).In-Ok-pool_of in
-    settled_over n ds plan limit rows s t round (closes at) (pooled at)
+    closed_over n ds plan limit rows s t round (closes at) (pooled at)
 
 pub returns-then-has_distinguished-clause-within_limit : goal.returns-then-has_distinguished-clause-within_limit
 returns-then-has_distinguished-clause-within_limit c =
@@ -108,7 +108,7 @@ returns-then-has_distinguished-clause-lossless c =
     let t = c.in-Ok-pool_of.pool.rows.items in
     let at = (goal.at.returns-then-has_distinguished-clause-lossless c).In-Ok-pool_of in
     let has : Contains t (distinguished_row n) = subst (λ (r : Tableau). Contains r (distinguished_row n)) c.deref-in-loop-rows.ensures.value (c.if-has_distinguished.ensures.found.0 refl) in
-    let lossless : IsLossless n ds plan = lossless_from_distinguished n ds plan t (λ (k : ℕ) l. c.requires.cover k (omega (arith, l, c.width-width.ensures.count))) (reached_settled n ds plan limit rows s t round (closes at) (pooled at)) has in
+    let lossless : IsLossless n ds plan = lossless_from_distinguished n ds plan t (λ (k : ℕ) l. c.requires.cover k (omega (arith, l, c.width-width.ensures.count))) (reached_closed n ds plan limit rows s t round (closes at) (pooled at)) has in
     ((λ _. subst (λ (m : ℕ). IsLossless m ds plan) c.width-width.ensures.count lossless), (λ _. refl))
 
 pub returns-in-Err-clause-too_many_rows : goal.returns-in-Err-clause-too_many_rows
@@ -120,7 +120,7 @@ pub returns-in-Err-clause-never_too_many : goal.returns-in-Err-clause-never_too_
 returns-in-Err-clause-never_too_many c whole low e =
     let ds = theory_of c.args.schema.now in
     let plan = schemes_of c.args.schemes.now in
-    functional_few c.width-width.result ds plan c.args.limit (functional_none ds whole) (omega (arith, low, length-map c.args.schemes.now attributes))
+    functional_within_limit c.width-width.result ds plan c.args.limit (functional_none ds whole) (omega (arith, low, length-map c.args.schemes.now attributes))
     (first_exceeds c.width-width.result ds plan c.args.limit (c.in-Err.ensures.too_many (refused_pool c.in-Err.failure e)))
 
 pub returns-in-Err-add_next-clause-too_many_rows : goal.returns-in-Err-add_next-clause-too_many_rows
@@ -136,7 +136,7 @@ returns-in-Err-add_next-clause-too_many_rows c e =
     let at = (goal.at.returns-in-Err-add_next-clause-too_many_rows c).In-Ok-pool_of in
     let lacks : Contains t (distinguished_row n) → ⊥ = λ h. false≢true (c.if-has_distinguished.ensures.found.1 (subst (λ (r : Tableau). Contains r (distinguished_row n)) (sym c.deref-in-loop-rows.ensures.value) h)) in
     let over : Overflows (IsMadeOf n ds t) limit t = subst (λ (d : List Dep). Overflows (IsMadeOf n (dependencies_of d) t) limit t) c.deps-deps.ensures.deps (c.in-Err-add_next.ensures.too_many (refused c.in-Err-add_next.failure e)) in
-    let exceeds : RoundsExceed n ds plan limit = next_exceeds n ds plan limit rows s t round (closes at) (pooled at) lacks c.in-Ok-pool_of.ensures.pool.few over in
+    let exceeds : RoundsExceed n ds plan limit = next_exceeds n ds plan limit rows s t round (closes at) (pooled at) lacks c.in-Ok-pool_of.ensures.pool.within_limit over in
     subst (λ (m : ℕ). RoundsExceed m ds plan limit) c.width-width.ensures.count exceeds
 
 pub returns-in-Err-add_next-clause-never_too_many : goal.returns-in-Err-add_next-clause-never_too_many
@@ -152,8 +152,8 @@ returns-in-Err-add_next-clause-never_too_many c whole low e =
     let at = (goal.at.returns-in-Err-add_next-clause-never_too_many c).In-Ok-pool_of in
     let lacks : Contains t (distinguished_row n) → ⊥ = λ h. false≢true (c.if-has_distinguished.ensures.found.1 (subst (λ (r : Tableau). Contains r (distinguished_row n)) (sym c.deref-in-loop-rows.ensures.value) h)) in
     let over : Overflows (IsMadeOf n ds t) limit t = subst (λ (d : List Dep). Overflows (IsMadeOf n (dependencies_of d) t) limit t) c.deps-deps.ensures.deps (c.in-Err-add_next.ensures.too_many (refused c.in-Err-add_next.failure e)) in
-    let exceeds : RoundsExceed n ds plan limit = next_exceeds n ds plan limit rows s t round (closes at) (pooled at) lacks c.in-Ok-pool_of.ensures.pool.few over in
-    functional_few n ds plan limit (functional_none ds whole) (omega (arith, low, length-map c.args.schemes.now attributes)) exceeds
+    let exceeds : RoundsExceed n ds plan limit = next_exceeds n ds plan limit rows s t round (closes at) (pooled at) lacks c.in-Ok-pool_of.ensures.pool.within_limit over in
+    functional_within_limit n ds plan limit (functional_none ds whole) (omega (arith, low, length-map c.args.schemes.now attributes)) exceeds
 
 pub loop-rows-preserved : goal.loop-rows-preserved
 loop-rows-preserved c =
@@ -170,7 +170,7 @@ loop-rows-preserved c =
     let u = c.add_next.new.pool.rows.items in
     let adds : AddsAll (IsMadeOf n ds t) t u = subst (λ (d : List Dep). AddsAll (IsMadeOf n (dependencies_of d) t) t u) c.deps-deps.ensures.deps c.in_default.ensures.next in
     let grows : length t < length u = omega (arith, extends_length t u adds.extends, c.if-len-count.false, c.len.ensures, c.len-count.ensures) in
-    next_round n ds plan limit rows s t round (closes at) (pooled at) u adds c.in_default.ensures.pool.differ c.in_default.ensures.pool.few lacks grows
+    next_round n ds plan limit rows s t round (closes at) (pooled at) u adds c.in_default.ensures.pool.differ c.in_default.ensures.pool.within_limit lacks grows
 
 pub loop-rows-smaller : goal.loop-rows-smaller
 loop-rows-smaller c =
@@ -186,7 +186,7 @@ loop-rows-smaller c =
     let u = c.add_next.new.pool.rows.items in
     let adds : AddsAll (IsMadeOf n ds t) t u = subst (λ (d : List Dep). AddsAll (IsMadeOf n (dependencies_of d) t) t u) c.deps-deps.ensures.deps c.in_default.ensures.next in
     let grows : length t < length u = omega (arith, extends_length t u adds.extends, c.if-len-count.false, c.len.ensures, c.len-count.ensures) in
-    next_lower n ds plan limit rows s t round (closes at) (pooled at) u adds c.in_default.ensures.pool.differ c.in_default.ensures.pool.few grows
+    next_lower n ds plan limit rows s t round (closes at) (pooled at) u adds c.in_default.ensures.pool.differ c.in_default.ensures.pool.within_limit grows
 
 -- the end at a closed tableau
 ends : (c : After-drop-rows-then-len-count) → EndsLossy (width_of c.args.schema.now) (theory_of c.args.schema.now) (schemes_of c.args.schemes.now) c.args.limit c.in_ok-ascending_texts.field-0.items
@@ -210,7 +210,7 @@ ends c =
     let texts : Relation = c.in_ok-ascending_texts.field-0.items in
     let small : length plan < 2 ^ 32 = omega (arith, c.requires.fits_u32, length-map c.args.schemes.now attributes) in
     subst (λ (m : ℕ). EndsLossy m ds plan limit texts) c.width-width.ensures.count
-    (ends_lossy n ds plan limit rows s t u texts small round closes same c.in-Ok-pool_of.ensures.pool.few lacks adds count c.in_ok-ascending_texts.ensures.texts)
+    (ends_lossy n ds plan limit rows s t u texts small round closes same c.in-Ok-pool_of.ensures.pool.within_limit lacks adds count c.in_ok-ascending_texts.ensures.texts)
 
 pub returns-then-len-count-clause-within_limit : goal.returns-then-len-count-clause-within_limit
 returns-then-len-count-clause-within_limit c = (ends c).within

@@ -1,3 +1,4 @@
+-- What the loop of `chase` keeps: `IsRound`; and by what it ends.
 use Rattle.std.proofs.Common.{length}
 use Rattle.dep_model.specs.Schemas.{theory_of}
 use Rattle.chase_laws.proofs.EndLemmas.{what_is_left}

@@ -1,3 +1,5 @@
+-- What is left to prove of `has_distinguished`: its clause `found` and that a round of its loop
+-- keeps the invariant, by `distinguished_from` and `distinguished_to`.
 use Rattle.std.proofs.Common.{◌≡◌, ℕ, ◌∙◌, [], length, inl, inr, sym, ap, subst, refl, arith}
 use Rattle.std.proofs.lemmas.Bool.{cases_lt, true≢false, false≢true}
 use Rattle.std.proofs.lemmas.List.{get_or_read, get_or_default}

@@ -1,3 +1,4 @@
+-- What the loop of `has_distinguished` keeps, in terms of `distinguished_row` and `symbol_row_at`.
 use Rattle.std.proofs.Common.{◌≡◌, ℕ, ◌<◌}
 use Rattle.chase_laws.specs.Tableaux.{distinguished_row}
 use Rattle.tableau_chase.specs.Groups.{symbol_row_at}

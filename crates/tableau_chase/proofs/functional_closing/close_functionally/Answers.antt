@@ -1,3 +1,6 @@
+-- What is left to prove of `close_functionally`: its clauses `closes` and `count`, that the
+-- invariant of its loop holds at first and stays, and that its loop ends, by
+-- `FunctionalClosingLemmas`.
 use Rattle.std.proofs.Common.{◌+◌, ◌<◌, suc, Bool, cond, sym, subst}
 use Rattle.chase_laws.proofs.EndLemmas.{symbols_in_use}
 use Rattle.dep_model.specs.Deps.{dependencies_of}

@@ -1,3 +1,4 @@
+-- What the loop of `close_functionally` keeps: `IsClosingFunctionally`; and by what it ends.
 use Rattle.std.proofs.Common.{◌+◌, suc, cond}
 use Rattle.dep_model.specs.Deps.{dependencies_of}
 use Rattle.chase_laws.proofs.EndLemmas.{symbols_in_use}

@@ -1,3 +1,5 @@
+-- What is left to prove of `equate`: its clause `equated`, what `equate_at` requires, and that the
+-- invariant of its loop holds at first and stays, by `EquatingLemmas` and `RowLemmas`.
 use Rattle.std.proofs.Common.{◌≡◌, ℕ, ◌+◌, ◌<◌, ◌≤◌, Bool, true, List, length, get_or, sym, subst, refl, arith}
 use Rattle.std.specs.Prelude.{All}
 use Rattle.attr_sets.specs.Attributes.{Attributes}

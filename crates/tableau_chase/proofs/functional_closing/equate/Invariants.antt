@@ -1,3 +1,4 @@
+-- What the loop of `equate` keeps: `AreEquatedUpTo`.
 use Rattle.attr_sets.specs.Sets.{attributes}
 use Rattle.tableau_chase.proofs.EquatingLemmas.{AreEquatedUpTo}
 use Rattle.tableau_chase.proofs.functional_closing.equate.Given as goal

@@ -1,3 +1,5 @@
+-- What is left to prove of `equate_groups`: its clause `grouped`, what `equate` requires, and that
+-- the invariant of its loop holds at first and stays, by `EquatingLemmas`.
 use Rattle.std.proofs.Common.{◌≡◌, ℕ, ◌+◌, ◌<◌, Bool, true, false, length, get_or, subst, refl, arith}
 use Rattle.std.proofs.lemmas.List.{get_or_read}
 use Rattle.attr_sets.specs.Sets.{attributes}

@@ -1,3 +1,4 @@
+-- What the loop of `equate_groups` keeps: `AreGroupedUpTo`.
 use Rattle.attr_sets.specs.Sets.{attributes}
 use Rattle.tableau_chase.proofs.EquatingLemmas.{AreGroupedUpTo}
 use Rattle.tableau_chase.proofs.functional_closing.equate_groups.Given as goal

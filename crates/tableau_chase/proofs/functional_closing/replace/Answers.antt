@@ -1,3 +1,5 @@
+-- What is left to prove of `replace`: its clause `replaced` and that a round of its loop keeps the
+-- invariant.
 use Rattle.std.proofs.Common.{◌≡◌, ℕ, ◌+◌, ◌<◌, ◌≤◌, ◌∙◌, ◌++◌, [], ◌∷◌, map, take, drop, length, get_or, sym, ap, arith, append_assoc, append-nil}
 use Rattle.std.proofs.Math.ListN.{set}
 use Rattle.std.proofs.lemmas.List.{take_more, drop_more, map-append, set_at, length-map, length-take-le, get_or_at, take_all, drop_all}

@@ -1,3 +1,4 @@
+-- What the loop of `replace` keeps, in terms of `replace_in_row`.
 use Rattle.std.proofs.Common.{◌≡◌, ◌++◌, map, take, drop}
 use Rattle.chase_laws.specs.Steps.{replace_in_row}
 use Rattle.tableau_chase.proofs.functional_closing.replace.Given as goal

@@ -1,3 +1,6 @@
+-- What is left to prove of `take_steps`: its clauses `changes`, `keeps` and `obeyed`, what
+-- `take_steps_by` requires, and that the invariant of its loop holds at first and stays, by
+-- `EquatingLemmas`.
 use Rattle.std.proofs.Common.{ℕ, ◌+◌, ◌<◌, ◌≤◌, Bool, true, false, List, length, get_or, sym, subst, refl, arith}
 use Rattle.std.proofs.lemmas.List.{get_or-map, length-map}
 use Rattle.dep_model.specs.declared.dep.Dep.{Dep}

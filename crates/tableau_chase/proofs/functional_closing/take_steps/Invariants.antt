@@ -1,3 +1,4 @@
+-- What the loop of `take_steps` keeps: `AreTakenUpTo`.
 use Rattle.dep_model.specs.Deps.{dependencies_of}
 use Rattle.tableau_chase.proofs.EquatingLemmas.{AreTakenUpTo}
 use Rattle.tableau_chase.proofs.functional_closing.take_steps.Given as goal

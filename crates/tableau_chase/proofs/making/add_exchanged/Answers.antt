@@ -1,3 +1,5 @@
+-- What is left to prove of `add_exchanged`: its clause `too_many` and that the invariant of its
+-- loop holds at first and stays, by `MakingLemmas` and `PoolLemmas`.
 use Rattle.std.proofs.Common.{◌≡◌, ◌+◌, ◌<◌, [], length, take, get_or, refl}
 use Rattle.attr_sets.specs.Sets.{attributes}
 use Rattle.chase_laws.specs.Tableaux.{SymbolRow}

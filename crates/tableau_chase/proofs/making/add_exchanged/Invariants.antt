@@ -1,3 +1,4 @@
+-- What the loop of `add_exchanged` keeps: `pool` and `adds`.
 use Rattle.std.proofs.Common.{take}
 use Rattle.attr_sets.specs.Sets.{attributes}
 use Rattle.tableau_chase.specs.Pools.{IsPool}

@@ -1,3 +1,4 @@
+-- What is left to prove of `add_made`: its clause `too_many`.
 use Rattle.tableau_chase.proofs.making.add_made.Goals as goal
 
 pub returns-in-Mvd-clause-too_many : goal.returns-in-Mvd-clause-too_many

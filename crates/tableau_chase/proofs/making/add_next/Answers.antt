@@ -1,3 +1,5 @@
+-- What is left to prove of `add_next`: its clauses `too_many` and `next` and that the invariant of
+-- its loop holds at first and stays, by `MakingLemmas` and `PoolLemmas`.
 use Rattle.std.proofs.Common.{◌≡◌, ℕ, ◌+◌, ◌<◌, ◌≤◌, List, ◌∙◌, length, take, get_or, sym, ap, subst, refl, arith}
 use Rattle.std.proofs.lemmas.List.{get_or-map, length-map, take_at}
 use Rattle.attr_sets.specs.Attributes.{below}

@@ -1,3 +1,4 @@
+-- What the loop of `add_next` keeps: `pool` and `adds`.
 use Rattle.dep_model.specs.Deps.{dependencies_of}
 use Rattle.tableau_chase.specs.Pools.{IsPool}
 use Rattle.tableau_chase.specs.Making.{AddsAll}

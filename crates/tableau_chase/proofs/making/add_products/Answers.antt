@@ -1,10 +1,13 @@
+-- What is left to prove of `add_products`: its clauses `too_many` and `made`, what `add_exchanged`
+-- requires, and that the invariant of its loop holds at first and stays, by `MakingLemmas` and
+-- `PoolLemmas`.
 use Rattle.std.proofs.Common.{◌≡◌, ℕ, ◌+◌, ◌<◌, List, ◌∙◌, [], length, take, get_or, ap, subst, refl, arith}
 use Rattle.std.proofs.lemmas.List.{length-take-le, get_or_read, get_or_default}
 use Rattle.attr_sets.specs.Sets.{attributes}
 use Rattle.chase_laws.specs.Tableaux.{Tableau}
 use Rattle.tableau_chase.specs.Making.{IsExchangedRow, IsExchangedWith, Overflows}
 use Rattle.tableau_chase.proofs.PoolLemmas.{adds_none, adds_like}
-use Rattle.tableau_chase.proofs.MakingLemmas.{IsProductOf, parts_of, product_none, product_old, product_not, parts_to, parts_from, parts_more, parts_overflow, leads_read, group_read, group_within, group_over}
+use Rattle.tableau_chase.proofs.MakingLemmas.{IsProductOf, product_parts, product_none, product_old, product_not, parts_to, parts_from, parts_more, parts_overflow, leads_read, group_read, group_within, group_over}
 use Rattle.tableau_chase.proofs.making.add_products.Goals as goal
 use Rattle.tableau_chase.proofs.making.add_products.Goals.{then-index-i+in-Ok, else-index-i}
 
@@ -17,7 +20,7 @@ loop-i-init c =
     let firsts = c.in_ok-firsts.firsts.items in
     let groups = c.in_ok-groups.groups.items in
     record {
-      parts = parts_of n c.args.count (attributes c.args.lhs) (attributes c.args.rhs) z (attributes c.difference.result) (attributes c.union-rest.result) (attributes c.full.result) t c.deref.result.now c.deref-2.result.now c.deref-3.result.now
+      parts = product_parts n c.args.count (attributes c.args.lhs) (attributes c.args.rhs) z (attributes c.difference.result) (attributes c.union-rest.result) (attributes c.full.result) t c.deref.result.now c.deref-2.result.now c.deref-3.result.now
           agreeing firsts c.in_ok-seconds.seconds.items c.deref-4.result.now c.deref-5.result.now groups c.requires.count c.requires.over c.union-both.ensures.members c.difference.ensures.members c.union-rest.ensures.members c.full.ensures.members
           c.deref.ensures.value c.deref-2.ensures.value c.deref-3.ensures.value c.deref-4.ensures.value c.deref-5.ensures.value c.in_ok-agreeing.ensures.leaders c.in_ok-firsts.ensures.leaders c.in_ok-seconds.ensures.leaders c.in_ok-groups.ensures.followers;
       pool = c.requires.pool;

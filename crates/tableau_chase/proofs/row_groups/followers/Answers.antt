@@ -1,3 +1,5 @@
+-- What is left to prove of `followers`: its clause `followers` and that the invariant of its loop
+-- holds at first and stays, by `GroupLemmas`.
 use Rattle.std.proofs.Common.{◌≡◌, ℕ, ◌+◌, ◌<◌, List, ◌∙◌, ◌++◌, [], ◌∷◌, get_or, length, ap, refl, arith}
 use Rattle.std.proofs.lemmas.List.{get_or_read}
 use Rattle.tableau_chase.proofs.GroupLemmas.{followers_none, followers_same, followers_more, followers_all}

@@ -1,3 +1,4 @@
+-- What the loop of `followers` keeps: `AreFollowersUpTo`.
 use Rattle.tableau_chase.proofs.GroupLemmas.{AreFollowersUpTo}
 use Rattle.tableau_chase.proofs.row_groups.followers.Given as goal
 

@@ -1,3 +1,5 @@
+-- What is left to prove of `leaders`: its clause `leaders`, what `symbols_at` requires, and that
+-- the invariant of its loop holds at first and stays, by `GroupLemmas` and `RowLemmas`.
 use Rattle.std.proofs.Common.{◌≡◌, ℕ, ◌+◌, ◌<◌, ◌≤◌, List, ◌∙◌, ◌++◌, [], ◌∷◌, length, map, take, get_or, inl, inr, sym, ap, subst, arith, take_all}
 use Rattle.std.proofs.lemmas.Bool.{cases_eq}
 use Rattle.std.proofs.lemmas.List.{get_or_read, take_more, map-append, length-map, length-take-le}
@@ -10,7 +12,7 @@ use Rattle.tableau_chase.specs.declared.numbers.RowNumbers.{RowNumbers}
 use Rattle.tableau_chase.specs.Groups.{symbol_row_at, AreSymbolLeaders}
 use Rattle.tableau_chase.specs.Numbers.{IsNumbering, IsFirstPosition}
 use Rattle.tableau_chase.proofs.RowLemmas.{key_on, members-low}
-use Rattle.tableau_chase.proofs.GroupLemmas.{leaders_none, leaders_more, fresh_by_key, known_by_key, take_over}
+use Rattle.tableau_chase.proofs.GroupLemmas.{leaders_none, leaders_more, fresh_by_key, known_by_key, take_is_over}
 use Rattle.tableau_chase.proofs.row_groups.leaders.Goals as goal
 
 pub symbols_at-requires : goal.symbols_at-requires
@@ -52,7 +54,7 @@ module _ (n : ℕ) (x : Attributes) (rows : Tableau) (i : ℕ) (low : i < length
       subst (λ (ks : List (List ℕ)). IsNumbering ks new) (sym keys) grown
 
   at_row : (number ≡ i → ⊥) → (number < length (take i rows)) × SymbolsAgree x (symbol_row_at (take i rows) number) row × ((j : ℕ) → j < number → SymbolsAgree x (symbol_row_at (take i rows) j) row → ⊥)
-  at_row ne = known_by_key n x (take i rows) row number (take_over n i rows over) len (subst (λ (key : List ℕ). IsFirstPosition (map (key_on n x) (take i rows)) key number) symbols_are (known ne))
+  at_row ne = known_by_key n x (take i rows) row number (take_is_over n i rows over) len (subst (λ (key : List ℕ). IsFirstPosition (map (key_on n x) (take i rows)) key number) symbols_are (known ne))
 
   number_low : number ≤ length (take i rows)
   number_low = elim (cases_eq number i) [

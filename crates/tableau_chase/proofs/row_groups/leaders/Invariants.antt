@@ -1,3 +1,4 @@
+-- What the loop of `leaders` keeps: `numbered` and `are`.
 use Rattle.std.proofs.Common.{map, take}
 use Rattle.attr_sets.specs.Sets.{attributes}
 use Rattle.tableau_chase.specs.Groups.{AreSymbolLeaders}

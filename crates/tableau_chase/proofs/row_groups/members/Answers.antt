@@ -1,3 +1,4 @@
+-- What is left to prove of `members`: that the invariant of its loop holds at first and stays.
 use Rattle.std.proofs.Common.{ℕ, ◌+◌, List, ◌∙◌, ◌++◌, [], ◌∷◌, sym, ap, refl}
 use Rattle.attr_sets.specs.Sets.{attributes}
 use Rattle.tableau_chase.proofs.row_groups.members.Goals as goal

@@ -1,3 +1,4 @@
+-- What the loop of `members` keeps, in terms of `members_below`.
 use Rattle.std.proofs.Common.{◌≡◌}
 use Rattle.attr_sets.specs.Sets.{attributes}
 use Rattle.dep_model.specs.Projections.{members_below}

@@ -1,3 +1,4 @@
+-- What is left to prove of `ascending_texts`: its clause `texts`, by `texts_sorted`.
 use Rattle.std.proofs.Common.{ℕ, map, ap, ◌∙◌, Vec, Global}
 use Rattle.std.specs.Prelude.{decimal}
 use Rattle.dep_model.specs.Tuples.{Tuple}

@@ -1,3 +1,5 @@
+-- What is left to prove of `symbol_lists`: its clause `lists` and that a round of its loop keeps
+-- the invariant.
 use Rattle.std.proofs.Common.{◌≡◌, ℕ, List, ◌∙◌, ◌++◌, [], ◌∷◌, map, take, get_or, sym, ap, take_all, Vec, Global}
 use Rattle.std.proofs.lemmas.List.{take_more, get_or_read, map-append}
 use Rattle.chase_laws.specs.Tableaux.{SymbolRow, Tableau}

@@ -1,3 +1,5 @@
+-- What is left to prove of `text_rows`: its clause `texts` and that a round of its loop keeps the
+-- invariant.
 use Rattle.std.proofs.Common.{◌≡◌, ℕ, ◌∙◌, ◌++◌, [], ◌∷◌, map, take, sym, ap, take_all, Vec, Global}
 use Rattle.std.proofs.lemmas.List.{take_more, map-append}
 use Rattle.std.specs.Prelude.{decimal}

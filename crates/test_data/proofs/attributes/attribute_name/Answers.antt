@@ -1,3 +1,4 @@
+-- What is left to prove of `attribute_name`: what `unwrap` requires, by `is_attribute_name`.
 use Rattle.std.proofs.Common.{◌≡◌, sym, subst, ◌∙◌, List, IsTrue, ℕ}
 use Rattle.dep_model.specs.Names.{is_bare_name}
 use Rattle.test_data.specs.TestSchemas.{attribute_name}

@@ -1,3 +1,4 @@
+-- What is left to prove of `attribute_names`: that a round of its loop keeps the invariant.
 use Rattle.std.proofs.Common.{◌∙◌, ℕ, List, [], ◌∷◌, ◌++◌, arith, sym, ap}
 use Rattle.std.proofs.lemmas.List.FromFn.{map-range_with_len_more}
 use Rattle.test_data.specs.TestSchemas.{attribute_name, attribute_names}

@@ -1,3 +1,4 @@
+-- What the loop of `attribute_names` keeps, in terms of `attribute_names`.
 use Rattle.std.proofs.Common.{◌≡◌}
 use Rattle.test_data.specs.TestSchemas.{attribute_names}
 use Rattle.test_data.proofs.attributes.attribute_names.Given as goal

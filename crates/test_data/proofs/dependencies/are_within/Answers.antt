@@ -1,3 +1,5 @@
+-- What is left to prove of `are_within`: what it ensures and that a round of its loop keeps the
+-- invariant.
 use Rattle.std.proofs.Common.{Bool, IsTrue, rules, subst, take_all}
 use Rattle.std.proofs.lemmas.List.Elements.{All-more}
 use Rattle.attr_sets.specs.Sets.{attributes}

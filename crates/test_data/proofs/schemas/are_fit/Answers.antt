@@ -1,3 +1,4 @@
+-- What is left to prove of `are_fit`: what it answers in one case.
 use Rattle.std.proofs.Common.{◌≡◌, rules, sym, subst}
 use Rattle.std.specs.Prelude.{All}
 use Rattle.attr_sets.specs.Attributes.{Attributes, below}
@@ -12,9 +13,9 @@ returns-then-deps-le-MOST_DEPENDENCIES c =
     record {
       fit = (
         λ all. record {
-          some_names = search rules;
-          few_names = search rules;
-          few_deps = search rules;
+          names_not_empty = search rules;
+          names_within_limit = search rules;
+          deps_within_limit = search rules;
           deps_within = subst (λ (u : Attributes). All (IsDepWithin u) c.args.deps.now) whole
               (c.are_within.ensures.within.0 all);
         },

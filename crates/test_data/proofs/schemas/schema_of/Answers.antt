@@ -1,3 +1,5 @@
+-- What is left to prove of `schema_of`: its clause `width` and what `new` requires, by
+-- `attribute_names_differ` and `attribute_names_bare`.
 use Rattle.std.proofs.Common.{◌≡◌, ℕ, IsTrue, false, List, length, arith, sym, ap, subst, ◌∙◌}
 use Rattle.std.proofs.lemmas.List.{length-replicate}
 use Rattle.std.proofs.lemmas.List.FromFn.{length-map-range_with_len}
@@ -24,18 +26,18 @@ new-requires c =
     let same = c.in_ok-from_slice.ensures.items in
     record {
       schema = record {
-        some_names = omega (arith, count, fit.some_names);
-        few_names = omega (arith, count, fit.few_names);
+        names_not_empty = omega (arith, count, fit.names_not_empty);
+        names_within_limit = omega (arith, count, fit.names_within_limit);
         names_differ = subst (λ (xs : List (List ℕ)). AllPairs (λ a b. same_name a b ≡ false) xs) (sym made)
-            (attribute_names_differ c.args.width fit.few_names);
-        few_deps = omega (arith, ap (λ (ds : List Dep). length ds) same, fit.few_deps);
+            (attribute_names_differ c.args.width fit.names_within_limit);
+        deps_within_limit = omega (arith, ap (λ (ds : List Dep). length ds) same, fit.deps_within_limit);
         deps_within = subst (λ (ds : List Dep). All (IsDepWithin (below (length names))) ds) (sym same)
             (subst (λ (n : ℕ). All (IsDepWithin (below n)) c.args.deps.now) (sym count) fit.deps_within);
         one_line_each = ap (λ (xs : List ℕ). length xs) (c.in_ok-lines.ensures.items_if_clones_equal (λ y e. e))
             ∙ length-replicate (length c.args.deps.now) 1 ∙ sym (ap (λ (ds : List Dep). length ds) same);
       };
       bare = subst (λ (xs : List (List ℕ)). All (λ name. IsTrue (is_bare_name name)) xs) (sym made)
-          (attribute_names_bare c.args.width fit.few_names);
+          (attribute_names_bare c.args.width fit.names_within_limit);
     }
 
 pub returns-clause-width : goal.returns-clause-width

@@ -1,3 +1,4 @@
+-- What is left to prove of `as_many_as_the_limit`: what `join` requires.
 use Rattle.std.proofs.Common.{List, subst, sym}
 use Rattle.std.specs.Prelude.{All}
 use Rattle.csv_rows.specs.declared.part.PartialRows.{PartialRows}

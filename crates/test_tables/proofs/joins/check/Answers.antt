@@ -1,3 +1,4 @@
+-- What is left to prove of `check`: what `join` requires.
 use Rattle.std.proofs.Common.{List, subst, sym}
 use Rattle.std.specs.Prelude.{All}
 use Rattle.csv_rows.specs.declared.part.PartialRows.{PartialRows}

@@ -1,3 +1,5 @@
+-- What is left to prove of `are_covered`: its clause `covered` and that a round of its loop keeps
+-- the invariant.
 use Rattle.std.proofs.Common.{◌≡◌, ℕ, true, subst, inl, inr, arith}
 use Rattle.std.proofs.lemmas.Bool.{cases_lt}
 use Rattle.std.specs.Prelude.{Any}

@@ -1,3 +1,4 @@
+-- What the loop of `are_covered` keeps, in terms of `schemes_of`.
 use Rattle.std.proofs.Common.{◌≡◌, ◌<◌, ℕ, true}
 use Rattle.std.specs.Prelude.{Any}
 use Rattle.attr_sets.specs.Attributes.{Attributes}

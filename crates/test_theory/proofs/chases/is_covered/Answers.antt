@@ -1,3 +1,4 @@
+-- What is left to prove of `is_covered`: what it answers in one case.
 use Rattle.std.proofs.Common.{sym, ◌∙◌, arith, get_or}
 use Rattle.std.proofs.lemmas.List.{length-map, get_or-map}
 use Rattle.attr_sets.specs.declared.set.AttrSet.{AttrSet}

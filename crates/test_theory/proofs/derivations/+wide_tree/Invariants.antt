@@ -1,3 +1,4 @@
+-- What grows less at each call of `wide_tree`.
 use Rattle.test_theory.proofs.derivations.+wide_tree.Given as goal
 
 -- proposed from what the function passes where it calls itself

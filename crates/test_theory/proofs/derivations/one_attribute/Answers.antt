@@ -19,10 +19,10 @@ schema_of_one name e a empty all =
     let a_in : IsSubset (attributes a) (below 1) = λ k m. grind (arith, same_at all k, m) in
     let e_in : IsSubset (attributes e) (below 1) = λ k m. grind (arith, same_at empty k, m) in
     record {
-      some_names = omega arith;
-      few_names = omega arith;
+      names_not_empty = omega arith;
+      names_within_limit = omega arith;
       names_differ = λ i j d before last. absurd (omega arith);
-      few_deps = omega arith;
+      deps_within_limit = omega arith;
       deps_within = All-cons P (Fd a a) (Mvd e a ∷ []) (a_in, a_in) (All-cons P (Mvd e a) [] (e_in, a_in) (All-nil P));
       one_line_each = refl;
     }

@@ -1,3 +1,4 @@
+-- What the loop of `tall_tree` keeps, in terms of `nodes` and `tree_of`.
 use Rattle.std.proofs.Common.{◌≡◌}
 use Rattle.derivation.specs.Trees.{nodes}
 use Rattle.derivation.specs.Derivs.{tree_of}

@@ -1,3 +1,4 @@
+-- What is left to prove of `attribute_by_guess`: what it answers in one case, by `named_here`.
 use Rattle.std.proofs.Common.{◌≡◌, ◌<◌, length, ◌∙◌, sym, ap, arith}
 use Rattle.std.specs.Str.{str_to_ascii_lowercase}
 use Rattle.dep_model.specs.Schemas.{names_of}

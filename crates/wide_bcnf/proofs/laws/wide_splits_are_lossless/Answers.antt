@@ -1,3 +1,4 @@
+-- The law `wide_splits_are_lossless`, by `split_is_lossless`.
 use Rattle.wide_bcnf.proofs.SplitLemmas.{split_is_lossless}
 use Rattle.wide_bcnf.proofs.laws.wide_splits_are_lossless.Goals as goal
 

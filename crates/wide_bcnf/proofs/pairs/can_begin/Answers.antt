@@ -1,3 +1,4 @@
+-- What is left to prove of `can_begin`: its clause `begins`, by `pair_begins`.
 use Rattle.std.proofs.Common.{sym, ◌∙◌}
 use Rattle.std.proofs.lemmas.Bool.{true≢false}
 use Rattle.attr_sets.specs.Sets.{attributes}

@@ -1,3 +1,4 @@
+-- What is left to prove of `determines`: its clause `implied`.
 use Rattle.std.proofs.Common.{not, ap, ◌∙◌, arith}
 use Rattle.wide_bcnf.proofs.pairs.determines.Goals as goal
 

@@ -1,7 +1,9 @@
+-- What is left to prove of `first_pair`: its clauses `first` and `none`, what `second_beside`
+-- requires, and that a round of its loop keeps the invariant, by `PairLemmas`.
 use Rattle.std.proofs.Common.{ℕ, ◌≤◌, refl, subst}
 use Rattle.attr_sets.specs.Sets.{attributes}
 use Rattle.dep_model.specs.Schemas.{width_of, theory_of}
-use Rattle.wide_bcnf.proofs.PairLemmas.{none_before_next, second_from, first_from, none_past}
+use Rattle.wide_bcnf.proofs.PairLemmas.{none_before_next, second_from, first_from, no_pair_past_width}
 use Rattle.wide_bcnf.proofs.pairs.first_pair.Goals as goal
 
 pub second_beside-requires-clause-least : goal.second_beside-requires-clause-least
@@ -27,7 +29,7 @@ returns-in-Some-clause-first c =
 pub returns-clause-none : goal.returns-clause-none
 returns-clause-none c = λ _.
     let s = c.args.schema.now in
-    none_past (width_of s) (theory_of s)
+    no_pair_past_width (width_of s) (theory_of s)
     (attributes c.args.scheme) c.loop-first.first c.loop-first.least c.requires.scheme
     (subst (λ (n : ℕ). n ≤ c.loop-first.first) c.width-first-end.ensures.count c.loop-first-test.false)
     c.loop-first.invariant

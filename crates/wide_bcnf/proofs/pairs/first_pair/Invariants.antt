@@ -1,3 +1,4 @@
+-- What the loop of `first_pair` keeps: `NoneBefore`.
 use Rattle.attr_sets.specs.Sets.{attributes}
 use Rattle.dep_model.specs.Schemas.{width_of, theory_of}
 use Rattle.wide_bcnf.specs.Pairs.{NoneBefore}

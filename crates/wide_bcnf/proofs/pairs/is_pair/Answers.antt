@@ -1,3 +1,4 @@
+-- What is left to prove of `is_pair`: its clause `pair`, by `PairLemmas`.
 use Rattle.std.proofs.Common.{sym, ◌∙◌}
 use Rattle.std.proofs.lemmas.Bool.{true≢false, false≢true}
 use Rattle.attr_sets.specs.Sets.{attributes}

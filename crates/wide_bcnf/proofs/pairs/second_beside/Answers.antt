@@ -1,3 +1,5 @@
+-- What is left to prove of `second_beside`: its clause `none` and that a round of its loop keeps
+-- the invariant.
 use Rattle.std.proofs.Common.{ℕ, subst, sym, ◌∙◌, inl, inr, arith}
 use Rattle.std.proofs.lemmas.Bool.{true≢false, cases_eq, ltb-true}
 use Rattle.attr_sets.specs.Sets.{attributes}
@@ -11,9 +13,9 @@ loop-second-preserved c d pair =
     let least = c.loop-second.invariant d pair in
     elim (cases_eq d c.loop-second.second) [
       | inl same ↦
-          let told = c.is_pair.ensures.pair.1
+          let fact = c.is_pair.ensures.pair.1
           (subst (λ (i : ℕ). IsPair (width_of s) (theory_of s) (attributes c.args.scheme) c.args.first i) same pair) in
-          absurd (true≢false (sym told ∙ c.if-is_pair.false))
+          absurd (true≢false (sym fact ∙ c.if-is_pair.false))
       | inr other ↦ omega arith
     ]
 

@@ -1,3 +1,4 @@
+-- What the loop of `second_beside` keeps, in terms of `width_of`, `theory_of` and `IsPair`.
 use Rattle.std.proofs.Common.{ℕ, ◌≤◌}
 use Rattle.attr_sets.specs.Sets.{attributes}
 use Rattle.dep_model.specs.Schemas.{width_of, theory_of}

@@ -1,3 +1,5 @@
+-- What is left to prove of `core_of`: what `first_pair` requires, that the invariant of its loop
+-- holds at first and stays, and that its loop ends, by `CoreLemmas`.
 use Rattle.std.proofs.lemmas.Bool.{ltb-true}
 use Rattle.attr_sets.specs.declared.set.TheConstants.{MOST_ATTRIBUTES}
 use Rattle.attr_sets.specs.Sets.{attributes}

@@ -1,3 +1,5 @@
+-- What the loop of `core_of` keeps, in terms of `width_of`, `theory_of` and `IsOnTheWay`; and by
+-- what it ends.
 use Rattle.attr_sets.specs.declared.set.TheConstants.{MOST_ATTRIBUTES}
 use Rattle.attr_sets.specs.Attributes.{count_below}
 use Rattle.attr_sets.specs.Sets.{attributes}

@@ -1,3 +1,5 @@
+-- What is left to prove of `split_wide`: its clauses `split`, `lossless`, `bcnf` and
+-- `at_most_width` and what `new` requires, by `SplitLemmas`.
 use Rattle.std.proofs.Common.{◌≡◌, List, length, sym, subst, ap, ◌∙◌, arith}
 use Rattle.std.specs.Prelude.{All, Contains}
 use Rattle.attr_sets.specs.declared.set.AttrSet.{AttrSet}
@@ -6,7 +8,7 @@ use Rattle.dep_model.specs.Plans.{schemes_of}
 use Rattle.dep_model.specs.Projections.{IsLossless}
 use Rattle.dep_model.specs.Schemas.{width_of, theory_of}
 use Rattle.plans.specs.Containing.{without_contained}
-use Rattle.wide_bcnf.proofs.SplitLemmas.{split_is_lossless, length-without_contained, kept_all, schema_plan, schema_few, schema_bcnf}
+use Rattle.wide_bcnf.proofs.SplitLemmas.{split_is_lossless, length-without_contained, kept_all, schema_plan, schema_within_limit, schema_bcnf}
 use Rattle.wide_bcnf.proofs.splitting.split_wide.Goals as goal
 
 pub new-requires : goal.new-requires
@@ -45,7 +47,7 @@ returns-clause-at_most_width c =
     let all = c.in_ok-schemes.schemes.items in
     let kept : c.drop_contained.result.schemes.items ≡ without_contained all = c.drop_contained.ensures.schemes
     ∙ ap (λ (xs : List AttrSet). without_contained xs) c.new.ensures.schemes in
-    let few = schema_few c.args.schema.now all c.in_ok-schemes.ensures.split in
+    let within_limit = schema_within_limit c.args.schema.now all c.in_ok-schemes.ensures.split in
     let shorter = length-without_contained all in
     let same = ap (λ (xs : List AttrSet). length xs) kept in
     omega arith

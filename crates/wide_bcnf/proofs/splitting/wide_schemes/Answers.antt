@@ -1,3 +1,5 @@
+-- What is left to prove of `wide_schemes`: its clause `split`, what `without` requires, that a
+-- round of its loop keeps the invariant, and that its loop ends, by `CoreLemmas` and `PairLemmas`.
 use Rattle.std.proofs.Common.{◌≡◌, ℕ, List, [], ◌∷◌, ◌++◌, refl, sym, subst, ap, ◌∙◌, inl, inr, append_assoc, arith}
 use Rattle.std.proofs.lemmas.Bool.{ltb-true}
 use Rattle.std.proofs.lemmas.List.{map-append}

@@ -1,3 +1,4 @@
+-- What the loop of `wide_schemes` keeps: `within`, `before` and `goes_on`; and by what it ends.
 use Rattle.std.proofs.Common.{List, ◌++◌}
 use Rattle.attr_sets.specs.declared.set.TheConstants.{MOST_ATTRIBUTES}
 use Rattle.attr_sets.specs.Attributes.{Attributes, IsSubset, count_below}

@@ -1,3 +1,4 @@
+-- What is left to prove of `AttrSet::difference`: its clause `members`, by `has_bit-and_not`.
 use Rattle.std.proofs.Common.{arith}
 use Rattle.std.specs.Int.{w128}
 use mathlib.Core.Path.{fun_ext}

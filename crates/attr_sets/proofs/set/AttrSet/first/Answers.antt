@@ -1,3 +1,4 @@
+-- What is left to prove of `AttrSet::first`: its clauses `none` and `first`, by `BitLemmas`.
 use Rattle.std.proofs.Common.{arith, refl, ap, ◌∙◌}
 use Rattle.std.specs.Int.{w128}
 use Rattle.attr_sets.specs.Sets.{has_bit, attributes}

@@ -1,3 +1,5 @@
+-- What is left to prove of `AttrSet::full`: what it answers, case by case, by `has_bit-zero` and
+-- `has_bit-shr_ones`.
 use Rattle.std.proofs.Common.{arith}
 use Rattle.std.proofs.lemmas.Bool.Decides.{nat_tests}
 use mathlib.Core.Path.{fun_ext}

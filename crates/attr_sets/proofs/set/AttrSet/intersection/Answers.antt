@@ -1,3 +1,4 @@
+-- What is left to prove of `AttrSet::intersection`: its clause `members`, by `has_bit-and`.
 use mathlib.Core.Path.{fun_ext}
 use Rattle.attr_sets.specs.Sets.{attributes}
 use Rattle.attr_sets.specs.declared.set.TheConstants.{MOST_ATTRIBUTES}

@@ -1,3 +1,5 @@
+-- What is left to prove of `AttrSet::is_empty`: its clause `empty`, by `has_bit-zero` and
+-- `zero_from_has_bit`.
 use Rattle.std.proofs.Common.{◌∙◌, ap, arith}
 use Rattle.std.proofs.lemmas.Bool.{eqb-true, eq-eqb}
 use Rattle.attr_sets.specs.Sets.{has_bit, attributes}

@@ -1,3 +1,5 @@
+-- What is left to prove of `AttrSet::is_subset`: its clauses `subset` and `test`, by
+-- `AttributesLemmas` and `BitLemmas`.
 use Rattle.std.proofs.Common.{arith}
 use Rattle.std.specs.Int.{w128}
 use Rattle.std.proofs.lemmas.Bool.Decides.{same_from_decides}

@@ -1,3 +1,4 @@
+-- What is left to prove of `AttrSet::len`: its clause `members`, by `count_ones-count_below`.
 use Rattle.std.proofs.Common.{arith}
 use Rattle.attr_sets.specs.Sets.{attributes}
 use Rattle.attr_sets.specs.declared.set.TheConstants.{MOST_ATTRIBUTES}

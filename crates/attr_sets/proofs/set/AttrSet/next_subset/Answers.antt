@@ -1,3 +1,5 @@
+-- What is left to prove of `AttrSet::next_subset`: its clauses `none`, `next` and `number`, by
+-- `AttributesLemmas` and `OrderLemmas`.
 use Rattle.std.proofs.Common.{refl, arith}
 use mathlib.Core.Path.{fun_ext}
 use Rattle.attr_sets.specs.Attributes.{difference}

@@ -1,3 +1,4 @@
+-- What is left to prove of `AttrSet::union`: its clause `members`, by `has_bit-or`.
 use mathlib.Core.Path.{fun_ext}
 use Rattle.attr_sets.specs.Sets.{attributes}
 use Rattle.attr_sets.specs.declared.set.TheConstants.{MOST_ATTRIBUTES}

@@ -1,3 +1,4 @@
+-- What is left to prove of `AttrSetOrd::cmp`: its clause `order`, by `cmp-order`.
 use Rattle.std.proofs.Common.{arith}
 use Rattle.attr_sets.proofs.OrderLemmas.{cmp-order}
 use Rattle.attr_sets.proofs.set.AttrSetOrd.cmp.Goals as goal

@@ -1,3 +1,5 @@
+-- What is left to prove of `AttrSetPartialEq::eq`: its clauses `same` and `test`, by
+-- `AttributesLemmas`.
 use Rattle.std.proofs.Common.{arith}
 use Rattle.std.proofs.lemmas.Bool.Decides.{same_from_decides}
 use Rattle.attr_sets.specs.Sets.{attributes}

@@ -1,3 +1,5 @@
+-- What is left to prove of `Groups::by_agreement`: its clauses `groups` and `firsts` and that a
+-- round of its loop keeps the invariant, by `NumberingLemmas`.
 use Rattle.std.proofs.Common.{arith, ◌≡◌, ◌<◌, ◌+◌, ℕ, List, true, false, length, sym, ap, subst, ◌∙◌}
 use Rattle.attr_sets.specs.Attributes.{IsSubset, intersection, below, union, only}
 use Rattle.attr_sets.specs.Sets.{attributes}

@@ -1,3 +1,4 @@
+-- What the loop of `Groups::by_agreement` keeps: `count` and `groups`.
 use Rattle.std.proofs.Common.{◌≡◌, ℕ, length}
 use Rattle.attr_sets.specs.Attributes.{intersection, below}
 use Rattle.attr_sets.specs.Sets.{attributes}

@@ -1,3 +1,5 @@
+-- What is left to prove of `Header::new`: its clauses `err` and `ok`, that the invariant of its
+-- loop holds at first and stays, and that its sums fit, by `HeaderLemmas`.
 use Rattle.std.proofs.Common.{arith, ◌≡◌, length}
 use Rattle.attr_sets.specs.Sets.{attributes}
 use Rattle.attr_sets.proofs.AttributesLemmas.{count_below-le}
@@ -11,14 +13,14 @@ pub overflow_cast-column : goal.overflow_cast-column
 overflow_cast-column c =
     let n : c.len.result ≡ length c.loop-i.columns.items = omega (arith, c.loop-i.columns.ok.0, c.len.ensures) in
     let k = c.loop-i.invariant.count in
-    let few = count_below-le 128 (attributes c.loop-i.scheme) in
+    let within_limit = count_below-le 128 (attributes c.loop-i.scheme) in
     omega arith
 
 pub overflow_add-column : goal.overflow_add-column
 overflow_add-column c =
     let n : c.len.result ≡ length c.loop-i.columns.items = omega (arith, c.loop-i.columns.ok.0, c.len.ensures) in
     let k = c.loop-i.invariant.count in
-    let few = count_below-le 128 (attributes c.loop-i.scheme) in
+    let within_limit = count_below-le 128 (attributes c.loop-i.scheme) in
     omega arith
 
 pub returns-in-Err-clause-err : goal.returns-in-Err-clause-err
@@ -32,7 +34,7 @@ loop-i-preserved c =
     let end = c.len-i-end.ensures in
     let here = c.loop-i-test.true in
     let within = c.in-Ok.ensures.within in
-    let few = c.args.schema.now.valid.few_names in
+    let within_limit = c.args.schema.now.valid.names_within_limit in
     rw c.in_ok-push.ensures.items
     (one_column _ _ c.loop-i.i c.len.result c.loop-i.columns.items c.field.result.now (attributes c.loop-i.scheme) _ c.in-Ok.attribute c.loop-i.invariant (omega arith) (omega arith) (omega (arith, c.loop-i.columns.ok.0, c.len.ensures)) c.field.ensures.value c.in-Ok.ensures.attribute c.with-scheme.ensures.members)
 

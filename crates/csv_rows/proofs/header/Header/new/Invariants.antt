@@ -1,3 +1,4 @@
+-- What the loop of `Header::new` keeps: `ReadsColumns`.
 use Rattle.attr_sets.specs.Sets.{attributes}
 use Rattle.csv.specs.Records.{fields_of}
 use Rattle.dep_model.specs.Schemas.{names_of}

@@ -1,3 +1,5 @@
+-- What is left to prove of `Interned::intern`: that a round of its loop keeps the invariant and the
+-- invariant of its type, by `columns_even` and `one_column_more`.
 use Rattle.std.proofs.Common.{All, arith, ◌≡◌, ◌+◌, ◌++◌, ◌∷◌, [], ℕ, List, length, slice_index_or, sym, ap, subst, ◌∙◌}
 use Rattle.std.proofs.lemmas.List.{length-append}
 use Rattle.attr_sets.specs.Attributes.{only}

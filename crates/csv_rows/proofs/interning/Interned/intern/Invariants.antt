@@ -1,3 +1,4 @@
+-- What the loop of `Interned::intern` keeps: `width` and `codes`.
 use Rattle.std.proofs.Common.{◌≡◌, ◌<◌, ℕ, [], length, slice_index_or}
 use Rattle.attr_sets.specs.Attributes.{only}
 use Rattle.csv_rows.specs.Numberings.{AreGroups}

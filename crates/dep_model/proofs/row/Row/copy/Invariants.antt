@@ -1,3 +1,4 @@
+-- What the loop of `Row::copy` keeps.
 use Rattle.std.proofs.Common.{◌≡◌, take}
 use Rattle.dep_model.proofs.row.Row.copy.Given as goal
 

@@ -1,3 +1,5 @@
+-- What is left to prove of `Schema::new`: its clause `columns` and the invariant of its type, by
+-- `slice_get-texts`.
 use Rattle.std.proofs.Common.{length}
 use Rattle.attr_sets.specs.Sets.{attributes}
 use Rattle.attr_sets.proofs.AttributesLemmas.{same_at}

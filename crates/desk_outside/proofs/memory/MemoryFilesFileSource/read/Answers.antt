@@ -1,3 +1,4 @@
+-- What is left to prove of `MemoryFilesFileSource::read`: its clause `bytes`, by `drop-copied`.
 use Rattle.std.proofs.Common.{◌≡◌, drop, ap, sym, ◌∙◌, arith}
 use Rattle.desk_outside.proofs.ListFacts.{drop-copied}
 use Rattle.desk_outside.specs.Memory.{bytes_at}

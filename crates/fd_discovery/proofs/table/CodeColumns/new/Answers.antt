@@ -1,3 +1,5 @@
+-- What is left to prove of `CodeColumns::new`: that a round of its loop keeps the invariant, by
+-- `orders_more`.
 use Rattle.std.proofs.Common.{◌+◌, ◌∷◌, [], ℕ, List, length, slice_index_or, sym, ap, subst, ◌∙◌}
 use Rattle.std.proofs.lemmas.List.{length-append}
 use Rattle.csv_rows.specs.Interning.{codes_at}

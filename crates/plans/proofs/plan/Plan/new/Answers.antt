@@ -1,3 +1,4 @@
+-- What is left to prove of `Plan::new`: the invariant of its type, by `plan_are_schemes`.
 use Rattle.std.proofs.Common.{sym, subst}
 use Rattle.std.specs.Prelude.{ℕ}
 use Rattle.plans.proofs.PlanLemmas.{plan_are_schemes}

@@ -1,3 +1,4 @@
+-- What is left to prove of `CheckerState::enter`: its clause `within`.
 use Rattle.std.proofs.Common.{◌≡◌, Result, Ok, Err, refl}
 use Rattle.std.specs.Prelude.{IfOk}
 use Rattle.dep_model.specs.declared.dep.Dep.{Dep}

@@ -1,3 +1,4 @@
+-- What is left to prove of `CheckerState::take`: its clause `closed`.
 use Rattle.std.proofs.Common.{◌-◌, ◌∙◌, ap}
 use Rattle.std.specs.Prelude.{Option, option_map, slice_set}
 use Rattle.std.proofs.lemmas.List.{map-set}

@@ -1,3 +1,4 @@
+-- What is left to prove of `FlatValues::len`: its clauses `count` and `small`, by `length_pieces`.
 use Rattle.std.proofs.Common.{arith, length, ap}
 use Rattle.row_store.proofs.PieceLemmas.{length_pieces}
 use Rattle.row_store.proofs.flat_values.FlatValues.len.Goals as goal

@@ -1,3 +1,4 @@
+-- What is left to prove of `Rows::len`: its clause `count`, by `length_pieces`.
 use Rattle.std.proofs.Common.{arith, length, ap}
 use Rattle.row_store.proofs.PieceLemmas.{length_pieces}
 use Rattle.row_store.proofs.rows.Rows.len.Goals as goal

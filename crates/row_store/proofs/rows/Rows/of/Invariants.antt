@@ -1,3 +1,4 @@
+-- What the loop of `Rows::of` keeps.
 use Rattle.std.proofs.Common.{◌≡◌, take}
 use Rattle.row_store.proofs.rows.Rows.of.Given as goal
 

@@ -1,15 +1,17 @@
+-- What is left to prove of `Draft::list_names`: its clauses `ok` and `err` and that a round of its
+-- loop keeps the invariant, by `ListLemmas`.
 use Rattle.std.proofs.Common.{◌∙◌, Err, refl, ap, sym}
 use Rattle.dep_model.proofs.FailureLemmas.{refused_is}
 use Rattle.schema_grammar.specs.declared.refusal.SchemaRefusal.{SchemaRefusal}
 use Rattle.schema_reader.proofs.ListLemmas.{names_ended, names_wanted, names_stopped, names_refused, names_more}
 use Rattle.schema_reader.proofs.draft.Draft.list_names.Goals as goal
 
-pub returns-then-some-clause-ok : goal.returns-then-some-clause-ok
-returns-then-some-clause-ok c = c.names.invariant ∙ names_ended _ _ _ _ _ c.if-some.true c.in-End.ensures.exact
+pub returns-then-any_name-clause-ok : goal.returns-then-any_name-clause-ok
+returns-then-any_name-clause-ok c = c.names.invariant ∙ names_ended _ _ _ _ _ c.if-any_name.true c.in-End.ensures.exact
 
-pub returns-else-some-clause-err : goal.returns-else-some-clause-err
-returns-else-some-clause-err c =
-    c.names.invariant ∙ names_wanted _ _ _ _ _ c.if-some.false c.in-End.ensures.exact
+pub returns-else-any_name-clause-err : goal.returns-else-any_name-clause-err
+returns-else-any_name-clause-err c =
+    c.names.invariant ∙ names_wanted _ _ _ _ _ c.if-any_name.false c.in-End.ensures.exact
     ∙ ap (λ (e : SchemaRefusal). Err e) (sym c.refusal_of_end.ensures.refusal)
 
 pub returns-in-Refusal-clause-err : goal.returns-in-Refusal-clause-err

@@ -1,3 +1,4 @@
+-- What the loop of `Draft::list_names` keeps; and by what it ends.
 use Rattle.std.proofs.Common.{◌≡◌, false}
 use Rattle.schema_grammar.specs.Declarations.{list_names_rest}
 use Rattle.schema_reader.specs.Views.{declarations_of_draft}
@@ -8,7 +9,7 @@ use Rattle.schema_reader.proofs.draft.Draft.list_names.Given as goal
 abbrev pub invariant-names : goal.invariant-names
 invariant-names l =
     list_names_rest l.format l.column (declarations_of_draft l.fn.self) false (rest_of l.fn.start)
-    ≡ list_names_rest l.format l.column (declarations_of_draft l.self) l.some (rest_of l.rest)
+    ≡ list_names_rest l.format l.column (declarations_of_draft l.self) l.any_name (rest_of l.rest)
 
 abbrev pub decreases-names : goal.decreases-names
 decreases-names l = bytes_left l.rest

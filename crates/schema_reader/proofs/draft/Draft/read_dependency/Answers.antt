@@ -1,3 +1,4 @@
+-- What is left to prove of `Draft::read_dependency`: its clauses `err` and `ok`.
 use Rattle.std.proofs.Common.{refl}
 use Rattle.schema_grammar.specs.Declarations.{dependency_line}
 use Rattle.schema_grammar.proofs.RefusalLemmas.{Refuses-here}

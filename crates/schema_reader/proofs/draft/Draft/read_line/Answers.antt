@@ -1,3 +1,5 @@
+-- What is left to prove of `Draft::read_line`: its clauses `ok` and `err` and what it answers in
+-- the cases `Some` and `None`, by `ListLemmas`.
 use Rattle.std.proofs.Common.{◌∙◌, sym}
 use Rattle.schema_grammar.proofs.RefusalLemmas.{on_ok_whole, refuses_whole}
 use Rattle.schema_reader.proofs.ListLemmas.{line_whole, line_ended, line_stopped, line_names, line_states}

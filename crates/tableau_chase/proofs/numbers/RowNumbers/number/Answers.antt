@@ -1,3 +1,5 @@
+-- What is left to prove of `RowNumbers::number`: its clauses `known`, `fresh` and `grown`, by
+-- `NumberLemmas`.
 use Rattle.std.proofs.Common.{◌<◌, length, sym, arith}
 use Rattle.tableau_chase.proofs.NumberLemmas.{numbering_known, numbering_fresh, numbering_more}
 use Rattle.tableau_chase.proofs.numbers.RowNumbers.number.Goals as goal

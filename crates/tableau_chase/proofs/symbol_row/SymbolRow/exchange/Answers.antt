@@ -1,3 +1,5 @@
+-- What is left to prove of `SymbolRow::exchange`: that the invariant of its loop holds at first and
+-- stays, by `exchange_rows-none` and `exchange_rows-more`.
 use Rattle.std.proofs.Common.{◌≡◌, ℕ, Bool, cond, List, ◌∙◌, ◌++◌, [], ◌∷◌, sym, ap}
 use Rattle.attr_sets.specs.Sets.{attributes}
 use Rattle.chase_laws.specs.Tableaux.{symbol_at}

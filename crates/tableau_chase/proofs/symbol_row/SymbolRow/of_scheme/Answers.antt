@@ -1,3 +1,5 @@
+-- What is left to prove of `SymbolRow::of_scheme`: that the invariant of its loop holds at first
+-- and stays, by `scheme_row-none` and `scheme_row-more`.
 use Rattle.std.proofs.Common.{◌≡◌, ℕ, Bool, cond, List, ◌∙◌, ◌++◌, [], ◌∷◌, sym, ap}
 use Rattle.attr_sets.specs.Sets.{attributes}
 use Rattle.chase_laws.specs.Tableaux.{scheme_row}

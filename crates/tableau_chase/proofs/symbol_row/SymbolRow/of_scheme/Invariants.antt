@@ -1,3 +1,4 @@
+-- What the loop of `SymbolRow::of_scheme` keeps.
 use Rattle.std.proofs.Common.{◌≡◌}
 use Rattle.attr_sets.specs.Sets.{attributes}
 use Rattle.chase_laws.specs.Tableaux.{scheme_row}

@@ -1,3 +1,4 @@
+-- What the loop of `SymbolRow::symbols_at` keeps.
 use Rattle.std.proofs.Common.{◌≡◌, map, take}
 use Rattle.chase_laws.specs.Tableaux.{symbol_at}
 use Rattle.tableau_chase.proofs.symbol_row.SymbolRow.symbols_at.Given as goal

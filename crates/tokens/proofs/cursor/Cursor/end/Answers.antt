@@ -1,3 +1,4 @@
+-- What is left to prove of `Cursor::end`: its clauses `ok` and `err`, by `WordLemmas`.
 use Rattle.std.proofs.Common.{◌∙◌, refl}
 use Rattle.tokens.proofs.WordLemmas.{end_ended, end_stopped, end_led}
 use Rattle.tokens.proofs.cursor.Cursor.end.Goals as goal

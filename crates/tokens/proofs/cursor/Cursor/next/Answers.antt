@@ -1,3 +1,4 @@
+-- What is left to prove of `Cursor::next`: what it answers in the cases `End` and `Error`.
 use Rattle.std.proofs.Common.{ap}
 use Rattle.lexer.specs.Tokens.{Lexed}
 use Rattle.tokens.specs.Views.{rest_of}

@@ -1,3 +1,4 @@
+-- What is left to prove of `Cursor::take`: its clauses `err` and `ok`, by `WordLemmas`.
 use Rattle.std.proofs.Common.{sym, ap, ◌∙◌, Err}
 use Rattle.schema_grammar.specs.declared.refusal.SchemaRefusal.{SchemaRefusal}
 use Rattle.tokens.proofs.WordLemmas.{take_ended, take_stopped, take_led}

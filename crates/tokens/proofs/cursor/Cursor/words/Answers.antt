@@ -1,3 +1,5 @@
+-- What is left to prove of `Cursor::words`: its clauses `ok` and `err` and that a round of its loop
+-- keeps the invariant, by `WordLemmas`.
 use Rattle.std.proofs.Common.{◌∙◌, sym, ap, arith}
 use Rattle.std.proofs.lemmas.Bool.Decides.{nat_tests}
 use Rattle.attr_sets.specs.Attributes.{Attributes}

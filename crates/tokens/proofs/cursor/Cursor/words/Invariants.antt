@@ -1,3 +1,4 @@
+-- What the loop of `Cursor::words` keeps: `GoesOn`; and by what it ends.
 use Rattle.attr_sets.specs.Sets.{attributes}
 use Rattle.tokens.specs.Views.{names_in, rest_of, bytes_left}
 use Rattle.tokens.proofs.WordLemmas.{GoesOn}

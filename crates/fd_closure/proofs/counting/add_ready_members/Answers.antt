@@ -1,8 +1,10 @@
+-- What is left to prove of `add_ready_members`: that a round of its loop keeps the invariant, by
+-- `grows-further`.
 use Rattle.attr_sets.specs.Sets.{attributes}
 use Rattle.fd_closure.specs.Switches.{members_on}
 use Rattle.fd_closure.proofs.SwitchLemmas.{grows-further}
-use Rattle.fd_closure.proofs.counting.add_told_members.Goals.{then-misses_none, else-misses_none}
-use Rattle.fd_closure.proofs.counting.add_told_members.Goals as goal
+use Rattle.fd_closure.proofs.counting.add_ready_members.Goals.{then-misses_none, else-misses_none}
+use Rattle.fd_closure.proofs.counting.add_ready_members.Goals as goal
 
 pub loop-k-preserved : goal.loop-k-preserved
 loop-k-preserved c = elim c.if-misses_none.branch [

@@ -1,11 +1,13 @@
+-- What is left to prove of `first_intersecting`: its clauses `none` and `first` and that a round of
+-- its loop keeps the invariant.
 use Rattle.std.proofs.Common.{◌≡◌, ℕ, ◌<◌, length, get_or, ◌+◌, List, refl, sym, ◌∙◌, inl, inr, subst, ap, arith}
 use Rattle.std.proofs.lemmas.Bool.{true≢false, false≢true, cases_eq}
 use Rattle.std.proofs.lemmas.List.{get_or_default}
 use Rattle.attr_sets.specs.Attributes.{Intersects}
 use Rattle.attr_sets.specs.declared.set.AttrSet.{AttrSet}
 use Rattle.attr_sets.specs.Sets.{attributes}
-use Rattle.dep_basis.proofs.deciding.first_meeting.Goals as goal
-use Rattle.dep_basis.proofs.deciding.first_meeting.Goals.{else-intersects-via-then-intersects+else-intersects-2, else-intersects-via-else-intersects}
+use Rattle.dep_basis.proofs.deciding.first_intersecting.Goals as goal
+use Rattle.dep_basis.proofs.deciding.first_intersecting.Goals.{else-intersects-via-then-intersects+else-intersects-2, else-intersects-via-else-intersects}
 
 -- p intersects two sets
 abbrev IntersectsBoth : AttrSet → AttrSet → AttrSet → Type 0

@@ -1,3 +1,4 @@
+-- What is left to prove of `read_parts`: that the invariant of its loop holds at first and stays.
 use Rattle.std.proofs.Common.{List, [], ◌∷◌, ap, subst, sym, ◌∙◌}
 use Rattle.std.specs.Prelude.{All}
 use Rattle.std.proofs.lemmas.List.{map-append}
@@ -5,7 +6,7 @@ use Rattle.std.proofs.lemmas.List.Elements.{All-nil, All-push}
 use Rattle.dep_model.specs.Schemas.{width_of}
 use Rattle.table_join.specs.Tables.{PartialRelation, IsTable, table_of_part, tables_of}
 use Rattle.table_join.proofs.PartLemmas.{part_is_table}
-use Rattle.test_tables.proofs.joins.parts_of.Goals as goal
+use Rattle.test_tables.proofs.joins.read_parts.Goals as goal
 
 pub loop-text-init : goal.loop-text-init
 loop-text-init c = record {
