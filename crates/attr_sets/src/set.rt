@@ -4,7 +4,7 @@ ghost use Rattle.attr_sets.specs.Sets.{attributes, is_subset, is_same, is_disjoi
 
 use std::cmp::Ordering;
 
-/// How many attributes a set has: the most attributes of a universe.
+/// The most attributes of a universe, and so of a set.
 pub const MOST_ATTRIBUTES: u8 = 128;
 
 /// A set of attributes, each a number below `MOST_ATTRIBUTES`. Bit `i` of the field stands for

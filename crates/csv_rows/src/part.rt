@@ -20,7 +20,7 @@ pub struct PartialRows {
 }
 
 /// The rows of a CSV text that has a column for some of the attributes. It is read and refused as
-/// `read_rows` does it, but no column is missing.
+/// `read_rows` does it, but a column that is missing is no refusal.
 pub fn read_part(
     alloc: Global,
     schema: &Schema,

@@ -202,13 +202,13 @@ elements_added r columns keys references one two old t u new to_t is_one to_u is
     ∙ ap (λ (b : Bool). old ++ (element_lines false (columns ++ keys) ++ element_lines b references)) any_before
     ∙ ap (λ (t : List ℕ). old ++ t) (sym (lines_append false (columns ++ keys) references))) to_new
 
-pub comment_not_empty : (key : Attributes) → IsEmpty key → comment key ≡ codes "-- at most one row\n"
+pub comment-empty_key : (key : Attributes) → IsEmpty key → comment key ≡ codes "-- at most one row\n"
 unfolding comment
-comment_not_empty key empty = ap (λ (b : Bool). if b then codes "-- at most one row\n" else []) (empty_passes key empty)
+comment-empty_key key empty = ap (λ (b : Bool). if b then codes "-- at most one row\n" else []) (empty_passes key empty)
 
-pub comment_none : (key : AttrSet) → (IsEmpty (attributes key) → ⊥) → comment (attributes key) ≡ []
+pub comment-key : (key : AttrSet) → (IsEmpty (attributes key) → ⊥) → comment (attributes key) ≡ []
 unfolding comment
-comment_none key not_empty = ap (λ (b : Bool). if b then codes "-- at most one row\n" else []) (empty_fails key not_empty)
+comment-key key not_empty = ap (λ (b : Bool). if b then codes "-- at most one row\n" else []) (empty_fails key not_empty)
 
 pub table_added : {T E : Type 0} (r : Result T E) (s : Schema) (tables : List TableDesign) (table : TableDesign)
     (old t u v w x new : List ℕ)

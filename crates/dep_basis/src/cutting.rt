@@ -33,7 +33,8 @@ struct Cut {
     left: u8,
 }
 
-// The first of the dependencies that cut a part which leaves the fewest attributes beside one of it.
+// The first of the dependencies that cut a part which leaves the fewest attributes on the side of
+// `attribute`, which counts too.
 pub fn best_cut(deps: &[Dep], part: AttrSet, attribute: u8) -> Option<usize>
     requires attribute { attribute < MOST_ATTRIBUTES }
     ensures none { IsNone result

@@ -16,7 +16,7 @@ pub const MOST_DEPENDENCIES: usize = 4096;
 pub struct Schema {
     naming: Naming,
     names: Vec<Name>,
-    // none where all columns are text columns
+    // without it all columns are text columns
     types: Option<Vec<ColumnType>>,
     // the attributes of which a value may be missing
     nullable: AttrSet,
@@ -145,7 +145,7 @@ impl Schema {
     }
 }
 
-// The position of the first name that these bytes are.
+// The position of the first name that these bytes are, ASCII case aside.
 fn position_named(names: &[Name], bytes: &[u8]) -> Option<usize>
     ensures position { result ≡ position (λ name. same_name name bytes.now) names.now }
 {

@@ -43,25 +43,25 @@ pub part-depth : (u t : Tree) → IsIn u t → depth u ≤ depth t
 part-depth u t inside = ⊎_elim (λ same. let equal : depth u ≡ depth t = ap depth same in omega arith) (λ below. below-lower u t below) inside
 
 -- what is below a part is below the whole
-below_below : (v u t : Tree) → IsBelow v u → IsBelow u t → IsBelow v t
-below_below v u (leaf rule) below lower = absurd lower
-below_below v u (step rule t) below lower =
-    inr (⊎_elim (λ same. subst (λ (w : Tree). IsBelow v w) same below) (λ deeper. below_below v u t below deeper) lower)
-below_below v u (pair rule t w) below lower =
+IsBelow-trans : (v u t : Tree) → IsBelow v u → IsBelow u t → IsBelow v t
+IsBelow-trans v u (leaf rule) below lower = absurd lower
+IsBelow-trans v u (step rule t) below lower =
+    inr (⊎_elim (λ same. subst (λ (w : Tree). IsBelow v w) same below) (λ deeper. IsBelow-trans v u t below deeper) lower)
+IsBelow-trans v u (pair rule t w) below lower =
     ⊎_elim
-    (λ left. inl (inr (⊎_elim (λ same. subst (λ (x : Tree). IsBelow v x) same below) (λ deeper. below_below v u t below deeper) left)))
-    (λ right. inr (inr (⊎_elim (λ same. subst (λ (x : Tree). IsBelow v x) same below) (λ deeper. below_below v u w below deeper) right)))
+    (λ left. inl (inr (⊎_elim (λ same. subst (λ (x : Tree). IsBelow v x) same below) (λ deeper. IsBelow-trans v u t below deeper) left)))
+    (λ right. inr (inr (⊎_elim (λ same. subst (λ (x : Tree). IsBelow v x) same below) (λ deeper. IsBelow-trans v u w below deeper) right)))
     lower
 
 below_part : (v u t : Tree) → IsBelow v u → IsIn u t → IsBelow v t
-below_part v u t below inside = ⊎_elim (λ same. subst (λ (w : Tree). IsBelow v w) same below) (λ lower. below_below v u t below lower) inside
+below_part v u t below inside = ⊎_elim (λ same. subst (λ (w : Tree). IsBelow v w) same below) (λ lower. IsBelow-trans v u t below lower) inside
 
-pub part_part : (v u t : Tree) → IsIn v u → IsIn u t → IsIn v t
-part_part v u t first second = ⊎_elim (λ same. subst (λ (w : Tree). IsIn w t) (sym same) second) (λ below. inr (below_part v u t below second)) first
+pub IsIn-trans : (v u t : Tree) → IsIn v u → IsIn u t → IsIn v t
+IsIn-trans v u t first second = ⊎_elim (λ same. subst (λ (w : Tree). IsIn w t) (sym same) second) (λ below. inr (below_part v u t below second)) first
 
 -- a part of a direct tree is direct
 pub part_direct : (s : Schema) (u t : Tree) → IsIn u t → IsDirect s t → IsDirect s u
-part_direct s u t inside direct v part = direct v (part_part v u t part inside)
+part_direct s u t inside direct v part = direct v (IsIn-trans v u t part inside)
 
 -- ---- the smallest part
 pub least_direct : (s : Schema) (t : Tree) (result : Concluded) → ((u : Tree) → IsBelow u t → IsDirect s u) → IsLeastPart s t result → IsDirect s (tree_of result.deriv.value)

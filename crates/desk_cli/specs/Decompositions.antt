@@ -30,7 +30,8 @@ abbrev pub wide_text : List (List ℕ) → List Attributes → List ℕ
 wide_text names plan = line (codes "# a scheme in form may have been cut") ++ plan_text names plan
 
 -- ---- plans
--- the finished list of the splitting: no legal relation loses by it, and each scheme is in the form for
+-- the plan of the splitting, its finished list without contained schemes: no legal relation loses by
+-- it, and each scheme is in the form for
 -- every left side within it. No list on the way is stuck or has too many schemes
 pub record IsSplitInForm (schema : Schema) (form : Form) (plan : List AttrSet) : Type 0 where
   pub split : IsSplitPlan (width_of schema) (theory_of schema) form plan

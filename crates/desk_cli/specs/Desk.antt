@@ -38,13 +38,13 @@ sink_in_call old new before after = record { old = old; new = new; before = befo
 abbrev pub reading_in_call : FileSourceInCall → Reading
 reading_in_call source = observed source.files source.before source.after source.taken
 
--- the sink took just the text of an ending with this status, and none of its calls failed
+-- the sink took just the text of an outcome with this status, and none of its calls failed
 abbrev pub WritesWhole : SinkInCall → Outcomes → Status → Type 0
 WritesWhole sink endings status =
     (ending : OutcomeValue) × endings ending × (status ≡ ending.status)
     × (sink.new ≡ append_known sink.old ending.text) × (sink.after ≡ sink.before)
 
--- writing failed: the sink's error count increased, and it took a part of the text of an ending
+-- writing failed: the sink's error count increased, and it took a part of the text of an outcome
 abbrev pub WritesPart : SinkInCall → Outcomes → Status → Type 0
 WritesPart sink endings status =
     (status ≡ CannotWrite) × ErrorCountIncreased sink.before sink.after

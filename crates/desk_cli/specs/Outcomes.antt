@@ -19,7 +19,7 @@ pub record OutcomeValue : Type 0 where
   pub status : Status
   pub text : List ℕ
 
--- which endings there may be
+-- which outcomes there may be
 abbrev pub Outcomes : Type 1
 Outcomes = OutcomeValue → Type 0
 
@@ -66,7 +66,7 @@ abbrev pub failures_text : ℕ → List WriteOutcome → List ℕ
 failures_text number [] = []
 failures_text number (end ∷ ends) = end_text number end ++ failures_text (number + 1) ends
 
--- an answer, as an ending
+-- a response, as an outcome
 abbrev pub outcome_of_response : ResponseValue → OutcomeValue
 outcome_of_response response = record { status = response.status; text = response.text }
 
@@ -91,7 +91,7 @@ ComesTo destinations response ending =
     MatchOption response.tables ((destinations.new ≡ destinations.old) × (ending ≡ outcome_of_response response))
     (λ tables. WritesTables destinations response tables ending)
 
--- the endings of answers that are allowed
+-- the outcomes of allowed responses
 abbrev pub EndsAs : DestinationsInCall → Allowed → Outcomes
 EndsAs destinations allowed ending =
     (response : ResponseValue) × allowed response × ComesTo destinations response ending

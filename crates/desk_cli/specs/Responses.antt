@@ -21,7 +21,7 @@ response_value response = record {
 abbrev pub outcome_value : Outcome → OutcomeValue
 outcome_value end = record { status = end.status; text = end.text.items }
 
--- a command ends early with an allowed response; running out of memory is free
+-- a command ends early with an allowed response; running out of memory is always allowed
 abbrev pub ExitsAs : Allowed → EarlyExit → Type 0
 ExitsAs allowed exit = (response : Response) → exit ≡ Answered response → allowed (response_value response)
 

@@ -67,7 +67,7 @@ pub record SayTheSame (schema other : Schema) : Type 0 where
   pub back : IsImpliedBy schema other
   pub legal : HaveSameLegalRelations schema other
 
--- these are the dependencies of each that do not follow from the other, of which there is one; so they
+-- these are the dependencies of each that do not follow from the other, of which there is at least one; so they
 -- have not the same legal relations
 pub record Differ (schema other : Schema) (of_schema of_other : List ℕ) : Type 0 where
   pub there : AreDifferences schema other of_schema

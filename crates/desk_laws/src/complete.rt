@@ -1,5 +1,6 @@
 //! Where the words form a command, its files and its goal have their meaning, and nothing fails, a call
-//! ends with yes or no, or runs out of memory. There is a law for each command, and one for the call.
+//! ends with yes or no, or runs out of memory. There is one law for the call, and one for each command:
+//! the others stand in `complete_questions`, `complete_scripts` and `complete_tables`.
 
 ghost use Rattle.std.specs.Prelude.{◌≡◌, ℕ, List, [], ◌∷◌, Result, Ok, codes};
 ghost use Rattle.attr_sets.specs.Attributes.{Attributes};

@@ -10,7 +10,7 @@ use Rattle.attr_sets.specs.Attributes.{Attributes, IsSubset, below, difference, 
 use Rattle.dep_model.specs.Dependencies.{Dependency, left_of, right_of}
 use Rattle.dep_model.specs.Deps.{dependency_of, dependencies_of}
 use Rattle.dep_model.specs.declared.dep.Dep.{Dep}
-use Rattle.fd_discovery.specs.Searching.{IsGivenFrom, AreNotGiven}
+use Rattle.fd_discovery.specs.Searching.{IsListedFrom, AreUndetermined}
 use Rattle.attr_sets.proofs.AttributesLemmas.{same_at}
 use Rattle.dep_model.proofs.ListLemmas.{Any-weaker, Any-left}
 
@@ -28,40 +28,40 @@ Any-push_cases P xs y h = elim (cases_lt h.0 (length xs)) [
 
 -- ---- what is given
 -- one more is listed
-pub given_still : (ds : List Dependency) (d : Dependency) (x : Attributes) (a : ℕ) → IsGivenFrom ds x a
-    → IsGivenFrom (ds ++ d ∷ []) x a
+pub given_still : (ds : List Dependency) (d : Dependency) (x : Attributes) (a : ℕ) → IsListedFrom ds x a
+    → IsListedFrom (ds ++ d ∷ []) x a
 given_still ds d x a = Any-left (λ (e : Dependency). IsSubset (left_of e) x × (right_of e a ≡ true)) ds d
 
 pub given_now : (ds : List Dependency) (d : Dependency) (x : Attributes) (a : ℕ) → IsSubset (left_of d) x
-    → right_of d a ≡ true → IsGivenFrom (ds ++ d ∷ []) x a
+    → right_of d a ≡ true → IsListedFrom (ds ++ d ∷ []) x a
 given_now ds d x a left right = Any-push (λ (e : Dependency). IsSubset (left_of e) x × (right_of e a ≡ true)) ds d
     (left, right)
 
-pub given_cases : (ds : List Dependency) (d : Dependency) (x : Attributes) (a : ℕ) → IsGivenFrom (ds ++ d ∷ []) x a
-    → IsGivenFrom ds x a ⊎ (IsSubset (left_of d) x × (right_of d a ≡ true))
+pub given_cases : (ds : List Dependency) (d : Dependency) (x : Attributes) (a : ℕ) → IsListedFrom (ds ++ d ∷ []) x a
+    → IsListedFrom ds x a ⊎ (IsSubset (left_of d) x × (right_of d a ≡ true))
 given_cases ds d x a = Any-push_cases (λ (e : Dependency). IsSubset (left_of e) x × (right_of e a ≡ true)) ds d
 
 -- from a larger set
-pub given_more : (ds : List Dependency) (x y : Attributes) (a : ℕ) → IsSubset x y → IsGivenFrom ds x a → IsGivenFrom ds y a
+pub given_more : (ds : List Dependency) (x y : Attributes) (a : ℕ) → IsSubset x y → IsListedFrom ds x a → IsListedFrom ds y a
 given_more ds x y a inside = Any-weaker (λ (e : Dependency). IsSubset (left_of e) x × (right_of e a ≡ true))
     (λ (e : Dependency). IsSubset (left_of e) y × (right_of e a ≡ true)) ds (λ e h. ((λ k m. inside k (h.0 k m)), h.1))
 
 -- a set and what is given from it
-pub record IsSoFar (ds : List Dependency) (x given : Attributes) : Type 0 where
+pub record HasListedFrom (ds : List Dependency) (x given : Attributes) : Type 0 where
   pub grows : IsSubset x given
-  pub known : (a : ℕ) → given a ≡ true → (x a ≡ true) ⊎ IsGivenFrom ds x a
-  pub all : (a : ℕ) → IsGivenFrom ds x a → given a ≡ true
+  pub known : (a : ℕ) → given a ≡ true → (x a ≡ true) ⊎ IsListedFrom ds x a
+  pub all : (a : ℕ) → IsListedFrom ds x a → given a ≡ true
 
-pub so_far_none : (x : Attributes) → IsSoFar [] x x
-so_far_none x = record {
+pub HasListedFrom-nil : (x : Attributes) → HasListedFrom [] x x
+HasListedFrom-nil x = record {
   grows = λ k m. m;
   known = λ a m. inl m;
   all = λ a h. absurd (omega (arith, h.2));
 }
 
-pub so_far_in : (ds : List Dependency) (d : Dependency) (x given more : Attributes) → IsSoFar ds x given
+pub so_far_in : (ds : List Dependency) (d : Dependency) (x given more : Attributes) → HasListedFrom ds x given
     → IsSubset (left_of d) x → more ≡ union given (right_of d)
-    → IsSoFar (ds ++ d ∷ []) x more
+    → HasListedFrom (ds ++ d ∷ []) x more
 so_far_in ds d x given more old inside same = record {
   grows = λ k m. same_at same k ∙ left k (old.grows k m);
   known = λ a m. elim (cases_Bool (given a)) [
@@ -90,8 +90,8 @@ so_far_in ds d x given more old inside same = record {
     added : (k : ℕ) → given k ≡ false → union given (right_of d) k ≡ true → right_of d k ≡ true
     added k out m = sym (ap (λ (b : Bool). b || right_of d k) out) ∙ m
 
-pub so_far_out : (ds : List Dependency) (d : Dependency) (x given : Attributes) → IsSoFar ds x given
-    → (IsSubset (left_of d) x → ⊥) → IsSoFar (ds ++ d ∷ []) x given
+pub so_far_out : (ds : List Dependency) (d : Dependency) (x given : Attributes) → HasListedFrom ds x given
+    → (IsSubset (left_of d) x → ⊥) → HasListedFrom (ds ++ d ∷ []) x given
 so_far_out ds d x given old outside = record {
   grows = old.grows;
   known = λ a m. elim (old.known a m) [
@@ -104,8 +104,8 @@ so_far_out ds d x given old outside = record {
   ];
 }
 
-pub not_given_from : (n : ℕ) (ds : List Dependency) (x given full rest : Attributes) → IsSoFar ds x given
-    → full ≡ below n → rest ≡ difference full given → AreNotGiven n ds x rest
+pub not_given_from : (n : ℕ) (ds : List Dependency) (x given full rest : Attributes) → HasListedFrom ds x given
+    → full ≡ below n → rest ≡ difference full given → AreUndetermined n ds x rest
 not_given_from n ds x given full rest so_far whole same = record {
   within = λ k m. sym (same_at whole k) ∙ first (full k) (given k) (sym (same_at same k) ∙ m);
   outside = λ a m. elim (cases_Bool (x a)) [

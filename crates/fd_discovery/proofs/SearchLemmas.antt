@@ -14,7 +14,7 @@ use Rattle.dep_model.specs.Dependencies.{Dependency, fd, left_of, right_of, Obey
 use Rattle.dep_model.specs.Implication.{IsLegal, Implies}
 use Rattle.dep_model.proofs.RuleLemmas.{fd_weaker_obeyed}
 use Rattle.fd_discovery.specs.Minimal.{IsMinimalWithin, IsMinimalFd, Precedes, AreAllMinimal}
-use Rattle.fd_discovery.specs.Searching.{IsGivenFrom, AreNotGiven, IsTried, IsFoundBefore, AreFound}
+use Rattle.fd_discovery.specs.Searching.{IsListedFrom, AreUndetermined, IsTried, IsFoundBefore, AreFound}
 use Rattle.fd_discovery.proofs.GivenLemmas.{given_still, given_now, given_cases, given_more}
 
 -- ---- the order of attributes and of sets
@@ -59,11 +59,11 @@ subset_up_to n x y low inside = elim (tell_before n x y (λ k m. low k (inside k
 pub record AreAdded (n : ℕ) (r : Relation) (y wanted : Attributes) (a : ℕ) (ds : List Dependency) : Type 0 where
   pub found : AreFound n r y a ds
   pub outside : (b : ℕ) → wanted b ≡ true → y b ≡ false
-  pub none : (b : ℕ) → a ≤ b → wanted b ≡ true → IsGivenFrom ds y b → ⊥
-  pub rest : (b : ℕ) → b < n → wanted b ≡ false → y b ≡ false → IsGivenFrom ds y b
+  pub none : (b : ℕ) → a ≤ b → wanted b ≡ true → IsListedFrom ds y b → ⊥
+  pub rest : (b : ℕ) → b < n → wanted b ≡ false → y b ≡ false → IsListedFrom ds y b
 
 pub added_none : (n : ℕ) (r : Relation) (y wanted : Attributes) (ds : List Dependency) → AreFound n r y 0 ds
-    → AreNotGiven n ds y wanted → AreAdded n r y wanted 0 ds
+    → AreUndetermined n ds y wanted → AreAdded n r y wanted 0 ds
 added_none n r y wanted ds found given = record {
   found = found;
   outside = given.outside;
@@ -84,7 +84,7 @@ found_more n r y a d (x, b, is, minimal, tried) = (x, b, is, minimal, tried_more
 module _ (n : ℕ) (r : Relation) (y wanted : Attributes) (a : ℕ) (ds : List Dependency) (y_in : IsSubset y (below n))
     (a_in : a < n) (old : AreAdded n r y wanted a ds) where
   -- nothing is to be added where the attribute is given already, or the rows do not obey the dependency
-  found_same : ((x : Attributes) → x ≡ y → x a ≡ false → ObeysFd x (only a) r → IsGivenFrom ds x a)
+  found_same : ((x : Attributes) → x ≡ y → x a ≡ false → ObeysFd x (only a) r → IsListedFrom ds x a)
       → AreFound n r y (a + 1) ds
   found_same here = record {
     each = All-weaker (IsFoundBefore n r y a) (IsFoundBefore n r y (a + 1)) (λ d. found_more n r y a d) ds old.found.each;
@@ -95,13 +95,13 @@ module _ (n : ℕ) (r : Relation) (y wanted : Attributes) (a : ℕ) (ds : List D
         | inl less ↦ old.found.given x b x_in b_in out (inr (same.0, less)) obeys
         | inr last ↦
             let at : a ≡ b = omega (arith, same.1, last) in
-            subst (λ (c : ℕ). IsGivenFrom ds x c) at
+            subst (λ (c : ℕ). IsListedFrom ds x c) at
             (here x same.0 (ap x at ∙ out) (subst (λ (c : ℕ). ObeysFd x (only c) r) (sym at) obeys))
       ]
     ];
   }
 
-  added_same : ((x : Attributes) → x ≡ y → x a ≡ false → ObeysFd x (only a) r → IsGivenFrom ds x a)
+  added_same : ((x : Attributes) → x ≡ y → x a ≡ false → ObeysFd x (only a) r → IsListedFrom ds x a)
       → AreAdded n r y wanted (a + 1) ds
   added_same here = record {
     found = found_same here;
@@ -315,8 +315,8 @@ module _ (n bound i : ℕ) (set : Attributes) (set_in : IsSubset set (below n)) 
 
   -- where every attribute is given from the set with i, the sets up to the last that holds it are passed over
   module _ (r : Relation) (ds : List Dependency) (wanted : Attributes) (found : AreFound n r (union set (below i)) n ds)
-      (given : AreNotGiven n ds larger wanted) (empty : IsEmpty wanted) where
-    given_above : (v : Attributes) (a : ℕ) → IsSubset larger v → a < n → v a ≡ false → IsGivenFrom ds v a
+      (given : AreUndetermined n ds larger wanted) (empty : IsEmpty wanted) where
+    given_above : (v : Attributes) (a : ℕ) → IsSubset larger v → a < n → v a ≡ false → IsListedFrom ds v a
     given_above v a inside a_in out = given_more ds larger v a inside
         (given.rest a a_in (empty a) (without (larger a) refl))
       where
@@ -370,7 +370,7 @@ found_start n r set empty = record {
   ];
 }
 
-pub not_given_start : (n : ℕ) (set all : Attributes) → IsEmpty set → all ≡ below n → AreNotGiven n [] set all
+pub not_given_start : (n : ℕ) (set all : Attributes) → IsEmpty set → all ≡ below n → AreUndetermined n [] set all
 not_given_start n set all empty whole = record {
   within = λ k m. sym (same_at whole k) ∙ m;
   outside = λ a m. empty a;
@@ -390,22 +390,22 @@ found_whole n r set ds empty found = found_same_set n r (union set (below n)) (b
 -- the search from the empty set on, by what its two steps say
 pub search_whole : (w n : ℕ) (r : Relation) (set all : Attributes) (ds added whole : List Dependency) → w ≡ n
     → IsEmpty set → all ≡ below n → ds ≡ []
-    → (IsSubset set (below w) → AreNotGiven w ds set all → AreFound w r set 0 ds → AreFound w r set w added)
+    → (IsSubset set (below w) → AreUndetermined w ds set all → AreFound w r set 0 ds → AreFound w r set w added)
     → (AreFound w r set w added → AreFound w r (union set (below n)) w whole)
     → AreFound n r (below n) n whole
 search_whole w n r set all ds added whole width empty full nothing first rest =
     let inside : IsSubset set (below w) = λ k m. absurd (true≢false (sym m ∙ empty k)) in
     let start : AreFound w r set 0 ds = subst (λ (es : List Dependency). AreFound w r set 0 es) (sym nothing)
     (found_start w r set empty) in
-    let given : AreNotGiven w ds set all =
-    subst (λ (es : List Dependency). AreNotGiven w es set all) (sym nothing)
-    (subst (λ (m : ℕ). AreNotGiven m [] set all) (sym width) (not_given_start n set all empty full)) in
+    let given : AreUndetermined w ds set all =
+    subst (λ (es : List Dependency). AreUndetermined w es set all) (sym nothing)
+    (subst (λ (m : ℕ). AreUndetermined m [] set all) (sym width) (not_given_start n set all empty full)) in
     let found : AreFound w r (union set (below n)) w whole = rest (first inside given start) in
     found_whole n r set whole empty (subst (λ (m : ℕ). AreFound m r (union set (below n)) m whole) width found)
 
 -- what gives an attribute is listed, and minimal
 minimal_giver : (n : ℕ) (r : Relation) (y : Attributes) (b : ℕ) (ds : List Dependency) (x : Attributes) (a : ℕ) → AreFound n r y b ds
-    → IsGivenFrom ds x a
+    → IsListedFrom ds x a
     → (v : Attributes) × Contains ds (fd v (only a)) × IsSubset v x × IsMinimalWithin n r v a
 minimal_giver n r y b ds x a found (k, d, l, is_d, gives) =
     let (v, c, is, minimal, tried) = found.each k d l in
@@ -420,7 +420,7 @@ minimal_giver n r y b ds x a found (k, d, l, is_d, gives) =
 
 module _ (n : ℕ) (r : Relation) (ds : List Dependency) (found : AreFound n r (below n) n ds) where
   -- all that the rows obey is given
-  all_given : (x : Attributes) (a : ℕ) → IsSubset x (below n) → a < n → x a ≡ false → ObeysFd x (only a) r → IsGivenFrom ds x a
+  all_given : (x : Attributes) (a : ℕ) → IsSubset x (below n) → a < n → x a ≡ false → ObeysFd x (only a) r → IsListedFrom ds x a
   all_given x a x_in a_in out obeys =
       found.given x a x_in a_in out (elim (subset_up_to n x (below n) (λ k m. m) x_in)
       [ inl same ↦ inr (same, a_in) | inr before ↦ inl before ]) obeys

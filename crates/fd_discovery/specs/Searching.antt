@@ -8,15 +8,15 @@ use Rattle.dep_model.specs.declared.dep.Dep.{Dep}
 use Rattle.fd_discovery.specs.Minimal.{IsMinimalWithin, Precedes}
 
 -- a listed dependency gives attribute a from x: its left side lies within x
-abbrev pub IsGivenFrom : List Dependency → Attributes → ℕ → Type 0
-IsGivenFrom ds x a = Any (λ d. IsSubset (left_of d) x × (right_of d a ≡ true)) ds
+abbrev pub IsListedFrom : List Dependency → Attributes → ℕ → Type 0
+IsListedFrom ds x a = Any (λ d. IsSubset (left_of d) x × (right_of d a ≡ true)) ds
 
 -- the attributes outside x that no listed dependency gives from x
-pub record AreNotGiven (n : ℕ) (ds : List Dependency) (x wanted : Attributes) : Type 0 where
+pub record AreUndetermined (n : ℕ) (ds : List Dependency) (x wanted : Attributes) : Type 0 where
   pub within : IsSubset wanted (below n)
   pub outside : (a : ℕ) → wanted a ≡ true → x a ≡ false
-  pub none : (a : ℕ) → wanted a ≡ true → IsGivenFrom ds x a → ⊥
-  pub rest : (a : ℕ) → a < n → wanted a ≡ false → x a ≡ false → IsGivenFrom ds x a
+  pub none : (a : ℕ) → wanted a ≡ true → IsListedFrom ds x a → ⊥
+  pub rest : (a : ℕ) → a < n → wanted a ≡ false → x a ≡ false → IsListedFrom ds x a
 
 -- x -> a is tried before y -> b: sets ascending, then attributes ascending
 abbrev pub IsTried : Attributes → ℕ → Attributes → ℕ → Type 0
@@ -32,7 +32,7 @@ pub record AreFound (n : ℕ) (r : Relation) (y : Attributes) (b : ℕ) (ds : Li
   pub each : All (IsFoundBefore n r y b) ds
   pub ascending : AllPairs Precedes ds
   pub given : (x : Attributes) (a : ℕ) → IsSubset x (below n) → a < n → x a ≡ false → IsTried y b x a
-      → ObeysFd x (only a) r → IsGivenFrom ds x a
+      → ObeysFd x (only a) r → IsListedFrom ds x a
 
 -- the same, where all attributes of the sets before y were tried; and where those of y were too
 abbrev pub AreFoundBefore : ℕ → Relation → Attributes → List Dep → Type 0

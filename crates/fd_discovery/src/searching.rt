@@ -5,7 +5,7 @@ ghost use Rattle.attr_sets.specs.declared.set.TheConstants.{MOST_ATTRIBUTES};
 ghost use Rattle.dep_model.specs.Deps.{dependencies_of};
 ghost use Rattle.dep_model.specs.Tuples.{Relation};
 ghost use Rattle.fd_discovery.specs.Leaders.{AreLed};
-ghost use Rattle.fd_discovery.specs.Searching.{AreNotGiven, AreFoundBefore, AreFoundUpTo};
+ghost use Rattle.fd_discovery.specs.Searching.{AreUndetermined, AreFoundBefore, AreFoundUpTo};
 
 use crate::leaders::{determines, refine_leaders};
 use crate::table::CodeColumns;
@@ -60,7 +60,7 @@ pub fn add_minimal(
     requires rows { (r : Relation) × AreLed r table.now (attributes set) leaders.now }
     ensures found { (r : Relation) → AreLed r table.now (attributes set) leaders.now
         → IsSubset (attributes set) (below table.now.width)
-        → AreNotGiven table.now.width (dependencies_of found.old.items) (attributes set)
+        → AreUndetermined table.now.width (dependencies_of found.old.items) (attributes set)
         (attributes wanted)
         → AreFoundBefore table.now.width r (attributes set) found.old.items
         → IfOk result (λ _. AreFoundUpTo table.now.width r (attributes set) found.new.items) }
@@ -77,7 +77,7 @@ pub fn add_minimal(
 // The attributes outside a set that no listed dependency gives from it.
 fn attributes_not_given(found: &[Dep], set: AttrSet, width: u8) -> AttrSet
     requires width { width ≤ MOST_ATTRIBUTES }
-    ensures rest { AreNotGiven width (dependencies_of found.now) (attributes set) (attributes result) }
+    ensures rest { AreUndetermined width (dependencies_of found.now) (attributes set) (attributes result) }
 {
     let mut given = set;
     for dep in found {

@@ -95,13 +95,13 @@ is_doubled text = starts_with nat_eq text (34 ∷ 34 ∷ [])
 abbrev pub is_quote : List ℕ → Bool
 is_quote text = starts_with nat_eq text (34 ∷ [])
 
-starts_so : (text needle : List ℕ) → starts_with nat_eq text needle ≡ true → text ≡ needle ++ drop (length needle) text
-starts_so text needle e = (starts_is Decides-eqb text needle _ refl).0 e
+starts_with-split : (text needle : List ℕ) → starts_with nat_eq text needle ≡ true → text ≡ needle ++ drop (length needle) text
+starts_with-split text needle e = (starts_is Decides-eqb text needle _ refl).0 e
 
 -- ---- the quote that closes
 closing_doubled : (text : List ℕ) → is_doubled text ≡ true → closing_quote text ≡ further 2 (closing_quote (drop 2 text))
 unfolding closing_quote
-closing_doubled text e = ap closing_quote (starts_so text (34 ∷ 34 ∷ []) e)
+closing_doubled text e = ap closing_quote (starts_with-split text (34 ∷ 34 ∷ []) e)
 
 pub closing_at_quote : (rest : List ℕ) → is_doubled (34 ∷ rest) ≡ false → closing_quote (34 ∷ rest) ≡ Some 0
 unfolding closing_quote
@@ -110,7 +110,7 @@ closing_at_quote (c ∷ bs) e = let other : (c == 34) ≡ false = grind (arith, 
 
 closing_here : (text : List ℕ) → is_quote text ≡ true → is_doubled text ≡ false → closing_quote text ≡ Some 0
 closing_here text e single =
-    let whole : text ≡ 34 ∷ drop 1 text = starts_so text (34 ∷ []) e in
+    let whole : text ≡ 34 ∷ drop 1 text = starts_with-split text (34 ∷ []) e in
     ap closing_quote whole ∙ closing_at_quote (drop 1 text) (ap is_doubled (sym whole) ∙ single)
 
 pub closing_other : (text : List ℕ) → 0 < length text → is_quote text ≡ false → closing_quote text ≡ further 1 (closing_quote (drop 1 text))
@@ -129,7 +129,7 @@ pass text rest end step within e passed = record {
 pub pass_doubled : (text rest after : List ℕ) (end step : ℕ) → IsPassed text end rest → is_doubled rest ≡ true → step ≡ 2 → after ≡ drop step rest
     → IsPassed text (end + step) after
 pass_doubled text rest after end step passed e is back =
-    let size : length rest ≡ length (34 ∷ 34 ∷ drop 2 rest) = ap length (starts_so rest (34 ∷ 34 ∷ []) e) in
+    let size : length rest ≡ length (34 ∷ 34 ∷ drop 2 rest) = ap length (starts_with-split rest (34 ∷ 34 ∷ []) e) in
     rw back (pass text rest end step (omega arith) (rw is (closing_doubled rest e)) passed)
 
 pub pass_other : (text rest after : List ℕ) (end step : ℕ) → IsPassed text end rest → 0 < length rest → is_quote rest ≡ false → step ≡ 1 → after ≡ drop step rest
@@ -150,7 +150,7 @@ passed_to text rest end passed e single =
 undoubled_two : (text : List ℕ) → is_doubled text ≡ true → undoubled text ≡ get_or text 0 0 ∷ undoubled (drop 2 text)
 unfolding undoubled
 undoubled_two text e =
-    let whole = starts_so text (34 ∷ 34 ∷ []) e in
+    let whole = starts_with-split text (34 ∷ 34 ∷ []) e in
     let first : get_or text 0 0 ≡ 34 = ap (λ t. get_or t 0 0) whole in
     ap undoubled whole ∙ ap (λ (b : ℕ). b ∷ undoubled (drop 2 text)) (sym first)
 

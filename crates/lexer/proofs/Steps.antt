@@ -186,8 +186,8 @@ pub not_quoted : (m : Mode) (text : List ℕ) (k : TokenKind) (n : ℕ) → 0 < 
 not_quoted m text k n h e =
     let fits : FitsPiece m text (piece.Token k n) = subst (FitsPiece m text) (sym e) (front_fits m text h) in fits.unquoted
 
-pub quoted_at : (m : Mode) (text name : List ℕ) (n : ℕ) → 0 < length text → piece.Quoted name n ≡ front_piece m text → FitsQuoted m text name n
-quoted_at m text name n h e = subst (FitsPiece m text) (sym e) (front_fits m text h)
+pub FitsQuoted-from : (m : Mode) (text name : List ℕ) (n : ℕ) → 0 < length text → piece.Quoted name n ≡ front_piece m text → FitsQuoted m text name n
+FitsQuoted-from m text name n h e = subst (FitsPiece m text) (sym e) (front_fits m text h)
 
 pub flaw_lies_in : (m : Mode) (text : List ℕ) (why : Flaw) (n : ℕ) → 0 < length text → piece.Flaw why n ≡ front_piece m text → LiesIn text n
 flaw_lies_in m text why n h e = subst (FitsPiece m text) (sym e) (front_fits m text h)
@@ -209,7 +209,7 @@ pub quoted_leads : (m : Mode) (start : ℕ) (text : List ℕ) (column : ℕ) (re
 quoted_leads m start text column rest name n after reached not_empty e is_after_it = record {
   all_tokens = rw is_after_it (reached.same ∙ at_quoted m column rest name n not_empty e);
   is_a_word = λ word. cc;
-  is_a_name = λ _. (name_test name).0 (quoted_at m rest name n not_empty e).a_name;
+  is_a_name = λ _. (name_test name).0 (FitsQuoted-from m rest name n not_empty e).a_name;
 }
 
 pub token_after : (m : Mode) (start : ℕ) (text : List ℕ) (column : ℕ) (rest : List ℕ) (k : TokenKind) (n : ℕ) (after : List ℕ)

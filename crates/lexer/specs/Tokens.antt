@@ -75,7 +75,7 @@ GoesOn m next.End all = all ≡ record { marks = []; stop = None }
 GoesOn m (next.Token t word rest) all = Leads m t (bytes_of word) rest.now all
 GoesOn m (next.Error s) all = all ≡ record { marks = []; stop = Some s }
 
--- a token stands after the column, and takes at least one byte of the text
+-- a token stands at the column or after it, and takes at least one byte of the text
 pub record StandsAfter (column : ℕ) (text : List ℕ) (t : Token) (rest : List ℕ) : Type 0 where
   pub from_on : column ≤ t.column
   pub fits : (t.column + t.length) + length rest ≡ column + length text

@@ -13,7 +13,7 @@ pub fn is_gap(byte: u8) -> bool
     matches!(byte, b' ' | b'\t' | b',')
 }
 
-/// Whether a byte may stand in a name: a letter, a digit or `_`, all ASCII.
+/// Whether a byte may stand in a bare name: a letter, a digit or `_`, all ASCII.
 pub fn is_run(byte: u8) -> bool
     ensures run { result ≡ is_name_byte byte }
 {
@@ -27,7 +27,7 @@ pub fn run_length(text: &[u8]) -> usize
     text.iter().take_while(|byte| is_run(**byte)).count()
 }
 
-/// Whether a run is a name: a letter in front, and not too many bytes.
+/// Whether a run is a bare name: a letter in front, and not too many bytes.
 pub fn is_bare_name(run: &[u8]) -> bool
     requires run { IsTrue (list_all is_name_byte run.now) }
     ensures name { result ≡ is_bare_name run.now }

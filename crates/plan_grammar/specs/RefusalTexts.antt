@@ -6,7 +6,7 @@ use Rattle.schema_grammar.specs.RefusalTexts.{place_and_reason}
 use Rattle.plan_grammar.specs.declared.refusal.PlanRefusal.{PlanRefusal}
 use Rattle.plan_grammar.specs.declared.refusal.PlanRefusal.TheVariants as plan
 
--- the place of a refusal and its reason in words
+-- the place of a refusal, where it has one, and its reason in words
 abbrev pub plan_reason_text : List (List ℕ) → PlanRefusal → List ℕ
 plan_reason_text names (plan.Text refusal) = place_and_reason refusal
 plan_reason_text names (plan.EmptyScheme at) = decimal at ++ codes " empty scheme"

@@ -18,7 +18,7 @@ lies_properly_within x y = lies_within x y && not (lies_within y x)
 abbrev pub is_contained : List AttrSet → AttrSet → List AttrSet → Bool
 is_contained earlier x later = list_any (lies_within x) earlier || list_any (lies_properly_within x) later
 
--- those that are not spare, of the schemes of a list that stand after these
+-- those that are not contained, of the schemes of a list that stand after these
 abbrev pub without_contained_after : List AttrSet → List AttrSet → List AttrSet
 without_contained_after earlier [] = []
 without_contained_after earlier (x ∷ later) =

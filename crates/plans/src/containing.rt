@@ -27,7 +27,7 @@ pub fn drop_contained(schema: &Schema, plan: Plan) -> Plan
     Plan::new(schema, without_contained(plan.into_schemes()))
 }
 
-// The schemes of a list that are not spare.
+// The schemes of a list without the contained ones.
 fn without_contained(schemes: Vec<AttrSet>) -> Vec<AttrSet>
     ensures schemes { result.items ≡ without_contained schemes.items }
     ensures plan { (n : ℕ) → AreSchemes n schemes.items → AreSchemes n result.items }
@@ -46,7 +46,7 @@ fn without_contained(schemes: Vec<AttrSet>) -> Vec<AttrSet>
     kept
 }
 
-// Whether the scheme at a position of a list is spare.
+// Whether the scheme at a position of a list is contained in another.
 fn is_contained_at(schemes: &[AttrSet], i: usize) -> bool
     requires position { i < length schemes.now }
     ensures contained { (scheme : AttrSet) → result

@@ -12,7 +12,7 @@ use Rattle.dep_model.specs.TwoTuples.{two_tuples}
 use Rattle.dep_model.proofs.RuleLemmas.{fd_weaker_obeyed, reflexivity_obeyed, transitivity_obeyed}
 use Rattle.dep_model.proofs.TwoTupleLemmas.{two_tuples-over, two_tuples_fd-to, two_tuples_fd-from}
 use Rattle.fd_closure.proofs.ClosureLemmas.{fd_each-from, fd_added}
-use Rattle.preservation.specs.Insides.{IsInsideOf}
+use Rattle.preservation.specs.Insides.{IsClosureWithin}
 use Rattle.preservation.specs.Keeping.{IsInside, ObeysInside, FollowsInside, InKeptClosure}
 use Rattle.preservation.specs.Keeping.{ShowsLost, AgreesOnLoss}
 use Rattle.preservation.specs.FunctionallyClosed.{IsFunctionallyClosedIn, IsKeptClosure}
@@ -24,13 +24,13 @@ pub inside_of : (plan : List Attributes) (scheme x y : Attributes) → Contains 
 inside_of plan scheme x y at within = (at.0, scheme, at.1, at.2, within)
 
 -- a part determines what is known of it
-pub inside_implied : (n : ℕ) (ds : List Dependency) (scheme part closed : Attributes) → IsInsideOf n ds scheme part closed
+pub inside_implied : (n : ℕ) (ds : List Dependency) (scheme part closed : Attributes) → IsClosureWithin n ds scheme part closed
     → Implies n (functional_part ds) (fd part closed)
 inside_implied n ds scheme part closed known =
     fd_each-from n (functional_part ds) part closed (λ (a : ℕ) m. ((known.closure a).0 m).1.1)
 
 -- and has it
-pub part_inside : (n : ℕ) (ds : List Dependency) (scheme part closed : Attributes) → IsInsideOf n ds scheme part closed
+pub part_inside : (n : ℕ) (ds : List Dependency) (scheme part closed : Attributes) → IsClosureWithin n ds scheme part closed
     → IsSubset part closed
 part_inside n ds scheme part closed known a m =
     let in_scheme : scheme a ≡ true = known.within a m in
@@ -40,7 +40,7 @@ part_inside n ds scheme part closed known a m =
 
 -- what a scheme adds to a set follows from the dependencies inside it
 pub added_follows : (n : ℕ) (ds : List Dependency) (plan : List Attributes) (scheme c part closed result : Attributes)
-    (r : Relation) → IsInsideOf n ds scheme part closed → IsSubset part c → result ≡ union c closed
+    (r : Relation) → IsClosureWithin n ds scheme part closed → IsSubset part c → result ≡ union c closed
     → Contains plan scheme → ObeysInside n ds plan r → ObeysFd c result r
 added_follows n ds plan scheme c part closed result r known begins is_result at inside =
     let within : IsSubset (union part closed) scheme = (λ (k : ℕ) m. elim (cases_Bool (part k)) [
@@ -54,7 +54,7 @@ added_follows n ds plan scheme c part closed result r known begins is_result at 
 
 -- what a part of the set determines inside the scheme is added
 pub added_closes_functionally : (n : ℕ) (ds : List Dependency) (scheme c part closed result : Attributes)
-    → IsInsideOf n ds scheme part closed → IsSubset (intersection c scheme) closed → result ≡ union c closed
+    → IsClosureWithin n ds scheme part closed → IsSubset (intersection c scheme) closed → result ≡ union c closed
     → IsFunctionallyClosedIn n ds scheme c result
 added_closes_functionally n ds scheme c part closed result known covers is_result x y within implied inside a m =
     let in_scheme : scheme a ≡ true = within a (grind (arith, m)) in

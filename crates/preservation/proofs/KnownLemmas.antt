@@ -20,7 +20,7 @@ use Rattle.dep_model.specs.declared.dep.Dep.{Dep}
 use Rattle.dep_model.specs.declared.schema.Schema.{Schema}
 use Rattle.fd_closure.specs.Switches.{members_on}
 use Rattle.preservation.specs.declared.inside.Inside.{Inside}
-use Rattle.preservation.specs.Insides.{IsKnown, known_schemes, known_plan}
+use Rattle.preservation.specs.Insides.{IsKnown, schemes_of_closures, plan_of_closures}
 use Rattle.preservation.specs.Keeping.{ObeysInside}
 
 -- ---- a closure over the dependencies of a schema, all of which count
@@ -47,35 +47,35 @@ closure_over s on ds part closed e all within clause =
     within
 
 -- ---- what is known of the schemes of a plan
-pub scheme_of : (old new : List Inside) (i : ℕ) (d : Inside) → known_schemes new ≡ known_schemes old
-    → get_or (known_schemes old) i d.scheme ≡ (get_or new i d).scheme
+pub scheme_of : (old new : List Inside) (i : ℕ) (d : Inside) → schemes_of_closures new ≡ schemes_of_closures old
+    → get_or (schemes_of_closures old) i d.scheme ≡ (get_or new i d).scheme
 scheme_of old new i d same = ap (λ (schemes : List AttrSet). get_or schemes i d.scheme) (sym same)
     ∙ get_or-map (λ (inside : Inside). inside.scheme) new i d
 
 -- the i-th of them is a scheme of the plan
-pub scheme_at : (old new : List Inside) (i : ℕ) (d : Inside) → known_schemes new ≡ known_schemes old → i < length old
-    → Contains (known_plan old) (attributes (get_or new i d).scheme)
+pub scheme_at : (old new : List Inside) (i : ℕ) (d : Inside) → schemes_of_closures new ≡ schemes_of_closures old → i < length old
+    → Contains (plan_of_closures old) (attributes (get_or new i d).scheme)
 scheme_at old new i d same lt =
-    let low : i < length (known_plan old) =
-    omega (arith, lt, length-map (known_schemes old) attributes, length-map old (λ (inside : Inside). inside.scheme)) in
-    subst (λ (scheme : Attributes). Contains (known_plan old) scheme)
-    (get_or-map attributes (known_schemes old) i d.scheme ∙ ap attributes (scheme_of old new i d same))
-    (Contains-get_or (known_plan old) i (attributes d.scheme) low)
+    let low : i < length (plan_of_closures old) =
+    omega (arith, lt, length-map (schemes_of_closures old) attributes, length-map old (λ (inside : Inside). inside.scheme)) in
+    subst (λ (scheme : Attributes). Contains (plan_of_closures old) scheme)
+    (get_or-map attributes (schemes_of_closures old) i d.scheme ∙ ap attributes (scheme_of old new i d same))
+    (Contains-get_or (plan_of_closures old) i (attributes d.scheme) low)
 
 -- something else is known of the same scheme
-pub same_schemes : (old new : List Inside) (i : ℕ) (inside d : Inside) → known_schemes new ≡ known_schemes old
-    → inside.scheme ≡ (get_or new i d).scheme → known_schemes (set new i inside) ≡ known_schemes old
+pub same_schemes : (old new : List Inside) (i : ℕ) (inside d : Inside) → schemes_of_closures new ≡ schemes_of_closures old
+    → inside.scheme ≡ (get_or new i d).scheme → schemes_of_closures (set new i inside) ≡ schemes_of_closures old
 same_schemes old new i inside d same scheme =
     map-set_same (λ (inside : Inside). inside.scheme) new i inside d scheme ∙ same
 
 -- there are as many
-pub same_length : (old new : List Inside) → known_schemes new ≡ known_schemes old → length new ≡ length old
+pub same_length : (old new : List Inside) → schemes_of_closures new ≡ schemes_of_closures old → length new ≡ length old
 same_length old new same =
     let scheme : Inside → AttrSet = (λ (inside : Inside). inside.scheme) in
     sym (length-map new scheme) ∙ ap (λ (schemes : List AttrSet). length schemes) same ∙ length-map old scheme
 
 -- so they are put back in the place of the others
-pub take-known : (old new : List Inside) (len : ℕ) → len ≡ length old → known_schemes new ≡ known_schemes old
+pub take-known : (old new : List Inside) (len : ℕ) → len ≡ length old → schemes_of_closures new ≡ schemes_of_closures old
     → take len (new ++ drop (length new) old) ≡ new
 take-known old new len count same =
     let long : length new ≡ length old = same_length old new same in
@@ -84,14 +84,14 @@ take-known old new len count same =
 
 -- what is inside the schemes of the one is inside those of the other
 pub same_plan_obeyed : (n : ℕ) (ds : List Dependency) (old new : List Inside) (r : Relation)
-    → known_schemes new ≡ known_schemes old → ObeysInside n ds (known_plan old) r → ObeysInside n ds (known_plan new) r
+    → schemes_of_closures new ≡ schemes_of_closures old → ObeysInside n ds (plan_of_closures old) r → ObeysInside n ds (plan_of_closures new) r
 same_plan_obeyed n ds old new r same =
     subst (λ (schemes : List AttrSet). ObeysInside n ds (schemes_of schemes) r) (sym same)
 
 -- each scheme has attributes of the universe
 pub known_within : (n : ℕ) (ds : List Dependency) (insides : List Inside) → All (IsKnown n ds) insides
-    → All (λ scheme. IsSubset scheme (below n)) (known_plan insides)
+    → All (λ scheme. IsSubset scheme (below n)) (plan_of_closures insides)
 known_within n ds insides known =
-    All-map (λ (scheme : Attributes). IsSubset scheme (below n)) attributes (known_schemes insides)
+    All-map (λ (scheme : Attributes). IsSubset scheme (below n)) attributes (schemes_of_closures insides)
     (All-map (λ (scheme : AttrSet). IsSubset (attributes scheme) (below n)) (λ (inside : Inside). inside.scheme) insides
     (λ k d l. (known k d l).universe))

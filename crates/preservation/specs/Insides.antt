@@ -14,22 +14,22 @@ use Rattle.fd_closure.specs.declared.counting.Counters.{Counters}
 use Rattle.preservation.specs.declared.inside.Inside.{Inside}
 
 -- what a part of a scheme determines inside it, by the functional dependencies over n attributes
-pub record IsInsideOf (n : ℕ) (ds : List Dependency) (scheme part closed : Attributes) : Type 0 where
+pub record IsClosureWithin (n : ℕ) (ds : List Dependency) (scheme part closed : Attributes) : Type 0 where
   pub universe : IsSubset scheme (below n)
   pub within : IsSubset part scheme
   pub closure : (a : ℕ) → (closed a ≡ true) ↔ ((scheme a ≡ true) × InClosure n (functional_part ds) part a)
 
 -- what is known of a scheme is so
 abbrev pub IsKnown : ℕ → List Dependency → Inside → Type 0
-IsKnown n ds inside = IsInsideOf n ds (attributes inside.scheme) (attributes inside.part) (attributes inside.closed)
+IsKnown n ds inside = IsClosureWithin n ds (attributes inside.scheme) (attributes inside.part) (attributes inside.closed)
 
 -- the schemes of which something is known
-abbrev pub known_schemes : List Inside → List AttrSet
-known_schemes insides = map (λ inside. inside.scheme) insides
+abbrev pub schemes_of_closures : List Inside → List AttrSet
+schemes_of_closures insides = map (λ inside. inside.scheme) insides
 
 -- the plan that they make
-abbrev pub known_plan : List Inside → List Attributes
-known_plan insides = schemes_of (known_schemes insides)
+abbrev pub plan_of_closures : List Inside → List Attributes
+plan_of_closures insides = schemes_of (schemes_of_closures insides)
 
 -- counters by which all dependencies of a schema count
 abbrev pub AreAllOn : Schema → Counters → Type 0

@@ -5,7 +5,7 @@ ghost use Rattle.dep_model.specs.Dependencies.{ObeysFd};
 ghost use Rattle.dep_model.specs.Schemas.{width_of, theory_of, universe_of};
 ghost use Rattle.dep_model.specs.Tuples.{Relation};
 ghost use Rattle.fd_closure.specs.Counting.{switches_of};
-ghost use Rattle.preservation.specs.Insides.{IsKnown, known_schemes, known_plan, AreAllOn};
+ghost use Rattle.preservation.specs.Insides.{IsKnown, schemes_of_closures, plan_of_closures, AreAllOn};
 ghost use Rattle.preservation.specs.Keeping.{FollowsInside, ObeysInside};
 ghost use Rattle.preservation.specs.FunctionallyClosed.{TellsKeptClosure, IsFunctionallyClosedIn, IsKeptClosure};
 
@@ -33,15 +33,15 @@ pub fn closure_after(
     requires on { AreAllOn schema.now counters.old }
     requires known { All (IsKnown (width_of schema.now) (theory_of schema.now)) insides.old }
     requires last { IfSome last
-        (TellsKeptClosure (width_of schema.now) (theory_of schema.now) (known_plan insides.old)) }
+        (TellsKeptClosure (width_of schema.now) (theory_of schema.now) (plan_of_closures insides.old)) }
     requires from { IsSubset (attributes from) (universe_of schema.now) }
-    ensures follows { FollowsInside (width_of schema.now) (theory_of schema.now) (known_plan insides.old)
+    ensures follows { FollowsInside (width_of schema.now) (theory_of schema.now) (plan_of_closures insides.old)
         (attributes from) (attributes result) }
     ensures found { IsSubset (attributes wanted) (attributes result)
-        ⊎ IsKeptClosure (width_of schema.now) (theory_of schema.now) (known_plan insides.old)
+        ⊎ IsKeptClosure (width_of schema.now) (theory_of schema.now) (plan_of_closures insides.old)
         (attributes from) (attributes result) }
     ensures known { All (IsKnown (width_of schema.now) (theory_of schema.now)) insides.new }
-    ensures schemes { known_schemes insides.new ≡ known_schemes insides.old }
+    ensures schemes { schemes_of_closures insides.new ≡ schemes_of_closures insides.old }
     ensures switches { switches_of counters.new ≡ switches_of counters.old }
 {
     if let Some(previous) = last {
@@ -67,13 +67,13 @@ pub fn kept_closure(
     requires on { AreAllOn schema.now counters.old }
     requires known { All (IsKnown (width_of schema.now) (theory_of schema.now)) insides.old }
     requires from { IsSubset (attributes from) (universe_of schema.now) }
-    ensures follows { FollowsInside (width_of schema.now) (theory_of schema.now) (known_plan insides.old)
+    ensures follows { FollowsInside (width_of schema.now) (theory_of schema.now) (plan_of_closures insides.old)
         (attributes from) (attributes result) }
     ensures found { IsSubset (attributes wanted) (attributes result)
-        ⊎ IsKeptClosure (width_of schema.now) (theory_of schema.now) (known_plan insides.old)
+        ⊎ IsKeptClosure (width_of schema.now) (theory_of schema.now) (plan_of_closures insides.old)
         (attributes from) (attributes result) }
     ensures known { All (IsKnown (width_of schema.now) (theory_of schema.now)) insides.new }
-    ensures schemes { known_schemes insides.new ≡ known_schemes insides.old }
+    ensures schemes { schemes_of_closures insides.new ≡ schemes_of_closures insides.old }
     ensures switches { switches_of counters.new ≡ switches_of counters.old }
 {
     let mut closed = from;
@@ -102,14 +102,14 @@ fn with_schemes(
     ensures grows { IsSubset (attributes closed) (attributes result) }
     ensures within { IsSubset (attributes result) (universe_of schema.now) }
     ensures kept { (r : Relation)
-        → ObeysInside (width_of schema.now) (theory_of schema.now) (known_plan insides.old) r
+        → ObeysInside (width_of schema.now) (theory_of schema.now) (plan_of_closures insides.old) r
         → ObeysFd (attributes closed) (attributes result) r }
     ensures functionally_closed { IsSubset (attributes result) (attributes closed)
         → All (λ scheme. IsFunctionallyClosedIn (width_of schema.now) (theory_of schema.now)
         (attributes scheme)
-        (attributes closed) (attributes closed)) (known_schemes insides.old) }
+        (attributes closed) (attributes closed)) (schemes_of_closures insides.old) }
     ensures known { All (IsKnown (width_of schema.now) (theory_of schema.now)) insides.new }
-    ensures schemes { known_schemes insides.new ≡ known_schemes insides.old }
+    ensures schemes { schemes_of_closures insides.new ≡ schemes_of_closures insides.old }
     ensures switches { switches_of counters.new ≡ switches_of counters.old }
 {
     let mut more = closed;

@@ -3,7 +3,7 @@ ghost use Rattle.attr_sets.specs.Attributes.{IsSubset, intersection};
 ghost use Rattle.attr_sets.specs.Sets.{attributes};
 ghost use Rattle.dep_model.specs.Schemas.{width_of, theory_of, universe_of};
 ghost use Rattle.fd_closure.specs.Counting.{switches_of};
-ghost use Rattle.preservation.specs.Insides.{IsKnown, known_schemes, AreAllOn};
+ghost use Rattle.preservation.specs.Insides.{IsKnown, schemes_of_closures, AreAllOn};
 
 use attr_sets::AttrSet;
 use dep_model::{OutOfMemory, Schema};
@@ -31,7 +31,7 @@ pub fn insides_of(
     requires schemes { All (λ scheme. IsSubset (attributes scheme)
         (universe_of schema.now)) schemes.now }
     ensures known { IfOk result (λ v. All (IsKnown (width_of schema.now) (theory_of schema.now)) v.items) }
-    ensures schemes { IfOk result (λ v. known_schemes v.items ≡ schemes.now) }
+    ensures schemes { IfOk result (λ v. schemes_of_closures v.items ≡ schemes.now) }
     ensures switches { switches_of counters.new ≡ switches_of counters.old }
 {
     let mut insides = Vec::with_capacity(alloc, schemes.len())?;

@@ -6,7 +6,7 @@ ghost use Rattle.dep_model.specs.Plans.{schemes_of};
 ghost use Rattle.dep_model.specs.Preservation.{KeepsDependencies};
 ghost use Rattle.dep_model.specs.Schemas.{width_of, theory_of, universe_of};
 ghost use Rattle.fd_closure.specs.Counting.{switches_of};
-ghost use Rattle.preservation.specs.Insides.{IsKnown, known_schemes, known_plan, AreAllOn};
+ghost use Rattle.preservation.specs.Insides.{IsKnown, schemes_of_closures, plan_of_closures, AreAllOn};
 ghost use Rattle.preservation.specs.Keeping.{IsKept, IsLostOn, LossesOf};
 ghost use Rattle.preservation.specs.FunctionallyClosed.{TellsKeptClosure};
 
@@ -66,16 +66,16 @@ fn loss_of(
     requires on { AreAllOn schema.now counters.old }
     requires known { All (IsKnown (width_of schema.now) (theory_of schema.now)) insides.old }
     requires last { IfSome last
-        (TellsKeptClosure (width_of schema.now) (theory_of schema.now) (known_plan insides.old)) }
+        (TellsKeptClosure (width_of schema.now) (theory_of schema.now) (plan_of_closures insides.old)) }
     requires dep { IsDepWithin (universe_of schema.now) dep }
     ensures lost { IfSome result (λ lost_on. IsLostOn (width_of schema.now) (theory_of schema.now)
-        (known_plan insides.old) (dependency_of dep) (attributes lost_on.closed)) }
+        (plan_of_closures insides.old) (dependency_of dep) (attributes lost_on.closed)) }
     ensures all { IfSome result
-        (TellsKeptClosure (width_of schema.now) (theory_of schema.now) (known_plan insides.old)) }
+        (TellsKeptClosure (width_of schema.now) (theory_of schema.now) (plan_of_closures insides.old)) }
     ensures kept { IfNone result (IsKept (width_of schema.now) (theory_of schema.now)
-        (known_plan insides.old) (dependency_of dep)) }
+        (plan_of_closures insides.old) (dependency_of dep)) }
     ensures known { All (IsKnown (width_of schema.now) (theory_of schema.now)) insides.new }
-    ensures schemes { known_schemes insides.new ≡ known_schemes insides.old }
+    ensures schemes { schemes_of_closures insides.new ≡ schemes_of_closures insides.old }
     ensures switches { switches_of counters.new ≡ switches_of counters.old }
 {
     match dep {

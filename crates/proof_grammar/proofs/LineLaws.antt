@@ -19,7 +19,7 @@ use Rattle.schema_grammar.specs.Rests.{Rest, rest_from, take, refusal_of_token, 
 use Rattle.schema_grammar.specs.Words.{is_word_token}
 use Rattle.proof_grammar.specs.Readers.{colon, rule_name}
 use Rattle.proof_grammar.proofs.CheckedLemmas.{bind_ok}
-use Rattle.proof_grammar.proofs.SideLaws.{side_there, side_back}
+use Rattle.proof_grammar.proofs.SideLaws.{side_there, side-from}
 use Rattle.proof_grammar.proofs.TokenLaws.{reads_value, after_of, number_there, colon_there, rest_at}
 use Rattle.proof_grammar.proofs.RuleLaws.{rule_there, rule_back}
 
@@ -144,9 +144,9 @@ marks_read names at from ms l is =
     let d = is.dependency in
     let sign = arrow_law d.sign d.arrow.kind in
     let rest = is.second ∷ is.rule in
-    let left = side_back names at (after_of is.first) d.lhs (d.arrow ∷ d.rhs ++ rest) None d.x d.left_side
+    let left = side-from names at (after_of is.first) d.lhs (d.arrow ∷ d.rhs ++ rest) None d.x d.left_side
     (arrow_other d.sign d.arrow.kind d.is_arrow) in
-    let right = side_back names at (after_of d.arrow) d.rhs rest None d.y d.right_side
+    let right = side-from names at (after_of d.arrow) d.rhs rest None d.y d.right_side
     (ap is_word_token is.second_colon) in
     let rule = rule_back names at (after_of is.second) is.rule l.body is.is_rule in
     let stated : is.stated ++ rest ≡ d.lhs ++ (d.arrow ∷ d.rhs ++ rest) =

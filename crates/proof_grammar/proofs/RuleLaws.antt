@@ -16,7 +16,7 @@ use Rattle.schema_grammar.specs.Words.{is_word_token}
 use Rattle.proof_grammar.specs.Readers.{colon, with_word, rule_name}
 use Rattle.proof_grammar.specs.Tokens.{is_with, rule_named, rule_word}
 use Rattle.proof_grammar.proofs.CheckedLemmas.{bind_ok}
-use Rattle.proof_grammar.proofs.SideLaws.{side_there, side_back}
+use Rattle.proof_grammar.proofs.SideLaws.{side_there, side-from}
 use Rattle.proof_grammar.proofs.TokenLaws.{reads_value, rule_spelling, after_of, number_there, colon_there, with_there, rule_named_there, rest_at, named_back}
 
 -- ---- what follows the name
@@ -225,7 +225,7 @@ rule_back names line from marks by_mreflexivity is =
     (record { next_column = after_of is.name; read = refl })
 rule_back names line from marks (by_step (augmentation z) p) is =
     let has = is.has_sets in
-    let last = side_back names line (after_of has.keyword) has.sides [] None z has.side tt in
+    let last = side-from names line (after_of has.keyword) has.sides [] None z has.side tt in
     let same : is.sets ≡ has.keyword ∷ has.sides ++ [] =
     has.whole ∙ ap (λ t. has.keyword ∷ t) (sym (append-nil has.sides)) in
     let keyword = (bytes_eq-Decides has.keyword.word (codes "with")).1 has.says.1 in
@@ -237,9 +237,9 @@ rule_back names line from marks (by_step complementation p) is =
 rule_back names line from marks (by_step (maugmentation w z) p) is =
     let has = is.has_sets in
     let tail = has.colon ∷ has.narrow ++ [] in
-    let wide = side_back names line (after_of has.keyword) has.wide tail None w has.wide_side
+    let wide = side-from names line (after_of has.keyword) has.wide tail None w has.wide_side
     (ap is_word_token has.is_colon) in
-    let last = side_back names line (after_of has.colon) has.narrow [] None z has.narrow_side tt in
+    let last = side-from names line (after_of has.colon) has.narrow [] None z has.narrow_side tt in
     let same : is.sets ≡ has.keyword ∷ has.wide ++ tail =
     has.whole ∙ ap (λ t. has.keyword ∷ has.wide ++ has.colon ∷ t) (sym (append-nil has.narrow)) in
     let keyword = (bytes_eq-Decides has.keyword.word (codes "with")).1 has.says.1 in

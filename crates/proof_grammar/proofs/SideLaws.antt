@@ -201,12 +201,12 @@ side_from-word names m r token.Identifier is = refl
 side_from-word names m r token.Quoted is = refl
 side_from-word names m r k is = cc
 
-pub side_back : (names : List (List ℕ)) (line from : ℕ) (marks tail : List Mark) (stop : Option LexError) (x : Attributes) → IsSide format.Plain names marks x → NoWord tail
+pub side-from : (names : List (List ℕ)) (line from : ℕ) (marks tail : List Mark) (stop : Option LexError) (x : Attributes) → IsSide format.Plain names marks x → NoWord tail
     → SideRead names line from marks tail stop x
 unfolding side take
-side_back names line from marks tail stop x (inl empty) other = record { next_column = empty.mark.column + empty.mark.length; read = rw (empty.alone, empty.is_empty, empty.nothing) refl }
-side_back names line from [] tail stop x (inr words) other = let not_empty : 0 < 0 = words.not_empty in absurd (omega arith)
-side_back names line from (m ∷ marks) tail stop x (inr words) other =
+side-from names line from marks tail stop x (inl empty) other = record { next_column = empty.mark.column + empty.mark.length; read = rw (empty.alone, empty.is_empty, empty.nothing) refl }
+side-from names line from [] tail stop x (inr words) other = let not_empty : 0 < 0 = words.not_empty in absurd (omega arith)
+side-from names line from (m ∷ marks) tail stop x (inr words) other =
     let here : IsAttribute format.Plain names m = All-head (IsAttribute format.Plain names) m marks words.each in
     let there : All (IsAttribute format.Plain names) marks = All-tail (IsAttribute format.Plain names) m marks words.each in
     let rest = words_back names line (only here.index) (m.column + m.length) marks tail stop there other in

@@ -98,15 +98,15 @@ wanted_at ks w h = absurd h
 pub one_want : (ks : List TokenKind) → OneWant (Wants ks)
 one_want ks w v h g = let first = wanted_at ks w h in let second = wanted_at ks v g in cc
 
-pub one_at_first : (first : What) (position : ℕ) → OneWant (AtFirst first position)
-one_at_first first position w v one other = grind arith
+pub AtFirst-one : (first : What) (position : ℕ) → OneWant (AtFirst first position)
+AtFirst-one first position w v one other = grind arith
 
 pub one_text_line : (f : Format) (ms : List Mark) (p : ℕ) → OneWant (TextLineWants f ms p)
 one_text_line f [] p w v h g = absurd h
 one_text_line f (m ∷ ms) p w v h g =
     (elim (column_type_of_token f m.kind m.word) as (λ o. HeadWants m ms o p w → HeadWants m ms o p v → w ≡ v) [
       | Some column ↦ λ (later, is, one) (other, again, two).
-          one_at_first what.Name later w v one
+          AtFirst-one what.Name later w v one
           (let same : other ≡ later = omega arith in subst (λ (k : ℕ). NamesWant k v) same two)
       | None ↦ λ one two. one_want (take p (kinds (m ∷ ms))) w v one two
     ]) h g

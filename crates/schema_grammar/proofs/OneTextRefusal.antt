@@ -18,7 +18,7 @@ use Rattle.schema_grammar.specs.Texts.{read_lines, read_opening, read_text, fini
 use Rattle.schema_grammar.proofs.DiagnosticLaws.{goal-diagnostic-law, goal_refused}
 use Rattle.schema_grammar.proofs.DeclaringLaws.{before_read}
 use Rattle.schema_grammar.proofs.LinesLaws.{line-law}
-use Rattle.schema_grammar.proofs.OneRefusal.{one_refused, one_at_first, one_text_line, one_want}
+use Rattle.schema_grammar.proofs.OneRefusal.{one_refused, AtFirst-one, one_text_line, one_want}
 use Rattle.schema_grammar.proofs.TextLaws.{version-law, schema_refused}
 use Rattle.schema_grammar.proofs.SchemaLaws.{plain_opening, typed_opening, version_opening}
 
@@ -75,7 +75,7 @@ schema-refusal-law text e = (schema_refused text e, back)
         let refused = one_refused
         (FitsVersion (length has.before + 1) (has.head.column + has.head.length) has.others
         (lex mode.numbered has.version).stop) _ _ _
-        (λ x none. none) (λ g first. first) (one_at_first what.Number) _ e (version-law _ _ _ _) first in
+        (λ x none. none) (λ g first. first) (AtFirst-one what.Number) _ e (version-law _ _ _ _) first in
         typed_opening 1 lines has
         ∙ ap (λ r. r >>= (λ d. read_lines format.Typed (length has.before + 1 + 1) d has.later)) refused
     back (inr (has, inr (is, refuses))) =

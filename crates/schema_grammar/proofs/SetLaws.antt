@@ -25,7 +25,7 @@ use Rattle.schema_grammar.specs.Words.{is_word_token}
 use Rattle.schema_grammar.specs.Sets.{MeansSet, BeginsEmpty, IsOutOfPlace, SetDiagnostic, SetWants, FitsSet, RefusesSet, read_set}
 use Rattle.schema_grammar.proofs.DiagnosticLaws.{Judges, LineDiagnostic, Judged, judge, left_whole}
 use Rattle.schema_grammar.proofs.GoalLaws.{AfterSignRest, marks_make, side_read, no_stop}
-use Rattle.schema_grammar.proofs.OneRefusal.{one_refused, one_at_first}
+use Rattle.schema_grammar.proofs.OneRefusal.{one_refused, AtFirst-one}
 use Rattle.schema_grammar.proofs.RefusalLemmas.{and_then-ok}
 use Rattle.schema_grammar.proofs.ShapeLemmas.{Shape, past_arrow, in_right, past_end, advance_shape, is_final, wanted_by, stuck_first, stuck_later}
 
@@ -191,5 +191,5 @@ set-refusal-law declared text e = (
   set_refused declared text e,
   λ first.
       one_refused (FitsSet declared text) _ _ _ (λ x none. none) (λ g first. first)
-      (one_at_first what.Side) _ e (set-diagnostic-law declared text) first,
+      (AtFirst-one what.Side) _ e (set-diagnostic-law declared text) first,
 )

@@ -74,7 +74,8 @@ pub fn positions_rise()
     ensures law { PositionsRise }
 {}
 
-/// What is printed of a schema none of whose names is reserved means the same names, columns and
+/// What is printed of a schema of bare names, none of which is reserved, with at most
+/// `MOST_DEPENDENCY_LINES` dependencies, means the same names, columns and
 /// dependencies. Only the lines of the dependencies are those of the printed text.
 pub fn printed_schema_means()
     ensures law { PrintedSchemaMeans }

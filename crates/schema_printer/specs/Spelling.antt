@@ -8,7 +8,7 @@ use Rattle.dep_model.specs.declared.schema.Schema.{Schema}
 use Rattle.dep_model.specs.Names.{is_bare_name, same_name, quoted}
 use Rattle.dep_model.specs.Schemas.{naming_of, names_of}
 
--- the words of a schema text, which are no bare names there
+-- the words that are quoted where they are names, so that they can be words of a schema text
 abbrev pub schema_words : List (List ℕ)
 schema_words =
     codes "attributes" ∷ codes "scheme" ∷ codes "version" ∷ codes "integer" ∷ codes "text" ∷ codes "date"

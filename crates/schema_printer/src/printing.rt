@@ -15,7 +15,8 @@ use dep_model::{ColumnType, Dep, Name, Naming, OutOfMemory, Schema};
 use std::alloc::Global;
 
 /// The schema in the one form: the lines that declare its attributes, and a line for each dependency.
-/// Where no name is reserved and the text is short enough to be read, it means the same schema.
+/// Where its naming is bare, no name is reserved, its dependencies are within the limit of a text and
+/// the text is short enough to be read, it means the same schema.
 ///
 /// The commands print a cover or what was discovered, by `print_deps`. This one stays for tests: it is
 /// the text that the law `printed_schema_means` of the grammar is about.

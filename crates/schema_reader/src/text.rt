@@ -134,7 +134,7 @@ fn is_version(kind: TokenKind, word: &Word<'_>) -> bool
     }
 }
 
-/// Reads lines, of which the first has this number, into nothing that is declared before.
+/// Reads lines, of which the first has this number, with nothing declared before.
 fn read_lines(
     alloc: Global,
     format: Format,

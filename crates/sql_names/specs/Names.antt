@@ -20,7 +20,7 @@ abbrev pub is_not_empty : {X : Type 0} → List X → Bool
 is_not_empty [] = false
 is_not_empty (x ∷ xs) = true
 
--- a name in double quotes
+-- a name between double quotes, for bare names: a double quote in it is not doubled
 abbrev pub quoted_name : List ℕ → List ℕ
 quoted_name name = 34 ∷ (name ++ 34 ∷ [])
 

@@ -53,7 +53,7 @@ pub fn add_listed(text: &mut Vec<u8>, any_written: bool, item: &[u8]) -> Result<
     add(text, item)
 }
 
-/// Adds a name in double quotes.
+/// Adds a name between double quotes, for bare names: a double quote in it is not doubled.
 pub fn add_quoted(text: &mut Vec<u8>, name: &Name) -> Result<(), OutOfMemory>
     ensures added { OnOk result (text.new.items ≡ text.old.items ++ quoted_name name.now) }
 {

@@ -58,7 +58,7 @@ fn migrate_text(
     Ok(text)
 }
 
-// Adds the statements that fill these tables.
+// Adds the statements that fill the designed tables; `table` is the quoted name of the user's table.
 fn add_fills(
     alloc: Global,
     text: &mut Vec<u8>,
@@ -122,7 +122,7 @@ fn view_text(
     Ok(text)
 }
 
-// What says whether the view is the table.
+// The two queries for what the view and the table do not share.
 #[tactic(auto, unfolding(crate::specs::Migrating::difference_queries_text))]
 fn difference_queries_text(
     alloc: Global,

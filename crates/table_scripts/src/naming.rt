@@ -16,7 +16,7 @@ pub const MOST_PART_BYTES: usize = 63;
 
 /// Whether the bytes name a table: from one to `MOST_PARTS` parts with a dot between two, each a
 /// letter or `_` and then letters, digits and `_`. The last part is no name that a script gives:
-/// neither `join_of_tables` nor `t` and digits. So a name brings nothing into a script but itself.
+/// neither `joined` nor `t` and digits. So a name brings nothing into a script but itself.
 #[tactic(auto, unfolding(crate::specs::Naming::is_table_name))]
 pub fn is_table_name(bytes: &[u8]) -> bool
     ensures name { result ≡ is_table_name bytes.now }

@@ -17,7 +17,7 @@ HasPrefix tables old new =
     (n : ℕ) × (n ≤ length tables) × ((done : List TableValue) → old done → new (done ++ take n tables))
 
 -- how the writing to a destination ended, with its faults before and after, and what it left: no call
--- of a destination that is done failed; running out of memory is free
+-- of a destination that is done failed; running out of memory is always allowed
 abbrev pub Written : List TableValue → Finished → Finished → ℕ → ℕ → WriteOutcome → Type 0
 Written tables old new before after Done = HasAll tables old new × (after ≡ before)
 Written tables old new before after Failed = HasPrefix tables old new × ErrorCountIncreased before after

@@ -13,7 +13,7 @@ use std::alloc::Global;
 
 /// Each destination in order gets each table in order, up to its first fault.
 ///
-/// The memory for the ends is taken before the first call of a destination.
+/// The memory for the outcomes is taken before the first call of a destination.
 pub fn write_tables(
     alloc: Global,
     destinations: &mut Vec<Box<dyn Destination>>,

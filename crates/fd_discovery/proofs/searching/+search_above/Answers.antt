@@ -7,7 +7,7 @@ use Rattle.attr_sets.specs.Sets.{attributes}
 use Rattle.dep_model.specs.Deps.{dependencies_of}
 use Rattle.dep_model.specs.declared.dep.Dep.{Dep}
 use Rattle.fd_discovery.specs.Leaders.{AreLeaders}
-use Rattle.fd_discovery.specs.Searching.{AreFound, AreNotGiven}
+use Rattle.fd_discovery.specs.Searching.{AreFound, AreUndetermined}
 use Rattle.fd_discovery.proofs.LeaderLemmas.{leaders_with}
 use Rattle.fd_discovery.proofs.SearchLemmas.{larger_in, larger_above, found_at_larger, found_past, found_through, found_up_to}
 use Rattle.fd_discovery.proofs.searching.+search_above.Goals as goal
@@ -86,8 +86,8 @@ loop-attribute-preserved t c =
     let wanted : Attributes = attributes c.attributes_not_given-wanted.result in
     let old : List Dep = c.loop-attribute.found.items in
     let low : i < n = omega (arith, c.loop-attribute-test.true, c.requires.at_most_width) in
-    let given : AreNotGiven n (dependencies_of old) larger wanted =
-    subst (λ (ds : List Dep). AreNotGiven n (dependencies_of ds) larger wanted) c.deref.ensures.value
+    let given : AreUndetermined n (dependencies_of old) larger wanted =
+    subst (λ (ds : List Dep). AreUndetermined n (dependencies_of ds) larger wanted) c.deref.ensures.value
     c.attributes_not_given-wanted.ensures.rest in
     elim c.if-not-is_empty.branch [
       | then-not-is_empty+in_ok-finer+in_ok-add_minimal+in_ok-search_above w ↦ record {

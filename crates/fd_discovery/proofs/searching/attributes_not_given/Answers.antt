@@ -9,12 +9,12 @@ use Rattle.dep_model.specs.Dependencies.{Dependency, left_of, right_of}
 use Rattle.dep_model.specs.Deps.{dependency_of, dependencies_of}
 use Rattle.dep_model.specs.declared.dep.Dep.{Dep}
 use Rattle.dep_model.specs.declared.dep.Dep.TheVariants.{Fd}
-use Rattle.fd_discovery.proofs.GivenLemmas.{IsSoFar, so_far_none, so_far_in, so_far_out, not_given_from, dependencies_more}
+use Rattle.fd_discovery.proofs.GivenLemmas.{HasListedFrom, HasListedFrom-nil, so_far_in, so_far_out, not_given_from, dependencies_more}
 use Rattle.fd_discovery.proofs.searching.attributes_not_given.Goals as goal
 use Rattle.fd_discovery.proofs.searching.attributes_not_given.Goals.{then-is_subset, else-is_subset}
 
 pub loop-dep-init : goal.loop-dep-init
-loop-dep-init c = record { so_far = so_far_none (attributes c.args.set) }
+loop-dep-init c = record { so_far = HasListedFrom-nil (attributes c.args.set) }
 
 pub loop-dep-preserved : goal.loop-dep-preserved
 loop-dep-preserved c =
@@ -25,7 +25,7 @@ loop-dep-preserved c =
     let d : Dependency = dependency_of (get_or found i (Fd (record { 0 = 0 }) (record { 0 = 0 }))) in
     let before : List Dependency = dependencies_of (take i found) in
     record {
-      so_far = subst (λ (ds : List Dependency). IsSoFar ds set (attributes c.if-is_subset.given))
+      so_far = subst (λ (ds : List Dependency). HasListedFrom ds set (attributes c.if-is_subset.given))
           (sym (dependencies_more found i _ c.loop-dep-test.true)) (elim c.if-is_subset.branch [
             | then-is_subset w ↦
                 let inside : IsSubset (left_of d) set =
@@ -41,7 +41,7 @@ loop-dep-preserved c =
                 false≢true (sym w.if-is_subset.false
                 ∙ c.is_subset.ensures.subset.1 (subst (λ (x : Attributes). IsSubset x set)
                 (sym c.sides.ensures.left) inside)) in
-                subst (λ (s : AttrSet). IsSoFar (before ++ d ∷ []) set (attributes s)) (sym w.given-is)
+                subst (λ (s : AttrSet). HasListedFrom (before ++ d ∷ []) set (attributes s)) (sym w.given-is)
                 (so_far_out before d set given c.loop-dep.invariant.so_far outside)
           ]);
     }
@@ -52,7 +52,7 @@ returns c =
     record {
       rest = not_given_from c.args.width (dependencies_of c.args.found.now) (attributes c.args.set)
           (attributes c.loop-dep.given) (attributes c.full.result) _
-          (subst (λ (ds : List Dep). IsSoFar (dependencies_of ds) (attributes c.args.set) (attributes c.loop-dep.given)) all
+          (subst (λ (ds : List Dep). HasListedFrom (dependencies_of ds) (attributes c.args.set) (attributes c.loop-dep.given)) all
           c.loop-dep.invariant.so_far)
           c.full.ensures.members c.difference.ensures.members;
     }

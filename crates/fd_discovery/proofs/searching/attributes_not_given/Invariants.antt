@@ -2,12 +2,12 @@
 use Rattle.std.proofs.Common.{take}
 use Rattle.attr_sets.specs.Sets.{attributes}
 use Rattle.dep_model.specs.Deps.{dependencies_of}
-use Rattle.fd_discovery.proofs.GivenLemmas.{IsSoFar}
+use Rattle.fd_discovery.proofs.GivenLemmas.{HasListedFrom}
 use Rattle.fd_discovery.proofs.searching.attributes_not_given.Given as goal
 
 -- the set and what the dependencies so far give from it
 abbrev pub invariant-loop-dep : goal.invariant-loop-dep
 invariant-loop-dep l = record {
-  so_far : IsSoFar (dependencies_of (take l.dep-index l.found)) (attributes l.set)
+  so_far : HasListedFrom (dependencies_of (take l.dep-index l.found)) (attributes l.set)
       (attributes l.given);
 }

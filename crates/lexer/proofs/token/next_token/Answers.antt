@@ -2,7 +2,7 @@
 -- loop keeps the invariant, and that its sums fit, by `Steps`.
 use Rattle.std.proofs.Common.{arith, sym, ◌∙◌, ap, ◌+◌}
 use Rattle.lexer.specs.Tokens.{tokens_after}
-use Rattle.lexer.proofs.Steps.{is_some, is_none, after_gap, at_comment, at_end, at_flaw, lies_in, flaw_lies_in, token_leads, token_after, quoted_at, quoted_leads}
+use Rattle.lexer.proofs.Steps.{is_some, is_none, after_gap, at_comment, at_end, at_flaw, lies_in, flaw_lies_in, token_leads, token_after, FitsQuoted-from, quoted_leads}
 use Rattle.lexer.proofs.token.next_token.Goals as goal
 
 pub pieces-preserved : goal.pieces-preserved
@@ -46,7 +46,7 @@ returns-in-Token-clause-advances c =
 
 pub split_at-requires-in-Quoted : goal.split_at-requires-in-Quoted
 split_at-requires-in-Quoted c =
-    (quoted_at _ _ _ _ (is_some _ c.pieces-test.ensures) c.in-Quoted.ensures.exact).lies.within
+    (FitsQuoted-from _ _ _ _ (is_some _ c.pieces-test.ensures) c.in-Quoted.ensures.exact).lies.within
 
 pub returns-in-Quoted-clause-exact : goal.returns-in-Quoted-clause-exact
 returns-in-Quoted-clause-exact c =
@@ -55,10 +55,10 @@ returns-in-Quoted-clause-exact c =
 
 pub returns-in-Quoted-clause-advances : goal.returns-in-Quoted-clause-advances
 returns-in-Quoted-clause-advances c =
-    let fits = quoted_at _ _ _ _ (is_some _ c.pieces-test.ensures) c.in-Quoted.ensures.exact in
+    let fits = FitsQuoted-from _ _ _ _ (is_some _ c.pieces-test.ensures) c.in-Quoted.ensures.exact in
     token_after _ _ _ _ _ _ _ _ c.pieces.invariant fits.lies c.split_at-in-Quoted.ensures.back_len
 
 pub overflow_cast-token-in-Quoted : goal.overflow_cast-token-in-Quoted
 overflow_cast-token-in-Quoted c =
-    let fits = quoted_at _ _ _ _ (is_some _ c.pieces-test.ensures) c.in-Quoted.ensures.exact in
+    let fits = FitsQuoted-from _ _ _ _ (is_some _ c.pieces-test.ensures) c.in-Quoted.ensures.exact in
     omega (arith, fits.lies.within, c.pieces.invariant.fits)

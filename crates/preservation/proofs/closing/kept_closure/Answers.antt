@@ -20,7 +20,7 @@ use Rattle.attr_sets.proofs.AttributesLemmas.{
 use Rattle.dep_model.proofs.RuleLemmas.{transitivity_obeyed, reflexivity_obeyed}
 use Rattle.dep_model.specs.Schemas.{width_of, theory_of}
 use Rattle.dep_model.specs.TwoTuples.{two_tuples}
-use Rattle.preservation.specs.Insides.{known_schemes, known_plan}
+use Rattle.preservation.specs.Insides.{schemes_of_closures, plan_of_closures}
 use Rattle.preservation.specs.Keeping.{ObeysInside}
 use Rattle.preservation.specs.FunctionallyClosed.{IsFunctionallyClosedIn}
 use Rattle.preservation.proofs.KeepingLemmas.{functionally_closed_inside, functionally_closed_exactly}
@@ -79,10 +79,10 @@ returns-then-eq c =
     let now = attributes c.loop-wanted.closed in
     let before = c.loop-wanted.invariant in
     let more = c.with_schemes-more in
-    let schemes = known_schemes c.args.insides.now in
-    let plan = known_plan c.args.insides.now in
+    let schemes = schemes_of_closures c.args.insides.now in
+    let plan = plan_of_closures c.args.insides.now in
     let closed_then : All (λ (x : AttrSet). IsFunctionallyClosedIn n ds (attributes x) now now)
-    (known_schemes c.loop-wanted.insides) =
+    (schemes_of_closures c.loop-wanted.insides) =
     more.ensures.functionally_closed (IsSubset-same (attributes more.result) now (c.if-eq.ensures.same.0 refl)) in
     let is_closed : All (λ (x : AttrSet). IsFunctionallyClosedIn n ds (attributes x) now now) schemes =
     rw before.schemes at closed_then in

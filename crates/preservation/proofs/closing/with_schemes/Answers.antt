@@ -10,7 +10,7 @@ use Rattle.attr_sets.specs.declared.set.AttrSet.{AttrSet}
 use Rattle.dep_model.proofs.RuleLemmas.{transitivity_obeyed, reflexivity_obeyed}
 use Rattle.dep_model.specs.Schemas.{width_of, theory_of}
 use Rattle.preservation.specs.declared.inside.Inside.{Inside}
-use Rattle.preservation.specs.Insides.{IsInsideOf, IsKnown, known_schemes, known_plan}
+use Rattle.preservation.specs.Insides.{IsClosureWithin, IsKnown, schemes_of_closures, plan_of_closures}
 use Rattle.preservation.specs.FunctionallyClosed.{IsFunctionallyClosedIn}
 use Rattle.attr_sets.proofs.AttributesLemmas.{same_at}
 use Rattle.preservation.proofs.KeepingLemmas.{added_follows, added_closes_functionally}
@@ -44,8 +44,8 @@ loop-i-preserved c =
     let scheme = attributes (get_or c.loop-i.insides i nowhere).scheme in
     let inside = c.inside_by-inside in
     let low : i < length old = c.loop-i-test.true in
-    let known : IsInsideOf n ds scheme (attributes inside.result.part) (attributes inside.result.closed) =
-    subst (λ (scheme : AttrSet). IsInsideOf n ds (attributes scheme) (attributes inside.result.part)
+    let known : IsClosureWithin n ds scheme (attributes inside.result.part) (attributes inside.result.closed) =
+    subst (λ (scheme : AttrSet). IsClosureWithin n ds (attributes scheme) (attributes inside.result.part)
     (attributes inside.result.closed)) inside.ensures.scheme inside.ensures.known in
     let grows : IsSubset now next = (λ k m. grind (arith, same_at c.union-more.ensures.members k, m)) in
     record {
@@ -55,12 +55,12 @@ loop-i-preserved c =
         | inr new ↦ known.universe k ((known.closure k).0 (grind (arith, same_at c.union-more.ensures.members k, new, m))).0
       ];
       kept = λ r obeys. transitivity_obeyed from now next r (before.kept r obeys)
-          (added_follows n ds (known_plan old) scheme now (attributes inside.result.part)
+          (added_follows n ds (plan_of_closures old) scheme now (attributes inside.result.part)
           (attributes inside.result.closed) next r
           known inside.ensures.part c.union-more.ensures.members
           (scheme_at old c.loop-i.insides i nowhere before.schemes low) obeys);
       closed_so_far = All-more (λ (scheme : AttrSet). IsFunctionallyClosedIn n ds (attributes scheme) from next)
-          (known_schemes old) i nothing
+          (schemes_of_closures old) i nothing
           (omega (arith, low, length-map old (λ (inside : Inside). inside.scheme)))
           (λ k d l x y within implied inside a m. grows a (before.closed_so_far k d l x y within implied inside a m))
           (subst (λ (scheme : AttrSet). IsFunctionallyClosedIn n ds (attributes scheme) from next)
@@ -75,7 +75,7 @@ loop-i-preserved c =
 
 pub returns-clause-functionally_closed : goal.returns-clause-functionally_closed
 returns-clause-functionally_closed c = λ same.
-    let schemes = known_schemes c.args.insides.now in
+    let schemes = schemes_of_closures c.args.insides.now in
     let long : length schemes ≤ c.loop-i.i =
     omega (arith, c.loop-i-test.false, length-map c.args.insides.now (λ (inside : Inside). inside.scheme)) in
     let all = (rw (take_all c.loop-i.i schemes long) at c.loop-i.invariant.closed_so_far) in

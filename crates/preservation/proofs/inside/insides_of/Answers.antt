@@ -7,7 +7,7 @@ use Rattle.std.specs.Prelude.{All}
 use Rattle.attr_sets.specs.declared.set.AttrSet.{AttrSet}
 use Rattle.dep_model.specs.Schemas.{width_of, theory_of}
 use Rattle.preservation.specs.declared.inside.Inside.{Inside}
-use Rattle.preservation.specs.Insides.{IsKnown, known_schemes}
+use Rattle.preservation.specs.Insides.{IsKnown, schemes_of_closures}
 use Rattle.preservation.proofs.inside.insides_of.Goals as goal
 
 pub loop-scheme-preserved : goal.loop-scheme-preserved
@@ -24,7 +24,7 @@ loop-scheme-preserved c =
       known = subst (λ (l : List Inside). All (IsKnown (width_of s) (theory_of s)) l) (sym pushed)
           (All-push (IsKnown (width_of s) (theory_of s)) items new.result c.loop-scheme.invariant.known
           new.ensures.known);
-      schemes = ap known_schemes pushed ∙ map-append scheme items (new.result ∷ [])
+      schemes = ap schemes_of_closures pushed ∙ map-append scheme items (new.result ∷ [])
           ∙ ap (λ (l : List AttrSet). l ++ scheme new.result ∷ []) c.loop-scheme.invariant.schemes
           ∙ ap (λ (scheme : AttrSet). take i schemes ++ scheme ∷ []) new.ensures.scheme
           ∙ sym (take_more schemes i first c.loop-scheme-test.true);

@@ -8,7 +8,7 @@ use Rattle.dep_model.specs.Deps.{IsDepWithin}
 use Rattle.dep_model.specs.Plans.{schemes_of}
 use Rattle.dep_model.specs.Schemas.{deps_of, theory_of, width_of, universe_of}
 use Rattle.preservation.specs.declared.inside.Inside.{Inside}
-use Rattle.preservation.specs.Insides.{IsKnown, known_schemes}
+use Rattle.preservation.specs.Insides.{IsKnown, schemes_of_closures}
 use Rattle.preservation.specs.Keeping.{LossesOf}
 use Rattle.preservation.proofs.KnownLemmas.{take-known}
 use Rattle.preservation.proofs.LossLemmas.{no_losses, next_kept, next_lost, all_looked_at}
@@ -56,11 +56,11 @@ loop-k-preserved c =
     let count : c.loop-k.insides.len ≡ length old =
     sym c.deref_mut.ensures.len ∙ ap (λ (l : List Inside). length l) given in
     let back = sym (take-known old call.new.insides c.loop-k.insides.len count
-    (call.ensures.schemes ∙ ap known_schemes given)) in
+    (call.ensures.schemes ∙ ap schemes_of_closures given)) in
     let known = subst (λ (l : List Inside). All (IsKnown n (theory_of s)) l) back call.ensures.known in
-    let schemes = subst (λ (l : List Inside). known_schemes l ≡ c.args.schemes.now) back
-    (call.ensures.schemes ∙ ap known_schemes given ∙ before.schemes) in
-    let plan_of = ap known_schemes given ∙ before.schemes in
+    let schemes = subst (λ (l : List Inside). schemes_of_closures l ≡ c.args.schemes.now) back
+    (call.ensures.schemes ∙ ap schemes_of_closures given ∙ before.schemes) in
+    let plan_of = ap schemes_of_closures given ∙ before.schemes in
     let switches = call.ensures.switches ∙ before.switches in
     elim c.match-loss.branch [
       | in-Some+in_ok-push-in-Some w ↦ record {
