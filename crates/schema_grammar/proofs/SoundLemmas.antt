@@ -30,7 +30,7 @@ use Rattle.lexer.specs.declared.token.TokenKind.{TokenKind}
 use Rattle.lexer.specs.declared.token.TokenKind.TheVariants as token
 use Rattle.lexer.specs.Pieces.{front_piece}
 use Rattle.lexer.specs.Tokens.{Mark, Lexed, tokens_after, led_by}
-use Rattle.lexer.proofs.Steps.{is_a_word, not_quoted, quoted_at}
+use Rattle.lexer.proofs.Steps.{is_a_word, not_quoted, FitsQuoted-from}
 use Rattle.schema_grammar.specs.declared.format.Format.{Format}
 use Rattle.schema_grammar.specs.declared.format.Format.TheVariants as format
 use Rattle.schema_grammar.specs.Declarations.{Declarations, no_declaration, add_name, add_dependency, read_line}
@@ -98,7 +98,7 @@ led_proper m none column text afterwards (piece.Token k n) not_empty e later =
     All-cons IsProper _ _
     (record { unquoted = unquoted; bare = λ is. is_a_word m text k n not_empty e (bare_kind k is unquoted) }) (later (n - 1))
 led_proper m none column text afterwards (piece.Quoted name n) not_empty e later =
-    let taken = (quoted_at m text name n not_empty e).taken in cc
+    let taken = (FitsQuoted-from m text name n not_empty e).taken in cc
 led_proper m none column text afterwards p not_empty e later = All-nil IsProper
 
 lexed_proper : (m : Mode) → m.quotes ≡ false → (skip column : ℕ) (text : List ℕ) → All IsProper (tokens_after m skip column text).marks
