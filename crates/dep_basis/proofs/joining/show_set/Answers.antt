@@ -5,6 +5,6 @@ use Rattle.dep_basis.proofs.joining.show_set.Goals as goal
 
 pub returns-in-Part : goal.returns-in-Part
 returns-in-Part c = record {
-  lossless =
+  proof =
       part_set c.args.schema.now (attributes c.args.lhs) c.args.attribute c.in-Part.block (rw c.in-Part.is at c.in_ok-deriv.ensures.proof);
 }
