@@ -112,7 +112,7 @@ parts_cut n ds scheme q a later low core parts = record {
         Any-from (λ (s : Attributes). s k ≡ true) (q ∷ later) found.1
         (Contains-later q later found.1 (found.0, found.2, found.3)) found.4
   ];
-  within_limit =
+  one_an_attribute =
       let count = count_below-difference_only n scheme a (ltb-true a n (low a (scheme_member n ds scheme q a core)))
       (scheme_member n ds scheme q a core) in
       let least = parts.one_an_attribute in
