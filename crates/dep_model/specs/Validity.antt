@@ -36,7 +36,8 @@ pub record AreBare (names : List (List ℕ)) (columns : List ColumnType) (nullab
   pub none_nullable : IsEmpty nullable
 
 -- the columns of a schema: one for each name, and the nullable ones among them
-pub record AreDeclared (naming : Naming) (names : List (List ℕ)) (columns : List ColumnType) (nullable : Attributes) : Type 0 where
+pub record AreDeclared (naming : Naming) (names : List (List ℕ)) (columns : List ColumnType)
+    (nullable : Attributes) : Type 0 where
   pub one_each : length columns ≡ length names
   pub each : All (λ column. IsTrue (is_column_type column)) columns
   pub nullable_within : IsSubset nullable (below (length names))
