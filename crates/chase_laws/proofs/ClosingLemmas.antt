@@ -1,4 +1,5 @@
--- Closing and settling: what steps lead to does not depend on their order, where no step changes it.
+-- The closed tableau is one, also by the functional dependencies alone: what steps lead to does not
+-- depend on their order, where no step changes it.
 use Rattle.std.proofs.Common.{◌≡◌, ℕ, ◌<◌, ◌≤◌, zero, suc, Bool, cond, ◌⊎◌, List, length, map, refl, sym, ap, subst, ◌∙◌, inl, inr, ⊎_elim, arith}
 use Rattle.std.proofs.lemmas.Bool.{cases_Bool, cases_eq, cases_lt, true≢false}
 use Rattle.std.proofs.lemmas.List.FromFn.{length-map-range_with_len, get_or-map-range_with_len}
@@ -323,7 +324,7 @@ closing_unique n ds plan s u =
     closed_from n ds (plan_tableau n plan) (plan_tableau n plan) s u (plan_over n 1 plan)
     (Same-refl (plan_tableau n plan))
 
--- ---- settling is closing by the functional dependencies alone
+-- ---- to close functionally is to close by the functional dependencies alone
 functional_steps : (n : ℕ) (ds : List Dependency) (count : ℕ) (t s : Tableau) → LeadsIn (IsFunctionalStep ds) count t s
     → LeadsIn (IsStep n (functional_part ds)) count t s
 functional_steps n ds zero t s same = same

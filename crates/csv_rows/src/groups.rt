@@ -112,7 +112,7 @@ fn numbered_pairs(alloc: Global, first: &[u32], second: &[u32]) -> Result<Vec<u3
     Ok(numbers)
 }
 
-// The first row of each group.
+// The first row of each group, where the groups are numbered in the order of their first rows.
 fn first_rows(alloc: Global, numbers: &[u32]) -> Result<Vec<u32>, OutOfMemory>
     requires fits_u32 { length numbers.now < 2 ^ 32 }
     ensures firsts { AreInOrder numbers.now → IfOk result (λ v. AreFirsts numbers.now v.items) }

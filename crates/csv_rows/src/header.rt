@@ -1,4 +1,4 @@
-ghost use Rattle.std.specs.Prelude.{◌≡◌, ◌<◌, ◌≤◌, ℕ, List, [], ◌∷◌, length, slice_index_or, nat_eq, position, IfOk, IfErr, Ok, Err};
+ghost use Rattle.std.specs.Prelude.{◌≡◌, ◌<◌, ◌≤◌, ℕ, List, [], ◌∷◌, length, nat_eq, position, IfOk, IfErr, Ok, Err};
 ghost use Rattle.attr_sets.specs.Attributes.{count_below};
 ghost use Rattle.attr_sets.specs.Sets.{attributes};
 ghost use Rattle.attr_sets.specs.declared.set.TheConstants.{MOST_ATTRIBUTES};
@@ -8,6 +8,7 @@ ghost use Rattle.dep_model.specs.Failures.{RefusesAs};
 ghost use Rattle.dep_model.specs.Schemas.{names_of, attribute_named, width_of};
 
 use crate::RowRefusal;
+use crate::records::field;
 use attr_sets::AttrSet;
 use csv::ByteRecord;
 use dep_model::{Failure, OutOfMemory, Schema};
@@ -103,14 +104,4 @@ fn column_of(columns: &[u8], attribute: u8) -> Option<usize>
     ensures column { result ≡ position (nat_eq attribute) columns.now }
 {
     columns.iter().position(|a| attribute == *a)
-}
-
-// The field at a position; beyond the last one nothing.
-pub fn field(fields: &ByteRecord, i: usize) -> &[u8]
-    ensures value { result.now ≡ slice_index_or (fields_of fields.now) i [] }
-{
-    match fields.get(i) {
-        Some(field) => field,
-        None => &[],
-    }
 }

@@ -5,7 +5,8 @@
 //! double quotes, after one byte-order mark. `read_part` reads a text that has a column for some of the
 //! attributes. `print_rows` writes a header of the declared names and then each row; its bytes are the
 //! text that `csv` writes with its default settings. A law says that it means these rows, and another
-//! that no text has two meanings.
+//! that no text has two meanings. `open_reader`, `take_record` and `field` give the records of any text,
+//! one after the other.
 //!
 //! `Interned` holds rows by numbers in place of their values. `Groups` numbers rows by what they have
 //! on a set of attributes: two rows have one number exactly where they agree on it.
@@ -27,4 +28,5 @@ pub use laws::{one_reading, printed_rows_are_read_back};
 pub use part::{PartialRows, read_part};
 pub use printing::print_rows;
 pub use reading::{MOST_ROWS, read_rows};
+pub use records::{field, open_reader, take_record};
 pub use refusal::RowRefusal;

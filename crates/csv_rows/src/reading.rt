@@ -10,8 +10,8 @@ ghost use Rattle.dep_model.specs.Schemas.{TypedFor, names_of, width_of};
 ghost use Rattle.dep_model.specs.Tuples.{IsOver};
 
 use crate::RowRefusal;
-use crate::header::{Header, field};
-use crate::records::{open_reader, take_record};
+use crate::header::Header;
+use crate::records::{field, open_reader, take_record};
 use attr_sets::AttrSet;
 use csv::{ByteRecord, Reader};
 use dep_model::{ColumnType, Failure, Schema, integer_text};

@@ -22,7 +22,7 @@ use Rattle.dep_model.proofs.ListLemmas.{Any-left}
 use Rattle.dep_basis.specs.Refining.{LeavesWhole}
 use Rattle.dep_basis.specs.CutProofs.{IsCutting}
 use Rattle.dep_basis.specs.declared.pieces.Pieces.{Pieces}
-use Rattle.dep_basis.specs.Pieces.{sets_of, IsDeterminedOrIn, ArePieces, CanRefine, IsRefined, IsPieceWith}
+use Rattle.dep_basis.specs.Pieces.{found_blocks, IsDeterminedOrIn, ArePieces, CanRefine, IsRefined, IsPieceWith}
 use Rattle.dep_basis.proofs.RefiningLemmas.{replication_implied, split_inside, split_outside, moves}
 use Rattle.dep_basis.proofs.BlockLemmas.{whole_legal, candidate_block}
 use Rattle.dep_basis.proofs.BasisLemmas.{closure_wider, block_wider}
@@ -71,12 +71,12 @@ in_block_kept : (n : ℕ) (ds : List Dependency) (x : Attributes) (before after 
 in_block_kept n ds x before after a kept fact = ⊎_elim (λ closed. inl closed) (λ one. inr (kept one)) fact
 
 -- a piece that nothing cuts is a block
-pub block_refined : (ds : List Dep) (piece : AttrSet) (before after : Pieces) → length after.sets ≡ 128 → sets_of after ≡ sets_of before ++ piece ∷ [] → after.count ≡ before.count + 1
+pub block_refined : (ds : List Dep) (piece : AttrSet) (before after : Pieces) → length after.sets ≡ 128 → found_blocks after ≡ found_blocks before ++ piece ∷ [] → after.count ≡ before.count + 1
     → 0 < count_below (attributes piece) MOST_ATTRIBUTES → (IsEmpty (attributes piece) → ⊥) → All (LeavesWhole (attributes piece) (attributes piece)) (dependencies_of ds) → IsRefined ds (attributes piece) before after
 block_refined ds piece before after size sets count pos not_empty whole = record {
   size = size;
   room = omega (arith, count, pos);
-  kept = λ a h. rw sets (Any-left (HasAttribute a) (sets_of before) piece h);
+  kept = λ a h. rw sets (Any-left (HasAttribute a) (found_blocks before) piece h);
   refined = λ n x can.
       let w = attributes piece in
       let block : IsBlock n (dependencies_of ds) x w = ⊎_elim
@@ -91,8 +91,8 @@ block_refined ds piece before after size sets count pos not_empty whole = record
       (λ none. absurd (not_empty none))
       (tell_empty n w can.universe) in
       record {
-        each = λ old. rw sets (All-push (λ (p : AttrSet). IsBlock n (dependencies_of ds) x (attributes p)) (sets_of before) piece old block);
-        exhaustive = λ a m. inr (rw sets (Any-push (HasAttribute a) (sets_of before) piece m));
+        each = λ old. rw sets (All-push (λ (p : AttrSet). IsBlock n (dependencies_of ds) x (attributes p)) (found_blocks before) piece old block);
+        exhaustive = λ a m. inr (rw sets (Any-push (HasAttribute a) (found_blocks before) piece m));
       };
 }
 
@@ -133,7 +133,7 @@ mvd_refined ds w v t inside outside before middle after in_is out_is apart v_in 
       record {
         each = λ old. other.each (one.each old);
         exhaustive = λ a m. elim (cases_Bool (t a)) [
-          | inl in_t ↦ in_block_kept n (dependencies_of ds) x (sets_of middle) (sets_of after) a (second.kept a) (one.exhaustive a (grind (arith, same_at in_is a, m, in_t)))
+          | inl in_t ↦ in_block_kept n (dependencies_of ds) x (found_blocks middle) (found_blocks after) a (second.kept a) (one.exhaustive a (grind (arith, same_at in_is a, m, in_t)))
           | inr out ↦ other.exhaustive a (grind (arith, same_at out_is a, m, out))
         ];
       };
@@ -155,7 +155,7 @@ inside_fewer w v t rest low cutting is =
 -- ---- all pieces of a left side
 -- c lies between x and its closure, and all outside it was refined
 pub all_refined : (n : ℕ) (ds : List Dep) (x c w : Attributes) (found none : Pieces) → IsSubset x c → Implies n (dependencies_of ds) (fd x c) → w ≡ difference (below n) c
-    → CanRefine n ds c w → sets_of none ≡ [] → found.count ≤ 128 → IsRefined ds w none found → ArePieces n (dependencies_of ds) x found
+    → CanRefine n ds c w → found_blocks none ≡ [] → found.count ≤ 128 → IsRefined ds w none found → ArePieces n (dependencies_of ds) x found
 all_refined n ds x c w found none inside closed is can empty within_limit done =
     let all = dependencies_of ds in
     let refined = done.refined n c can in
@@ -163,7 +163,7 @@ all_refined n ds x c w found none inside closed is can empty within_limit done =
     record {
       size = done.size;
       within_limit = within_limit;
-      each = All-weaker (λ (p : AttrSet). IsBlock n all c (attributes p)) (λ (p : AttrSet). IsBlock n all x (attributes p)) (λ (p : AttrSet) block. block_wider n all x c inside closed (attributes p) block) (sets_of found)
+      each = All-weaker (λ (p : AttrSet). IsBlock n all c (attributes p)) (λ (p : AttrSet). IsBlock n all x (attributes p)) (λ (p : AttrSet) block. block_wider n all x c inside closed (attributes p) block) (found_blocks found)
           (refined.each (rw empty (λ k d l. absurd (omega arith))));
       exhaustive = λ a low. elim (cases_Bool (c a)) [
         | inl in_c ↦ inl (wider a low (λ r legal. reflexivity_obeyed c (only a) r (λ (k : ℕ) h. grind (arith, nat_tests, h, in_c))))
@@ -173,25 +173,25 @@ all_refined n ds x c w found none inside closed is can empty within_limit done =
 
 -- ---- one piece, and what is in none
 module _ (n : ℕ) (ds : List Dependency) (x : Attributes) (found : Pieces) (pieces : ArePieces n ds x found) where
-  pub piece_is : (a : ℕ) (p : AttrSet) → a < n → (IsEmpty (attributes p) → All (λ q. attributes q a ≡ false) (sets_of found)) → ((IsEmpty (attributes p) → ⊥) → Contains (sets_of found) p)
+  pub piece_is : (a : ℕ) (p : AttrSet) → a < n → (IsEmpty (attributes p) → All (λ q. attributes q a ≡ false) (found_blocks found)) → ((IsEmpty (attributes p) → ⊥) → Contains (found_blocks found) p)
       → ((IsEmpty (attributes p) → ⊥) → attributes p a ≡ true) → IsPieceWith n ds x a (attributes p)
   piece_is a p low none not_empty member = record {
     nothing = λ empty. ⊎_elim
         (λ h. h)
-        (λ (j, q, lt, is, in_q). absurd (true≢false (sym in_q ∙ All-contains (λ (s : AttrSet). attributes s a ≡ false) (sets_of found) q (none empty) (j, lt, is))))
+        (λ (j, q, lt, is, in_q). absurd (true≢false (sym in_q ∙ All-contains (λ (s : AttrSet). attributes s a ≡ false) (found_blocks found) q (none empty) (j, lt, is))))
         (pieces.exhaustive a low);
-    block = λ filled. All-contains (λ (s : AttrSet). IsBlock n ds x (attributes s)) (sets_of found) p pieces.each (not_empty filled);
+    block = λ filled. All-contains (λ (s : AttrSet). IsBlock n ds x (attributes s)) (found_blocks found) p pieces.each (not_empty filled);
     member = member;
   }
 
-  pub rest_closed : (c : Attributes) → ((a : ℕ) → (c a ≡ true) ↔ (below n a ≡ true) × All (λ q. attributes q a ≡ false) (sets_of found)) → (a : ℕ) → (c a ≡ true) ↔ InClosure n ds x a
+  pub rest_closed : (c : Attributes) → ((a : ℕ) → (c a ≡ true) ↔ (below n a ≡ true) × All (λ q. attributes q a ≡ false) (found_blocks found)) → (a : ℕ) → (c a ≡ true) ↔ InClosure n ds x a
   rest_closed c is a = (
     (λ m.
         let h = (is a).0 m in
         let low = ltb-true a n h.0 in
         ⊎_elim
         (λ closed. (low, closed))
-        (λ (j, q, lt, at, in_q). absurd (true≢false (sym in_q ∙ All-contains (λ (s : AttrSet). attributes s a ≡ false) (sets_of found) q h.1 (j, lt, at))))
+        (λ (j, q, lt, at, in_q). absurd (true≢false (sym in_q ∙ All-contains (λ (s : AttrSet). attributes s a ≡ false) (found_blocks found) q h.1 (j, lt, at))))
         (pieces.exhaustive a low)),
-    (λ closed. (is a).1 (lt-ltb a n closed.0, λ j d l. false_from_ne_true (attributes (get_or (sets_of found) j d) a) (λ in_q. (pieces.each j d l).outside a in_q closed))),
+    (λ closed. (is a).1 (lt-ltb a n closed.0, λ j d l. false_from_ne_true (attributes (get_or (found_blocks found) j d) a) (λ in_q. (pieces.each j d l).outside a in_q closed))),
   )

@@ -13,9 +13,9 @@ use Rattle.dep_model.specs.Keys.{IsBlock}
 use Rattle.dep_basis.specs.declared.pieces.TheConstants.{MOST_BLOCKS}
 use Rattle.dep_basis.specs.declared.pieces.Pieces.{Pieces}
 
--- the sets that count
-abbrev pub sets_of : Pieces → List AttrSet
-sets_of found = take found.count found.sets
+-- the blocks that were found: the first sets of the array, up to the count
+abbrev pub found_blocks : Pieces → List AttrSet
+found_blocks found = take found.count found.sets
 
 -- attribute a is determined, or in one of the sets
 abbrev pub IsDeterminedOrIn : ℕ → List Dependency → Attributes → List AttrSet → ℕ → Type 0
@@ -25,8 +25,8 @@ IsDeterminedOrIn n ds x ps a = Implies n ds (fd x (only a)) ⊎ Any (λ p. attri
 pub record ArePieces (n : ℕ) (ds : List Dependency) (x : Attributes) (found : Pieces) : Type 0 where
   pub size : length found.sets ≡ MOST_BLOCKS
   pub within_limit : found.count ≤ MOST_BLOCKS
-  pub each : All (λ p. IsBlock n ds x (attributes p)) (sets_of found)
-  pub exhaustive : (a : ℕ) → a < n → IsDeterminedOrIn n ds x (sets_of found) a
+  pub each : All (λ p. IsBlock n ds x (attributes p)) (found_blocks found)
+  pub exhaustive : (a : ℕ) → a < n → IsDeterminedOrIn n ds x (found_blocks found) a
 
 -- a set outside x that x multidetermines, over dependencies within the universe
 pub record CanRefine (n : ℕ) (ds : List Dep) (x w : Attributes) : Type 0 where
@@ -51,10 +51,10 @@ pub record AreRefined (n : ℕ) (ds : List Dependency) (x w : Attributes) (befor
 pub record IsRefined (ds : List Dep) (w : Attributes) (before after : Pieces) : Type 0 where
   pub size : length after.sets ≡ MOST_BLOCKS
   pub room : after.count ≤ before.count + count_below w MOST_ATTRIBUTES
-  pub kept : (a : ℕ) → Any (λ p. attributes p a ≡ true) (sets_of before)
-      → Any (λ p. attributes p a ≡ true) (sets_of after)
+  pub kept : (a : ℕ) → Any (λ p. attributes p a ≡ true) (found_blocks before)
+      → Any (λ p. attributes p a ≡ true) (found_blocks after)
   pub refined : (n : ℕ) (x : Attributes) → CanRefine n ds x w
-      → AreRefined n (dependencies_of ds) x w (sets_of before) (sets_of after)
+      → AreRefined n (dependencies_of ds) x w (found_blocks before) (found_blocks after)
 
 -- the block of x with attribute a, or nothing where x determines a
 pub record IsPieceWith (n : ℕ) (ds : List Dependency) (x : Attributes) (a : ℕ) (p : Attributes) : Type 0 where

@@ -4,7 +4,7 @@ ghost use Rattle.attr_sets.specs.Sets.{attributes};
 ghost use Rattle.attr_sets.specs.declared.set.TheConstants.{MOST_ATTRIBUTES};
 ghost use Rattle.dep_model.specs.Deps.{dependencies_of, IsDepWithin};
 ghost use Rattle.dep_basis.specs.declared.pieces.TheConstants.{MOST_BLOCKS};
-ghost use Rattle.dep_basis.specs.Pieces.{sets_of, HasRoom, ArePieces, IsRefined};
+ghost use Rattle.dep_basis.specs.Pieces.{found_blocks, HasRoom, ArePieces, IsRefined};
 
 use crate::cutting::next_cut;
 use attr_sets::{AttrSet, MOST_ATTRIBUTES};
@@ -64,7 +64,7 @@ fn refine(deps: &[Dep], piece: AttrSet, found: &mut Pieces)
 fn push(found: &mut Pieces, block: AttrSet)
     requires not_full { found.old.count < MOST_BLOCKS }
     requires size { length found.old.sets ≡ MOST_BLOCKS }
-    ensures sets { sets_of found.new ≡ sets_of found.old ++ block ∷ [] }
+    ensures sets { found_blocks found.new ≡ found_blocks found.old ++ block ∷ [] }
     ensures count { found.new.count ≡ found.old.count + 1 }
     ensures size { length found.new.sets ≡ MOST_BLOCKS }
 {

@@ -31,7 +31,8 @@ pub enum Shown {
     Part(PartProof),
 }
 
-// What is left of a part with an attribute, where a given dependency cuts it.
+// A derivation for what is left of a part with the attribute in it, where given dependency `k` cuts
+// the part; or one that the left side determines the attribute.
 fn cut_part(
     alloc: Global,
     schema: &Schema,
@@ -55,7 +56,7 @@ fn cut_part(
     }
 }
 
-// The part without the right side.
+// A derivation for the part without the right side of the given dependency.
 fn cut_outside(
     alloc: Global,
     schema: &Schema,
@@ -81,7 +82,7 @@ fn cut_outside(
     }
 }
 
-// What the part shares with the right side.
+// A derivation for what the part shares with the right side of the given multivalued dependency.
 fn cut_inside(
     alloc: Global,
     schema: &Schema,
@@ -108,7 +109,8 @@ fn cut_inside(
     }
 }
 
-// That the left side determines the attribute.
+// A derivation that the left side determines the attribute, which a given functional dependency has
+// on the right.
 fn cut_closed(
     alloc: Global,
     schema: &Schema,

@@ -1,4 +1,4 @@
--- Joins of projections: what is in them, and plans that lose nothing where another does.
+-- Joins of projections: what is in them, and plans that are lossless where another one is.
 use Rattle.std.proofs.Common.{◌≡◌, ℕ, ◌⊎◌, zero, suc, true, List, [], ◌∷◌, ◌++◌, length, map, refl, sym, ap, ◌∙◌, subst, inl, inr, ⊎_elim, arith}
 use Rattle.std.proofs.lemmas.Bool.{cases_Bool}
 use Rattle.std.proofs.lemmas.List.{map-append}
@@ -81,8 +81,8 @@ projected-from n r t u scheme over long u_in agree =
     let same : project_tuple scheme u ≡ project_tuple scheme t = project_tuple-same scheme u t (All-contains (λ (v : Tuple). length v ≡ n) r u over u_in ∙ sym long) agree in
     subst (λ (p : Tuple). Contains (projection scheme r) p) same (Contains-map (project_tuple scheme) r u u_in)
 
--- ---- plans that lose nothing where another does
--- a plan whose joins have no tuple beyond those of another
+-- ---- plans that are lossless where another one is
+-- a plan is lossless where its joins have no tuple beyond those of a lossless one
 pub lossless_from : (n : ℕ) (ds : List Dependency) (plan other : List Attributes) → IsLossless n ds plan → Covers n other
     → ((r : Relation) → IsLegal n ds r → (t : Tuple) → length t ≡ n → ((scheme : Attributes) → Contains other scheme → IsProjected r t scheme) → (scheme : Attributes) → Contains plan scheme → IsProjected r t scheme)
     → IsLossless n ds other

@@ -1,7 +1,7 @@
 //! Names, rows, dependencies and schemas, and the theory of dependencies that every crate cites.
 //!
-//! A `Schema` is valid as long as it stands: its names differ, its dependencies lie within its
-//! universe. `agreement_of` and `two_rows_obey` look at two rows as the theory does. The definitions of
+//! Every `Schema` is valid: its names differ, and its dependencies lie within its universe.
+//! `agreement_of` and `two_rows_obey` look at two rows as the theory does. The definitions of
 //! the theory (relations, obedience, implication, projection and join, keys, normal forms) are in
 //! `specs/`; `laws` has the theorems by which they were tried.
 #![tactic(auto)]

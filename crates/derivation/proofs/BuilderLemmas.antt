@@ -6,6 +6,7 @@ use Rattle.dep_model.specs.declared.schema.Schema.{Schema}
 use Rattle.dep_model.specs.Dependencies.{fd, mvd, IsWithin}
 use Rattle.dep_model.specs.Schemas.{universe_of}
 use Rattle.derivation.specs.Trees.{augmentation, complementation, maugmentation, transitivity, mtransitivity, Tree, step, pair}
+use Rattle.derivation.specs.Builders.{intersected_block}
 use Rattle.derivation.specs.Conclusions.{Proves}
 use Rattle.attr_sets.proofs.AttributesLemmas.{same_at}
 use Rattle.derivation.proofs.ProvesLemmas.{fd_restated, mvd_restated, augmentation_proves, complementation_proves, maugmentation_proves, transitivity_proves, mtransitivity_proves}
@@ -49,33 +50,30 @@ united_mvd_proves s t u x y z a b e m a_is b_is e_is m_is first_in second_in fir
     top_proves
 
 -- x ->> u - w and u - w ->> t
-pub split_inside_proves : (s : Schema) (t u : Tree) (x w v p a o e : Attributes) → a ≡ x → o ≡ difference (universe_of s) w → e ≡ none
-    → IsWithin (universe_of s) (mvd x w) → IsWithin (universe_of s) (mvd v p) → Disjoint w x → Disjoint w v → Proves s t (mvd x w) → Proves s u (mvd v p)
-    → Proves s (pair mtransitivity (step (maugmentation a a) (step complementation t)) (step (maugmentation o e) u)) (mvd x (intersection w p))
-split_inside_proves s t u x w v p a o e a_is o_is e_is first_in second_in from_x from_v first second =
+pub split_inside_proves : (s : Schema) (t u : Tree) (x w v p : Attributes) → IsWithin (universe_of s) (mvd x w) → IsWithin (universe_of s) (mvd v p)
+    → Disjoint w x → Disjoint w v → Proves s t (mvd x w) → Proves s u (mvd v p) → Proves s (intersected_block (universe_of s) x w t u) (mvd x (intersection w p))
+split_inside_proves s t u x w v p first_in second_in from_x from_v first second =
     let all = universe_of s in
+    let o : Attributes = difference all w in
     let rest = step complementation t in
-    let wider = step (maugmentation a a) rest in
-    let lifted = step (maugmentation o e) u in
+    let wider = step (maugmentation x x) rest in
+    let lifted = step (maugmentation o none) u in
     let beyond = difference all (union x w) in
-    let a_in : IsSubset a all = λ k h. first_in.0 k (grind (arith, same_at a_is k, h)) in
-    let o_in : IsSubset o all = λ k h. grind (arith, same_at o_is k, h) in
+    let o_in : IsSubset o all = λ k h. grind (arith, h) in
     let rest_proves = complementation_proves s t x w first in
-    let wider_proves = maugmentation_proves s rest x beyond a a a_in (λ k h. h) rest_proves in
-    let lifted_proves = maugmentation_proves s u v p o e o_in (λ k h. grind (arith, same_at e_is k, h)) second in
-    let top_proves = mtransitivity_proves s wider lifted (union x a) (union beyond a) (union v o) (union p e) (fun_ext (λ k. grind (arith, same_at a_is k, same_at o_is k, first_in.0 k, second_in.0 k, from_x k, from_v k))) wider_proves lifted_proves in
-    mvd_restated s (pair mtransitivity wider lifted) (union x a) (difference (union p e) (union beyond a)) x (intersection w p)
-    (fun_ext (λ k. grind (arith, same_at a_is k)))
-    (fun_ext (λ k. grind (arith, same_at a_is k, same_at e_is k, first_in.0 k, second_in.1 k, from_x k)))
+    let wider_proves = maugmentation_proves s rest x beyond x x first_in.0 (λ k h. h) rest_proves in
+    let lifted_proves = maugmentation_proves s u v p o none o_in (λ k h. grind (arith, h)) second in
+    let top_proves = mtransitivity_proves s wider lifted (union x x) (union beyond x) (union v o) (union p none) (fun_ext (λ k. grind (arith, first_in.0 k, second_in.0 k, from_x k, from_v k))) wider_proves lifted_proves in
+    mvd_restated s (pair mtransitivity wider lifted) (union x x) (difference (union p none) (union beyond x)) x (intersection w p)
+    (fun_ext (λ k. grind arith))
+    (fun_ext (λ k. grind (arith, first_in.0 k, second_in.1 k, from_x k)))
     top_proves
 
 -- x ->> u - w and u - w ->> u - vt
-pub split_outside_proves : (s : Schema) (t u : Tree) (x w v p a o e : Attributes) → a ≡ x → o ≡ difference (universe_of s) w → e ≡ none
-    → IsWithin (universe_of s) (mvd x w) → IsWithin (universe_of s) (mvd v p) → Disjoint w x → Disjoint w v → Proves s t (mvd x w) → Proves s u (mvd v p)
-    → Proves s (pair mtransitivity (step (maugmentation a a) (step complementation t)) (step (maugmentation o e) (step complementation u))) (mvd x (difference w p))
-split_outside_proves s t u x w v p a o e a_is o_is e_is first_in second_in from_x from_v first second =
+pub split_outside_proves : (s : Schema) (t u : Tree) (x w v p : Attributes) → IsWithin (universe_of s) (mvd x w) → IsWithin (universe_of s) (mvd v p)
+    → Disjoint w x → Disjoint w v → Proves s t (mvd x w) → Proves s u (mvd v p) → Proves s (intersected_block (universe_of s) x w t (step complementation u)) (mvd x (difference w p))
+split_outside_proves s t u x w v p first_in second_in from_x from_v first second =
     let other = difference (universe_of s) (union v p) in
-    let tree = pair mtransitivity (step (maugmentation a a) (step complementation t)) (step (maugmentation o e) (step complementation u)) in
-    mvd_restated s tree x (intersection w other) x (difference w p) refl (fun_ext (λ k. grind (arith, first_in.1 k, from_v k)))
-    (split_inside_proves s t (step complementation u) x w v other a o e a_is o_is e_is first_in (second_in.0, (λ k h. grind (arith, h))) from_x from_v first
+    mvd_restated s (intersected_block (universe_of s) x w t (step complementation u)) x (intersection w other) x (difference w p) refl (fun_ext (λ k. grind (arith, first_in.1 k, from_v k)))
+    (split_inside_proves s t (step complementation u) x w v other first_in (second_in.0, (λ k h. grind (arith, h))) from_x from_v first
     (complementation_proves s u v p second))

@@ -1,4 +1,4 @@
--- What it says that a rule gives a conclusion: its conditions held.
+-- Where a rule gives a conclusion, its conditions hold.
 use Rattle.std.proofs.Common.{◌≡◌, true, false, refl}
 use Rattle.std.specs.Prelude.{Bool, cond, Option, None, Some, ok_or, Result, Ok, Err}
 

@@ -103,6 +103,7 @@ pair_only s rule t u one other (Err k) o first second exact is not = rw (not k r
     cc)
 
 -- ---- what a search finds
+-- the smallest part of a premise that concludes d is that of the whole tree: the whole is larger
 pub found_step : (s : Schema) (rule : Step) (t : Tree) (d : Dependency) (u : Tree) → IsLeast s t d u → IsLeast s (step rule t) d u
 found_step s rule t d u found = record {
   part = inr found.part;

@@ -15,6 +15,7 @@ Proves s (step rule t) d = (x : Dependency) × Proves s t x × (step_conclusion 
 Proves s (pair rule t u) d =
     (x y : Dependency) × Proves s t x × Proves s u y × (pair_conclusion rule x y ≡ Ok d)
 
+-- a conclusion is handed on to the next step, and a fault is the end
 infixl 10 ◌>>=◌
 abbrev pub ◌>>=◌ : {A B : Type 0} → Result A Fault → (A → Result B Fault) → Result B Fault
 (Ok x) >>= f = f x

@@ -10,6 +10,7 @@ use Rattle.derivation.specs.declared.rule.PairRule as pairs
 use Rattle.derivation.specs.declared.deriv.Deriv as deriv
 use Rattle.derivation.specs.Trees.{Leaf, given, reflexivity, mreflexivity, Step, augmentation, complementation, maugmentation, replication, Pair, transitivity, mtransitivity, coalescence, Tree, leaf, step, pair}
 
+-- the rules of the code, as those of the definitions
 abbrev pub leaf_of : leaves.LeafRule → Leaf
 leaf_of (leaves.TheVariants.Given k) = given k
 leaf_of (leaves.TheVariants.Reflexivity x y) = reflexivity (attributes x) (attributes y)

@@ -3,9 +3,10 @@ ghost use Rattle.attr_sets.specs.Attributes.{Attributes, union, intersection, di
 ghost use Rattle.attr_sets.specs.Sets.{attributes};
 ghost use Rattle.dep_model.specs.declared.schema.Schema.{Schema};
 ghost use Rattle.dep_model.specs.Dependencies.{fd, mvd};
+ghost use Rattle.dep_model.specs.Schemas.{universe_of};
 ghost use Rattle.derivation.specs.Derivs.{tree_of};
 ghost use Rattle.derivation.specs.Conclusions.{Proves};
-ghost use Rattle.derivation.specs.Builders.{IsLittleMore};
+ghost use Rattle.derivation.specs.Builders.{IsLittleMore, intersected_block};
 
 use crate::{Deriv, LeafRule, PairRule, StepRule};
 use attr_sets::AttrSet;
@@ -160,28 +161,10 @@ pub fn split_inside(
         IsLittleMore (tree_of first.value) (tree_of second.value) (tree_of b.value)) }
     ensures returned { IfErr result (λ r. (r.first ≡ first) × (r.second ≡ second)) }
 {
-    let outside = AttrSet::full(schema.width()).difference(block);
-    let Ok([mut rest, mut wider, mut lifted, mut top]) = room_for_four(alloc) else {
+    let Ok(room) = room_for_four(alloc) else {
         return Err(Returned { first, second });
     };
-    // X ->> U - W, U - W ->> T, and so X ->> T without U - W.
-    *rest = Deriv::Step(StepRule::Complementation, first);
-    *wider = Deriv::Step(
-        StepRule::MAugmentation {
-            wide: lhs,
-            narrow: lhs,
-        },
-        rest,
-    );
-    *lifted = Deriv::Step(
-        StepRule::MAugmentation {
-            wide: outside,
-            narrow: AttrSet::empty(),
-        },
-        second,
-    );
-    *top = Deriv::Pair(PairRule::MTransitivity, wider, lifted);
-    Ok(top)
+    Ok(intersect_block(room, schema, lhs, block, first, second))
 }
 
 /// From `X ->> W` and `V ->> T`, where `W` has no member in `X` or `V`: `X ->> W - T`. `lhs` is `X`, and
@@ -204,11 +187,30 @@ pub fn split_outside(
         IsLittleMore (tree_of first.value) (tree_of second.value) (tree_of b.value)) }
     ensures returned { IfErr result (λ r. (r.first ≡ first) × (r.second ≡ second)) }
 {
-    let outside = AttrSet::full(schema.width()).difference(block);
-    let Ok([mut rest, mut wider, mut other, mut lifted, mut top]) = room_for_five(alloc) else {
+    let Ok([mut other, rest, wider, lifted, top]) = room_for_five(alloc) else {
         return Err(Returned { first, second });
     };
-    // X ->> U - W, U - W ->> U - VT, and so X ->> what W has outside T.
+    // V ->> U - VT, and what W shares with U - VT is W - T.
+    *other = Deriv::Step(StepRule::Complementation, second);
+    Ok(intersect_block([rest, wider, lifted, top], schema, lhs, block, first, other))
+}
+
+// From `X ->> W` and `V ->> T`, as in `split_inside`: `X ->>` what `W` and `T` share, in the room that is given.
+fn intersect_block(
+    room: [Box<Deriv>; 4],
+    schema: &Schema,
+    lhs: AttrSet,
+    block: AttrSet,
+    first: Box<Deriv>,
+    second: Box<Deriv>,
+) -> Box<Deriv>
+    ensures tree { tree_of result.value
+        ≡ intersected_block (universe_of schema.now) (attributes lhs) (attributes block)
+        (tree_of first.value) (tree_of second.value) }
+{
+    let outside = AttrSet::full(schema.width()).difference(block);
+    let [mut rest, mut wider, mut lifted, mut top] = room;
+    // X ->> U - W, U - W ->> T, and so X ->> T without U - W.
     *rest = Deriv::Step(StepRule::Complementation, first);
     *wider = Deriv::Step(
         StepRule::MAugmentation {
@@ -217,14 +219,13 @@ pub fn split_outside(
         },
         rest,
     );
-    *other = Deriv::Step(StepRule::Complementation, second);
     *lifted = Deriv::Step(
         StepRule::MAugmentation {
             wide: outside,
             narrow: AttrSet::empty(),
         },
-        other,
+        second,
     );
     *top = Deriv::Pair(PairRule::MTransitivity, wider, lifted);
-    Ok(top)
+    top
 }

@@ -112,6 +112,7 @@ fn seek(schema: &Schema, deriv: Box<Deriv>, sought: Dep) -> Sought
     }
 }
 
+// The same in a tree whose root has one premise, after the search in it.
 fn seek_step(schema: &Schema, room: Box<Deriv>, rule: StepRule, from: Sought, sought: Dep) -> Sought
     ensures sought { (t : Tree) → IsSought schema.now t (dependency_of sought) from
         → IsSought schema.now (step (step_of rule) t) (dependency_of sought) result }
@@ -122,6 +123,7 @@ fn seek_step(schema: &Schema, room: Box<Deriv>, rule: StepRule, from: Sought, so
     }
 }
 
+// The same in a tree whose root has two premises, after the search in both.
 fn seek_pair(room: Box<Deriv>, rule: PairRule, left: Sought, right: Sought, sought: Dep) -> Sought
     requires left_fits_u32 { NodesFit left }
     requires right_fits_u32 { NodesFit right }

@@ -1,24 +1,24 @@
 -- What the whole call ends with, by the answer of a command.
-use Rattle.std.proofs.Common.{◌≡◌, ◌⊎◌, inl, inr, ℕ, zero, suc, ◌<◌, ◌≤◌, arith, Bool, true, false, if◌then◌else◌, List, [], ◌∷◌, ◌++◌, ◌+◌, length, get_or, drop, Option, Some, None, Result, refl, sym, ap, ◌∙◌, subst, append_assoc, append-nil}
+use Rattle.std.proofs.Common.{◌≡◌, ◌⊎◌, inl, inr, ℕ, zero, suc, ◌<◌, ◌≤◌, arith, Bool, true, false, if◌then◌else◌, List, [], ◌∷◌, length, get_or, Option, Some, None, Result, refl, sym, ap, ◌∙◌, subst}
 use Rattle.std.specs.Prelude.{MatchOption}
-use Rattle.std.proofs.lemmas.List.{drop_more, drop_all}
 use Rattle.std.specs.List.{list_any, list_all}
 use Rattle.dep_model.specs.declared.memory.OutOfMemory.{OutOfMemory as MemoryError}
 use Rattle.desk_outside.specs.Causes.{ErrorCountIncreased}
 use Rattle.desk_outside.specs.Files.{Files}
 use Rattle.named_tables.specs.Tables.{TableValue}
+use Rattle.desk_outside.specs.Begun.{Begun}
 use Rattle.destinations.specs.Destinations.{Finished}
 use Rattle.table_writing.specs.declared.end.WriteOutcome.{WriteOutcome}
 use Rattle.table_writing.specs.declared.end.WriteOutcome.TheVariants.{Done, Failed, OutOfMemory}
-use Rattle.table_writing.specs.Writing.{Written, HasAll}
-use Rattle.desk_cli.specs.declared.status.Status.{Status}
-use Rattle.desk_cli.specs.declared.status.Status.TheVariants.{Yes, CannotWrite, DestinationFailed}
-use Rattle.desk_cli.specs.ResponseValues.{ResponseValue}
-use Rattle.desk_cli.specs.Outcomes.{OutcomeValue, DestinationsInCall, WrittenAs, is_done, is_out_of_memory, end_text, failures_text, outcome_of_response, reported_outcome, WritesTables, ComesTo, EndsAs, NoneFails, AllHave, HaveTables}
+use Rattle.table_writing.specs.Writing.{Written, HasAll, BeginsEach, names_of}
+use Rattle.desk_responses.specs.declared.status.Status.{Status}
+use Rattle.desk_responses.specs.declared.status.Status.TheVariants.{Yes, CannotWrite, DestinationFailed}
+use Rattle.desk_responses.specs.ResponseValues.{ResponseValue}
+use Rattle.desk_delivery.specs.Outcomes.{OutcomeValue, DestinationsInCall, WrittenAs, is_done, is_out_of_memory, failures_text, outcome_of_response, reported_outcome, WritesTables, ComesTo, EndsAs, NoneFails, HasTables, AllHave, HaveTables}
 use Rattle.std.specs.Io.KnownBytes.{append_known}
 use Rattle.desk_cli.specs.Desk.{Desk, Delivered, Delivers, FileSourceInCall, SinkInCall, reading_in_call, WritesWhole, WritesPart, IsNoOrStops}
 use Rattle.desk_cli.specs.Performs.{Answers}
-use Rattle.desk_cli.specs.Readings.{known_files}
+use Rattle.desk_inputs.specs.Readings.{known_files}
 
 -- ---- ends
 none_at : (test : WriteOutcome → Bool) (ends : List WriteOutcome) (i : ℕ) (d : WriteOutcome) → list_any test ends ≡ false → i < length ends → test (get_or ends i d) ≡ false
@@ -41,11 +41,11 @@ all_of test (end ∷ ends) d each =
     let rest : list_all test ends ≡ true = all_of test ends d (λ i within. each (suc i) (omega (arith, within))) in
     cc
 
-done_at : (how : WriteOutcome) (tables : List TableValue) (old new : Finished) (before after : ℕ) → is_out_of_memory how ≡ false → Written tables old new before after how → (ErrorCountIncreased before after → ⊥)
-    → (is_done how ≡ true) × HasAll tables old new
-done_at Done tables old new before after none written calm = (refl, written.0)
-done_at Failed tables old new before after none written calm = absurd (calm written.1)
-done_at OutOfMemory tables old new before after none written calm = absurd cc
+done_at : (how : WriteOutcome) (tables : List TableValue) (old new : Finished) (begun_old begun_new : Begun) (before after : ℕ) → is_out_of_memory how ≡ false → Written tables old new begun_old begun_new before after how → (ErrorCountIncreased before after → ⊥)
+    → (is_done how ≡ true) × HasAll tables old new × BeginsEach (names_of tables) begun_old begun_new
+done_at Done tables old new begun_old begun_new before after none written calm = (refl, written.0, written.1)
+done_at Failed tables old new begun_old begun_new before after none written calm = absurd (calm written.1)
+done_at OutOfMemory tables old new begun_old begun_new before after none written calm = absurd cc
 
 -- the value of a list at a position within it
 one_of : {X : Type 0} (xs : List X) (i : ℕ) → i < length xs → X
@@ -61,25 +61,15 @@ all_done destinations tables ends written none calm = (
 )
   where
     at : (i : ℕ) → i < length destinations.old → (x y : destinations.T)
-        → (is_done (get_or ends i Done) ≡ true) × HasAll tables (destinations.finished (get_or destinations.old i x)) (destinations.finished (get_or destinations.new i y))
+        → (is_done (get_or ends i Done) ≡ true) × HasTables destinations tables (get_or destinations.old i x) (get_or destinations.new i y)
     at i within x y =
-        done_at (get_or ends i Done) tables (destinations.finished (get_or destinations.old i x)) (destinations.finished (get_or destinations.new i y))
-        (destinations.faults (get_or destinations.old i x)) (destinations.faults (get_or destinations.new i y))
-        (none_at is_out_of_memory ends i Done none (omega (arith, within, written.results))) (written.each i within x y Done).written (calm i within x y)
-
--- ---- failures
-pub failures_next : (ends : List WriteOutcome) (i : ℕ) (d : WriteOutcome) (before after : List ℕ) → i < length ends
-    → before ++ failures_text (i + 1) (drop i ends) ≡ failures_text 1 ends → after ≡ before ++ end_text (i + 1) (get_or ends i d)
-    → after ++ failures_text (i + 1 + 1) (drop (i + 1) ends) ≡ failures_text 1 ends
-failures_next ends i d before after within so_far made =
-    ap (λ (text : List ℕ). text ++ failures_text (i + 1 + 1) (drop (i + 1) ends)) made
-    ∙ append_assoc before (end_text (i + 1) (get_or ends i d)) (failures_text (i + 1 + 1) (drop (i + 1) ends))
-    ∙ ap (λ (rest : List WriteOutcome). before ++ failures_text (i + 1) rest) (sym (drop_more ends i d within))
-    ∙ so_far
-
-pub failures_all : (ends : List WriteOutcome) (i : ℕ) (text : List ℕ) → length ends ≤ i → text ++ failures_text (i + 1) (drop i ends) ≡ failures_text 1 ends → text ≡ failures_text 1 ends
-failures_all ends i text whole so_far =
-    sym (append-nil text) ∙ ap (λ (rest : List WriteOutcome). text ++ failures_text (i + 1) rest) (sym (drop_all i ends whole)) ∙ so_far
+        let old = get_or destinations.old i x in
+        let new = get_or destinations.new i y in
+        let one = written.each i within x y Done in
+        let done = done_at (get_or ends i Done) tables (destinations.finished old) (destinations.finished new) (destinations.begun old) (destinations.begun new)
+        (destinations.faults old) (destinations.faults new)
+        (none_at is_out_of_memory ends i Done none (omega (arith, within, written.results))) one.written (calm i within x y) in
+        (done.0, record { has = done.1; begins = done.2; closed = one.closed })
 
 -- ---- answers
 -- where no destination fails, an answer ends plainly, and the destinations have its tables

@@ -1,13 +1,1 @@
-pub mod StepLemmas
-pub mod MeaningLemmas
-pub mod RowLemmas
-pub mod HeadedLemmas
-pub mod SplitLemmas
-pub mod RuleLemmas
-pub mod MigrationLemmas
-pub mod LossLemmas
-pub mod PartLemmas
-pub mod FormLemmas
-pub mod KeyLemmas
-pub mod SamenessLemmas
 pub mod EndingLemmas

@@ -4,12 +4,12 @@ use Rattle.std.specs.Io.KnownBytes.{append_known}
 use Rattle.dep_model.specs.declared.memory.OutOfMemory.{OutOfMemory}
 use Rattle.desk_outside.specs.Causes.{ErrorCountIncreased, TookPart}
 use Rattle.desk_outside.specs.Files.{Files}
-use Rattle.desk_cli.specs.declared.status.Status.{Status}
-use Rattle.desk_cli.specs.declared.status.Status.TheVariants.{No, Refused, CannotRead, CannotWrite}
-use Rattle.desk_cli.specs.ResponseValues.{ResponseValue, Allowed}
-use Rattle.desk_cli.specs.Outcomes.{OutcomeValue, Outcomes, DestinationsInCall, ComesTo, EndsAs, LeavesDestinations, Leaves, NoneFails, HaveTables}
+use Rattle.desk_responses.specs.declared.status.Status.{Status}
+use Rattle.desk_responses.specs.declared.status.Status.TheVariants.{No, Refused, CannotRead, CannotWrite}
+use Rattle.desk_responses.specs.ResponseValues.{ResponseValue, Allowed}
+use Rattle.desk_delivery.specs.Outcomes.{OutcomeValue, Outcomes, DestinationsInCall, ComesTo, EndsAs, LeavesDestinations, Leaves, NoneFails, HaveTables}
 use Rattle.desk_cli.specs.Performs.{Answers}
-use Rattle.desk_cli.specs.Readings.{Reading, observed, known_files}
+use Rattle.desk_inputs.specs.Readings.{Reading, observed, known_files}
 
 -- a file source in a call: its files, where known, before and after, its faults before and after, and
 -- the bytes taken since the last file was begun

@@ -1,31 +1,5 @@
--- The definitions of desk_cli, in reading order: what a command may answer and how files are read;
--- each command; what the whole call promises.
-pub mod ResponseValues
-pub mod Readings
-pub mod Inputs
-pub mod Implication
-pub mod Certificates
-pub mod Rows
-pub mod Legality
+-- The definitions of desk_cli, in reading order: which answers the words allow, and what the whole call
+-- promises.
 pub mod Help
-pub mod Covering
-pub mod Bases
-pub mod Sameness
-pub mod Plans
-pub mod Keys
-pub mod Synthesis
-pub mod Joins
-pub mod NormalForms
-pub mod Keeping
-pub mod Decompositions
-pub mod Designs
-pub mod Scripts
-pub mod Drawings
-pub mod Migrations
-pub mod Exhibits
-pub mod Discoveries
-pub mod Rejoining
 pub mod Performs
-pub mod Responses
-pub mod Outcomes
 pub mod Desk

@@ -1,66 +1,87 @@
 -- Which answers a command allows, and the words that form it: for `desk`, by `Desk`.
 use Rattle.std.specs.Prelude.{ℕ, List, MatchOption}
+use Rattle.attr_sets.specs.Attributes.{Attributes}
+use Rattle.dep_model.specs.Tuples.{Relation}
 use Rattle.dep_model.specs.declared.schema.Schema.{Schema}
-use Rattle.desk_cli.specs.declared.status.Status.TheVariants.{Yes, Refused}
-use Rattle.desk_cli.specs.ResponseValues.{Allowed, Says}
-use Rattle.desk_cli.specs.Bases.{GivesBasis}
-use Rattle.desk_cli.specs.Certificates.{ChecksProof}
-use Rattle.desk_cli.specs.Covering.{GivesCover}
-use Rattle.desk_cli.specs.Decompositions.{Splits, SplitsWide}
-use Rattle.desk_cli.specs.Designs.{WritesForm, WritesPlan}
-use Rattle.desk_cli.specs.Discoveries.{Discovers}
-use Rattle.desk_cli.specs.Drawings.{DrawsForm, DrawsPlan}
-use Rattle.desk_cli.specs.Exhibits.{Exhibits}
+use Rattle.table_join.specs.Tables.{tables_of}
+use Rattle.desk_responses.specs.declared.status.Status.TheVariants.{Yes, Refused}
+use Rattle.desk_responses.specs.ResponseValues.{Allowed, Says}
+use Rattle.desk_implication.specs.Bases.{GivesBasis}
+use Rattle.desk_implication.specs.Certificates.{ChecksProof}
+use Rattle.desk_implication.specs.Covering.{GivesCover}
+use Rattle.desk_designs.specs.Decompositions.{Splits, SplitsWide}
+use Rattle.desk_designs.specs.Designs.{WritesForm, WritesPlan}
+use Rattle.desk_implication.specs.Discoveries.{FindsRules}
+use Rattle.desk_designs.specs.Drawings.{DrawsForm, DrawsSchemes}
+use Rattle.desk_implication.specs.Exhibits.{Exhibits}
 use Rattle.desk_words.specs.Forms as form
-use Rattle.desk_words.specs.Forms.{CommandForm, Task, form_of}
+use Rattle.desk_words.specs.Forms.{CommandForm, PlanQuestion, RowsQuestion, SchemaQuestion, Task, form_of}
+use Rattle.desk_inputs.specs.Headed.{WithHeaded}
 use Rattle.desk_cli.specs.Help.{help_text, version_text}
-use Rattle.desk_cli.specs.Implication.{DecidesGoal}
-use Rattle.desk_cli.specs.Inputs.{WithSchema}
-use Rattle.desk_cli.specs.Joins.{ChecksJoin}
-use Rattle.desk_cli.specs.Keeping.{ChecksKeeping}
-use Rattle.desk_cli.specs.Keys.{ListsKeys, ListsKeysOfPlan}
-use Rattle.desk_cli.specs.Legality.{ChecksRows}
-use Rattle.desk_cli.specs.Migrations.{Migrates, MigratesPlan, Samples}
-use Rattle.desk_cli.specs.NormalForms.{ChecksForm}
-use Rattle.desk_cli.specs.Readings.{Reading}
-use Rattle.desk_cli.specs.Rejoining.{Rejoins}
-use Rattle.desk_cli.specs.Sameness.{ChecksSame}
-use Rattle.desk_cli.specs.Scripts.{ScriptsCheck, ScriptsMigration, ScriptsMigrationByPlan}
-use Rattle.desk_cli.specs.Synthesis.{Synthesizes}
+use Rattle.desk_implication.specs.Implication.{DecidesGoal}
+use Rattle.desk_inputs.specs.Inputs.{WithProof, WithSchema}
+use Rattle.desk_designs.specs.Joins.{JudgesJoin}
+use Rattle.desk_designs.specs.Keeping.{JudgesKeeping}
+use Rattle.desk_implication.specs.Keys.{ListsKeys, ListsKeysOfPlan}
+use Rattle.desk_tables.specs.Legality.{JudgesRows}
+use Rattle.desk_tables.specs.Migrations.{Migrates, MigratesPlan, Samples}
+use Rattle.desk_designs.specs.NormalForms.{JudgesForm}
+use Rattle.desk_inputs.specs.Parts.{WithParts}
+use Rattle.desk_inputs.specs.Plans.{WithPlan}
+use Rattle.desk_inputs.specs.Readings.{Reading}
+use Rattle.desk_tables.specs.Rejoining.{JoinsTables}
+use Rattle.desk_inputs.specs.Rows.{WithRows}
+use Rattle.desk_implication.specs.Sameness.{ChecksSame}
+use Rattle.desk_designs.specs.Scripts.{ScriptsCheck, ScriptsMigration, ScriptsMigrationByPlan}
+use Rattle.desk_designs.specs.Synthesis.{Synthesizes}
 use Rattle.desk_texts.specs.Texts.{unknown_words_text}
 
--- what is asked of a schema
+-- what is asked of a schema alone
+unfoldable pub AnswersSchema : Schema → SchemaQuestion → Allowed
+AnswersSchema schema (form.implies goal) = DecidesGoal schema goal
+AnswersSchema schema form.cover = GivesCover schema
+AnswersSchema schema (form.basis set) = GivesBasis schema set
+AnswersSchema schema form.keys = ListsKeys schema
+AnswersSchema schema form.synthesize = Synthesizes schema
+AnswersSchema schema (form.split normal) = Splits schema normal
+AnswersSchema schema form.split_wide = SplitsWide schema
+AnswersSchema schema form.exhibit = Exhibits schema
+AnswersSchema schema (form.ddl normal) = WritesForm schema normal
+AnswersSchema schema (form.sql_check name) = ScriptsCheck schema name
+AnswersSchema schema (form.sql_migrate normal name) = ScriptsMigration schema normal name
+AnswersSchema schema (form.draw normal) = DrawsForm schema normal
+
+-- what is asked of a schema and a plan
+unfoldable pub AnswersPlan : Schema → List Attributes → PlanQuestion → Allowed
+AnswersPlan schema plan form.check_join = JudgesJoin schema plan
+AnswersPlan schema plan (form.check_form normal) = JudgesForm schema normal plan
+AnswersPlan schema plan form.check_keeps = JudgesKeeping schema plan
+AnswersPlan schema plan form.keys_of_plan = ListsKeysOfPlan schema plan
+AnswersPlan schema plan form.ddl_plan = WritesPlan schema plan
+AnswersPlan schema plan (form.sql_migrate_plan name) = ScriptsMigrationByPlan schema plan name
+AnswersPlan schema plan form.draw_plan = DrawsSchemes schema plan
+
+-- what is asked of a schema and rows
+unfoldable pub AnswersRows : Schema → Relation → RowsQuestion → Allowed
+AnswersRows schema rows form.check_rows = JudgesRows schema rows
+AnswersRows schema rows (form.migrate normal) = Migrates schema normal rows
+
+-- what is asked of a schema: the files after its own are read in their order, and then it is answered
 unfoldable pub Does : Reading → Schema → Task → Allowed
-Does r schema (form.implies goal) = DecidesGoal schema goal
-Does r schema (form.check_proof file goal) = ChecksProof r schema file goal
-Does r schema (form.check_rows file) = ChecksRows r schema file
-Does r schema (form.check_join plan) = ChecksJoin r schema plan
-Does r schema (form.check_form normal plan) = ChecksForm r schema normal plan
-Does r schema (form.check_keeps plan) = ChecksKeeping r schema plan
-Does r schema (form.check_same file other) = ChecksSame r schema file other
-Does r schema form.cover = GivesCover schema
-Does r schema (form.basis set) = GivesBasis schema set
-Does r schema form.keys = ListsKeys schema
-Does r schema (form.keys_of_plan plan) = ListsKeysOfPlan r schema plan
-Does r schema form.synthesize = Synthesizes schema
-Does r schema (form.split normal) = Splits schema normal
-Does r schema form.split_wide = SplitsWide schema
-Does r schema form.exhibit = Exhibits schema
-Does r schema (form.ddl normal) = WritesForm schema normal
-Does r schema (form.ddl_plan plan) = WritesPlan r schema plan
-Does r schema (form.migrate normal file) = Migrates r schema normal file
-Does r schema (form.migrate_plan plan file) = MigratesPlan r schema plan file
-Does r schema (form.rejoin files) = Rejoins r schema files
-Does r schema (form.sql_check name) = ScriptsCheck schema name
-Does r schema (form.sql_migrate normal name) = ScriptsMigration schema normal name
-Does r schema (form.sql_migrate_plan plan name) = ScriptsMigrationByPlan r schema plan name
-Does r schema (form.draw normal) = DrawsForm schema normal
-Does r schema (form.draw_plan plan) = DrawsPlan r schema plan
+Does r schema (form.of_schema question) = AnswersSchema schema question
+Does r schema (form.of_plan file question) = WithPlan r schema file (λ plan. AnswersPlan schema plan question)
+Does r schema (form.of_rows file question) = WithRows r schema file (λ rows. AnswersRows schema rows question)
+Does r schema (form.migrate_plan plan_file file) =
+    WithPlan r schema plan_file (λ plan. WithRows r schema file (λ rows. MigratesPlan schema plan rows))
+Does r schema (form.check_proof file goal) = WithProof r schema file (λ tree. ChecksProof schema tree goal)
+Does r schema (form.check_same file other_file) =
+    WithSchema r other_file (λ other. ChecksSame schema other file other_file)
+Does r schema (form.rejoin files) = WithParts r schema files (λ parts. JoinsTables schema (tables_of parts))
 
 -- a command
 unfoldable pub Performs : Reading → CommandForm → Allowed
 Performs r (form.over_schema file task) = WithSchema r file (λ schema. Does r schema task)
-Performs r (form.discover file) = Discovers r file
+Performs r (form.discover file) = WithHeaded r file FindsRules
 Performs r (form.sample persons) = Samples persons
 Performs r form.help = Says Yes help_text
 Performs r form.version = Says Yes version_text

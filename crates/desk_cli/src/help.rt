@@ -1,9 +1,8 @@
-ghost use Rattle.desk_cli.specs.ResponseValues.{Says};
+ghost use Rattle.desk_responses.specs.ResponseValues.{Says};
 ghost use Rattle.desk_cli.specs.Help.{help_text, version_text};
-ghost use Rattle.desk_cli.specs.Responses.{RespondsAs};
+ghost use Rattle.desk_responses.specs.Responses.{RespondsAs};
 
-use crate::Status;
-use crate::response::{EarlyExit, Response};
+use desk_responses::{EarlyExit, Response, Status};
 use std::alloc::Global;
 
 const HELP: &[u8] =
@@ -55,7 +54,7 @@ pub fn help(alloc: Global) -> Result<Response, EarlyExit>
 pub fn version(alloc: Global) -> Result<Response, EarlyExit>
     ensures response { RespondsAs (Says Status.Yes version_text) result }
 {
-    match Vec::from_slice(alloc, b"desk 0.1.0\n") {
+    match Vec::from_slice(alloc, b"desk 0.2.0\n") {
         Ok(text) => Ok(Response::with_text(Status::Yes, text)),
         Err(_) => Err(EarlyExit::OutOfMemory),
     }

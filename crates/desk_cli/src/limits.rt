@@ -9,11 +9,11 @@ ghost use Rattle.dep_model.specs.declared.name.TheConstants.{MOST_BARE_NAME_BYTE
 ghost use Rattle.dep_model.specs.declared.schema.TheConstants.{MOST_DEPENDENCIES};
 ghost use Rattle.schema_grammar.specs.declared.format.TheConstants.{MOST_DEPENDENCY_LINES};
 ghost use Rattle.derivation.specs.declared.measures.TheConstants.{MOST_LEVELS, MOST_NODES};
-ghost use Rattle.desk_cli.specs.declared.decomposition.TheConstants.{MOST_SPLIT_SCHEMES};
-ghost use Rattle.desk_cli.specs.declared.join.TheConstants.{MOST_TABLEAU_ROWS};
-ghost use Rattle.desk_cli.specs.declared.rejoining.TheConstants.{MOST_JOINED_ROWS};
-ghost use Rattle.desk_cli.specs.declared.rows.TheConstants.{MOST_CSV_BYTES};
-ghost use Rattle.desk_words.specs.declared.shapes.TheConstants.{MOST_FILES};
+ghost use Rattle.desk_designs.specs.declared.decomposition.TheConstants.{MOST_SPLIT_SCHEMES};
+ghost use Rattle.desk_designs.specs.declared.join.TheConstants.{MOST_TABLEAU_ROWS};
+ghost use Rattle.desk_tables.specs.declared.rejoining.TheConstants.{MOST_JOINED_ROWS};
+ghost use Rattle.desk_inputs.specs.declared.rows.TheConstants.{MOST_CSV_BYTES};
+ghost use Rattle.desk_words.specs.declared.command.TheConstants.{MOST_FILES};
 ghost use Rattle.fd_discovery.specs.declared.headed_rows.TheConstants.{MOST_HEADED_ROWS, WIDEST_HEADED};
 ghost use Rattle.normal_forms.specs.declared.forms.TheConstants.{WIDEST_TESTED};
 ghost use Rattle.key_listing.specs.declared.refusal.TheConstants.{MOST_KEYS, WIDEST_SEARCHED};

@@ -27,14 +27,15 @@ use Rattle.proof_grammar.specs.Printing.{canonical_certificate}
 use Rattle.proof_grammar.specs.Spelling.{SpellsWithin}
 use Rattle.proof_grammar.proofs.OneTree.{one_tree}
 use Rattle.proof_grammar.proofs.PrintedSpells.{answered_spells}
-use Rattle.desk_cli.specs.declared.status.Status.TheVariants.{Yes, No}
-use Rattle.desk_cli.specs.ResponseValues.{ResponseValue}
-use Rattle.desk_cli.specs.Certificates.{Checked}
-use Rattle.desk_words.specs.Forms.{form_of, after_check, schema_and, schema_and_two, form_over_schema}
-use Rattle.desk_cli.specs.Implication.{Decided}
-use Rattle.desk_cli.specs.Inputs.{WithSchema, WithProof, WithGoal}
-use Rattle.desk_cli.specs.Performs.{Answers, Performs, Does}
-use Rattle.desk_cli.specs.Readings.{known_files}
+use Rattle.desk_responses.specs.declared.status.Status.TheVariants.{Yes, No}
+use Rattle.desk_responses.specs.ResponseValues.{ResponseValue}
+use Rattle.desk_implication.specs.Certificates.{Checked}
+use Rattle.desk_words.specs.Forms.{form_of, after_check, schema_and_two, form_over_schema, schema_and_word}
+use Rattle.desk_implication.specs.Implication.{Decided}
+use Rattle.desk_inputs.specs.Inputs.{WithSchema, WithProof}
+use Rattle.desk_implication.specs.Goals.{WithGoal}
+use Rattle.desk_cli.specs.Performs.{Answers, Performs, Does, AnswersSchema}
+use Rattle.desk_inputs.specs.Readings.{known_files}
 use Rattle.desk_texts.specs.Texts.{yes_text}
 use Rattle.desk_laws.proofs.SchemaLemmas.{AreAlike, proves_alike, spells_alike}
 use Rattle.desk_laws.proofs.StopLemmas.{schema_says, goal_says, one_content, schema_goes, proof_goes, goal_goes}
@@ -75,7 +76,7 @@ yes_there files schema goal response says_yes (inr (of, file, rest)) = after_goa
       means_goal = means_goal;
       proof = found.0;
       is_proof = found.1;
-      printed = ap (λ (a : ResponseValue). a.text) found.3;
+      printed = ap (λ (a : ResponseValue). a.text) found.4;
     }
     decided dep goal_within_limit means_goal (inr (broken, found)) = absurd (no_says response says_yes (ap (λ (a : ResponseValue). a.status) found.2))
 
@@ -110,7 +111,7 @@ printed_within files schema goal text r said alike =
     subst (λ (bytes : List ℕ). SpellsWithin r bytes t) (sym said.printed) within
 
 checked_yes : (s : Schema) (t : Tree) (d : Dependency) (response : ResponseValue) → Proves s t d → Checked s t d response → response.status ≡ Yes
-checked_yes s t d response proves (inl (proved, says)) = ap (λ (a : ResponseValue). a.status) says
+checked_yes s t d response proves (inl (proved, implied, says)) = ap (λ (a : ResponseValue). a.status) says
 checked_yes s t d response proves (inr (unproved, found)) = absurd (unproved proves)
 
 -- the same goal is read, and the tree concludes it
@@ -149,7 +150,7 @@ schema_yes files after schema goal file text response said same kept within_limi
     proof_yes files after schema goal file text r response said (one_schema said.bytes said.of r said.means moved) kept within_limit go
 
 implies_answers : (files : Files) (schema goal : List ℕ) (response : ResponseValue) → Answers (known_files files) (codes "implies" ∷ schema ∷ goal ∷ []) response → WithSchema (known_files files) schema (λ s. WithGoal s goal (Decided s)) response
-unfolding form_of form_over_schema schema_and Performs Does
+unfolding form_of form_over_schema schema_and_word Performs Does AnswersSchema
 implies_answers files schema goal response answered = answered
 
 check_answers : (files : Files) (schema goal file : List ℕ) (response : ResponseValue) → Answers (known_files files) (codes "check" ∷ codes "proof" ∷ schema ∷ file ∷ goal ∷ []) response

@@ -33,25 +33,26 @@ use Rattle.key_listing.specs.Refusals.{IsTooWide}
 use Rattle.key_listing.specs.declared.refusal.TheConstants.{WIDEST_SEARCHED}
 use Rattle.chase_laws.specs.Rounds.{RoundsExceed}
 use Rattle.desk_outside.specs.Files.{Files}
-use Rattle.desk_cli.specs.declared.join.TheConstants.{MOST_TABLEAU_ROWS}
-use Rattle.desk_cli.specs.declared.rows.TheConstants.{MOST_CSV_BYTES}
-use Rattle.desk_cli.specs.declared.status.Status.{Status}
-use Rattle.desk_cli.specs.ResponseValues.{ResponseValue, Allowed}
-use Rattle.desk_cli.specs.Certificates.{Checked}
-use Rattle.desk_cli.specs.Covering.{GivesCover}
+use Rattle.desk_designs.specs.declared.join.TheConstants.{MOST_TABLEAU_ROWS}
+use Rattle.desk_inputs.specs.declared.rows.TheConstants.{MOST_CSV_BYTES}
+use Rattle.desk_responses.specs.declared.status.Status.{Status}
+use Rattle.desk_responses.specs.ResponseValues.{ResponseValue, Allowed}
+use Rattle.desk_implication.specs.Certificates.{Checked}
+use Rattle.desk_implication.specs.Covering.{GivesCover}
 use Rattle.desk_cli.specs.Desk.{Desk, FileSourceInCall, SinkInCall}
-use Rattle.desk_cli.specs.Outcomes.{DestinationsInCall}
-use Rattle.desk_words.specs.Forms.{form_of, after_check, schema_alone, schema_and, schema_and_two, no_more_arguments, form_over_schema, after_keys}
-use Rattle.desk_cli.specs.Implication.{Decided}
-use Rattle.desk_cli.specs.Inputs.{WithSchema, WithProof, WithGoal, IsSchemaFile, IsGoal, IsProofFile}
-use Rattle.desk_cli.specs.Joins.{JudgesJoin, IsTooLarge}
-use Rattle.desk_cli.specs.Keys.{ListsKeys, HasManyKeys}
-use Rattle.desk_cli.specs.Legality.{Judged}
-use Rattle.desk_cli.specs.Performs.{Answers, Performs, Does}
-use Rattle.desk_cli.specs.Plans.{WithPlan, IsPlanFile}
-use Rattle.desk_cli.specs.Readings.{known_files}
-use Rattle.desk_cli.specs.Rows.{WithRows, IsRowsFile}
-use Rattle.desk_cli.specs.Synthesis.{Synthesizes}
+use Rattle.desk_delivery.specs.Outcomes.{DestinationsInCall}
+use Rattle.desk_words.specs.Forms.{form_of, after_check, schema_alone, schema_and_two, no_more_arguments, form_over_schema, after_keys, schema_and_word, schema_and_plan, schema_and_rows}
+use Rattle.desk_implication.specs.Implication.{Decided}
+use Rattle.desk_inputs.specs.Inputs.{WithSchema, WithProof, IsSchemaFile, IsProofFile}
+use Rattle.desk_implication.specs.Goals.{WithGoal, IsGoal}
+use Rattle.desk_designs.specs.Joins.{JudgesJoin, IsTooLarge}
+use Rattle.desk_implication.specs.Keys.{ListsKeys, HasManyKeys}
+use Rattle.desk_tables.specs.Legality.{JudgesRows}
+use Rattle.desk_cli.specs.Performs.{Answers, Performs, Does, AnswersSchema, AnswersPlan, AnswersRows}
+use Rattle.desk_inputs.specs.Plans.{WithPlan, IsPlanFile}
+use Rattle.desk_inputs.specs.Readings.{known_files}
+use Rattle.desk_inputs.specs.Rows.{WithRows, IsRowsFile}
+use Rattle.desk_designs.specs.Synthesis.{Synthesizes}
 use Rattle.desk_laws.specs.Completeness.{IsYesOrNo, IsAnswered, FailsNowhere}
 use Rattle.desk_laws.proofs.SchemaLemmas.{AreAlike, spells_alike}
 use Rattle.desk_laws.proofs.StopLemmas.{one_content, file_goes, schema_goes, proof_goes, goal_goes}
@@ -101,13 +102,13 @@ after_goal s r goal dep rest response same is go (inl exit) =
 after_goal s r goal dep rest response same is go (inr (d, found, more)) = go d more
 
 Decided-yes_or_no : (r : Schema) (d : Dependency) (response : ResponseValue) → Decided r d response → IsYesOrNo response.status
-Decided-yes_or_no r d response (inl (implied, found)) = inl (ap (λ (a : ResponseValue). a.status) found.3)
+Decided-yes_or_no r d response (inl (implied, found)) = inl (ap (λ (a : ResponseValue). a.status) found.4)
 Decided-yes_or_no r d response (inr (broken, found)) = inr (ap (λ (a : ResponseValue). a.status) found.2)
 
 implies_asks : (files : Files) (name goal : List ℕ) (response : ResponseValue)
     → Answers (known_files files) (codes "implies" ∷ name ∷ goal ∷ []) response
     → WithSchema (known_files files) name (λ r. WithGoal r goal (Decided r)) response
-unfolding form_of form_over_schema schema_and Performs Does
+unfolding form_of form_over_schema schema_and_word Performs Does AnswersSchema
 implies_asks files name goal response answered = answered
 
 pub implies_answered : (files : Files) (name goal : List ℕ) (schema : Schema) (dep : Dependency)
@@ -133,7 +134,7 @@ after_proof files s r name t rest response same file go (inl exit) =
 after_proof files s r name t rest response same file go (inr (u, is, more)) = go u more
 
 Checked-yes_or_no : (r : Schema) (t : Tree) (d : Dependency) (response : ResponseValue) → Checked r t d response → IsYesOrNo response.status
-Checked-yes_or_no r t d response (inl (proved, says)) = inl (ap (λ (a : ResponseValue). a.status) says)
+Checked-yes_or_no r t d response (inl (proved, implied, says)) = inl (ap (λ (a : ResponseValue). a.status) says)
 Checked-yes_or_no r t d response (inr (unproved, found)) = inr (ap (λ (a : ResponseValue). a.status) found.2)
 
 proof_asks : (files : Files) (name file goal : List ℕ) (response : ResponseValue)
@@ -201,22 +202,22 @@ after_rows files s r name rows rest response same file go (inl (inr (why, is, sa
     absurd (rows_or_refusal r file.bytes rows why (rows_alike s r file.bytes rows same file.means) here)
 after_rows files s r name rows rest response same file go (inr (x, is, more)) = go x more
 
-Judged-yes_or_no : (r : Schema) (rows : Relation) (response : ResponseValue) → Judged r rows response → IsYesOrNo response.status
-Judged-yes_or_no r rows response (inl (broken, found)) = inr (ap (λ (a : ResponseValue). a.status) found.2)
-Judged-yes_or_no r rows response (inr (legal, says)) = inl (ap (λ (a : ResponseValue). a.status) says)
+JudgesRows-yes_or_no : (r : Schema) (rows : Relation) (response : ResponseValue) → JudgesRows r rows response → IsYesOrNo response.status
+JudgesRows-yes_or_no r rows response (inl (broken, found)) = inr (ap (λ (a : ResponseValue). a.status) found.2)
+JudgesRows-yes_or_no r rows response (inr (legal, says)) = inl (ap (λ (a : ResponseValue). a.status) says)
 
 rows_asks : (files : Files) (name file : List ℕ) (response : ResponseValue)
     → Answers (known_files files) (codes "check" ∷ codes "rows" ∷ name ∷ file ∷ []) response
-    → WithSchema (known_files files) name (λ r. WithRows (known_files files) r file (Judged r)) response
-unfolding form_of form_over_schema after_check schema_and Performs Does
+    → WithSchema (known_files files) name (λ r. WithRows (known_files files) r file (JudgesRows r)) response
+unfolding form_of form_over_schema after_check schema_and_rows Performs Does AnswersRows
 rows_asks files name file response answered = answered
 
 pub rows_answered : (files : Files) (name file : List ℕ) (schema : Schema) (rows : Relation)
     → IsSchemaFile (known_files files) name schema → IsRowsFile (known_files files) schema file rows
     → IsAnswered files (codes "check" ∷ codes "rows" ∷ name ∷ file ∷ [])
 rows_answered files name file schema rows held_schema held_rows response answered =
-    after_schema files name schema (λ r. WithRows (known_files files) r file (Judged r)) response held_schema
-    (λ r same more. after_rows files schema r file rows (Judged r) response same held_rows (λ x found. Judged-yes_or_no r x response found) more)
+    after_schema files name schema (λ r. WithRows (known_files files) r file (JudgesRows r)) response held_schema
+    (λ r same more. after_rows files schema r file rows (JudgesRows r) response same held_rows (λ x found. JudgesRows-yes_or_no r x response found) more)
     (rows_asks files name file response answered)
 
 -- ---- plans
@@ -255,7 +256,7 @@ small_same s r p plan same is small large =
 join_asks : (files : Files) (name file : List ℕ) (response : ResponseValue)
     → Answers (known_files files) (codes "check" ∷ codes "join" ∷ name ∷ file ∷ []) response
     → WithSchema (known_files files) name (λ r. WithPlan (known_files files) r file (JudgesJoin r)) response
-unfolding form_of form_over_schema after_check schema_and Performs Does
+unfolding form_of form_over_schema after_check schema_and_plan Performs Does AnswersPlan
 join_asks files name file response answered = answered
 
 pub join_answered : (files : Files) (name file : List ℕ) (schema : Schema) (plan : List Attributes)
@@ -270,7 +271,7 @@ join_answered files name file schema plan held_schema held_plan small response a
 -- ---- schemas alone
 cover_asks : (files : Files) (name : List ℕ) (response : ResponseValue)
     → Answers (known_files files) (codes "cover" ∷ name ∷ []) response → WithSchema (known_files files) name GivesCover response
-unfolding form_of form_over_schema schema_alone Performs Does
+unfolding form_of form_over_schema schema_alone Performs Does AnswersSchema
 cover_asks files name response answered = answered
 
 pub cover_answered : (files : Files) (name : List ℕ) (schema : Schema) → IsSchemaFile (known_files files) name schema
@@ -281,7 +282,7 @@ cover_answered files name schema file response answered =
 
 synthesize_asks : (files : Files) (name : List ℕ) (response : ResponseValue)
     → Answers (known_files files) (codes "synthesize" ∷ name ∷ []) response → WithSchema (known_files files) name Synthesizes response
-unfolding form_of form_over_schema schema_alone Performs Does
+unfolding form_of form_over_schema schema_alone Performs Does AnswersSchema
 synthesize_asks files name response answered = answered
 
 pub synthesize_answered : (files : Files) (name : List ℕ) (schema : Schema) → IsSchemaFile (known_files files) name schema
@@ -306,7 +307,7 @@ lists_keys r response narrow within_limit (inr (inr (fits, many, says))) = absur
 
 keys_asks : (files : Files) (name : List ℕ) (response : ResponseValue) → Answers (known_files files) (codes "keys" ∷ name ∷ []) response
     → WithSchema (known_files files) name ListsKeys response
-unfolding form_of form_over_schema after_keys Performs Does
+unfolding form_of form_over_schema after_keys Performs Does AnswersSchema AnswersPlan
 keys_asks files name response answered = answered
 
 pub keys_answered : (files : Files) (name : List ℕ) (schema : Schema) → IsSchemaFile (known_files files) name schema

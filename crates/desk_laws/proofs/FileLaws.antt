@@ -20,15 +20,17 @@ use Rattle.table_join.specs.Answers.{IsWithinLimit}
 use Rattle.table_join.specs.declared.refusal.JoinRefusal.TheVariants.{NotCovered, TooManyRows}
 use Rattle.table_join.specs.Tables.{PartialRelation, table_of_part, tables_of, plan_of_tables}
 use Rattle.desk_outside.specs.Files.{Files}
-use Rattle.desk_cli.specs.declared.rejoining.TheConstants.{MOST_JOINED_ROWS}
-use Rattle.desk_cli.specs.declared.rows.TheConstants.{MOST_CSV_BYTES}
-use Rattle.desk_cli.specs.ResponseValues.{ResponseValue, Allowed}
-use Rattle.desk_cli.specs.Discoveries.{IsHeadedFile, WithHeaded, FindsRules, Discovers}
+use Rattle.desk_tables.specs.declared.rejoining.TheConstants.{MOST_JOINED_ROWS}
+use Rattle.desk_inputs.specs.declared.rows.TheConstants.{MOST_CSV_BYTES}
+use Rattle.desk_responses.specs.ResponseValues.{ResponseValue, Allowed}
+use Rattle.desk_implication.specs.Discoveries.{FindsRules}
+use Rattle.desk_inputs.specs.Headed.{IsHeadedFile, WithHeaded}
 use Rattle.desk_words.specs.Forms.{form_of, form_over_schema, schema_and_several, word_alone, are_one_to_64}
-use Rattle.desk_cli.specs.Inputs.{WithSchema, IsSchemaFile}
+use Rattle.desk_inputs.specs.Inputs.{WithSchema, IsSchemaFile}
 use Rattle.desk_cli.specs.Performs.{Answers, Performs, Does}
-use Rattle.desk_cli.specs.Readings.{known_files}
-use Rattle.desk_cli.specs.Rejoining.{IsPartFile, ArePartFiles, PartStops, WithParts, JoinsTables, Rejoins}
+use Rattle.desk_inputs.specs.Readings.{known_files}
+use Rattle.desk_inputs.specs.Parts.{IsPartFile, ArePartFiles, PartStops, WithParts}
+use Rattle.desk_tables.specs.Rejoining.{JoinsTables}
 use Rattle.desk_laws.specs.Completeness.{IsYesOrNo, IsAnswered}
 use Rattle.desk_laws.proofs.CompleteLaws.{AreSame, names_same, table_alike, after_schema}
 use Rattle.desk_laws.proofs.StopLemmas.{one_content, file_goes}
@@ -47,7 +49,7 @@ after_headed files name h rest response file go (inl (inr (why, is, says))) =
 after_headed files name h rest response file go (inr (k, is, more)) = go k more
 
 discover_asks : (files : Files) (file : List ℕ) (response : ResponseValue)
-    → Answers (known_files files) (codes "discover" ∷ file ∷ []) response → Discovers (known_files files) file response
+    → Answers (known_files files) (codes "discover" ∷ file ∷ []) response → WithHeaded (known_files files) file FindsRules response
 unfolding form_of word_alone Performs
 discover_asks files file response answered = answered
 
@@ -174,7 +176,7 @@ joins_tables n r tables response width covers small (inr (TooManyRows k, large, 
 
 rejoin_asks : (files : Files) (name : List ℕ) (names : List (List ℕ)) (response : ResponseValue) → are_one_to_64 names ≡ true
     → Answers (known_files files) (codes "rejoin" ∷ name ∷ names) response
-    → WithSchema (known_files files) name (λ r. Rejoins (known_files files) r names) response
+    → WithSchema (known_files files) name (λ r. WithParts (known_files files) r names (λ parts. JoinsTables r (tables_of parts))) response
 unfolding form_of form_over_schema schema_and_several Performs Does
 rejoin_asks files name names response within_limit answered = (rw within_limit at answered)
 
@@ -184,7 +186,7 @@ pub rejoin_answered : (files : Files) (name : List ℕ) (names : List (List ℕ)
     → IsWithinLimit (width_of schema) MOST_JOINED_ROWS (tables_of parts)
     → IsAnswered files (codes "rejoin" ∷ name ∷ names)
 rejoin_answered files name names schema parts file within_limit are covers small response answered =
-    after_schema files name schema (λ r. Rejoins (known_files files) r names) response file
+    after_schema files name schema (λ r. WithParts (known_files files) r names (λ parts. JoinsTables r (tables_of parts))) response file
     (λ r same more. after_parts files schema r names parts (λ qs. JoinsTables r (tables_of qs)) response same are
     (λ qs is found. joins_tables (width_of schema) r (tables_of qs) response
     (ap (λ (ns : List (List ℕ)). length ns) (sym (names_same schema r same)))

@@ -14,15 +14,16 @@ use Rattle.schema_grammar.specs.Sets.{MeansSet, read_set}
 use Rattle.schema_grammar.proofs.SetLaws.{set-law, set-refusal-law}
 use Rattle.schema_match.specs.Columns.{SameNames, undeclared_attributes}
 use Rattle.desk_outside.specs.Files.{Files}
-use Rattle.desk_cli.specs.ResponseValues.{ResponseValue, Allowed}
-use Rattle.desk_cli.specs.Bases.{TellsBasis}
-use Rattle.desk_words.specs.Forms.{form_of, form_over_schema, after_check, after_keys, schema_and, two_schemas}
-use Rattle.desk_cli.specs.Inputs.{WithSchema, WithSet, SetStops, IsSchemaFile, IsSetText}
-use Rattle.desk_cli.specs.Keys.{TellsKeys}
-use Rattle.desk_cli.specs.Performs.{Answers, Performs, Does}
-use Rattle.desk_cli.specs.Plans.{WithPlan, IsPlanFile}
-use Rattle.desk_cli.specs.Readings.{known_files}
-use Rattle.desk_cli.specs.Sameness.{WithSameNames, Compares, LacksName}
+use Rattle.desk_responses.specs.ResponseValues.{ResponseValue, Allowed}
+use Rattle.desk_implication.specs.Bases.{TellsBasis}
+use Rattle.desk_words.specs.Forms.{form_of, form_over_schema, after_check, after_keys, two_schemas, schema_and_word}
+use Rattle.desk_inputs.specs.Inputs.{WithSchema, IsSchemaFile}
+use Rattle.desk_implication.specs.Goals.{WithSet, SetStops, IsSetText}
+use Rattle.desk_implication.specs.Keys.{ListsKeysOfPlan}
+use Rattle.desk_cli.specs.Performs.{Answers, Performs, Does, AnswersSchema, AnswersPlan}
+use Rattle.desk_inputs.specs.Plans.{WithPlan, IsPlanFile}
+use Rattle.desk_inputs.specs.Readings.{known_files}
+use Rattle.desk_implication.specs.Sameness.{WithSameNames, Compares, LacksName}
 use Rattle.desk_laws.specs.Completeness.{IsYesOrNo, IsAnswered}
 use Rattle.desk_laws.proofs.CompleteLaws.{AreSame, names_same, after_schema, after_plan}
 use Rattle.std.proofs.lemmas.List.Elements.{All-contains, Contains-append_right}
@@ -46,7 +47,7 @@ after_set s r set x rest response same is go (inr (y, found, more)) = go y more
 basis_asks : (files : Files) (name set : List ℕ) (response : ResponseValue)
     → Answers (known_files files) (codes "basis" ∷ name ∷ set ∷ []) response
     → WithSchema (known_files files) name (λ r. WithSet r set (TellsBasis r)) response
-unfolding form_of form_over_schema schema_and Performs Does
+unfolding form_of form_over_schema schema_and_word Performs Does AnswersSchema
 basis_asks files name set response answered = answered
 
 pub basis_answered : (files : Files) (name set : List ℕ) (schema : Schema) (x : Attributes)
@@ -66,7 +67,7 @@ in_plan plan earlier later scheme list =
     subst (λ (l : List Attributes). Contains l scheme) (sym list) (Contains-append_right earlier (scheme ∷ later) scheme (0, omega arith, refl))
 
 answer_agrees : (s r : Schema) (p plan : List Attributes) (response : ResponseValue) → AreSame s r → p ≡ plan
-    → All (λ scheme. IsWideScheme scheme → ⊥) plan → All (HasFewKeys s) plan → TellsKeys r p response → IsYesOrNo response.status
+    → All (λ scheme. IsWideScheme scheme → ⊥) plan → All (HasFewKeys s) plan → ListsKeysOfPlan r p response → IsYesOrNo response.status
 answer_agrees s r p plan response same is narrow within_limit (inl (listed, schemes, keys, says)) = inl (ap (λ (a : ResponseValue). a.status) says)
 answer_agrees s r p plan response same is narrow within_limit (inr (scheme, first, inl (wide, says))) =
     let at = in_plan plan first.earlier first.later scheme (sym is ∙ first.list) in
@@ -78,8 +79,8 @@ answer_agrees s r p plan response same is narrow within_limit (inr (scheme, firs
 
 keys_asks : (files : Files) (name file : List ℕ) (response : ResponseValue)
     → Answers (known_files files) (codes "keys" ∷ name ∷ file ∷ []) response
-    → WithSchema (known_files files) name (λ r. WithPlan (known_files files) r file (TellsKeys r)) response
-unfolding form_of form_over_schema after_keys Performs Does
+    → WithSchema (known_files files) name (λ r. WithPlan (known_files files) r file (ListsKeysOfPlan r)) response
+unfolding form_of form_over_schema after_keys Performs Does AnswersSchema AnswersPlan
 keys_asks files name file response answered = answered
 
 pub keys_of_plan_answered : (files : Files) (name file : List ℕ) (schema : Schema) (plan : List Attributes)
@@ -88,13 +89,13 @@ pub keys_of_plan_answered : (files : Files) (name file : List ℕ) (schema : Sch
     → All (λ scheme. (found : List AttrSet) → AreManyKeys (width_of schema) (theory_of schema) scheme found → ⊥) plan
     → IsAnswered files (codes "keys" ∷ name ∷ file ∷ [])
 keys_of_plan_answered files name file schema plan held_schema held_plan narrow within_limit response answered =
-    after_schema files name schema (λ r. WithPlan (known_files files) r file (TellsKeys r)) response held_schema
-    (λ r same more. after_plan files schema r file plan (TellsKeys r) response same held_plan
+    after_schema files name schema (λ r. WithPlan (known_files files) r file (ListsKeysOfPlan r)) response held_schema
+    (λ r same more. after_plan files schema r file plan (ListsKeysOfPlan r) response same held_plan
     (λ p is found. answer_agrees schema r p plan response same is narrow within_limit found) more)
     (keys_asks files name file response answered)
 
 -- ---- two schemas
--- the names that another schema does not declare hang on the names alone
+-- the names that another schema does not declare depend on the names alone
 declared_alike : (s r o p : Schema) → AreSame s r → AreSame o p → IsEmpty (undeclared_attributes s o) → IsEmpty (undeclared_attributes r p)
 declared_alike s r o p same other none =
     subst (λ (names : List (List ℕ)). IsEmpty (λ a. nat_lt a (width_of r) && is_none (attribute_named names (slice_index_or (names_of r) a [])))) (names_same o p other)

@@ -8,17 +8,17 @@ use Rattle.normal_forms.specs.declared.forms.Form.{Form}
 use Rattle.normal_forms.specs.declared.forms.Form.TheVariants.{Third, Bcnf, Fourth}
 use Rattle.desk_outside.specs.Files.{Files}
 use Rattle.table_scripts.specs.Naming.{is_table_name}
-use Rattle.desk_cli.specs.ResponseValues.{ResponseValue, Allowed}
-use Rattle.desk_cli.specs.Decompositions.{WithPlanInForm}
-use Rattle.desk_cli.specs.Drawings.{DrawsTables, DrawsSchemes}
-use Rattle.desk_words.specs.Forms.{form_of, form_over_schema, after_sql, after_sql_migrate, after_draw, normal_form, schema_alone, schema_and, schema_and_two}
-use Rattle.desk_cli.specs.Inputs.{WithSchema, IsSchemaFile}
-use Rattle.desk_cli.specs.Joins.{WithoutLoss, IsTooLarge}
-use Rattle.desk_cli.specs.NormalForms.{form_word}
-use Rattle.desk_cli.specs.Performs.{Answers, Performs, Does}
-use Rattle.desk_cli.specs.Plans.{WithPlan, IsPlanFile}
-use Rattle.desk_cli.specs.Readings.{known_files}
-use Rattle.desk_cli.specs.Scripts.{WithTableName, AsksTable, MakesTables, MakesSchemes}
+use Rattle.desk_responses.specs.ResponseValues.{ResponseValue, Allowed}
+use Rattle.desk_designs.specs.Decompositions.{WithPlanInForm}
+use Rattle.desk_designs.specs.Drawings.{DrawsTables, DrawsSchemes}
+use Rattle.desk_words.specs.Forms.{form_of, form_over_schema, after_sql, after_sql_migrate, after_draw, normal_form, schema_alone, schema_and_word, schema_and_plan, schema_and_plan_and_word}
+use Rattle.desk_inputs.specs.Inputs.{WithSchema, IsSchemaFile}
+use Rattle.desk_designs.specs.Joins.{WithoutLoss, IsTooLarge}
+use Rattle.desk_designs.specs.NormalForms.{form_word}
+use Rattle.desk_cli.specs.Performs.{Answers, Performs, Does, AnswersSchema, AnswersPlan}
+use Rattle.desk_inputs.specs.Plans.{WithPlan, IsPlanFile}
+use Rattle.desk_inputs.specs.Readings.{known_files}
+use Rattle.desk_designs.specs.Scripts.{WithTableName, AsksTable, MakesTables, MakesSchemes}
 use Rattle.desk_laws.specs.Completeness.{IsYesOrNo, IsAnswered, HasPlanInForm}
 use Rattle.desk_laws.proofs.CompleteLaws.{after_schema, after_plan}
 use Rattle.desk_laws.proofs.TableLaws.{after_form, after_loss, form_answered}
@@ -39,7 +39,7 @@ DrawsTables-yes_or_no r plan response found = inl (ap (λ (a : ResponseValue). a
 sql_check_asks : (files : Files) (name table : List ℕ) (response : ResponseValue)
     → Answers (known_files files) (codes "sql" ∷ codes "check" ∷ name ∷ table ∷ []) response
     → WithSchema (known_files files) name (λ r. WithTableName table (AsksTable r table)) response
-unfolding form_of form_over_schema after_sql schema_and Performs Does
+unfolding form_of form_over_schema after_sql schema_and_word Performs Does AnswersSchema
 sql_check_asks files name table response answered = answered
 
 pub sql_check_answered : (files : Files) (name table : List ℕ) (schema : Schema) → IsSchemaFile (known_files files) name schema
@@ -53,7 +53,7 @@ sql_check_answered files name table schema file is response answered =
 sql_migrate_asks : (form : Form) (files : Files) (name table : List ℕ) (response : ResponseValue)
     → Answers (known_files files) (codes "sql" ∷ codes "migrate" ∷ form_word form ∷ name ∷ table ∷ []) response
     → WithSchema (known_files files) name (λ r. WithTableName table (WithPlanInForm r form (MakesTables r table))) response
-unfolding form_of form_over_schema after_sql after_sql_migrate normal_form schema_and Performs Does
+unfolding form_of form_over_schema after_sql after_sql_migrate normal_form schema_and_word Performs Does AnswersSchema
 sql_migrate_asks Third files name table response answered = answered
 sql_migrate_asks Bcnf files name table response answered = answered
 sql_migrate_asks Fourth files name table response answered = answered
@@ -71,7 +71,7 @@ sql_plan_asks : (files : Files) (name file table : List ℕ) (response : Respons
     → Answers (known_files files) (codes "sql" ∷ codes "migrate" ∷ codes "plan" ∷ name ∷ file ∷ table ∷ []) response
     → WithSchema (known_files files) name (λ r. WithPlan (known_files files) r file
     (λ schemes. WithTableName table (WithoutLoss r schemes (MakesSchemes r table schemes)))) response
-unfolding form_of form_over_schema after_sql after_sql_migrate schema_and_two Performs Does
+unfolding form_of form_over_schema after_sql after_sql_migrate schema_and_plan_and_word Performs Does AnswersPlan
 sql_plan_asks files name file table response answered = answered
 
 pub sql_plan_answered : (files : Files) (name file table : List ℕ) (schema : Schema) (plan : List Attributes)
@@ -92,7 +92,7 @@ sql_plan_answered files name file table schema plan held_schema held_plan is_nam
 draw_asks : (form : Form) (files : Files) (name : List ℕ) (response : ResponseValue)
     → Answers (known_files files) (codes "draw" ∷ form_word form ∷ name ∷ []) response
     → WithSchema (known_files files) name (λ r. WithPlanInForm r form (DrawsTables r)) response
-unfolding form_of form_over_schema after_draw normal_form schema_alone Performs Does
+unfolding form_of form_over_schema after_draw normal_form schema_alone Performs Does AnswersSchema
 draw_asks Third files name response answered = answered
 draw_asks Bcnf files name response answered = answered
 draw_asks Fourth files name response answered = answered
@@ -107,7 +107,7 @@ draw_answered form files name =
 draw_plan_asks : (files : Files) (name file : List ℕ) (response : ResponseValue)
     → Answers (known_files files) (codes "draw" ∷ codes "plan" ∷ name ∷ file ∷ []) response
     → WithSchema (known_files files) name (λ r. WithPlan (known_files files) r file (DrawsSchemes r)) response
-unfolding form_of form_over_schema after_draw schema_and Performs Does
+unfolding form_of form_over_schema after_draw schema_and_plan Performs Does AnswersPlan
 draw_plan_asks files name file response answered = answered
 
 pub draw_plan_answered : (files : Files) (name file : List ℕ) (schema : Schema) (plan : List Attributes)

@@ -21,10 +21,11 @@ use Rattle.proof_grammar.specs.Spelling.{SpellsWithin}
 use Rattle.proof_grammar.specs.Texts.{read_proof}
 use Rattle.proof_grammar.proofs.TextRefusals.{refused_back}
 use Rattle.proof_grammar.proofs.CertificateLaws.{spelled_back}
-use Rattle.desk_cli.specs.declared.status.Status.TheVariants.{Yes, Refused, CannotRead}
-use Rattle.desk_cli.specs.Readings.{Reading, known_files}
-use Rattle.desk_cli.specs.ResponseValues.{ResponseValue}
-use Rattle.desk_cli.specs.Inputs.{FileStops, SchemaStops, GoalStops, ProofStops}
+use Rattle.desk_responses.specs.declared.status.Status.TheVariants.{Yes, Refused, CannotRead}
+use Rattle.desk_inputs.specs.Readings.{Reading, known_files}
+use Rattle.desk_responses.specs.ResponseValues.{ResponseValue}
+use Rattle.desk_inputs.specs.Inputs.{FileStops, SchemaStops, ProofStops}
+use Rattle.desk_implication.specs.Goals.{GoalStops}
 
 -- ---- no way to stop says yes
 refused_says : (response : ResponseValue) → response.status ≡ Yes → response.status ≡ Refused → ⊥

@@ -21,27 +21,27 @@ use Rattle.schema_grammar.specs.Declarations.{Declarations}
 use Rattle.split_forms.proofs.SplitLemmas.{too_many_short}
 use Rattle.split_forms.specs.Splitting.{IsTooWideAt, HasTooManySchemes}
 use Rattle.desk_outside.specs.Files.{Files}
-use Rattle.desk_cli.specs.declared.decomposition.TheConstants.{MOST_SPLIT_SCHEMES}
-use Rattle.desk_cli.specs.ResponseValues.{ResponseValue, Allowed}
-use Rattle.desk_cli.specs.Decompositions.{SplitStops, WithPlanInForm, ShowsPlan, SplitsWide}
-use Rattle.desk_cli.specs.Designs.{WritesTables, WritesSchemes}
-use Rattle.desk_cli.specs.Exhibits.{Exhibits}
-use Rattle.desk_words.specs.Forms.{form_of, form_over_schema, after_check, after_check_form, after_split, after_ddl, after_migrate, normal_form, schema_alone, schema_and, schema_and_two, persons_alone}
-use Rattle.desk_cli.specs.Inputs.{WithSchema, IsSchemaFile}
-use Rattle.desk_cli.specs.Joins.{WithoutLoss, IsTooLarge}
-use Rattle.desk_cli.specs.Keeping.{JudgesKeeping}
-use Rattle.desk_cli.specs.Legality.{WithLegal}
-use Rattle.desk_cli.specs.Migrations.{GivesTables, MigratesRows, Samples}
+use Rattle.desk_designs.specs.declared.decomposition.TheConstants.{MOST_SPLIT_SCHEMES}
+use Rattle.desk_responses.specs.ResponseValues.{ResponseValue, Allowed}
+use Rattle.desk_designs.specs.Decompositions.{SplitStops, WithPlanInForm, ShowsPlan, SplitsWide}
+use Rattle.desk_designs.specs.Designs.{WritesTables, WritesSchemes}
+use Rattle.desk_implication.specs.Exhibits.{Exhibits}
+use Rattle.desk_words.specs.Forms.{form_of, form_over_schema, after_check, after_check_form, after_split, after_ddl, after_migrate, normal_form, schema_alone, schema_and_two, persons_alone, schema_and_plan, schema_and_rows}
+use Rattle.desk_inputs.specs.Inputs.{WithSchema, IsSchemaFile}
+use Rattle.desk_designs.specs.Joins.{WithoutLoss, IsTooLarge}
+use Rattle.desk_designs.specs.Keeping.{JudgesKeeping}
+use Rattle.desk_tables.specs.Legality.{WithLegal}
+use Rattle.desk_tables.specs.Migrations.{GivesTables, MigratesRows, Samples}
 use Rattle.desk_words.specs.Numbers.{is_count}
 use Rattle.lexer.specs.Bytes.{number_of}
 use Rattle.sample_rows.specs.Sample.{sample_relation}
-use Rattle.desk_cli.specs.NormalForms.{JudgesForm, form_word}
-use Rattle.desk_cli.specs.Performs.{Answers, Performs, Does}
-use Rattle.desk_cli.specs.Plans.{WithPlan, IsPlanFile}
-use Rattle.desk_cli.specs.Readings.{known_files}
-use Rattle.desk_cli.specs.Rows.{WithRows, IsRowsFile}
+use Rattle.desk_designs.specs.NormalForms.{JudgesForm, form_word}
+use Rattle.desk_cli.specs.Performs.{Answers, Performs, Does, AnswersSchema, AnswersPlan, AnswersRows}
+use Rattle.desk_inputs.specs.Plans.{WithPlan, IsPlanFile}
+use Rattle.desk_inputs.specs.Readings.{known_files}
+use Rattle.desk_inputs.specs.Rows.{WithRows, IsRowsFile}
 use Rattle.desk_laws.specs.Completeness.{IsYesOrNo, IsAnswered, IsSplittable, HasPlanInForm}
-use Rattle.desk_cli.proofs.SplitLemmas.{stuck_within}
+use Rattle.desk_designs.proofs.SplitLemmas.{stuck_within}
 use Rattle.desk_laws.proofs.CompleteLaws.{AreSame, after_schema, after_rows, after_plan, small_same}
 
 -- ---- steps
@@ -130,7 +130,7 @@ small_is_splittable s form within_limit which = record {
 -- each asks what `Performs` says of its words, and then what it reads and finds is there
 check_form_asks : (form : Form) (files : Files) (name file : List ℕ) (response : ResponseValue) → Answers (known_files files) (codes "check" ∷ codes "form" ∷ form_word form ∷ name ∷ file ∷ []) response
     → WithSchema (known_files files) name (λ r. WithPlan (known_files files) r file (JudgesForm r form)) response
-unfolding form_of form_over_schema after_check after_check_form normal_form schema_and Performs Does
+unfolding form_of form_over_schema after_check after_check_form normal_form schema_and_plan Performs Does AnswersPlan
 check_form_asks Third files name file response answered = answered
 check_form_asks Bcnf files name file response answered = answered
 check_form_asks Fourth files name file response answered = answered
@@ -159,7 +159,7 @@ form_answered files words name form rest says asks schema file can response answ
 
 ddl_asks : (form : Form) (files : Files) (name : List ℕ) (response : ResponseValue) → Answers (known_files files) (codes "ddl" ∷ form_word form ∷ name ∷ []) response
     → WithSchema (known_files files) name (λ r. WithPlanInForm r form (WritesTables r)) response
-unfolding form_of form_over_schema after_ddl normal_form schema_alone Performs Does
+unfolding form_of form_over_schema after_ddl normal_form schema_alone Performs Does AnswersSchema
 ddl_asks Third files name response answered = answered
 ddl_asks Bcnf files name response answered = answered
 ddl_asks Fourth files name response answered = answered
@@ -173,7 +173,7 @@ ddl_answered form files name =
 
 migrate_asks : (form : Form) (files : Files) (name file : List ℕ) (response : ResponseValue) → Answers (known_files files) (codes "migrate" ∷ form_word form ∷ name ∷ file ∷ []) response
     → WithSchema (known_files files) name (λ r. WithRows (known_files files) r file (λ rows. WithPlanInForm r form (λ plan. MigratesRows r (schemes_of plan) rows))) response
-unfolding form_of form_over_schema after_migrate normal_form schema_and Performs Does
+unfolding form_of form_over_schema after_migrate normal_form schema_and_rows Performs Does AnswersRows
 migrate_asks Third files name file response answered = answered
 migrate_asks Bcnf files name file response answered = answered
 migrate_asks Fourth files name file response answered = answered
@@ -202,17 +202,17 @@ split_answered files words name form asks =
 
 pub split_bcnf_asks : (files : Files) (name : List ℕ) (response : ResponseValue) → Answers (known_files files) (codes "split" ∷ codes "bcnf" ∷ name ∷ []) response
     → WithSchema (known_files files) name (λ r. WithPlanInForm r Bcnf (ShowsPlan r)) response
-unfolding form_of form_over_schema after_split schema_alone Performs Does
+unfolding form_of form_over_schema after_split schema_alone Performs Does AnswersSchema
 split_bcnf_asks files name response answered = answered
 
 pub split_fourth_asks : (files : Files) (name : List ℕ) (response : ResponseValue) → Answers (known_files files) (codes "split" ∷ codes "4nf" ∷ name ∷ []) response
     → WithSchema (known_files files) name (λ r. WithPlanInForm r Fourth (ShowsPlan r)) response
-unfolding form_of form_over_schema after_split schema_alone Performs Does
+unfolding form_of form_over_schema after_split schema_alone Performs Does AnswersSchema
 split_fourth_asks files name response answered = answered
 
 split_wide_asks : (files : Files) (name : List ℕ) (response : ResponseValue) → Answers (known_files files) (codes "split" ∷ codes "wide-bcnf" ∷ name ∷ []) response
     → WithSchema (known_files files) name SplitsWide response
-unfolding form_of form_over_schema after_split schema_alone Performs Does
+unfolding form_of form_over_schema after_split schema_alone Performs Does AnswersSchema
 split_wide_asks files name response answered = answered
 
 pub split_wide_answered : (files : Files) (name : List ℕ) (schema : Schema) → IsSchemaFile (known_files files) name schema
@@ -222,7 +222,7 @@ split_wide_answered files name schema file response answered =
 
 exhibit_asks : (files : Files) (name : List ℕ) (response : ResponseValue) → Answers (known_files files) (codes "exhibit" ∷ name ∷ []) response
     → WithSchema (known_files files) name Exhibits response
-unfolding form_of form_over_schema schema_alone Performs Does
+unfolding form_of form_over_schema schema_alone Performs Does AnswersSchema
 exhibit_asks files name response answered = answered
 
 pub exhibit_answered : (files : Files) (name : List ℕ) (schema : Schema) → IsSchemaFile (known_files files) name schema
@@ -232,7 +232,7 @@ exhibit_answered files name schema file functional narrow response answered =
 
 check_keeps_asks : (files : Files) (name file : List ℕ) (response : ResponseValue) → Answers (known_files files) (codes "check" ∷ codes "keeps" ∷ name ∷ file ∷ []) response
     → WithSchema (known_files files) name (λ r. WithPlan (known_files files) r file (JudgesKeeping r)) response
-unfolding form_of form_over_schema after_check schema_and Performs Does
+unfolding form_of form_over_schema after_check schema_and_plan Performs Does AnswersPlan
 check_keeps_asks files name file response answered = answered
 
 pub check_keeps_answered : (files : Files) (name file : List ℕ) (schema : Schema) (plan : List Attributes)
@@ -245,7 +245,7 @@ check_keeps_answered files name file schema plan held_schema held_plan response 
 
 ddl_plan_asks : (files : Files) (name file : List ℕ) (response : ResponseValue) → Answers (known_files files) (codes "ddl" ∷ codes "plan" ∷ name ∷ file ∷ []) response
     → WithSchema (known_files files) name (λ r. WithPlan (known_files files) r file (λ schemes. WithoutLoss r schemes (WritesSchemes r schemes))) response
-unfolding form_of form_over_schema after_ddl schema_and Performs Does
+unfolding form_of form_over_schema after_ddl schema_and_plan Performs Does AnswersPlan
 ddl_plan_asks files name file response answered = answered
 
 pub ddl_plan_answered : (files : Files) (name file : List ℕ) (schema : Schema) (plan : List Attributes)

@@ -7,16 +7,16 @@ use Rattle.dep_model.specs.declared.schema.Schema.{Schema}
 use Rattle.normal_forms.specs.declared.forms.Form.{Form}
 use Rattle.normal_forms.specs.declared.forms.Form.TheVariants.{Third, Bcnf, Fourth}
 use Rattle.split_forms.specs.Splitting.{IsTooWideAt, HasTooManySchemes}
-use Rattle.desk_cli.specs.declared.decomposition.TheConstants.{MOST_SPLIT_SCHEMES}
+use Rattle.desk_designs.specs.declared.decomposition.TheConstants.{MOST_SPLIT_SCHEMES}
 use Rattle.desk_outside.specs.Causes.{ErrorCountIncreased}
 use Rattle.desk_outside.specs.Files.{Files}
-use Rattle.desk_cli.specs.declared.status.Status.{Status}
-use Rattle.desk_cli.specs.declared.status.Status.TheVariants.{Yes, No}
-use Rattle.desk_cli.specs.ResponseValues.{ResponseValue}
+use Rattle.desk_responses.specs.declared.status.Status.{Status}
+use Rattle.desk_responses.specs.declared.status.Status.TheVariants.{Yes, No}
+use Rattle.desk_responses.specs.ResponseValues.{ResponseValue}
 use Rattle.desk_cli.specs.Desk.{FileSourceInCall, SinkInCall}
-use Rattle.desk_cli.specs.Outcomes.{DestinationsInCall, NoneFails}
+use Rattle.desk_delivery.specs.Outcomes.{DestinationsInCall, NoneFails}
 use Rattle.desk_cli.specs.Performs.{Answers}
-use Rattle.desk_cli.specs.Readings.{known_files}
+use Rattle.desk_inputs.specs.Readings.{known_files}
 
 -- yes or no
 abbrev pub IsYesOrNo : Status → Type 0

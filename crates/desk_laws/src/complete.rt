@@ -11,15 +11,16 @@ ghost use Rattle.dep_model.specs.declared.schema.Schema.{Schema};
 ghost use Rattle.derivation.specs.Trees.{Tree};
 ghost use Rattle.key_listing.specs.Refusals.{IsTooWide};
 ghost use Rattle.desk_outside.specs.Files.{Files};
-ghost use Rattle.desk_cli.specs.declared.status.Status.{Status};
+ghost use Rattle.desk_responses.specs.declared.status.Status.{Status};
 ghost use Rattle.desk_cli.specs.Desk.{Desk, FileSourceInCall, SinkInCall};
-ghost use Rattle.desk_cli.specs.Outcomes.{destinations_in_call};
-ghost use Rattle.desk_cli.specs.Inputs.{IsSchemaFile, IsGoal, IsProofFile};
-ghost use Rattle.desk_cli.specs.Joins.{IsTooLarge};
-ghost use Rattle.desk_cli.specs.Keys.{HasManyKeys};
-ghost use Rattle.desk_cli.specs.Plans.{IsPlanFile};
-ghost use Rattle.desk_cli.specs.Readings.{known_files};
-ghost use Rattle.desk_cli.specs.Rows.{IsRowsFile};
+ghost use Rattle.desk_delivery.specs.Outcomes.{destinations_in_call};
+ghost use Rattle.desk_inputs.specs.Inputs.{IsSchemaFile, IsProofFile};
+ghost use Rattle.desk_implication.specs.Goals.{IsGoal};
+ghost use Rattle.desk_designs.specs.Joins.{IsTooLarge};
+ghost use Rattle.desk_implication.specs.Keys.{HasManyKeys};
+ghost use Rattle.desk_inputs.specs.Plans.{IsPlanFile};
+ghost use Rattle.desk_inputs.specs.Readings.{known_files};
+ghost use Rattle.desk_inputs.specs.Rows.{IsRowsFile};
 ghost use Rattle.desk_laws.specs.Completeness.{IsYesOrNo, IsAnswered, FailsNowhere};
 
 use destinations::Destination;
@@ -31,8 +32,8 @@ pub fn answered_calls_end<T: Destination>()
         (sink : SinkInCall)
         (old new : List T)
         (result : Result Status OutOfMemory)
-        → Desk words source sink (destinations_in_call T.is_known T.finished T.faults old new) result
-        → FailsNowhere files source sink (destinations_in_call T.is_known T.finished T.faults old new)
+        → Desk words source sink (destinations_in_call T.is_known T.finished T.begun T.width T.faults old new) result
+        → FailsNowhere files source sink (destinations_in_call T.is_known T.finished T.begun T.width T.faults old new)
         → IsAnswered files words
         → (status : Status) → result ≡ Ok status → IsYesOrNo status }
 {}

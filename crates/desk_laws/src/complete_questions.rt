@@ -1,4 +1,6 @@
-//! The same for the commands on sets, keys of a plan, and two schemas.
+//! Where its files have their meaning and nothing fails, a call ends with yes or no, or runs out of
+//! memory (`complete` says it of every call): the laws of the commands on sets, keys of a plan, and
+//! two schemas.
 
 ghost use Rattle.std.specs.Prelude.{ℕ, List, [], ◌∷◌, codes, All};
 ghost use Rattle.attr_sets.specs.Attributes.{Attributes};
@@ -9,9 +11,10 @@ ghost use Rattle.key_listing.specs.Listing.{AreManyKeys};
 ghost use Rattle.key_listing.specs.Refusals.{IsWideScheme};
 ghost use Rattle.schema_match.specs.Columns.{SameNames};
 ghost use Rattle.desk_outside.specs.Files.{Files};
-ghost use Rattle.desk_cli.specs.Inputs.{IsSchemaFile, IsSetText};
-ghost use Rattle.desk_cli.specs.Plans.{IsPlanFile};
-ghost use Rattle.desk_cli.specs.Readings.{known_files};
+ghost use Rattle.desk_inputs.specs.Inputs.{IsSchemaFile};
+ghost use Rattle.desk_implication.specs.Goals.{IsSetText};
+ghost use Rattle.desk_inputs.specs.Plans.{IsPlanFile};
+ghost use Rattle.desk_inputs.specs.Readings.{known_files};
 ghost use Rattle.desk_laws.specs.Completeness.{IsAnswered};
 
 /// `basis` is answered where the schema file means a schema and the text a set.

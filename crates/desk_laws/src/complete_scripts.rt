@@ -1,4 +1,6 @@
-//! The same for the commands that print scripts and pictures.
+//! Where its files have their meaning and nothing fails, a call ends with yes or no, or runs out of
+//! memory (`complete` says it of every call): the laws of the commands that print scripts and
+//! pictures.
 
 ghost use Rattle.std.specs.Prelude.{ℕ, List, [], ◌∷◌, IsTrue, codes};
 ghost use Rattle.attr_sets.specs.Attributes.{Attributes};
@@ -6,11 +8,11 @@ ghost use Rattle.dep_model.specs.declared.schema.Schema.{Schema};
 ghost use Rattle.normal_forms.specs.declared.forms.Form.{Form};
 ghost use Rattle.desk_outside.specs.Files.{Files};
 ghost use Rattle.table_scripts.specs.Naming.{is_table_name};
-ghost use Rattle.desk_cli.specs.Inputs.{IsSchemaFile};
-ghost use Rattle.desk_cli.specs.Joins.{IsTooLarge};
-ghost use Rattle.desk_cli.specs.NormalForms.{form_word};
-ghost use Rattle.desk_cli.specs.Plans.{IsPlanFile};
-ghost use Rattle.desk_cli.specs.Readings.{known_files};
+ghost use Rattle.desk_inputs.specs.Inputs.{IsSchemaFile};
+ghost use Rattle.desk_designs.specs.Joins.{IsTooLarge};
+ghost use Rattle.desk_designs.specs.NormalForms.{form_word};
+ghost use Rattle.desk_inputs.specs.Plans.{IsPlanFile};
+ghost use Rattle.desk_inputs.specs.Readings.{known_files};
 ghost use Rattle.desk_laws.specs.Completeness.{IsAnswered, HasPlanInForm};
 
 /// `sql check` is answered where the schema file means a schema and the word names a table.
@@ -21,8 +23,9 @@ pub fn sql_check_is_answered()
         → IsAnswered files (codes "sql" ∷ codes "check" ∷ name ∷ table ∷ []) }
 {}
 
-/// `sql migrate` is answered where also a plan in the form is found within the limits, or the plan file means
-/// a plan whose chase keeps within its limit.
+/// `sql migrate` is answered where the schema file means a schema, the word names a table, and a
+/// plan in the form is found within the limits, or the plan file means a plan whose chase keeps
+/// within its limit.
 pub fn sql_migrate_is_answered()
     ensures in_form { (form : Form) (files : Files) (name table : List ℕ) (schema : Schema)
         → IsSchemaFile (known_files files) name schema → IsTrue (is_table_name table)

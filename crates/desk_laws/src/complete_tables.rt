@@ -1,4 +1,6 @@
-//! The same for the commands on normal forms, plans and tables.
+//! Where its files have their meaning and nothing fails, a call ends with yes or no, or runs out of
+//! memory (`complete` says it of every call): the laws of the commands on normal forms, plans and
+//! tables.
 
 ghost use Rattle.std.specs.Prelude.{◌≡◌, ◌<◌, ◌≤◌, ℕ, true, List, [], ◌∷◌, codes, All};
 ghost use Rattle.attr_sets.specs.Attributes.{Attributes};
@@ -16,17 +18,17 @@ ghost use Rattle.normal_forms.specs.declared.forms.Form.TheVariants as forms;
 ghost use Rattle.table_join.specs.Answers.{IsWithinLimit};
 ghost use Rattle.table_join.specs.Tables.{tables_of, plan_of_tables};
 ghost use Rattle.desk_outside.specs.Files.{Files};
-ghost use Rattle.desk_cli.specs.declared.rejoining.TheConstants.{MOST_JOINED_ROWS};
-ghost use Rattle.desk_cli.specs.Discoveries.{IsHeadedFile};
+ghost use Rattle.desk_tables.specs.declared.rejoining.TheConstants.{MOST_JOINED_ROWS};
+ghost use Rattle.desk_inputs.specs.Headed.{IsHeadedFile};
 ghost use Rattle.desk_words.specs.Forms.{are_one_to_64};
-ghost use Rattle.desk_cli.specs.Inputs.{IsSchemaFile};
-ghost use Rattle.desk_cli.specs.Joins.{IsTooLarge};
+ghost use Rattle.desk_inputs.specs.Inputs.{IsSchemaFile};
+ghost use Rattle.desk_designs.specs.Joins.{IsTooLarge};
 ghost use Rattle.desk_words.specs.Numbers.{is_count};
-ghost use Rattle.desk_cli.specs.NormalForms.{form_word};
-ghost use Rattle.desk_cli.specs.Plans.{IsPlanFile};
-ghost use Rattle.desk_cli.specs.Readings.{known_files};
-ghost use Rattle.desk_cli.specs.Rejoining.{ArePartFiles};
-ghost use Rattle.desk_cli.specs.Rows.{IsRowsFile};
+ghost use Rattle.desk_designs.specs.NormalForms.{form_word};
+ghost use Rattle.desk_inputs.specs.Plans.{IsPlanFile};
+ghost use Rattle.desk_inputs.specs.Readings.{known_files};
+ghost use Rattle.desk_inputs.specs.Parts.{ArePartFiles};
+ghost use Rattle.desk_inputs.specs.Rows.{IsRowsFile};
 ghost use Rattle.desk_laws.specs.Completeness.{IsAnswered, HasPlanInForm};
 
 /// `check form` is answered where the schema file means a schema, the plan file a plan, and no scheme of

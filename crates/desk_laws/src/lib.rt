@@ -1,5 +1,5 @@
-//! What `desk` answers in one call, beside what it answers in another, and that it answers where
-//! nothing fails.
+//! Laws of whole calls of `desk`: what one call prints another accepts, and a call whose inputs
+//! have a meaning is answered where nothing fails.
 //!
 //! Each law is a function that does nothing, whose clause is the law; so the gate asks for its proof.
 #![tactic(auto)]
@@ -10,10 +10,10 @@ mod complete_scripts;
 mod complete_tables;
 
 ghost use Rattle.std.specs.Prelude.{◌≡◌, ◌≤◌, ℕ, List, [], ◌∷◌, length, Some, codes};
-ghost use Rattle.desk_cli.specs.declared.status.Status.TheVariants.{Yes};
-ghost use Rattle.desk_cli.specs.ResponseValues.{ResponseValue};
+ghost use Rattle.desk_responses.specs.declared.status.Status.TheVariants.{Yes};
+ghost use Rattle.desk_responses.specs.ResponseValues.{ResponseValue};
 ghost use Rattle.desk_cli.specs.Performs.{Answers};
-ghost use Rattle.desk_cli.specs.Readings.{known_files};
+ghost use Rattle.desk_inputs.specs.Readings.{known_files};
 ghost use Rattle.desk_outside.specs.Files.{Files, bytes_of_file};
 ghost use Rattle.proof_text.specs.declared.text.TheConstants.{MOST_PROOF_BYTES};
 

@@ -27,8 +27,8 @@ pub record HasCause {T E : Type 0} (before now : ℕ) (result : Result T E) : Ty
   pub failed : OnErr result (ErrorCountIncreased before now)
 
 -- The faults of a call that begins a file: the count has not fallen, at `Failed` it increased or the
--- file source lacks the file, and at Ok it is as before. A file that is lacking is `Failed`,
--- and raises no count.
+-- file source lacks the file, and at Ok it is as before. A missing file is `Failed`, and raises
+-- no count.
 pub record HasBeginCause (files : Option Files) (name : List ℕ) (before now : ℕ)
     (result : Result (Unit {0}) OutsideFault) : Type 0 where
   pub later : before ≤ now
@@ -40,7 +40,7 @@ pub record HasBeginCause (files : Option Files) (name : List ℕ) (before now : 
 abbrev pub TookPart : Option (List ℕ) → List ℕ → Option (List ℕ) → Type 0
 TookPart old bytes new = (n : ℕ) × (n < length bytes) × (new ≡ append_known old (take n bytes))
 
--- how a fault of the beginning ends a loading
+-- the refusal of `load` for a fault of `begin`
 abbrev pub refusal_of : OutsideFault → LoadRefusal
 refusal_of Failed = refusal.CannotRead
 refusal_of OutOfMemory = refusal.OutOfMemory

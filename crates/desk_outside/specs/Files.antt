@@ -1,6 +1,6 @@
 -- Files as names with bytes: for what a command reads (`desk_cli/Readings`), and for the files that
 -- a folder keeps.
-use Rattle.std.specs.Prelude.{◌≡◌, ℕ, ◌<◌, if◌then◌else◌, List, [], ◌∷◌, length, map, Option, Some, None, unwrap_or, IfSome, IsSomeAnd}
+use Rattle.std.specs.Prelude.{◌≡◌, ℕ, ◌<◌, not, if◌then◌else◌, List, [], ◌∷◌, length, map, filter, Option, Some, None, unwrap_or, IfSome, IsSomeAnd}
 use Rattle.std.specs.Option.{option_map}
 use Rattle.std.specs.Str.{bytes_eq}
 use Rattle.desk_outside.specs.declared.argument.HeldFile.{HeldFile}
@@ -18,6 +18,10 @@ Files = List StoredFile
 abbrev pub bytes_of_file : Files → List ℕ → Option (List ℕ)
 bytes_of_file [] name = None
 bytes_of_file (file ∷ files) name = if bytes_eq file.name name then Some file.bytes else bytes_of_file files name
+
+-- the files of other names
+abbrev pub without_file : List ℕ → Files → Files
+without_file name files = filter (λ file. not (bytes_eq file.name name)) files
 
 -- the files are known, and none has this name
 abbrev pub IsMissing : Option Files → List ℕ → Type 0

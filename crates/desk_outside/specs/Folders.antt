@@ -1,17 +1,17 @@
 -- What a folder holds, and what its calls make of it: for folders and the destinations over one.
 -- `Desk` does not cite it.
-use Rattle.std.specs.Prelude.{ℕ, List, [], ◌++◌, Option, Some, None, option_map, option_to_list}
-use Rattle.desk_outside.specs.Files.{Files, StoredFile}
+use Rattle.std.specs.Prelude.{◌≡◌, ◌⊎◌, ℕ, List, [], ◌∷◌, ◌++◌, Option, Some, None, option_map, option_to_list, Result, OnOk, OnErr}
+use Rattle.desk_outside.specs.Files.{Files, StoredFile, without_file}
 
 -- the finished files in the order of their ending, and the open one
 pub record FolderContents : Type 0 where
   pub finished : Files
   pub opened : Option StoredFile
 
--- an empty file of this name is open
+-- an empty file of this name is open, in place of a finished one
 abbrev pub with_begun : List ℕ → FolderContents → FolderContents
 with_begun name folder =
-    record { finished = folder.finished; opened = Some (record { name = name; bytes = [] }) }
+    record { finished = without_file name folder.finished; opened = Some (record { name = name; bytes = [] }) }
 
 -- the file has these bytes more
 abbrev pub more_bytes : List ℕ → StoredFile → StoredFile
@@ -29,3 +29,9 @@ with_ended folder = record { finished = folder.finished ++ option_to_list folder
 -- no file is open
 abbrev pub with_none_open : FolderContents → FolderContents
 with_none_open folder = record { finished = folder.finished; opened = None }
+
+-- The names begun before and after a call that begins one: at Ok it is the last of them, and after an
+-- error it may be.
+pub record BeginsName {T E : Type 0} (name : List ℕ) (old new : List (List ℕ)) (result : Result T E) : Type 0 where
+  pub ok : OnOk result (new ≡ old ++ name ∷ [])
+  pub err : OnErr result ((new ≡ old) ⊎ (new ≡ old ++ name ∷ []))

@@ -47,15 +47,17 @@ abbrev pub IsBegun : List HeldFile → Option ℕ → ℕ → Type 0
 IsBegun files None taken = Unit {0}
 IsBegun files (Some position) taken = (position < length files) × (taken ≤ length (bytes_at files (Some position)))
 
--- a folder: its finished files in the order of their ending, the open one, and its planned faults
+-- a folder: its finished files in the order of their ending, the open one, the names begun, and its
+-- planned faults
 pub record FolderInMemory : Type 0 where
   pub finished : Files
   pub opened : Option StoredFile
+  pub begun : List (List ℕ)
   pub planned : FaultPlan
 
--- no file is finished or open, and no call was made
+-- no file is finished, open or begun, and no call was made
 abbrev pub new_folder : List ℕ → FolderInMemory
-new_folder fails = record { finished = []; opened = None; planned = new_plan fails }
+new_folder fails = record { finished = []; opened = None; begun = []; planned = new_plan fails }
 
 -- its files
 abbrev pub contents_of : FolderInMemory → FolderContents

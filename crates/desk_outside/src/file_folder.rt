@@ -1,32 +1,40 @@
-ghost use Rattle.std.specs.Prelude.{◌≡◌, ◌≤◌, false, None, IfOk, is_some, length};
+ghost use Rattle.std.specs.Prelude.{◌≡◌, ◌≤◌, ◌↔◌, ◌⊎◌, false, [], None, IsTrue, IsOk, IsErrAnd, IfOk, is_some, length};
+ghost use Rattle.std.specs.IoError.{error_kind};
 
-use crate::argument::HeldFile;
+use crate::argument::{Argument, HeldFile};
 use crate::failure::OutsideFault;
 use crate::folder::Folder;
-use std::fs::OpenOptions;
+use std::alloc::Global;
+use std::fs::{OpenFile, OpenOptions};
 use std::io;
-use std::io::Write;
+use std::io::{ErrorKind, Write};
 use std::rt::Files;
 
 /// The system's current folder.
 ///
-/// Nothing is known of what it holds. A name that is not UTF-8, a write that takes nothing and any
-/// error of the system are faults, and all are counted. A file of a name that is there is emptied.
+/// Of what it holds only the names begun are known. A name that is not UTF-8, a write that takes
+/// nothing and any error of the system are faults, and all are counted. A file of a name that is there
+/// is emptied. What ends is flushed first, unless it is of a kind that cannot be.
 #[derive(Drop)]
 pub struct FileFolder<R: Files + Drop> {
+    alloc: Global,
     rt: R,
+    begun: Vec<Argument>,
     opened: Option<R::File>,
     faults: u64,
 }
 
 impl<R: Files + Drop> FileFolder<R> {
-    /// The folder that the runtime reaches. No file is open, and no fault is counted.
-    pub fn new(rt: R) -> FileFolder<R>
+    /// The folder that the runtime reaches. No file is open or begun, and no fault is counted.
+    pub fn new(alloc: Global, rt: R) -> FileFolder<R>
         ensures is_open { ⟦<FileFolder<R> as Folder>⟧.is_open result ≡ false }
+        ensures begun { ⟦<FileFolder<R> as Folder>⟧.begun result ≡ [] }
         ensures faults { ⟦<FileFolder<R> as Folder>⟧.faults result ≡ 0 }
     {
         FileFolder {
+            alloc,
             rt,
+            begun: Vec::new(alloc),
             opened: None,
             faults: 0,
         }
@@ -55,14 +63,40 @@ fn write_opened<T: Write>(opened: &mut Option<T>, piece: &[u8]) -> io::Result<us
     }
 }
 
+// Whether a flush that ended so left all in the file. What is no file that can be flushed, as a pipe,
+// took all when it was written.
+fn is_flushed(flush: &io::Result<()>) -> bool
+    ensures flushed { IsTrue result ↔
+        (IsOk flush.now ⊎ IsErrAnd flush.now (λ e. error_kind e ≡ ErrorKind.InvalidInput)) }
+{
+    match flush {
+        Ok(()) => true,
+        Err(error) => error.kind() == ErrorKind::InvalidInput,
+    }
+}
+
+// Flushes the open file, where one is open.
+fn flush_opened<T: OpenFile>(opened: &Option<T>) -> io::Result<()> {
+    match opened {
+        Some(file) => file.sync_all(),
+        None => Ok(()),
+    }
+}
+
 impl<R: Files + Drop> Folder for FileFolder<R> {
     ghost contents = { λ _. None };
 
     ghost is_open = { λ folder. is_some folder.opened };
 
+    ghost begun = { λ folder. folder.begun.items };
+
     ghost faults = { λ folder. folder.faults };
 
     fn begin(&mut self, name: &[u8]) -> Result<(), OutsideFault> {
+        self.opened = None;
+        if self.begun.push(Argument::new(self.alloc, name)?).is_err() {
+            return Err(OutsideFault::OutOfMemory);
+        }
         self.opened = create_named(&self.rt, name);
         if self.opened.is_some() {
             return Ok(());
@@ -83,8 +117,13 @@ impl<R: Files + Drop> Folder for FileFolder<R> {
     }
 
     fn end(&mut self) -> Result<(), OutsideFault> {
+        let flushed = is_flushed(&flush_opened(&self.opened));
         self.opened = None;
-        Ok(())
+        if flushed {
+            return Ok(());
+        }
+        self.faults = self.faults.saturating_add(1);
+        Err(OutsideFault::Failed)
     }
 
     fn visible(&self) -> Option<&[HeldFile]>

@@ -1,6 +1,7 @@
-ghost use Rattle.std.specs.Prelude.{◌≡◌, ℕ, ◌<◌, List, length, take, Option, IsSome, is_some, IfSome, OnOk, OnErr, IfOk};
+ghost use Rattle.std.specs.Prelude.{◌≡◌, ℕ, ◌<◌, List, length, take, Option, IsSome, is_some, IfSome, OnOk, OnErr, IfOk, Err};
 ghost use Rattle.std.specs.Io.{ReadsAtMost};
 ghost use Rattle.std.specs.Io.KnownBytes.{prepend_known, IsAtEnd};
+ghost use Rattle.desk_outside.specs.Begun.{Begins, KeepsBegun};
 ghost use Rattle.desk_outside.specs.Causes.{HasCause, HasBeginCause, count_on};
 ghost use Rattle.desk_outside.specs.Files.{Files, bytes_of_file, all_left, none_left};
 
@@ -19,6 +20,9 @@ pub trait FileSource {
     /// The number of bytes taken since the last `begin`, which every file source makes known.
     ghost taken: { Self → ℕ };
 
+    /// Whether files of these names were begun, in this order. Where it notes no names, all may be.
+    ghost begun: { Self → List (List ℕ) → Type 0 };
+
     /// An error count, which never falls.
     ghost faults: { Self → ℕ };
 
@@ -33,6 +37,11 @@ pub trait FileSource {
         ensures begun { OnOk result (left self.new ≡ all_left (files self.old) name.now) }
         ensures closed { OnErr result (left self.new ≡ none_left (files self.old)) }
         ensures taken { taken self.new ≡ 0 }
+        ensures begins { OnOk result (Begins name.now (begun self.old) (begun self.new)) }
+        ensures failed_begins { result ≡ Err OutsideFault.Failed →
+            Begins name.now (begun self.old) (begun self.new) }
+        ensures not_begun { result ≡ Err OutsideFault.OutOfMemory →
+            KeepsBegun (begun self.old) (begun self.new) }
         ensures cause { HasBeginCause (files self.old) name.now
             (faults self.old) (faults self.new) result };
 
@@ -47,6 +56,7 @@ pub trait FileSource {
         ensures end { IfOk result (λ n. n ≡ 0 → 0 < length buf.new → IsAtEnd (left self.new)) }
         ensures closed { OnErr result (left self.new ≡ none_left (files self.old)) }
         ensures taken { IfOk result (λ n. taken self.new ≡ count_on (taken self.old) n) }
+        ensures same { KeepsBegun (begun self.old) (begun self.new) }
         ensures kept { OnErr result (taken self.new ≡ taken self.old) }
         ensures cause { HasCause (faults self.old) (faults self.new) result };
 

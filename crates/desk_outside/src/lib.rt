@@ -1,8 +1,9 @@
 //! The outside of the desk: files to read, a sink of the printed text, a folder for files to write,
 //! and what the desk may believe of them.
 //!
-//! Any call of the outside may fail. What an object holds is said by its meanings, and each fault
-//! that is answered was one: the object's error count increased in that call.
+//! Any call of the outside may fail. What an object holds is said by the ghost functions of its
+//! trait, as `files` of a file source. Each fault that is answered was one: the object's error
+//! count increased in that call.
 //!
 //! - [`FileSource`], [`Sink`] and [`Folder`] are the files to read, the printed text and the files to
 //!   write.

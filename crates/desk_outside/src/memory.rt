@@ -1,4 +1,4 @@
-ghost use Rattle.std.specs.Prelude.{◌≡◌, ◌+◌, ◌^◌, ◌<◌, ◌↔◌, ◌⊎◌, ◌&&◌, [], ◌++◌, min, length, take, drop, is_err, is_some, unwrap_or, None, Some, IsSome, IsOk, IsErr, IfNone, IfSome, IfOk, OnErr, IsOkUnless, refl, if◌then◌else◌};
+ghost use Rattle.std.specs.Prelude.{⊤, ◌≡◌, ◌+◌, ◌^◌, ◌<◌, ◌↔◌, ◌⊎◌, ◌&&◌, [], ◌++◌, min, length, take, drop, is_err, is_some, unwrap_or, None, Some, IsSome, IsOk, IsErr, IfNone, IfSome, IfOk, OnErr, IsOkUnless, refl, if◌then◌else◌};
 ghost use Rattle.desk_outside.specs.Causes.{count_on, last_count, HasCause, HasBeginCause};
 ghost use Rattle.desk_outside.specs.Files.{bytes_of_file, files_of};
 ghost use Rattle.desk_outside.specs.Memory.{new_source, new_sink, room, bytes_at, IsBegun};
@@ -98,6 +98,9 @@ impl FileSource for MemoryFiles {
     ghost left = { λ source. Some source.left };
 
     ghost taken = { λ source. source.taken };
+
+    // To note a name takes memory, and of a file that is not held it is said that it fails.
+    ghost begun = { λ _ _. ⊤ };
 
     ghost faults = { λ source. source.planned.faults };
 

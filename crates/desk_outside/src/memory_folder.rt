@@ -2,8 +2,8 @@ ghost use Rattle.std.specs.Prelude.{◌≡◌, ◌↔◌, ◌<◌, [], ◌++◌,
 ghost use Rattle.desk_outside.specs.declared.failure.OutsideFault.{OutsideFault};
 ghost use Rattle.desk_outside.specs.declared.failure.OutsideFault.TheVariants.{Failed};
 ghost use Rattle.desk_outside.specs.Causes.{HasOutsideCause, is_failed};
-ghost use Rattle.desk_outside.specs.Files.{files_of};
-ghost use Rattle.desk_outside.specs.Folders.{more_bytes};
+ghost use Rattle.desk_outside.specs.Files.{files_of, without_file};
+ghost use Rattle.desk_outside.specs.Folders.{more_bytes, BeginsName};
 ghost use Rattle.desk_outside.specs.Memory.{new_folder, contents_of};
 ghost use Rattle.desk_outside.specs.Planned.{FailsNext, CountsCall};
 
@@ -19,6 +19,7 @@ use std::marker::Model;
 pub struct MemoryFolder {
     alloc: Global,
     files: MemorySeries<HeldFile>,
+    begun: Vec<Argument>,
 }
 
 impl Model for MemoryFolder {
@@ -31,6 +32,7 @@ impl Model for MemoryFolder {
     ghost view = { λ f. record {
       finished = files_of f.files.finished.items;
       opened = option_map stored_file f.files.opened;
+      begun = f.begun.items;
       planned = f.files.planned;
     } };
 }
@@ -43,6 +45,7 @@ impl MemoryFolder {
         MemoryFolder {
             alloc,
             files: MemorySeries::new(alloc, fails),
+            begun: Vec::new(alloc),
         }
     }
 
@@ -54,18 +57,29 @@ impl MemoryFolder {
     }
 }
 
+// Removes the files of this name.
+fn remove_named(files: &mut Vec<HeldFile>, name: &[u8])
+    ensures others { files_of files.new.items ≡ without_file name.now (files_of files.old.items) }
+{
+    files.retain(|file| file.name.bytes() != name);
+}
+
 #[tactic(auto, using(crate::proofs::SeriesFacts::mapped_end))]
 impl Folder for MemoryFolder {
     ghost contents = { λ folder. Some (contents_of folder) };
 
     ghost is_open = { λ folder. is_some folder.opened };
 
+    ghost begun = { λ folder. folder.begun };
+
     ghost faults = { λ folder. folder.planned.faults };
 
     fn begin(&mut self, name: &[u8]) -> Result<(), OutsideFault>
-        ensures finished { self.new.finished ≡ self.old.finished }
+        ensures replaced { OnOk result (self.new.finished ≡ without_file name.now self.old.finished) }
+        ensures finished { OnErr result (self.new.finished ≡ self.old.finished) }
         ensures begun { OnOk result (self.new.opened ≡ Some (record { name = name.now; bytes = [] })) }
         ensures closed { OnErr result (self.new.opened ≡ None) }
+        ensures begins { BeginsName name.now self.old.begun self.new.begun result }
 
         // It fails exactly where its number is planned.
         ensures failed { IsErrOf result OutsideFault.Failed ↔ FailsNext self.old.planned }
@@ -73,9 +87,13 @@ impl Folder for MemoryFolder {
         ensures cause { HasOutsideCause self.old.planned.faults self.new.planned.faults result }
     {
         self.files.take_open()?;
-        let name = Argument::new(self.alloc, name)?;
+        let held = Argument::new(self.alloc, name)?;
+        if self.begun.push(Argument::new(self.alloc, name)?).is_err() {
+            return Err(OutsideFault::OutOfMemory);
+        }
+        remove_named(&mut self.files.finished, name);
         let bytes = Vec::new(self.alloc);
-        self.files.opened = Some(HeldFile { name, bytes });
+        self.files.opened = Some(HeldFile { name: held, bytes });
         Ok(())
     }
 
@@ -83,6 +101,8 @@ impl Folder for MemoryFolder {
         requires is_open { IsTrue (is_some self.old.opened) }
         requires not_empty { 0 < length piece.now }
         ensures finished { self.new.finished ≡ self.old.finished }
+
+        ensures same { self.new.begun ≡ self.old.begun }
 
         // It takes the whole piece.
         ensures count { IfOk result (λ n. n ≡ length piece.now) }
@@ -102,6 +122,7 @@ impl Folder for MemoryFolder {
 
     fn end(&mut self) -> Result<(), OutsideFault>
         requires is_open { IsTrue (is_some self.old.opened) }
+        ensures same { self.new.begun ≡ self.old.begun }
         ensures finished { OnErr result (self.new.finished ≡ self.old.finished) }
         ensures ended { OnOk result (self.new.finished
             ≡ self.old.finished ++ option_to_list self.old.opened) }

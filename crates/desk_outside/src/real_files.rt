@@ -1,20 +1,24 @@
-ghost use Rattle.std.specs.Prelude.{◌≡◌, None, refl};
+ghost use Rattle.std.specs.Prelude.{◌≡◌, [], None, refl};
 ghost use Rattle.std.specs.Io.{ReadsAtMost};
 
+use crate::argument::Argument;
 use crate::failure::{Failed, OutsideFault};
 use crate::file_source::FileSource;
 use crate::sink::Sink;
+use std::alloc::Global;
 use std::io::Read;
 use std::rt::Files;
 use std::{fs, io};
 
 /// The system's files.
 ///
-/// Nothing is known of them. A name that is not UTF-8, a missing file and any error of the system are
-/// faults, and all are counted.
+/// Of them only the names begun are known. A name that is not UTF-8, a missing file and any error of
+/// the system are faults, and all are counted.
 #[derive(Drop)]
 pub struct RealFiles<R: Files + Drop> {
+    alloc: Global,
     rt: R,
+    names: Vec<Argument>,
     begun: Option<R::File>,
     taken: u64,
     faults: u64,
@@ -22,12 +26,15 @@ pub struct RealFiles<R: Files + Drop> {
 
 impl<R: Files + Drop> RealFiles<R> {
     /// The files that the runtime reaches. None is begun, and no fault is counted.
-    pub fn new(rt: R) -> RealFiles<R>
+    pub fn new(alloc: Global, rt: R) -> RealFiles<R>
+        ensures begun { ⟦<RealFiles<R> as FileSource>⟧.begun result [] }
         ensures taken { ⟦<RealFiles<R> as FileSource>⟧.taken result ≡ 0 }
         ensures faults { ⟦<RealFiles<R> as FileSource>⟧.faults result ≡ 0 }
     {
         RealFiles {
+            alloc,
             rt,
+            names: Vec::new(alloc),
             begun: None,
             taken: 0,
             faults: 0,
@@ -58,10 +65,16 @@ impl<R: Files + Drop> FileSource for RealFiles<R> {
 
     ghost taken = { λ source. source.taken };
 
+    ghost begun = { λ source names. source.names.items ≡ names };
+
     ghost faults = { λ source. source.faults };
 
     fn begin(&mut self, name: &[u8]) -> Result<(), OutsideFault> {
         self.taken = 0;
+        self.begun = None;
+        if self.names.push(Argument::new(self.alloc, name)?).is_err() {
+            return Err(OutsideFault::OutOfMemory);
+        }
         self.begun = open_named(&self.rt, name);
         if self.begun.is_some() {
             return Ok(());

@@ -1,5 +1,6 @@
 ghost use Rattle.std.specs.Prelude.{◌≡◌, ◌+◌, ◌^◌, ◌<◌, ◌≤◌, ◌↔◌, ◌⊎◌, length, is_ok, option_map, IsTrue, IfOk, OnOk, OnErr, IsErrOf, Err};
 ghost use Rattle.std.specs.Io.KnownBytes.{append_known, IsAtEnd};
+ghost use Rattle.desk_outside.specs.Begun.{Begins, MayBegin};
 ghost use Rattle.desk_outside.specs.Causes.{ErrorCountIncreased, TookPart, HasOutsideCause};
 ghost use Rattle.desk_outside.specs.Files.{none_left, IsMissing, IsHeld, IsLonger};
 ghost use Rattle.desk_outside.specs.Folders.{with_bytes, with_none_open};
@@ -32,6 +33,15 @@ pub fn load<F: FileSource>(
     ensures within { IfOk result (λ bytes. length bytes.items ≤ limit) }
     ensures taken { IfOk result (λ bytes. F.taken source.new ≡ length bytes.items) }
     ensures ended { OnOk result (IsAtEnd (F.left source.new)) }
+
+    // The file begun is that of this name.
+    ensures begins { OnOk result (Begins name.now (F.begun source.old) (F.begun source.new)) }
+    ensures unread_begins { IsErrOf result LoadRefusal.CannotRead →
+        Begins name.now (F.begun source.old) (F.begun source.new) }
+    ensures long_begins { IsErrOf result LoadRefusal.TooLong →
+        Begins name.now (F.begun source.old) (F.begun source.new) }
+    ensures may_begin { IsErrOf result LoadRefusal.OutOfMemory →
+        MayBegin name.now (F.begun source.old) (F.begun source.new) }
 
     // A file is too long exactly where one byte more than the limit was taken.
     ensures too_long { IsErrOf result LoadRefusal.TooLong ↔ (F.taken source.new ≡ limit + 1) }
@@ -88,6 +98,7 @@ pub fn write_all<G: Folder>(folder: &mut G, bytes: &[u8]) -> Result<(), OutsideF
     ensures closed { OnErr result (G.contents folder.new
         ≡ option_map with_none_open (G.contents folder.old)) }
     ensures is_open { G.is_open folder.new ≡ is_ok result }
+    ensures same { G.begun folder.new ≡ G.begun folder.old }
     ensures cause { HasOutsideCause (G.faults folder.old) (G.faults folder.new) result }
 {
     let mut written = 0;

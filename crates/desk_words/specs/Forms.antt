@@ -7,60 +7,75 @@ use Rattle.normal_forms.specs.declared.forms.Form.{Form as NormalForm}
 use Rattle.normal_forms.specs.declared.forms.Form.TheVariants.{Third, Bcnf, Fourth}
 use Rattle.lexer.specs.Bytes.{number_of}
 use Rattle.desk_words.specs.Numbers.{is_count}
-use Rattle.desk_words.specs.declared.shapes.TheConstants.{MOST_FILES}
+use Rattle.desk_words.specs.declared.command.TheConstants.{MOST_FILES}
 
--- what is asked of a schema, with the words that go with it
-pub data Task : Type 0 where
+-- what is asked of a schema alone, with the words that go with it
+pub data SchemaQuestion : Type 0 where
   -- whether it implies a goal
-  implies : List ℕ → Task
+  implies : List ℕ → SchemaQuestion
+  -- its cover
+  cover : SchemaQuestion
+  -- what a set of attributes determines, and its blocks
+  basis : List ℕ → SchemaQuestion
+  -- its keys
+  keys : SchemaQuestion
+  -- a plan in third normal form
+  synthesize : SchemaQuestion
+  -- a plan in Boyce-Codd or fourth normal form
+  split : NormalForm → SchemaQuestion
+  -- a plan in Boyce-Codd normal form, at any width
+  split_wide : SchemaQuestion
+  -- a relation that obeys just what it implies
+  exhibit : SchemaQuestion
+  -- SQL tables in a normal form
+  ddl : NormalForm → SchemaQuestion
+  -- queries for what breaks each rule in a table of this name
+  sql_check : List ℕ → SchemaQuestion
+  -- statements that make the tables of a normal form from a table of this name
+  sql_migrate : NormalForm → List ℕ → SchemaQuestion
+  -- a picture of the tables of a normal form
+  draw : NormalForm → SchemaQuestion
+
+-- what is asked of a schema and a plan
+pub data PlanQuestion : Type 0 where
+  -- whether the plan loses nothing
+  check_join : PlanQuestion
+  -- whether its schemes are in a normal form
+  check_form : NormalForm → PlanQuestion
+  -- whether it keeps the functional dependencies
+  check_keeps : PlanQuestion
+  -- the keys of its schemes
+  keys_of_plan : PlanQuestion
+  -- its SQL tables
+  ddl_plan : PlanQuestion
+  -- statements that make its tables from a table of this name
+  sql_migrate_plan : List ℕ → PlanQuestion
+  -- a picture of its tables
+  draw_plan : PlanQuestion
+
+-- what is asked of a schema and rows
+pub data RowsQuestion : Type 0 where
+  -- whether they are legal
+  check_rows : RowsQuestion
+  -- the rows as tables in a normal form
+  migrate : NormalForm → RowsQuestion
+
+-- what is asked of a schema, with the files that are read after its own, in their order
+pub data Task : Type 0 where
+  -- a question to it alone
+  of_schema : SchemaQuestion → Task
+  -- a question to it and the plan of a file
+  of_plan : List ℕ → PlanQuestion → Task
+  -- a question to it and the rows of a file
+  of_rows : List ℕ → RowsQuestion → Task
+  -- the rows of the second file, as tables of the plan of the first
+  migrate_plan : List ℕ → List ℕ → Task
   -- whether the certificate of a file proves a goal
   check_proof : List ℕ → List ℕ → Task
-  -- whether the rows of a file are legal
-  check_rows : List ℕ → Task
-  -- whether the plan of a file loses nothing
-  check_join : List ℕ → Task
-  -- whether the schemes of the plan of a file are in a normal form
-  check_form : NormalForm → List ℕ → Task
-  -- whether the plan of a file keeps the functional dependencies
-  check_keeps : List ℕ → Task
   -- whether it, in the first file, says the same as the schema of a second file
   check_same : List ℕ → List ℕ → Task
-  -- its cover
-  cover : Task
-  -- what a set of attributes determines, and its blocks
-  basis : List ℕ → Task
-  -- its keys
-  keys : Task
-  -- the keys of the schemes of the plan of a file
-  keys_of_plan : List ℕ → Task
-  -- a plan in third normal form
-  synthesize : Task
-  -- a plan in Boyce-Codd or fourth normal form
-  split : NormalForm → Task
-  -- a plan in Boyce-Codd normal form, at any width
-  split_wide : Task
-  -- a relation that obeys just what it implies
-  exhibit : Task
-  -- SQL tables in a normal form
-  ddl : NormalForm → Task
-  -- SQL tables of the plan of a file
-  ddl_plan : List ℕ → Task
-  -- the rows of a file, as tables in a normal form
-  migrate : NormalForm → List ℕ → Task
-  -- the rows of a file, as tables of the plan of another
-  migrate_plan : List ℕ → List ℕ → Task
   -- the natural join of the tables of files
   rejoin : List (List ℕ) → Task
-  -- queries for what breaks each rule in a table of this name
-  sql_check : List ℕ → Task
-  -- statements that make the tables of a normal form from a table of this name
-  sql_migrate : NormalForm → List ℕ → Task
-  -- statements that make the tables of the plan of a file from a table of this name
-  sql_migrate_plan : List ℕ → List ℕ → Task
-  -- a picture of the tables of a normal form
-  draw : NormalForm → Task
-  -- a picture of the tables of the plan of a file
-  draw_plan : List ℕ → Task
 
 -- a command
 pub data CommandForm : Type 0 where
@@ -77,14 +92,30 @@ pub data CommandForm : Type 0 where
 
 -- ---- words after those of a command
 -- a schema alone
-unfoldable pub schema_alone : Task → List (List ℕ) → Option CommandForm
-schema_alone task (schema ∷ []) = Some (over_schema schema task)
-schema_alone task _ = None
+unfoldable pub schema_alone : SchemaQuestion → List (List ℕ) → Option CommandForm
+schema_alone question (schema ∷ []) = Some (over_schema schema (of_schema question))
+schema_alone question _ = None
 
--- a schema and one word more
-unfoldable pub schema_and : (List ℕ → Task) → List (List ℕ) → Option CommandForm
-schema_and task (schema ∷ word ∷ []) = Some (over_schema schema (task word))
-schema_and task _ = None
+-- a schema, and one word more that goes with the question
+unfoldable pub schema_and_word : (List ℕ → SchemaQuestion) → List (List ℕ) → Option CommandForm
+schema_and_word question (schema ∷ word ∷ []) = Some (over_schema schema (of_schema (question word)))
+schema_and_word question _ = None
+
+-- a schema and a plan
+unfoldable pub schema_and_plan : PlanQuestion → List (List ℕ) → Option CommandForm
+schema_and_plan question (schema ∷ plan ∷ []) = Some (over_schema schema (of_plan plan question))
+schema_and_plan question _ = None
+
+-- a schema, a plan, and one word more that goes with the question
+unfoldable pub schema_and_plan_and_word : (List ℕ → PlanQuestion) → List (List ℕ) → Option CommandForm
+schema_and_plan_and_word question (schema ∷ plan ∷ word ∷ []) =
+    Some (over_schema schema (of_plan plan (question word)))
+schema_and_plan_and_word question _ = None
+
+-- a schema and rows
+unfoldable pub schema_and_rows : RowsQuestion → List (List ℕ) → Option CommandForm
+schema_and_rows question (schema ∷ rows ∷ []) = Some (over_schema schema (of_rows rows question))
+schema_and_rows question _ = None
 
 -- a schema and two words more
 unfoldable pub schema_and_two : (List ℕ → List ℕ → Task) → List (List ℕ) → Option CommandForm
@@ -134,24 +165,24 @@ persons_alone _ = None
 unfoldable pub after_check_form : List (List ℕ) → Option CommandForm
 after_check_form [] = None
 after_check_form (what ∷ rest) =
-    option_and_then (λ form. schema_and (check_form form) rest) (normal_form what)
+    option_and_then (λ form. schema_and_plan (check_form form) rest) (normal_form what)
 
 -- after `check`
 unfoldable pub after_check : List (List ℕ) → Option CommandForm
 after_check [] = None
 after_check (what ∷ rest) =
     if bytes_eq what (codes "proof") then schema_and_two check_proof rest
-    else if bytes_eq what (codes "rows") then schema_and check_rows rest
-    else if bytes_eq what (codes "join") then schema_and check_join rest
+    else if bytes_eq what (codes "rows") then schema_and_rows check_rows rest
+    else if bytes_eq what (codes "join") then schema_and_plan check_join rest
     else if bytes_eq what (codes "form") then after_check_form rest
-    else if bytes_eq what (codes "keeps") then schema_and check_keeps rest
+    else if bytes_eq what (codes "keeps") then schema_and_plan check_keeps rest
     else if bytes_eq what (codes "same") then two_schemas check_same rest
     else None
 
 -- after `keys`
 unfoldable pub after_keys : List (List ℕ) → Option CommandForm
-after_keys (schema ∷ []) = Some (over_schema schema keys)
-after_keys (schema ∷ plan ∷ []) = Some (over_schema schema (keys_of_plan plan))
+after_keys (schema ∷ []) = Some (over_schema schema (of_schema keys))
+after_keys (schema ∷ plan ∷ []) = Some (over_schema schema (of_plan plan keys_of_plan))
 after_keys _ = None
 
 -- after `split`
@@ -167,7 +198,7 @@ after_split (what ∷ rest) =
 unfoldable pub after_ddl : List (List ℕ) → Option CommandForm
 after_ddl [] = None
 after_ddl (what ∷ rest) =
-    if bytes_eq what (codes "plan") then schema_and ddl_plan rest
+    if bytes_eq what (codes "plan") then schema_and_plan ddl_plan rest
     else option_and_then (λ form. schema_alone (ddl form) rest) (normal_form what)
 
 -- after `migrate`
@@ -175,20 +206,20 @@ unfoldable pub after_migrate : List (List ℕ) → Option CommandForm
 after_migrate [] = None
 after_migrate (what ∷ rest) =
     if bytes_eq what (codes "plan") then schema_and_two migrate_plan rest
-    else option_and_then (λ form. schema_and (migrate form) rest) (normal_form what)
+    else option_and_then (λ form. schema_and_rows (migrate form) rest) (normal_form what)
 
 -- after `sql migrate`
 unfoldable pub after_sql_migrate : List (List ℕ) → Option CommandForm
 after_sql_migrate [] = None
 after_sql_migrate (what ∷ rest) =
-    if bytes_eq what (codes "plan") then schema_and_two sql_migrate_plan rest
-    else option_and_then (λ form. schema_and (sql_migrate form) rest) (normal_form what)
+    if bytes_eq what (codes "plan") then schema_and_plan_and_word sql_migrate_plan rest
+    else option_and_then (λ form. schema_and_word (sql_migrate form) rest) (normal_form what)
 
 -- after `sql`
 unfoldable pub after_sql : List (List ℕ) → Option CommandForm
 after_sql [] = None
 after_sql (what ∷ rest) =
-    if bytes_eq what (codes "check") then schema_and sql_check rest
+    if bytes_eq what (codes "check") then schema_and_word sql_check rest
     else if bytes_eq what (codes "migrate") then after_sql_migrate rest
     else None
 
@@ -196,16 +227,16 @@ after_sql (what ∷ rest) =
 unfoldable pub after_draw : List (List ℕ) → Option CommandForm
 after_draw [] = None
 after_draw (what ∷ rest) =
-    if bytes_eq what (codes "plan") then schema_and draw_plan rest
+    if bytes_eq what (codes "plan") then schema_and_plan draw_plan rest
     else option_and_then (λ form. schema_alone (draw form) rest) (normal_form what)
 
 -- what is asked of a schema
 unfoldable pub form_over_schema : List ℕ → List (List ℕ) → Option CommandForm
 form_over_schema verb rest =
-    if bytes_eq verb (codes "implies") then schema_and implies rest
+    if bytes_eq verb (codes "implies") then schema_and_word implies rest
     else if bytes_eq verb (codes "check") then after_check rest
     else if bytes_eq verb (codes "cover") then schema_alone cover rest
-    else if bytes_eq verb (codes "basis") then schema_and basis rest
+    else if bytes_eq verb (codes "basis") then schema_and_word basis rest
     else if bytes_eq verb (codes "keys") then after_keys rest
     else if bytes_eq verb (codes "synthesize") then schema_alone synthesize rest
     else if bytes_eq verb (codes "split") then after_split rest

@@ -3,11 +3,13 @@
 //! `parse` gives the command that words form, by their first words, and none exactly where they form none.
 #![tactic(auto)]
 
+mod check;
 mod command;
 mod persons;
+mod questions;
 mod shapes;
-mod table_shapes;
+mod tables;
 
-pub use command::{Command, Task, parse};
+pub use command::{Command, MOST_FILES, parse};
 pub use persons::Persons;
-pub use shapes::MOST_FILES;
+pub use questions::{PlanQuestion, RowsQuestion, SchemaQuestion, Task};

@@ -1,3 +1,5 @@
+//! A destination in a box, of whatever type: each call goes to the one in the box.
+
 use crate::destination::Destination;
 use dep_model::Name;
 use desk_outside::{HeldFile, OutsideFault};
@@ -10,6 +12,8 @@ impl Destination for Box<dyn Destination> {
     ghost finished = { λ b. (Destination-box b).finished b.value };
 
     ghost opened = { λ b. (Destination-box b).opened b.value };
+
+    ghost begun = { λ b. (Destination-box b).begun b.value };
 
     ghost width = { λ b. (Destination-box b).width b.value };
 

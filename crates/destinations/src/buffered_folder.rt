@@ -39,6 +39,7 @@ impl<G: Folder> BufferedFolder<G> {
         ensures closed { OnErr result (G.contents self.new.folder
             ≡ option_map with_none_open (G.contents self.old.folder)) }
         ensures is_open { G.is_open self.new.folder ≡ is_ok result }
+        ensures same { G.begun self.new.folder ≡ G.begun self.old.folder }
         ensures cause { HasOutsideCause (G.faults self.old.folder) (G.faults self.new.folder) result }
     {
         write_all(&mut self.folder, &self.buffer)?;
@@ -52,6 +53,8 @@ impl<G: Folder> Folder for BufferedFolder<G> {
     ghost contents = { λ f. option_map (with_bytes f.buffer.items) (G.contents f.folder) };
 
     ghost is_open = { λ f. G.is_open f.folder };
+
+    ghost begun = { λ f. G.begun f.folder };
 
     ghost faults = { λ f. G.faults f.folder };
 

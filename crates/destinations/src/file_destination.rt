@@ -38,6 +38,8 @@ impl<G: Folder> FileDestination<G> {
         // Over a folder that shows no finished file it stands for the empty list of tables.
         ensures begins { IfSome (G.contents folder) (λ contents. contents.finished ≡ [])
             → IfOk result (λ made. ⟦<FileDestination<G> as Destination>⟧.finished made []) }
+        ensures none_begun { G.begun folder ≡ []
+            → IfOk result (λ made. ⟦<FileDestination<G> as Destination>⟧.begun made []) }
     {
         Ok(FileDestination {
             alloc,
@@ -59,7 +61,7 @@ impl<G: Folder> FileDestination<G> {
 #[tactic(auto, using(crate::proofs::FileLemmas::file_steps))]
 impl<G: Folder> Destination for FileDestination<G> {
     ghost use Rattle.destinations.specs.Formats.{line_front, table_file};
-    ghost use Rattle.destinations.specs.FileTables.{FilesAre, OpenIs};
+    ghost use Rattle.destinations.specs.FileTables.{FilesAre, FilesBegun, OpenIs};
 
     ghost is_known = { λ destination. is_some (G.contents destination.folder.folder) };
 
@@ -69,6 +71,9 @@ impl<G: Folder> Destination for FileDestination<G> {
     ghost opened = { λ destination table.
         OpenIs (table_file destination.format) (⟦<BufferedFolder<G> as Folder>⟧.contents destination.folder) table
         × (destination.front.items ≡ line_front destination.format table.name table.columns) };
+
+    ghost begun = { λ destination names.
+        FilesBegun destination.format (G.begun destination.folder.folder) names };
 
     ghost width = { λ destination. destination.columns };
 

@@ -58,7 +58,7 @@ pub fn front_of(
     }
 }
 
-/// The line of a row of rows, after this front.
+/// The line of one row. It begins with `front`, which `front_of` gives, where the format has one.
 pub fn line_of(
     alloc: Global,
     format: TableFormat,

@@ -1,6 +1,8 @@
 ghost use Rattle.std.specs.Prelude.{◌≡◌, ◌<◌, ◌↔◌, true, [], ◌++◌, length, map, None, Some, is_ok, if◌then◌else◌, option_map, option_to_list, IsSome, IsSomeAnd, IsErrOf, OnOk, OnErr};
 ghost use Rattle.desk_outside.specs.Causes.{HasOutsideCause, is_failed};
 ghost use Rattle.desk_outside.specs.Planned.{FailsNext, CountsCall};
+ghost use Rattle.desk_outside.specs.Folders.{BeginsName};
+ghost use Rattle.destinations.specs.Destinations.{without_table};
 ghost use Rattle.destinations.specs.Memory.{new_destination};
 ghost use Rattle.named_tables.specs.Tables.{held_value, empty_table, with_row};
 ghost use Rattle.row_store.specs.Rows.{row_at};
@@ -18,6 +20,7 @@ use std::marker::Model;
 pub struct MemoryDestination {
     alloc: Global,
     tables: MemorySeries<HeldTable>,
+    begun: Vec<Name>,
 }
 
 impl Model for MemoryDestination {
@@ -30,6 +33,7 @@ impl Model for MemoryDestination {
     ghost view = { λ t. record {
       finished = map held_value t.tables.finished.items;
       opened = option_map held_value t.tables.opened;
+      begun = t.begun.items;
       planned = t.tables.planned;
     } };
 }
@@ -42,6 +46,7 @@ impl MemoryDestination {
         MemoryDestination {
             alloc,
             tables: MemorySeries::new(alloc, fails),
+            begun: Vec::new(alloc),
         }
     }
 
@@ -53,6 +58,14 @@ impl MemoryDestination {
     }
 }
 
+// Removes the tables of this name.
+fn remove_named(tables: &mut Vec<HeldTable>, name: &Name)
+    ensures others { map held_value tables.new.items
+        ≡ without_table name.now (map held_value tables.old.items) }
+{
+    tables.retain(|table| table.name.bytes() != name.bytes());
+}
+
 #[tactic(auto, using(desk_outside::proofs::SeriesFacts::mapped_end))]
 impl Destination for MemoryDestination {
     ghost is_known = { λ _. true };
@@ -61,12 +74,16 @@ impl Destination for MemoryDestination {
 
     ghost opened = { λ destination table. destination.opened ≡ Some table };
 
+    ghost begun = { λ destination names. destination.begun ≡ names };
+
     ghost width = { λ destination. option_map (λ table. length table.columns) destination.opened };
 
     ghost faults = { λ destination. destination.planned.faults };
 
     fn begin_table(&mut self, name: &Name, columns: &[Name]) -> Result<(), OutsideFault>
-        ensures finished { self.new.finished ≡ self.old.finished }
+        ensures replaced { OnOk result (self.new.finished ≡ without_table name.now self.old.finished) }
+        ensures finished { OnErr result (self.new.finished ≡ self.old.finished) }
+        ensures begins { BeginsName name.now self.old.begun self.new.begun result }
         ensures begun { OnOk result (self.new.opened ≡ Some (empty_table name.now columns.now)) }
         ensures closed { OnErr result (self.new.opened ≡ None) }
 
@@ -77,6 +94,10 @@ impl Destination for MemoryDestination {
     {
         self.tables.take_open()?;
         let columns = Vec::from_slice(self.alloc, columns)?;
+        if self.begun.push(*name).is_err() {
+            return Err(OutsideFault::OutOfMemory);
+        }
+        remove_named(&mut self.tables.finished, name);
         self.tables.opened = Some(HeldTable {
             name: *name,
             columns,
@@ -90,6 +111,7 @@ impl Destination for MemoryDestination {
         requires even { option_map (λ table. length table.columns) self.old.opened
             ≡ Some (length (row_at rows.now row)) }
         ensures finished { self.new.finished ≡ self.old.finished }
+        ensures same { self.new.begun ≡ self.old.begun }
         ensures adds { OnOk result (self.new.opened
             ≡ option_map (with_row (row_at rows.now row)) self.old.opened) }
         ensures closed { OnErr result (self.new.opened ≡ None) }
@@ -114,6 +136,7 @@ impl Destination for MemoryDestination {
         ensures ended { OnOk result (self.new.finished
             ≡ self.old.finished ++ option_to_list self.old.opened) }
         ensures finished { OnErr result (self.new.finished ≡ self.old.finished) }
+        ensures same { self.new.begun ≡ self.old.begun }
         ensures closed { self.new.opened ≡ None }
         ensures failed { IsErrOf result OutsideFault.Failed ↔ FailsNext self.old.planned }
         ensures counts { CountsCall self.old.planned self.new.planned (is_failed result) }

@@ -1,5 +1,5 @@
--- Lists of keys that exchanging leads not out of: for the law `all_keys_by_exchange`. `Desk` does
--- not cite it.
+-- Lists of keys closed under the exchange of a right side for its left side: for the law
+-- `all_keys_by_exchange`. `Desk` does not cite it.
 use Rattle.std.specs.Prelude.{List, All, Any}
 use Rattle.attr_sets.specs.Attributes.{Attributes, union, difference, IsSubset}
 use Rattle.dep_model.specs.Dependencies.{Dependency, left_of, right_of}

@@ -1,5 +1,5 @@
 -- The definitions of fd_closure, in reading order: functionally closed sets, members of a list that
--- are on, counting, and lists of keys.
+-- are on, counting, lists of keys, and left sides.
 pub mod FunctionallyClosed
 pub mod Switches
 pub mod Counting

@@ -4,7 +4,7 @@
 //!
 //! `closure` and `follows` are exact: their clauses speak of all relations that obey the functional
 //! dependencies, over any number of attributes that holds the sets named. Multivalued dependencies in
-//! the list are passed over. No call takes memory.
+//! the list are passed over. No call but `Counters::new` takes memory.
 #![tactic(auto)]
 
 mod closing;

@@ -11,7 +11,7 @@ use Rattle.dep_model.specs.Dependencies.{ObeysFd}
 use Rattle.csv_rows.specs.Numberings.{number_at, AreGroups}
 use Rattle.row_store.specs.Rows.{row_at}
 use Rattle.csv_rows.specs.Interning.{codes_at}
-use Rattle.fd_discovery.specs.Leaders.{AreLeaders, IsOrderOf, IsTableOfRows, order_at}
+use Rattle.fd_discovery.specs.Leaders.{AreLeaders, AreLed, IsOrderOf, IsTableOfRows, order_at}
 use Rattle.fd_discovery.specs.declared.table.CodeColumns.{CodeColumns}
 use Rattle.dep_model.proofs.TwoRowLemmas.{AgreeOn-union, AgreeOn-left, AgreeOn-right}
 use Rattle.csv_rows.proofs.NumberingLemmas.{row_of}
@@ -298,6 +298,14 @@ first_leads r x leaders empty is = record {
     zero : (i : ℕ) → i < length r → number_at leaders i ≡ 0
     zero i l = ap (λ (s : List ℕ). number_at s i) is ∙ get_or-replicate (length r) i 0 0 l
 
+-- so a table of the rows is led by it, given as a list that is the same
+pub first_led : (n : ℕ) (r : Relation) (table : CodeColumns) (x : Attributes) (leaders given : List ℕ) → IsTableOfRows n r table → IsEmpty x
+    → leaders ≡ replicate (length r) 0 → given ≡ leaders → AreLed r table x given
+first_led n r table x leaders given rows empty is same = record {
+  table = subst (λ (m : ℕ). IsTableOfRows m r table) (sym rows.width) rows;
+  led = first_leads r x given empty (same ∙ is);
+}
+
 -- a set looks at its members alone
 pub same_leaders : (r : Relation) (x y : Attributes) (leaders : List ℕ) → x ≡ y → AreLeaders r x leaders
     → AreLeaders r y leaders
@@ -339,3 +347,15 @@ leaders_with n r t set larger position codes row order finer table low is_codes 
     (subst (λ (l : List ℕ). IsOrderOf (codes_at t.codes position) l) (sym order_is) (table.orders position low)) in
     same_leaders r (union set (only position)) larger finer (sym same)
     (refined (column_groups n r t position codes table low is_codes) ordered)
+
+-- so a table of the rows is led by them, given as a list that is the same
+pub led_with : (r : Relation) (t : CodeColumns) (set larger : Attributes) (position : ℕ) (leaders codes row order finer given : List ℕ)
+    → AreLed r t set leaders → position < t.width → codes ≡ codes_at t.codes position → order ≡ row → row ≡ slice_index_or t.orders.items position row
+    → larger ≡ union set (only position)
+    → (AreLeaders r set leaders → AreGroups r (only position) codes → IsOrderOf codes order → AreLeaders r (union set (only position)) finer)
+    → given ≡ finer → AreLed r t larger given
+led_with r t set larger position leaders codes row order finer given led low is_codes is_order is_row same refined is = record {
+  table = led.table;
+  led = subst (λ (l : List ℕ). AreLeaders r larger l) (sym is)
+      (leaders_with t.width r t set larger position codes row order finer led.table low is_codes is_order is_row same (refined led.led));
+}

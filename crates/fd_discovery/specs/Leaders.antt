@@ -1,4 +1,5 @@
--- Rows by what they have on a set: for the search of fd_discovery. `Desk` does not cite it.
+-- Leaders: for each row one of the rows that agree with it on a set. For the search of
+-- fd_discovery. `Desk` does not cite it.
 use Rattle.std.specs.Prelude.{◌≡◌, ◌<◌, ◌≤◌, ℕ, List, [], length, slice_index_or, All, Contains}
 use Rattle.attr_sets.specs.Attributes.{Attributes}
 use Rattle.dep_model.specs.Tuples.{Relation, AgreeOn}

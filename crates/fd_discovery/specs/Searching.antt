@@ -1,4 +1,5 @@
--- What was found so far: for the functions below `discover`. `Desk` does not cite it.
+-- The minimal dependencies that were found so far: for the functions below `discover`. `Desk` does
+-- not cite it.
 use Rattle.std.specs.Prelude.{◌≡◌, ◌<◌, ◌⊎◌, ℕ, true, false, List, All, AllPairs, Any}
 use Rattle.attr_sets.specs.Attributes.{Attributes, below, only, IsSubset, IsBefore}
 use Rattle.dep_model.specs.Tuples.{Relation}
@@ -34,9 +35,10 @@ pub record AreFound (n : ℕ) (r : Relation) (y : Attributes) (b : ℕ) (ds : Li
   pub given : (x : Attributes) (a : ℕ) → IsSubset x (below n) → a < n → x a ≡ false → IsTried y b x a
       → ObeysFd x (only a) r → IsListedFrom ds x a
 
--- the same, where all attributes of the sets before y were tried; and where those of y were too
+-- the same, where all attributes of the sets before y were tried
 abbrev pub AreFoundBefore : ℕ → Relation → Attributes → List Dep → Type 0
 AreFoundBefore n r y found = AreFound n r y 0 (dependencies_of found)
 
+-- and where those of y were too
 abbrev pub AreFoundUpTo : ℕ → Relation → Attributes → List Dep → Type 0
 AreFoundUpTo n r y found = AreFound n r y n (dependencies_of found)

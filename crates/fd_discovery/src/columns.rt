@@ -5,8 +5,8 @@ ghost use Rattle.fd_discovery.specs.Headers.{NamesColumn, RefusesColumn, IsColum
 
 use crate::DiscoverRefusal;
 use crate::headed_rows::WIDEST_HEADED;
-use crate::records::field;
 use csv::ByteRecord;
+use csv_rows::field;
 use dep_model::{Failure, Name, is_bare_name};
 use schema_grammar::Format;
 use std::alloc::Global;

@@ -7,8 +7,8 @@ ghost use Rattle.fd_discovery.specs.Headings.{IsHeaded, IsRefusedDiscovery, name
 
 use crate::DiscoverRefusal;
 use crate::columns::column_names;
-use crate::records::{field, open_reader, take_record};
 use csv::{ByteRecord, Reader};
+use csv_rows::{field, open_reader, take_record};
 use dep_model::{Failure, Name, OutOfMemory};
 use row_store::{FlatValues, Rows};
 use std::alloc::Global;

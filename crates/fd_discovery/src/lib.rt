@@ -12,7 +12,6 @@ mod headed_rows;
 mod laws;
 mod leaders;
 mod ordering;
-mod records;
 mod refusal;
 mod searching;
 mod table;

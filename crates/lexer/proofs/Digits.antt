@@ -41,6 +41,7 @@ SoFar-next run i v x h e digit so_far = record {
   small = let grown : 10 ^ (i + 1) ≡ 10 ^ i * 10 = rw add-one (pow-suc 10 i) in let value = so_far.small in let high = digit.high in omega arith;
 }
 
+-- a value of fewer digits than a number may have is below 10 ^ 8, so one digit more fits in 32 bits
 pub fits_u32_below : (i v n : ℕ) → v < 10 ^ i → i < n → n ≤ 9 → v < 10 ^ 8
 fits_u32_below i v n small below short =
     let at_most_8 : i ≤ 8 = omega arith in

@@ -1,5 +1,5 @@
 -- The quoted text of a name is one token for that name.
-use Rattle.std.proofs.Common.{◌≡◌, ◌+◌, ◌==◌, ℕ, Bool, true, false, cond, Some, List, [], ◌∷◌, ◌++◌, length, drop, nat_eq, arith, sym, ◌∙◌, ap, refl, append_assoc, length-append}
+use Rattle.std.proofs.Common.{◌≡◌, ◌+◌, ◌==◌, ℕ, Bool, true, false, cond, Some, List, [], ◌∷◌, ◌++◌, length, take, drop, nat_eq, arith, sym, ◌∙◌, ap, refl, append_assoc, length-append}
 use Rattle.std.proofs.lemmas.Bool.{eqb-true}
 use Rattle.std.proofs.lemmas.Bool.Decides.{nat_tests}
 use Rattle.std.proofs.Math.Seq.{take-append_seam, drop-append_seam}
@@ -8,11 +8,11 @@ use Rattle.lexer.specs.declared.mode.Mode.{Mode}
 use Rattle.lexer.specs.declared.piece.Piece.TheVariants as piece
 use Rattle.lexer.specs.declared.token.TokenKind.TheVariants as token
 use Rattle.lexer.specs.Pieces.{front_piece, closed_piece, quoted_piece}
-use Rattle.lexer.specs.Quotes.{is_name, further, closing_quote, undoubled}
+use Rattle.lexer.specs.Quotes.{is_name, further, closing_quote, undoubled, between}
 use Rattle.dep_model.specs.Names.{quotes_doubled, quoted}
 use Rattle.lexer.specs.Tokens.{tokens_after, led_by_mark}
 use Rattle.lexer.proofs.Quoting.{is_quote, closing_at_quote, closing_other, undoubled_one}
-use Rattle.lexer.proofs.Steps.{at_quoted}
+use Rattle.lexer.proofs.Steps.{at_token, between_taken}
 
 -- the quote that closes is the one after the name
 closing-doubled : (name rest : List ℕ) → is_quote rest ≡ false
@@ -46,7 +46,7 @@ unfolding front_piece
 front_quote m rest taken = rw taken refl
 
 quoted_front : (m : Mode) (name rest : List ℕ) → m.quotes ≡ true → is_name name ≡ true → is_quote rest ≡ false
-    → front_piece m (34 ∷ (quotes_doubled name ++ 34 ∷ rest)) ≡ piece.Quoted name (length (quotes_doubled name) + 2)
+    → front_piece m (34 ∷ (quotes_doubled name ++ 34 ∷ rest)) ≡ piece.Token token.Quoted (length (quotes_doubled name) + 2)
 unfolding quoted_piece
 quoted_front m name rest taken is apart =
     front_quote m (quotes_doubled name ++ 34 ∷ rest) taken
@@ -68,6 +68,9 @@ quoted_lexed m column name rest taken is apart =
     let left : drop (length doubled + 2) text ≡ rest =
     ap (λ (n : ℕ). drop n text) (sym size) ∙ ap (drop (length (quoted name))) (sym whole)
     ∙ drop-append_seam (quoted name) rest in
+    let word : undoubled (between (take (length doubled + 2) text)) ≡ name =
+    ap undoubled (between_taken text (length doubled) (omega (arith, length-append doubled (34 ∷ rest)))
+    ∙ take-append_seam doubled (34 ∷ rest)) ∙ undoubled-doubled name in
     ap (tokens_after m 0 column) whole
-    ∙ at_quoted m column text name (length doubled + 2) (omega arith) (sym (quoted_front m name rest taken is apart))
-    ∙ rw (size, left) refl
+    ∙ at_token m column text token.Quoted (length doubled + 2) (omega arith) (sym (quoted_front m name rest taken is apart))
+    ∙ rw (size, left, word) refl

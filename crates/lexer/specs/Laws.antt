@@ -1,4 +1,5 @@
--- That names are tested, and that a quoted name is one token: for the functions of `laws.rt`. `Desk` does not cite it.
+-- The laws that the test of names takes exactly names, and that a quoted name is one token: for the
+-- functions of `laws.rt`. `Desk` does not cite it.
 use Rattle.std.specs.Prelude.{◌≡◌, ◌↔◌, ℕ, ◌+◌, true, false, List, [], ◌∷◌, ◌++◌, length, nat_eq}
 use Rattle.std.specs.List.{starts_with}
 use Rattle.dep_model.specs.Names.{IsName}

@@ -17,11 +17,11 @@ run_piece m run =
     else if m.numbers && is_number run then piece.Token (token.Number (number_of run)) (length run)
     else piece.Flaw flaw.BadName (length run)
 
--- a quoted text of this length, with the bytes that stand between its quotes: a token for the name
--- that they spell, or a flaw
+-- a quoted text of this length, with the bytes that stand between its quotes: a token, where they
+-- spell a name, or a flaw
 abbrev pub quoted_text : List ℕ → ℕ → Piece
-quoted_text between n =
-    if is_name (undoubled between) then piece.Quoted (undoubled between) n else piece.Flaw flaw.BadName n
+quoted_text inner n =
+    if is_name (undoubled inner) then piece.Token token.Quoted n else piece.Flaw flaw.BadName n
 
 -- what begins with a quote, by how many bytes stand between it and the quote that closes
 abbrev pub closed_piece : List ℕ → Option ℕ → Piece

@@ -1,5 +1,5 @@
 -- Names between double quotes: for the tokens (`Pieces`) and the law of quoted names.
-use Rattle.std.specs.Prelude.{ℕ, ◌+◌, ◌==◌, Bool, ◌&&◌, not, nat_lt, nat_le, Option, Some, None, List, [], ◌∷◌, ◌++◌, length, if◌then◌else◌}
+use Rattle.std.specs.Prelude.{◌≡◌, ◌≤◌, ℕ, ◌+◌, ◌-◌, true, ◌==◌, Bool, ◌&&◌, not, nat_lt, nat_le, Option, Some, None, List, [], ◌∷◌, ◌++◌, length, take, drop, if◌then◌else◌}
 use Rattle.std.specs.List.{flat_map, list_any}
 use Rattle.std.specs.Str.{is_utf8}
 use Rattle.dep_model.specs.declared.name.TheConstants.{MOST_NAME_BYTES}
@@ -28,3 +28,12 @@ unfoldable pub undoubled : List ℕ → List ℕ
 undoubled [] = []
 undoubled (b ∷ []) = b ∷ []
 undoubled (b ∷ c ∷ bs) = if (b == 34) && (c == 34) then 34 ∷ undoubled bs else b ∷ undoubled (c ∷ bs)
+
+-- what stands between the first byte and the last one
+abbrev pub between : List ℕ → List ℕ
+between text = take (length text - 2) (drop 1 text)
+
+-- a text of two quotes, or bytes like them, and of a name between them, each quote in it doubled
+pub record IsQuoted (text : List ℕ) : Type 0 where
+  pub two_quotes : 2 ≤ length text
+  pub a_name : is_name (undoubled (between text)) ≡ true

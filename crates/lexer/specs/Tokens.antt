@@ -12,7 +12,10 @@ use Rattle.lexer.specs.declared.word.Word.{Word}
 use Rattle.lexer.specs.declared.word.Word.TheVariants as word
 use Rattle.lexer.specs.declared.token.TokenKind.TheVariants as token
 use Rattle.dep_model.specs.Names.{IsName, is_bare_name}
+use Rattle.lexer.specs.declared.word.WordBytes.{WordBytes}
+use Rattle.lexer.specs.declared.word.WordBytes.TheVariants as bytes
 use Rattle.lexer.specs.Pieces.{front_piece}
+use Rattle.lexer.specs.Quotes.{undoubled, between}
 
 -- a token with the bytes that it stands for: those of its text, or the name between its quotes
 pub record Mark : Type 0 where
@@ -29,15 +32,19 @@ pub record Lexed : Type 0 where
 abbrev pub led_by_mark : Mark → Lexed → Lexed
 led_by_mark m l = record { marks = m ∷ l.marks; stop = l.stop }
 
+-- the bytes that a token with this text stands for
+abbrev pub word_of : TokenKind → List ℕ → List ℕ
+word_of token.Quoted text = undoubled (between text)
+word_of kind text = text
+
 -- the tokens of a text at whose front this piece stands; the tokens of what is left after some
 -- bytes more come from `after`
 abbrev pub led_by : Piece → ℕ → List ℕ → (ℕ → Lexed) → Lexed
 led_by piece.Gap column text after = after 0
 led_by piece.Comment column text after = record { marks = []; stop = None }
 led_by (piece.Token kind n) column text after =
-    led_by_mark (record { kind = kind; column = column; length = n; word = take n text }) (after (n - 1))
-led_by (piece.Quoted name n) column text after =
-    led_by_mark (record { kind = token.Quoted; column = column; length = n; word = name }) (after (n - 1))
+    led_by_mark (record { kind = kind; column = column; length = n; word = word_of kind (take n text) })
+    (after (n - 1))
 led_by (piece.Flaw why n) column text after =
     record { marks = []; stop = Some (record { flaw = why; column = column; length = n }) }
 
@@ -58,8 +65,12 @@ token_of m = record { kind = m.kind; column = m.column; length = m.length }
 
 -- the bytes that a token stands for
 abbrev pub bytes_of : Word → List ℕ
-bytes_of (word.Bare bytes) = bytes.now
-bytes_of (word.Quoted name) = name
+bytes_of (word.Bare text) = text.now
+bytes_of (word.Quoted quoted) = undoubled quoted.text.now
+
+abbrev pub bytes_in : WordBytes → List ℕ
+bytes_in (bytes.Text text) = text.now
+bytes_in (bytes.Name name) = name
 
 -- the token stands in front of the others; the bytes of a word form one, and those of a quoted name
 pub record Leads (m : Mode) (t : Token) (word rest : List ℕ) (all : Lexed) : Type 0 where

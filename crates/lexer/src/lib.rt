@@ -17,5 +17,6 @@ mod word;
 pub use laws::{modes_are_named, names_are_tested, quoted_names};
 pub use line::{cut_line, without_mark};
 pub use mode::Mode;
+pub use quotes::QuotedName;
 pub use token::{Flaw, LexError, Next, Token, TokenKind, next_token};
-pub use word::Word;
+pub use word::{Word, WordBytes};

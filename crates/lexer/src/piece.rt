@@ -7,7 +7,6 @@ use crate::bytes::{is_bare_name, is_gap, is_number, is_run, number_of, run_lengt
 use crate::mode::Mode;
 use crate::quotes::quoted_piece;
 use crate::token::{Flaw, TokenKind};
-use dep_model::Name;
 
 /// What stands at the front of a text.
 #[derive(Clone, Copy)]
@@ -18,8 +17,6 @@ pub enum Piece {
     Comment,
     /// A token of this many bytes.
     Token(TokenKind, usize),
-    /// A name between quotes, and how many bytes these have with it.
-    Quoted(Name, usize),
     /// Bytes, this many, that are no token.
     Flaw(Flaw, usize),
 }

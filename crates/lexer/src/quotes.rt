@@ -1,10 +1,40 @@
 ghost use Rattle.std.specs.Prelude.{◌≡◌, ◌<◌, ◌≤◌, ◌↔◌, length, drop, IsTrue, IsSome, IfSome};
 ghost use Rattle.lexer.specs.Pieces.{quoted_piece};
-ghost use Rattle.lexer.specs.Quotes.{is_name, closing_quote, undoubled};
+ghost use Rattle.lexer.specs.Quotes.{is_name, closing_quote, undoubled, between, IsQuoted};
 
 use crate::piece::Piece;
-use crate::token::Flaw;
+use crate::token::{Flaw, TokenKind};
 use dep_model::{MOST_NAME_BYTES, Name};
+
+/// A name as it stands between quotes, where a quote in it is doubled.
+#[derive(Clone, Copy, Debug)]
+pub struct QuotedName<'a> {
+    text: &'a [u8],
+    pub ghost name: { IsTrue (is_name (undoubled text.now)) },
+}
+
+impl<'a> QuotedName<'a> {
+    /// The name in a text with its quotes.
+    pub fn of(quoted: &'a [u8]) -> QuotedName<'a>
+        requires { IsQuoted quoted.now }
+        ensures text { result.text.now ≡ between quoted.now }
+    {
+        let rest = quoted.split_at(1).1;
+        QuotedName {
+            text: rest.split_at(quoted.len() - 2).0,
+        }
+    }
+
+    /// The name, each doubled quote once.
+    pub fn name(&self) -> Name
+        ensures name { result ≡ undoubled self.now.text.now }
+    {
+        match name_between(self.text) {
+            Some(name) => name,
+            None => unreachable!(),
+        }
+    }
+}
 
 /// What begins with a quote: a quoted name, or a flaw.
 #[tactic(auto, unfolding(crate::specs::Pieces::quoted_piece))]
@@ -16,7 +46,7 @@ pub fn quoted_piece(text: &[u8]) -> Piece
     match closing_quote(rest) {
         None => Piece::Flaw(Flaw::BadName, text.len()),
         Some(end) => match name_between(rest.split_at(end).0) {
-            Some(name) => Piece::Quoted(name, end + 2),
+            Some(_) => Piece::Token(TokenKind::Quoted, end + 2),
             None => Piece::Flaw(Flaw::BadName, end + 2),
         },
     }

@@ -77,21 +77,13 @@ pub fn next_token(mode: Mode, column: u32, text: &[u8]) -> Next<'_>
             }
             Piece::Comment => return Next::End,
             Piece::Token(kind, length) => {
-                let (word, after) = rest.split_at(length);
+                let (text, after) = rest.split_at(length);
                 let token = Token {
                     kind,
                     column,
                     length: length as u32,
                 };
-                return Next::Token(token, Word::Bare(word), after);
-            }
-            Piece::Quoted(name, length) => {
-                let token = Token {
-                    kind: TokenKind::Quoted,
-                    column,
-                    length: length as u32,
-                };
-                return Next::Token(token, Word::Quoted(name), rest.split_at(length).1);
+                return Next::Token(token, Word::of(kind, text), after);
             }
             Piece::Flaw(flaw, length) => {
                 return Next::Error(LexError {

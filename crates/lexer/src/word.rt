@@ -1,25 +1,62 @@
 ghost use Rattle.std.specs.Prelude.{◌≡◌};
-ghost use Rattle.lexer.specs.Tokens.{bytes_of};
+ghost use Rattle.lexer.specs.Quotes.{IsQuoted};
+ghost use Rattle.lexer.specs.Tokens.{bytes_in, bytes_of, word_of};
 
+use crate::quotes::QuotedName;
+use crate::token::TokenKind;
 use dep_model::Name;
 
-/// The bytes that a token stands for.
+/// The bytes that a token stands for, as its text has them.
 #[derive(Clone, Copy, Debug)]
 pub enum Word<'a> {
     /// Those of its text.
     Bare(&'a [u8]),
-    /// The name that its text has between quotes, each doubled quote once.
-    Quoted(Name),
+    /// Those of the name that its text has between quotes.
+    Quoted(QuotedName<'a>),
 }
 
-impl Word<'_> {
-    /// The bytes.
-    pub fn bytes(&self) -> &[u8]
-        ensures bytes { result.now ≡ bytes_of self.now }
+/// The bytes that a token stands for.
+#[derive(Clone, Copy, Debug)]
+pub enum WordBytes<'a> {
+    Text(&'a [u8]),
+    Name(Name),
+}
+
+impl<'a> Word<'a> {
+    /// The word of a token with this text.
+    pub fn of(kind: TokenKind, text: &'a [u8]) -> Word<'a>
+        requires quoted { kind ≡ TokenKind.Quoted → IsQuoted text.now }
+        ensures bytes { bytes_of result ≡ word_of kind text.now }
+    {
+        match kind {
+            TokenKind::Quoted => Word::Quoted(QuotedName::of(text)),
+            TokenKind::Identifier
+            | TokenKind::Number(_)
+            | TokenKind::Arrow
+            | TokenKind::DoubleArrow
+            | TokenKind::Empty
+            | TokenKind::Colon => Word::Bare(text),
+        }
+    }
+
+    /// The bytes, for those who do not ask whether they were quoted. A name takes room of its own here.
+    pub fn bytes(&self) -> WordBytes<'a>
+        ensures bytes { bytes_in result ≡ bytes_of self.now }
     {
         match self {
-            Word::Bare(bytes) => bytes,
-            Word::Quoted(name) => name.bytes(),
+            Word::Bare(text) => WordBytes::Text(text),
+            Word::Quoted(quoted) => WordBytes::Name(quoted.name()),
+        }
+    }
+}
+
+impl WordBytes<'_> {
+    pub fn as_slice(&self) -> &[u8]
+        ensures bytes { result.now ≡ bytes_in self.now }
+    {
+        match self {
+            WordBytes::Text(text) => text,
+            WordBytes::Name(name) => name.bytes(),
         }
     }
 }

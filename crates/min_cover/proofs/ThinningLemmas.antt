@@ -200,7 +200,8 @@ front_push xs ys e front =
     let long : length xs ≤ length ys = omega (arith, length-take (length xs) ys, ap (λ (l : List Dep). length l) front) in
     take-append-le (length xs) ys (e ∷ []) long ∙ front
 
--- what is left after a cover, in its own words
+-- a list whose front is a cover, thinned from there on: said of the cover and of what stands after
+-- it
 pub thinned_after : (n width from : ℕ) (cover others : List Dep) (ms rest : List Dependency) → width ≡ n → from ≡ length cover → take (length cover) others ≡ cover → dependencies_of (drop (length cover) others) ≡ ms
     → IsThinned width (dependencies_of (take from others)) (dependencies_of (drop from others)) rest → IsThinned n (dependencies_of cover) ms rest
 thinned_after n width from cover others ms rest width_is from_is front later thinned =

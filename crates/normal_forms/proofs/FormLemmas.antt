@@ -19,7 +19,7 @@ use Rattle.normal_forms.specs.declared.forms.Breach.{Breach}
 use Rattle.normal_forms.specs.declared.forms.Form.{Form}
 use Rattle.normal_forms.specs.declared.forms.Form.TheVariants.{Third, Bcnf, Fourth}
 use Rattle.normal_forms.specs.Violations.{DeterminesBeyond, ViolatesThird, Violates}
-use Rattle.normal_forms.specs.Chosen.{IsInForm, IsChosenViolation, IsInnocent}
+use Rattle.normal_forms.specs.Chosen.{IsInForm, IsChosenViolation, IsNoViolation}
 use Rattle.normal_forms.specs.Adding.{AddOnlyThemselves}
 use Rattle.normal_forms.specs.Breaking.{Breaks, IsEnough, NoneBreaks, IsFirstBreaking}
 use Rattle.normal_forms.specs.Primes.{ArePrime}
@@ -63,40 +63,41 @@ chosen_from n ds form scheme whole x y other low enough found violates = record 
 }
 
 -- ---- third form
--- x is no superkey and determines an attribute beyond it that is not known to be prime
-abbrev pub IsUntold : ℕ → List Dependency → Attributes → Attributes → Attributes → Type 0
-IsUntold n ds scheme primes x = (IsSuperkey n ds scheme x → ⊥) × ((a : ℕ) × DeterminesBeyond n ds scheme x a × (primes a ≡ false))
+-- x violates third form unless more attributes are prime than are known to be: it is no superkey and
+-- determines an attribute beyond it that is not known to be prime
+abbrev pub MayViolateThird : ℕ → List Dependency → Attributes → Attributes → Attributes → Type 0
+MayViolateThird n ds scheme primes x = (IsSuperkey n ds scheme x → ⊥) × ((a : ℕ) × DeterminesBeyond n ds scheme x a × (primes a ≡ false))
 
 module _ (n : ℕ) (ds : List Dependency) (scheme whole : Attributes) (low : IsSubset scheme (below n)) (added : AddOnlyThemselves n ds scheme whole) where
   -- what x has of the set determines the same beyond it
-  untold_less : (primes x : Attributes) (a : ℕ) → (IsSuperkey n ds scheme x → ⊥) → DeterminesBeyond n ds scheme x a → primes a ≡ false → IsUntold n ds scheme primes (intersection x whole)
-  untold_less primes x a none determined out =
+  may_violate_less : (primes x : Attributes) (a : ℕ) → (IsSuperkey n ds scheme x → ⊥) → DeterminesBeyond n ds scheme x a → primes a ≡ false → MayViolateThird n ds scheme primes (intersection x whole)
+  may_violate_less primes x a none determined out =
       let on : ImpliedOn n ds scheme (fd (intersection x whole) (only a)) = fd_on-from n ds scheme (intersection x whole) (only a) (λ k m. determined.0.within.0 k (grind (arith, m))) determined.0.within.1
       (added x a determined.0.within.0 (ltb-true a n (low a (determined.0.within.1 a (grind (arith, nat_tests)))), fd_on-to n ds scheme x (only a) determined.0) determined.1).1 in (
         (λ superkey. none (superkey_more n ds scheme (intersection x whole) x (λ k m. grind (arith, m)) determined.0.within.0 superkey)),
         (a, (on, grind (arith, determined.1)), out),
       )
 
-  pub third_from : (primes : Attributes) → All (IsWithin (below n)) ds → functional_part ds ≡ ds → ArePrime n ds scheme primes → ((x : Attributes) → IsSubset x whole → IsUntold n ds scheme primes x → ⊥)
+  pub third_from : (primes : Attributes) → All (IsWithin (below n)) ds → functional_part ds ≡ ds → ArePrime n ds scheme primes → ((x : Attributes) → IsSubset x whole → MayViolateThird n ds scheme primes x → ⊥)
       → (x : Attributes) (a : ℕ) → ImpliedOn n ds scheme (fd x (only a)) → x a ≡ false → IsSuperkey n ds scheme x ⊎ IsPrime n ds scheme a
   third_from primes within same are_prime none x a on out =
       let c = closure_set n ds x within same (λ k m. low k (on.within.0 k m)) in
       elim (cases_Bool (primes a)) [
         | inl known ↦ inr (are_prime a known)
         | inr unknown ↦ ⊎_elim
-            (λ beyond. absurd (none (intersection x whole) (λ k m. grind (arith, m)) (untold_less primes x a
+            (λ beyond. absurd (none (intersection x whole) (λ k m. grind (arith, m)) (may_violate_less primes x a
             (λ superkey. true≢false (sym (superkey_closed n ds scheme x c.0 low c.1.exact superkey beyond.0 beyond.2) ∙ beyond.3)) (on, out) unknown)))
             (λ all. inl (closed_superkey n ds scheme x c.0 on.within.0 c.1.exact all))
             (tell_subset n scheme c.0 low)
       ]
 
   -- no set before x violates the form
-  pub third_first : (primes x v w : Attributes) → ArePrime n ds scheme primes → ((y : Attributes) → IsSubset y whole → IsBefore y x → IsUntold n ds scheme primes y → ⊥)
+  pub third_first : (primes x v w : Attributes) → ArePrime n ds scheme primes → ((y : Attributes) → IsSubset y whole → IsBefore y x → MayViolateThird n ds scheme primes y → ⊥)
       → IsBefore v x → ViolatesThird n ds scheme v w → ⊥
   third_first primes x v w are_prime none before violates =
       let v_in = violates.determined.0.0.within.0 in
       none (intersection v whole) (λ k m. grind (arith, m)) (intersection_before n whole v x (λ k m. low k (v_in k m)) before)
-      (untold_less primes v violates.attribute violates.no_superkey violates.determined.0
+      (may_violate_less primes v violates.attribute violates.no_superkey violates.determined.0
       (false_from_ne_true (primes violates.attribute) (λ known. violates.determined.1 (are_prime violates.attribute known))))
 
 -- ---- what is found
@@ -111,9 +112,9 @@ none_in_form n ds form scheme (Some breach) low chosen formed = absurd (not_in_f
 pub given_left : (ds : List Dep) (i : ℕ) (d : Dep) (x : Attributes) → i < length ds → x ≡ left_of (dependency_of (get_or ds i d)) → left_of (get_or (dependencies_of ds) i (dependency_of d)) ≡ x
 given_left ds i d x short is = ap left_of (get_or-map dependency_of ds i d (dependency_of d) short) ∙ sym is
 
--- it is innocent where it lies not within the scheme, or breaks nothing
-pub innocent_outside : (n : ℕ) (ds : List Dependency) (form : Form) (scheme : Attributes) (d : Dependency) → IsSubset scheme (below n) → (IsSubset (left_of d) scheme → ⊥) → IsInnocent n ds form scheme d
-innocent_outside n ds form scheme d low out y violates = out (violates_in n ds form scheme (left_of d) y low violates)
+-- it is no violation where it does not lie within the scheme, or breaks nothing
+pub no_violation_outside : (n : ℕ) (ds : List Dependency) (form : Form) (scheme : Attributes) (d : Dependency) → IsSubset scheme (below n) → (IsSubset (left_of d) scheme → ⊥) → IsNoViolation n ds form scheme d
+no_violation_outside n ds form scheme d low out y violates = out (violates_in n ds form scheme (left_of d) y low violates)
 
-pub innocent_whole : (n : ℕ) (ds : List Dependency) (form : Form) (scheme : Attributes) (d : Dependency) → IsSubset scheme (below n) → (form ≡ Third → ⊥) → (Breaks n ds form scheme (left_of d) → ⊥) → IsInnocent n ds form scheme d
-innocent_whole n ds form scheme d low other none y violates = none (breaks_from n ds form scheme (left_of d) y low other violates)
+pub no_violation_whole : (n : ℕ) (ds : List Dependency) (form : Form) (scheme : Attributes) (d : Dependency) → IsSubset scheme (below n) → (form ≡ Third → ⊥) → (Breaks n ds form scheme (left_of d) → ⊥) → IsNoViolation n ds form scheme d
+no_violation_whole n ds form scheme d low other none y violates = none (breaks_from n ds form scheme (left_of d) y low other violates)

@@ -1,5 +1,5 @@
--- Prime attributes: those that turn some set into a superkey, which has all attributes that add only
--- themselves.
+-- Prime attributes: those by which some set becomes a superkey. The set may be taken with all
+-- attributes that add only themselves.
 use Rattle.std.proofs.Common.{◌≡◌, ℕ, ◌<◌, true, false, List, sym, ap, subst, ◌∙◌, inl, inr, ⊎_elim, arith}
 use Rattle.std.proofs.lemmas.Bool.{true≢false, cases_Bool, cases_eq, true_from_ne_false, ltb-true, or_cases}
 use Rattle.std.proofs.lemmas.Bool.Decides.{nat_tests}
@@ -14,17 +14,17 @@ use Rattle.normal_forms.specs.Adding.{AddOnlyThemselves}
 use Rattle.normal_forms.specs.Primes.{BecomesSuperkeyBy, ArePrime}
 use Rattle.normal_forms.proofs.AddedLemmas.{closure_more}
 
--- ---- a key of a set that an attribute turned into a superkey
-module _ (n : ℕ) (ds : List Dependency) (scheme x w k : Attributes) (a : ℕ) (low : IsSubset scheme (below n)) (x_in : IsSubset x scheme) (turned : BecomesSuperkeyBy n ds scheme x a) (is : w ≡ union x (only a))
+-- ---- a key of a set that becomes a superkey by an attribute
+module _ (n : ℕ) (ds : List Dependency) (scheme x w k : Attributes) (a : ℕ) (low : IsSubset scheme (below n)) (x_in : IsSubset x scheme) (becomes_superkey : BecomesSuperkeyBy n ds scheme x a) (is : w ≡ union x (only a))
     (greedy : IsGreedyKey n ds w k) where
   superkey : IsSuperkey n ds scheme w
-  superkey = subst (λ (v : Attributes). IsSuperkey n ds scheme v) (sym is) turned.0
+  superkey = subst (λ (v : Attributes). IsSuperkey n ds scheme v) (sym is) becomes_superkey.0
 
-  pub turned_key : IsKey n ds scheme k
-  turned_key = key_of_superkey n ds scheme w k superkey (greedy_is_key n ds w k (λ j m. low j (superkey.within.0 j m)) greedy)
+  pub completed_key : IsKey n ds scheme k
+  completed_key = key_of_superkey n ds scheme w k superkey (greedy_is_key n ds w k (λ j m. low j (superkey.within.0 j m)) greedy)
 
-  pub turned_member : k a ≡ true
-  turned_member = true_from_ne_false (k a) (λ out. turned.1 (superkey_more n ds scheme k x (without_a out) x_in turned_key.superkey))
+  pub completed_member : k a ≡ true
+  completed_member = true_from_ne_false (k a) (λ out. becomes_superkey.1 (superkey_more n ds scheme k x (without_a out) x_in completed_key.superkey))
     where
       without_a : k a ≡ false → IsSubset k x
       without_a out j m = elim (cases_eq j a) [
@@ -32,7 +32,7 @@ module _ (n : ℕ) (ds : List Dependency) (scheme x w k : Attributes) (a : ℕ) 
         | inr other ↦ grind (arith, nat_tests, same_at is j, greedy.within j m)
       ]
 
--- ---- no set is turned
+-- ---- no set becomes a superkey by it
 -- what x has of a set, with the rest
 abbrev with_rest : Attributes → Attributes → Attributes → Attributes
 with_rest x others rest = union (intersection x others) rest

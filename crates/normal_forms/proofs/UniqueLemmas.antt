@@ -11,7 +11,7 @@ use Rattle.dep_model.proofs.PartLemmas.{parts_same}
 use Rattle.normal_forms.specs.declared.forms.Form.{Form}
 use Rattle.normal_forms.specs.declared.forms.Form.TheVariants.{Third, Bcnf, Fourth}
 use Rattle.normal_forms.specs.Violations.{ViolatesThird, ViolatesFourth, Violates}
-use Rattle.normal_forms.specs.Chosen.{IsInnocent, IsChosenViolation, IsVisibleViolation}
+use Rattle.normal_forms.specs.Chosen.{IsNoViolation, IsChosenViolation, IsVisibleViolation}
 use Rattle.normal_forms.proofs.ViolationLemmas.{bcnf_left_in, part_attribute}
 
 -- ---- the right side of a left side
@@ -70,8 +70,8 @@ no_earlier_violation n ds form scheme x y v w one other less =
     let d = one.given in
     let short : i < length (take other.position ds) = omega (arith, less, length-take other.position ds, slice_get_within ds i d one.stands, slice_get_within ds other.position other.given other.stands) in
     let is : get_or (take other.position ds) i d ≡ d = get_or-take other.position ds i d less ∙ get_or_from_slice_get ds i d d one.stands in
-    let innocent : IsInnocent n ds form scheme d = subst (λ (e : Dependency). IsInnocent n ds form scheme e) is (other.first i d short) in
-    innocent y (subst (λ (u : Attributes). Violates n ds form scheme u y) one.left one.violates)
+    let no_violation : IsNoViolation n ds form scheme d = subst (λ (e : Dependency). IsNoViolation n ds form scheme e) is (other.first i d short) in
+    no_violation y (subst (λ (u : Attributes). Violates n ds form scheme u y) one.left one.violates)
 
 pub one_visible : (n : ℕ) (ds : List Dependency) (form : Form) (scheme x y v w : Attributes) → IsSubset scheme (below n)
     → IsVisibleViolation n ds form scheme x y → IsVisibleViolation n ds form scheme v w → (x ≡ v) × (y ≡ w)

@@ -28,13 +28,13 @@ pub record IsChosenViolation (n : ℕ) (ds : List Dependency) (form : Form)
   pub violates : Violates n ds form scheme x y
   pub first : (v w : Attributes) → IsBefore v x → Violates n ds form scheme v w → ⊥
 
--- the left side of a dependency does not violate the form
-abbrev pub IsInnocent : ℕ → List Dependency → Form → Attributes → Dependency → Type 0
-IsInnocent n ds form scheme d = (y : Attributes) → Violates n ds form scheme (left_of d) y → ⊥
+-- the left side of a dependency is no violation of the form, whatever the right side
+abbrev pub IsNoViolation : ℕ → List Dependency → Form → Attributes → Dependency → Type 0
+IsNoViolation n ds form scheme d = (y : Attributes) → Violates n ds form scheme (left_of d) y → ⊥
 
 -- no given left side violates the form
 abbrev pub HasNoVisibleViolation : ℕ → List Dependency → Form → Attributes → Type 0
-HasNoVisibleViolation n ds form scheme = All (IsInnocent n ds form scheme) ds
+HasNoVisibleViolation n ds form scheme = All (IsNoViolation n ds form scheme) ds
 
 -- x is the first given left side, in the order of the file, that violates the form, with the
 -- right side y
@@ -45,4 +45,4 @@ pub record IsVisibleViolation (n : ℕ) (ds : List Dependency) (form : Form)
   pub stands : slice_get ds position ≡ Some given
   pub left : x ≡ left_of given
   pub violates : Violates n ds form scheme x y
-  pub first : All (IsInnocent n ds form scheme) (take position ds)
+  pub first : All (IsNoViolation n ds form scheme) (take position ds)

@@ -84,7 +84,7 @@ fn becomes_superkey_by(schema: &Schema, scheme: AttrSet, set: AttrSet, attribute
     requires scheme { IsSubset (attributes scheme) (universe_of schema.now) }
     requires set { IsSubset (attributes set) (attributes scheme) }
     requires attribute { attributes scheme attribute ≡ true }
-    ensures turned { IsTrue result
+    ensures becomes_superkey { IsTrue result
         ↔ BecomesSuperkeyBy (width_of schema.now) (functional_part (theory_of schema.now))
         (attributes scheme) (attributes set) attribute }
 {

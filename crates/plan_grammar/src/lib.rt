@@ -1,8 +1,9 @@
 //! What plan texts mean, and how they are refused: the grammar, which their reader promises.
 //!
-//! A plan text over the names of a schema means schemes, or it has diagnostics: that of the first line
-//! which has one is its refusal, there of the first position, and there of the least number; or an
-//! attribute is in no scheme. There is no code here but the enum of the refusals.
+//! A plan text over the names of a schema means a list of schemes, or it is refused by its first
+//! diagnostic: that of the first line that has one, there of the first position, and there of the
+//! least number. Where no line has one, it is refused for the first attribute that is in no scheme.
+//! There is no code here but the enum of the refusals.
 #![tactic(auto)]
 
 mod laws;

@@ -134,7 +134,7 @@ fn is_scheme(kind: TokenKind, word: &Word<'_>) -> bool
     ensures exact { result ≡ is_scheme kind (bytes_of word.now) }
 {
     match kind {
-        TokenKind::Identifier => word.bytes() == b"scheme".as_slice(),
+        TokenKind::Identifier => word.bytes().as_slice() == b"scheme".as_slice(),
         _ => false,
     }
 }
@@ -143,7 +143,7 @@ fn is_scheme(kind: TokenKind, word: &Word<'_>) -> bool
 fn no_scheme(kind: TokenKind, word: &Word<'_>) -> SchemaRefusalKind
     ensures exact { result ≡ no_scheme kind (bytes_of word.now) }
 {
-    if is_reserved_token(Format::Plain, kind, word.bytes()) {
+    if is_reserved_token(Format::Plain, kind, word.bytes().as_slice()) {
         SchemaRefusalKind::ReservedName
     } else {
         SchemaRefusalKind::Expected(What::Scheme)
@@ -196,10 +196,12 @@ fn attribute_of_token(
 ) -> Result<u8, PlanRefusal>
     requires within_limit { length (names_in names.now) ≤ MOST_ATTRIBUTES }
     ensures ok { IfOk result (λ attribute.
-        attribute_of_token (names_in names.now) line first (mark_of token (bytes_of word.now)) token.kind ≡ Ok attribute) }
+        attribute_of_token (names_in names.now) line first (mark_of token (bytes_of word.now)) token.kind
+        ≡ Ok attribute) }
     ensures inside { IfOk result (λ attribute. attribute < length (names_in names.now)) }
     ensures err { IfErr result (λ refusal.
-        attribute_of_token (names_in names.now) line first (mark_of token (bytes_of word.now)) token.kind ≡ Err refusal) }
+        attribute_of_token (names_in names.now) line first (mark_of token (bytes_of word.now)) token.kind
+        ≡ Err refusal) }
 {
     match token.kind {
         TokenKind::Identifier | TokenKind::Quoted => match look_up(

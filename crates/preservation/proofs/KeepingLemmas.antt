@@ -12,7 +12,7 @@ use Rattle.dep_model.specs.TwoTuples.{two_tuples}
 use Rattle.dep_model.proofs.RuleLemmas.{fd_weaker_obeyed, reflexivity_obeyed, transitivity_obeyed}
 use Rattle.dep_model.proofs.TwoTupleLemmas.{two_tuples-over, two_tuples_fd-to, two_tuples_fd-from}
 use Rattle.fd_closure.proofs.ClosureLemmas.{fd_each-from, fd_added}
-use Rattle.preservation.specs.Insides.{IsClosureWithin}
+use Rattle.preservation.specs.SchemeClosures.{IsClosureWithin}
 use Rattle.preservation.specs.Keeping.{IsInside, ObeysInside, FollowsInside, InKeptClosure}
 use Rattle.preservation.specs.Keeping.{ShowsLost, AgreesOnLoss}
 use Rattle.preservation.specs.FunctionallyClosed.{IsFunctionallyClosedIn, IsKeptClosure}

@@ -5,11 +5,11 @@ ghost use Rattle.dep_model.specs.Dependencies.{ObeysFd};
 ghost use Rattle.dep_model.specs.Schemas.{width_of, theory_of, universe_of};
 ghost use Rattle.dep_model.specs.Tuples.{Relation};
 ghost use Rattle.fd_closure.specs.Counting.{switches_of};
-ghost use Rattle.preservation.specs.Insides.{IsKnown, schemes_of_closures, plan_of_closures, AreAllOn};
+ghost use Rattle.preservation.specs.SchemeClosures.{IsSchemeClosure, schemes_of_closures, plan_of_closures, AreAllOn};
 ghost use Rattle.preservation.specs.Keeping.{FollowsInside, ObeysInside};
 ghost use Rattle.preservation.specs.FunctionallyClosed.{TellsKeptClosure, IsFunctionallyClosedIn, IsKeptClosure};
 
-use crate::inside::{Inside, inside_by};
+use crate::scheme_closure::{SchemeClosure, closure_covering};
 use attr_sets::AttrSet;
 use dep_model::Schema;
 use fd_closure::Counters;
@@ -25,23 +25,23 @@ pub struct Closed {
 pub fn closure_after(
     schema: &Schema,
     counters: &mut Counters,
-    insides: &mut [Inside],
+    closures: &mut [SchemeClosure],
     last: Option<Closed>,
     from: AttrSet,
     wanted: AttrSet,
 ) -> AttrSet
     requires on { AreAllOn schema.now counters.old }
-    requires known { All (IsKnown (width_of schema.now) (theory_of schema.now)) insides.old }
+    requires known { All (IsSchemeClosure (width_of schema.now) (theory_of schema.now)) closures.old }
     requires last { IfSome last
-        (TellsKeptClosure (width_of schema.now) (theory_of schema.now) (plan_of_closures insides.old)) }
+        (TellsKeptClosure (width_of schema.now) (theory_of schema.now) (plan_of_closures closures.old)) }
     requires from { IsSubset (attributes from) (universe_of schema.now) }
-    ensures follows { FollowsInside (width_of schema.now) (theory_of schema.now) (plan_of_closures insides.old)
+    ensures follows { FollowsInside (width_of schema.now) (theory_of schema.now) (plan_of_closures closures.old)
         (attributes from) (attributes result) }
     ensures found { IsSubset (attributes wanted) (attributes result)
-        ⊎ IsKeptClosure (width_of schema.now) (theory_of schema.now) (plan_of_closures insides.old)
+        ⊎ IsKeptClosure (width_of schema.now) (theory_of schema.now) (plan_of_closures closures.old)
         (attributes from) (attributes result) }
-    ensures known { All (IsKnown (width_of schema.now) (theory_of schema.now)) insides.new }
-    ensures schemes { schemes_of_closures insides.new ≡ schemes_of_closures insides.old }
+    ensures known { All (IsSchemeClosure (width_of schema.now) (theory_of schema.now)) closures.new }
+    ensures schemes { schemes_of_closures closures.new ≡ schemes_of_closures closures.old }
     ensures switches { switches_of counters.new ≡ switches_of counters.old }
 {
     if let Some(previous) = last {
@@ -49,7 +49,7 @@ pub fn closure_after(
             return previous.closed;
         }
     }
-    kept_closure(schema, counters, insides, from, wanted)
+    kept_closure(schema, counters, closures, from, wanted)
 }
 
 /// The attributes that follow from a set by the functional dependencies inside the schemes of a plan,
@@ -60,25 +60,25 @@ pub fn closure_after(
 pub fn kept_closure(
     schema: &Schema,
     counters: &mut Counters,
-    insides: &mut [Inside],
+    closures: &mut [SchemeClosure],
     from: AttrSet,
     wanted: AttrSet,
 ) -> AttrSet
     requires on { AreAllOn schema.now counters.old }
-    requires known { All (IsKnown (width_of schema.now) (theory_of schema.now)) insides.old }
+    requires known { All (IsSchemeClosure (width_of schema.now) (theory_of schema.now)) closures.old }
     requires from { IsSubset (attributes from) (universe_of schema.now) }
-    ensures follows { FollowsInside (width_of schema.now) (theory_of schema.now) (plan_of_closures insides.old)
+    ensures follows { FollowsInside (width_of schema.now) (theory_of schema.now) (plan_of_closures closures.old)
         (attributes from) (attributes result) }
     ensures found { IsSubset (attributes wanted) (attributes result)
-        ⊎ IsKeptClosure (width_of schema.now) (theory_of schema.now) (plan_of_closures insides.old)
+        ⊎ IsKeptClosure (width_of schema.now) (theory_of schema.now) (plan_of_closures closures.old)
         (attributes from) (attributes result) }
-    ensures known { All (IsKnown (width_of schema.now) (theory_of schema.now)) insides.new }
-    ensures schemes { schemes_of_closures insides.new ≡ schemes_of_closures insides.old }
+    ensures known { All (IsSchemeClosure (width_of schema.now) (theory_of schema.now)) closures.new }
+    ensures schemes { schemes_of_closures closures.new ≡ schemes_of_closures closures.old }
     ensures switches { switches_of counters.new ≡ switches_of counters.old }
 {
     let mut closed = from;
     loop {
-        let more = with_schemes(schema, counters, insides, closed);
+        let more = with_schemes(schema, counters, closures, closed);
         if more == closed {
             return closed;
         }
@@ -93,30 +93,30 @@ pub fn kept_closure(
 fn with_schemes(
     schema: &Schema,
     counters: &mut Counters,
-    insides: &mut [Inside],
+    closures: &mut [SchemeClosure],
     closed: AttrSet,
 ) -> AttrSet
     requires on { AreAllOn schema.now counters.old }
-    requires known { All (IsKnown (width_of schema.now) (theory_of schema.now)) insides.old }
+    requires known { All (IsSchemeClosure (width_of schema.now) (theory_of schema.now)) closures.old }
     requires closed { IsSubset (attributes closed) (universe_of schema.now) }
     ensures grows { IsSubset (attributes closed) (attributes result) }
     ensures within { IsSubset (attributes result) (universe_of schema.now) }
     ensures kept { (r : Relation)
-        → ObeysInside (width_of schema.now) (theory_of schema.now) (plan_of_closures insides.old) r
+        → ObeysInside (width_of schema.now) (theory_of schema.now) (plan_of_closures closures.old) r
         → ObeysFd (attributes closed) (attributes result) r }
     ensures functionally_closed { IsSubset (attributes result) (attributes closed)
         → All (λ scheme. IsFunctionallyClosedIn (width_of schema.now) (theory_of schema.now)
         (attributes scheme)
-        (attributes closed) (attributes closed)) (schemes_of_closures insides.old) }
-    ensures known { All (IsKnown (width_of schema.now) (theory_of schema.now)) insides.new }
-    ensures schemes { schemes_of_closures insides.new ≡ schemes_of_closures insides.old }
+        (attributes closed) (attributes closed)) (schemes_of_closures closures.old) }
+    ensures known { All (IsSchemeClosure (width_of schema.now) (theory_of schema.now)) closures.new }
+    ensures schemes { schemes_of_closures closures.new ≡ schemes_of_closures closures.old }
     ensures switches { switches_of counters.new ≡ switches_of counters.old }
 {
     let mut more = closed;
-    for i in 0..insides.len() {
-        let inside = inside_by(schema, counters, insides[i], more);
-        more = more.union(inside.closed);
-        insides[i] = inside;
+    for i in 0..closures.len() {
+        let closure = closure_covering(schema, counters, closures[i], more);
+        more = more.union(closure.closed);
+        closures[i] = closure;
     }
     more
 }

@@ -6,7 +6,7 @@
 #![tactic(auto)]
 
 mod closing;
-mod inside;
 mod losing;
+mod scheme_closure;
 
 pub use losing::{Loss, losses};

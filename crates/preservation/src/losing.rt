@@ -6,12 +6,12 @@ ghost use Rattle.dep_model.specs.Plans.{schemes_of};
 ghost use Rattle.dep_model.specs.Preservation.{KeepsDependencies};
 ghost use Rattle.dep_model.specs.Schemas.{width_of, theory_of, universe_of};
 ghost use Rattle.fd_closure.specs.Counting.{switches_of};
-ghost use Rattle.preservation.specs.Insides.{IsKnown, schemes_of_closures, plan_of_closures, AreAllOn};
+ghost use Rattle.preservation.specs.SchemeClosures.{IsSchemeClosure, schemes_of_closures, plan_of_closures, AreAllOn};
 ghost use Rattle.preservation.specs.Keeping.{IsKept, IsLostOn, LossesOf};
 ghost use Rattle.preservation.specs.FunctionallyClosed.{TellsKeptClosure};
 
 use crate::closing::{Closed, closure_after};
-use crate::inside::{Inside, insides_of};
+use crate::scheme_closure::{SchemeClosure, scheme_closures};
 use attr_sets::AttrSet;
 use dep_model::{Dep, OutOfMemory, Schema};
 use fd_closure::Counters;
@@ -36,11 +36,11 @@ pub fn losses(alloc: Global, schema: &Schema, schemes: &[AttrSet]) -> Result<Vec
         ↔ KeepsDependencies (width_of schema.now) (theory_of schema.now) (schemes_of schemes.now)) }
 {
     let mut counters = Counters::new(alloc, schema.deps(), schema.width())?;
-    let mut insides = insides_of(alloc, schema, &mut counters, schemes)?;
+    let mut closures = scheme_closures(alloc, schema, &mut counters, schemes)?;
     let mut losses = Vec::new(alloc);
     let mut last = None;
     for k in 0..schema.deps().len() {
-        let loss = loss_of(schema, &mut counters, &mut insides, last, schema.deps()[k]);
+        let loss = loss_of(schema, &mut counters, &mut closures, last, schema.deps()[k]);
         match loss {
             Some(lost_on) => {
                 losses.push(Loss {
@@ -59,28 +59,28 @@ pub fn losses(alloc: Global, schema: &Schema, schemes: &[AttrSet]) -> Result<Vec
 fn loss_of(
     schema: &Schema,
     counters: &mut Counters,
-    insides: &mut [Inside],
+    closures: &mut [SchemeClosure],
     last: Option<Closed>,
     dep: Dep,
 ) -> Option<Closed>
     requires on { AreAllOn schema.now counters.old }
-    requires known { All (IsKnown (width_of schema.now) (theory_of schema.now)) insides.old }
+    requires known { All (IsSchemeClosure (width_of schema.now) (theory_of schema.now)) closures.old }
     requires last { IfSome last
-        (TellsKeptClosure (width_of schema.now) (theory_of schema.now) (plan_of_closures insides.old)) }
+        (TellsKeptClosure (width_of schema.now) (theory_of schema.now) (plan_of_closures closures.old)) }
     requires dep { IsDepWithin (universe_of schema.now) dep }
     ensures lost { IfSome result (λ lost_on. IsLostOn (width_of schema.now) (theory_of schema.now)
-        (plan_of_closures insides.old) (dependency_of dep) (attributes lost_on.closed)) }
+        (plan_of_closures closures.old) (dependency_of dep) (attributes lost_on.closed)) }
     ensures all { IfSome result
-        (TellsKeptClosure (width_of schema.now) (theory_of schema.now) (plan_of_closures insides.old)) }
+        (TellsKeptClosure (width_of schema.now) (theory_of schema.now) (plan_of_closures closures.old)) }
     ensures kept { IfNone result (IsKept (width_of schema.now) (theory_of schema.now)
-        (plan_of_closures insides.old) (dependency_of dep)) }
-    ensures known { All (IsKnown (width_of schema.now) (theory_of schema.now)) insides.new }
-    ensures schemes { schemes_of_closures insides.new ≡ schemes_of_closures insides.old }
+        (plan_of_closures closures.old) (dependency_of dep)) }
+    ensures known { All (IsSchemeClosure (width_of schema.now) (theory_of schema.now)) closures.new }
+    ensures schemes { schemes_of_closures closures.new ≡ schemes_of_closures closures.old }
     ensures switches { switches_of counters.new ≡ switches_of counters.old }
 {
     match dep {
         Dep::Fd { lhs, rhs } => {
-            let closed = closure_after(schema, counters, insides, last, lhs, rhs);
+            let closed = closure_after(schema, counters, closures, last, lhs, rhs);
             if rhs.is_subset(closed) {
                 None
             } else {

@@ -169,10 +169,10 @@ concluded_ok : (n levels : ℕ) (stated : Dependency) (outcome : Result (Tree ×
     → IfOk (concluded_as n stated levels outcome)
     (λ o. (outcome ≡ Ok (o.tree, o.conclusion)) × (o.levels ≡ levels))
 concluded_ok n levels stated (Ok x) =
-    let settles : Opened → Type 0 = λ o.
+    let concludes : Opened → Type 0 = λ o.
     (◌≡◌ {A = Result (Tree × Dependency) FaultKind} (Ok x) (Ok (o.tree, o.conclusion))) × (o.levels ≡ levels) in
     let opened : Opened = record { tree = x.0; levels = levels; conclusion = x.1 } in
-    cond_both (same_dependency stated x.1) (Ok opened) (Err (states_other stated x.1)) (λ r. IfOk r settles)
+    cond_both (same_dependency stated x.1) (Ok opened) (Err (states_other stated x.1)) (λ r. IfOk r concludes)
     (λ same. (refl, refl)) (λ other. tt)
 concluded_ok n levels stated (Err why) = tt
 

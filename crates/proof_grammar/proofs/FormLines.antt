@@ -114,7 +114,8 @@ begins_from fs s leads =
           (runs-append (Some at_start) fs more.0 ∙ ap (λ o. runs o more.0) leads ∙ more.1.1) more.1.2;
     }
 
--- where forms that begin a line lead, and where one form more leads
+-- forms that begin a line lead to a shape; where one form more begins it too, that leads on from
+-- there
 pub begins_to : (fs : List TokenForm) → BeginLine fs → (s : Shape) × (runs (Some at_start) fs ≡ Some s)
 begins_to fs begins =
     let ends = line_ends (fs ++ begins.rest) begins.line in

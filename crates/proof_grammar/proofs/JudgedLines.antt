@@ -27,12 +27,15 @@ WrongAt names stop n (Some s) None = (n ≡ expected) × (stop ≡ None) × (is_
 WrongAt names stop n (Some s) (Some m) =
     ((takes_words s ≡ true) × DiagnosesOfWord format.Plain names m n) ⊎ ((n ≡ expected) × (shape_after s (form m) ≡ None))
 
+-- the same at position p of a line that is read from shape o on
 abbrev pub TokenWrong : Option Shape → List (List ℕ) → List Mark → Option LexError → ℕ → DiagnosticKind → Type 0
 TokenWrong o names ms stop p n = (p ≤ length ms) × WrongAt names stop n (runs o (take p (token_forms ms))) (slice_get ms p)
 
+-- at position p, after the last token, stand bytes that are no token
 abbrev pub Flawed : List Mark → Option LexError → ℕ → DiagnosticKind → Type 0
 Flawed ms stop p n = (s : LexError) × (stop ≡ Some s) × (p ≡ length ms) × (n ≡ diagnostic_of_flaw s.flaw)
 
+-- either of the two
 abbrev pub Wrong : Shape → List (List ℕ) → List Mark → Option LexError → ℕ → DiagnosticKind → Type 0
 Wrong s names ms stop p n = TokenWrong (Some s) names ms stop p n ⊎ Flawed ms stop p n
 

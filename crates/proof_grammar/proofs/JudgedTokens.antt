@@ -219,7 +219,7 @@ closing_goes false k o token.Identifier word on none other =
     word_forms (λ f. shape_after (past false k) f ≡ None) (λ r. refl) refl refl _ _
 closing_goes words k o _ word on none other = refl
 
--- which a colon follows
+-- a part of a line after which a colon comes, and no arrow; t is the shape after the colon
 abbrev pub IsBeforeColon : Part → Shape → Type 0
 IsBeforeColon k t = (past_colon k ≡ Some t) × (past_arrow k ≡ None) × (what.Colon ≡ wanted_after k) × (is_last k ≡ false)
 
@@ -232,7 +232,7 @@ colon_judged words k t names line next_column ms stop f is none follows =
     test_judged (past words k) names line next_column ms stop what.Colon (λ m. is_colon m.kind) t f is.2 is.3 none
     (λ m other. closing_goes words k (Some t) m.kind m.word is.0 is.1 other) follows
 
--- or the line's end
+-- a part after which the line ends
 abbrev pub IsBeforeEnd : Part → Type 0
 IsBeforeEnd k = (past_colon k ≡ None) × (past_arrow k ≡ None) × (what.LineEnd ≡ wanted_after k) × (is_last k ≡ true)
 

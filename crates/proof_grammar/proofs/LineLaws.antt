@@ -132,6 +132,7 @@ line_reads names start l e =
           ∙ end.1.stop;
     })
 
+-- a line that is read means what is read
 pub line_there : (names : List (List ℕ)) (number : ℕ) (text : List ℕ) (l : Line) → certificate_line names (rest_from number 1 (lex mode.numbered text)) ≡ Ok l → MeansLine names text l
 line_there names number text l e =
     let reads = line_reads names (rest_from number 1 (lex mode.numbered text)) l e in
@@ -164,5 +165,6 @@ marks_read names at from ms l is =
     )
     (ap (λ z. Ok (record { number = l.number; stated = z; body = l.body })) (sym d.states))
 
+-- and a line that has a meaning is read as it
 pub line_back : (names : List (List ℕ)) (number : ℕ) (text : List ℕ) (l : Line) → MeansLine names text l → certificate_line names (rest_from number 1 (lex mode.numbered text)) ≡ Ok l
 line_back names at text l means = ap (λ t. certificate_line names (rest_from at 1 t)) means.tokens ∙ marks_read names at 1 means.marks l means.is_line

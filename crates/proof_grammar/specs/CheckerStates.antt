@@ -23,6 +23,7 @@ pub record CheckerStateValue : Type 0 where
   pub lines : List ℕ
   pub unused : List (Option Opened)
 
+-- two options in one
 abbrev pub option_flatten : {A : Type 0} → Option (Option A) → Option A
 option_flatten None = None
 option_flatten (Some o) = o
@@ -45,10 +46,12 @@ pub record Prepared : Type 0 where
   pub outcome : Result (Tree × Dependency) FaultKind
   pub unused : List (Option Opened)
 
+-- the node of a rule without premises
 abbrev pub leaf_node : Schema → Leaf → List (Option Opened) → Result Prepared Diagnostic
 leaf_node s rule unused =
     Ok (record { levels = 1; outcome = with_tree (leaf rule) (leaf_conclusion s rule); unused = unused })
 
+-- the node of a rule over what is unused of one line; refused where the line was used before
 abbrev pub step_node : Schema → Step → Option Opened → List (Option Opened) → Result Prepared Diagnostic
 step_node s rule None unused = Err used_twice
 step_node s rule (Some t) unused =
@@ -59,6 +62,7 @@ step_node s rule (Some t) unused =
       unused = unused;
     })
 
+-- the node of a rule over what is unused of two lines
 abbrev pub pair_node : Pair → Option Opened → Option Opened → List (Option Opened) → Result Prepared Diagnostic
 pair_node rule (Some t) (Some u) unused =
     Ok (record {
@@ -68,10 +72,12 @@ pair_node rule (Some t) (Some u) unused =
     })
 pair_node rule _ _ unused = Err used_twice
 
+-- the node of a rule over the line of this number, which must be an earlier one
 abbrev pub step_of_line : Schema → Step → List (Option Opened) → ℕ → Result Prepared Diagnostic
 step_of_line s rule unused p = if is_earlier unused p
     then step_node s rule (open_at unused p) (close_line unused p) else Err no_such_line
 
+-- the node of a rule over the lines of these two numbers
 abbrev pub pair_of_line : Pair → List (Option Opened) → ℕ → ℕ → Result Prepared Diagnostic
 pair_of_line rule unused p q =
     if is_earlier unused p && is_earlier unused q
@@ -119,7 +125,7 @@ enter_line s at state l =
 abbrev pub first_unused : List (Option Opened) → Option ℕ
 first_unused unused = position is_some (take (length unused - 1) unused)
 
--- the last line
+-- what is unused of the last line: in a whole certificate, the root of its tree
 abbrev pub root : List (Option Opened) → Option Opened
 root unused = option_flatten (slice_get unused (length unused - 1))
 
@@ -127,12 +133,16 @@ root unused = option_flatten (slice_get unused (length unused - 1))
 abbrev pub concluded_by : Opened → Tree × Dependency
 concluded_by o = (o.tree, o.conclusion)
 
+-- the tree of the last line, and what it concludes
 abbrev pub root_conclusion : List (Option Opened) → Option (Tree × Dependency)
 root_conclusion unused = option_map concluded_by (root unused)
 
+-- a diagnostic at this line of the text
 abbrev pub diagnostic_at : ℕ → Diagnostic → LineDiagnostic
 diagnostic_at line why = record { line = line; diagnostic = why }
 
+-- the tree of the last line, unless a line before it is unused or there is none; `last` is the line
+-- of the text with which it ends
 abbrev pub finished_at : ℕ → List ℕ → Option ℕ → Option Opened → Result Tree LineDiagnostic
 finished_at last lines (Some i) root = Err (diagnostic_at (slice_index lines i) never_used)
 finished_at last lines None (Some o) = Ok o.tree

@@ -54,5 +54,6 @@ IsRefusalWithin u _ = ⊤
 abbrev pub IsFound : {X : Type 0} → ProofRefusalKind → Result X Diagnostic → Type 0
 IsFound why found = found ≡ Err (diagnostic_of why)
 
+-- and so is its line
 abbrev pub IsFoundAt : {X : Type 0} → ProofRefusal → Result X LineDiagnostic → Type 0
 IsFoundAt refusal found = found ≡ Err (line_diagnostic_of refusal)

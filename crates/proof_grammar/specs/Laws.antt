@@ -27,36 +27,44 @@ use Rattle.proof_grammar.specs.Spelling.{AreNodesOf, Spells, SpellsWithin}
 use Rattle.proof_grammar.specs.Texts.{read_proof}
 
 -- ---- reading
+-- a line is read exactly as what it means
 abbrev pub LineMeaning : Type 0
 LineMeaning =
     (names : List (List ℕ)) (number : ℕ) (text : List ℕ) (l : Line)
     → (certificate_line names (rest_from number 1 (lex mode.numbered text)) ≡ Ok l) ↔ MeansLine names text l
 
+-- the reading of a line refuses it exactly as the grammar does
 abbrev pub LineRefusal : Type 0
 LineRefusal =
     (names : List (List ℕ)) (number : ℕ) (text : List ℕ) (e : SchemaRefusal)
     → (certificate_line names (rest_from number 1 (lex mode.numbered text)) ≡ Err e)
     ↔ RefusesCertificateLine names number text e
 
+-- a certificate is read exactly as the tree that it spells within the limits
 abbrev pub SpelledIsRead : Type 0
 SpelledIsRead = (s : Schema) (text : List ℕ) (t : Tree) → (read_proof s text ≡ Ok t) ↔ SpellsWithin s text t
 
+-- it spells one tree at most
 abbrev pub OneTree : Type 0
 OneTree = (s : Schema) (text : List ℕ) (t u : Tree) → Spells s text t → Spells s text u → t ≡ u
 
+-- its tree has a node for each line
 abbrev pub LinesAreNodes : Type 0
 LinesAreNodes = (s : Schema) (text : List ℕ) (t : Tree) (w : Spells s text t) → length w.lines ≡ nodes t
 
+-- the reading of a certificate refuses it exactly as the definition does
 abbrev pub CertificateRefusal : Type 0
 CertificateRefusal = (s : Schema) (text : List ℕ) (e : LineDiagnostic)
     → (read_proof s text ≡ Err e) ↔ IsRefusedCertificate s text e
 
 -- ---- printing
+-- a printed line, without its line feed, means the line
 abbrev pub PrintedLineMeans : Type 0
 PrintedLineMeans =
     (names : List (List ℕ)) (l : Line) → AreNames format.Plain names → IsPrintableLine names l
     → (text : List ℕ) × (certificate_line_text names l ≡ text ++ codes "\n") × MeansLine names text l
 
+-- the lines that are printed of a tree are its nodes
 abbrev pub PrintedNodes : Type 0
 PrintedNodes =
     (s : Schema) (p : Deriv) (d : Dependency) → Proves s (tree_of p) d

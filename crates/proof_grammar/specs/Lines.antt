@@ -26,17 +26,21 @@ pub record Line : Type 0 where
   pub stated : Dependency
   pub body : Body
 
+-- ---- what follows the name of a rule
+-- the number of one earlier line
 unfoldable pub one_premise : Step → Rest → Result (Body × Rest) SchemaRefusal
 one_premise r start = do
   p ← number start
   Ok (by_step r p.0, p.1)
 
+-- the numbers of two earlier lines
 unfoldable pub two_premises : Pair → Rest → Result (Body × Rest) SchemaRefusal
 two_premises r start = do
   p ← number start
   q ← number p.1
   Ok (by_pair r p.0 q.0, q.1)
 
+-- the number of an earlier line, `with`, a side
 unfoldable pub augmentation_body : List (List ℕ) → Rest → Result (Body × Rest) SchemaRefusal
 augmentation_body names start = do
   p ← number start
@@ -44,6 +48,7 @@ augmentation_body names start = do
   z ← side names w
   Ok (by_step (augmentation z.0) p.0, z.1)
 
+-- the number of an earlier line, `with`, a side, `:`, a side
 unfoldable pub maugmentation_body : List (List ℕ) → Rest → Result (Body × Rest) SchemaRefusal
 maugmentation_body names start = do
   p ← number start
@@ -53,6 +58,7 @@ maugmentation_body names start = do
   narrow ← side names c
   Ok (by_step (maugmentation wide.0 narrow.0) p.0, narrow.1)
 
+-- what follows the name of this rule
 unfoldable pub body : List (List ℕ) → RuleName → Rest → Result (Body × Rest) SchemaRefusal
 body names rule.Given start = do
   k ← number start
@@ -67,6 +73,7 @@ body names rule.Transitivity start = two_premises transitivity start
 body names rule.MTransitivity start = two_premises mtransitivity start
 body names rule.Coalescence start = two_premises coalescence start
 
+-- ---- the whole line
 -- side, arrow, side
 unfoldable pub stated_dependency : List (List ℕ) → Rest → Result (Dependency × Rest) SchemaRefusal
 stated_dependency names start = do
@@ -86,5 +93,6 @@ certificate_line_from names m rest = do
   b ← body names r.0 r.1
   unless (refusal_at_end b.1) (record { number = n; stated = d.0; body = b.0 })
 
+-- the whole line
 unfoldable pub certificate_line : List (List ℕ) → Rest → Result Line SchemaRefusal
 certificate_line names start = take what.Number start >>= λ t. certificate_line_from names t.0 t.1

@@ -19,9 +19,11 @@ abbrev pub is_yes_from : List Mark → Option LexError → Bool
 is_yes_from [] stop = false
 is_yes_from (m ∷ ms) stop = is_yes m.kind m.word && is_blank_from ms stop
 
+-- the same of a whole line
 abbrev pub is_yes_alone : Lexed → Bool
 is_yes_alone l = is_yes_from l.marks l.stop
 
+-- the lines without the first, where that is `yes`
 abbrev pub without_yes : List (List ℕ) → List (List ℕ)
 without_yes [] = []
 without_yes (line ∷ lines) = if is_yes_alone (lex mode.numbered line) then lines else line ∷ lines
@@ -38,6 +40,7 @@ certificate_lines text = certificate_lines_of (line_texts (without_mark text))
 abbrev pub IsColon : Mark → Type 0
 IsColon m = m.kind ≡ token.Colon
 
+-- a token is this number
 abbrev pub IsNumber : ℕ → Mark → Type 0
 IsNumber n m = m.kind ≡ token.Number n
 
@@ -45,12 +48,14 @@ IsNumber n m = m.kind ≡ token.Number n
 abbrev pub IsKeyword : List ℕ → Mark → Type 0
 IsKeyword word m = (m.kind ≡ token.Identifier) × (m.word ≡ word)
 
+-- the names of the rules over one premise
 abbrev pub step_name : Step → List ℕ
 step_name (augmentation z) = codes "augmentation"
 step_name complementation = codes "complementation"
 step_name (maugmentation w z) = codes "maugmentation"
 step_name replication = codes "replication"
 
+-- and of those over two
 abbrev pub pair_name : Pair → List ℕ
 pair_name transitivity = codes "transitivity"
 pair_name mtransitivity = codes "mtransitivity"

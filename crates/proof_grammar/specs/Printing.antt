@@ -33,6 +33,7 @@ pair_word transitivity = codes "transitivity "
 pair_word mtransitivity = codes "mtransitivity "
 pair_word coalescence = codes "coalescence "
 
+-- what is printed of a rule with its premises and sets
 unfoldable pub body_text : List (List ℕ) → Body → List ℕ
 body_text names (by_given k) = codes "given " ++ decimal k
 body_text names by_reflexivity = codes "reflexivity"
@@ -40,6 +41,7 @@ body_text names by_mreflexivity = codes "mreflexivity"
 body_text names (by_step rule p) = step_word rule ++ decimal p ++ sides_text names rule
 body_text names (by_pair rule p q) = pair_word rule ++ decimal p ++ codes " " ++ decimal q
 
+-- a line as it is printed
 unfoldable pub certificate_line_text : List (List ℕ) → Line → List ℕ
 certificate_line_text names l =
     decimal l.number ++ codes ": " ++ dependency_text names l.stated ++ codes " : "
@@ -52,6 +54,7 @@ leaf_body (given k) = by_given (k + 1)
 leaf_body (reflexivity x y) = by_reflexivity
 leaf_body (mreflexivity x y) = by_mreflexivity
 
+-- a line of its three parts
 abbrev pub numbered_line : ℕ → Dependency → Body → Line
 numbered_line n d body = record { number = n; stated = d; body = body }
 
@@ -91,6 +94,7 @@ IsStepWithin universe complementation = Unit {0}
 IsStepWithin universe (maugmentation w z) = IsSubset w universe × IsSubset z universe
 IsStepWithin universe replication = Unit {0}
 
+-- the same of what follows the second colon
 abbrev pub IsBodyWithin : Attributes → Body → Type 0
 IsBodyWithin universe (by_step rule p) = IsStepWithin universe rule
 IsBodyWithin universe _ = Unit {0}

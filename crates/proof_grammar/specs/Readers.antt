@@ -7,16 +7,19 @@ use Rattle.schema_grammar.specs.Rests.{Rest, ◌>>=◌, take, refusal_of_token}
 use Rattle.proof_grammar.specs.declared.rule_name.RuleName.{RuleName}
 use Rattle.proof_grammar.specs.Tokens.{is_colon, is_with, rule_named}
 
+-- what is left after a colon
 unfoldable pub colon : Rest → Result Rest SchemaRefusal
 colon r = do
   t ← take what.Colon r
   if is_colon t.0.kind then Ok t.1 else Err (refusal_of_token what.Colon t.0 t.1)
 
+-- what is left after the word `with`
 unfoldable pub with_word : Rest → Result Rest SchemaRefusal
 with_word r = do
   t ← take what.With r
   if is_with t.0.kind t.0.word then Ok t.1 else Err (refusal_of_token what.With t.0 t.1)
 
+-- the rule that the next word names, and what is left
 unfoldable pub rule_name : Rest → Result (RuleName × Rest) SchemaRefusal
 rule_name r = do
   t ← take what.Rule r

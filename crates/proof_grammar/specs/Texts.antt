@@ -24,15 +24,18 @@ unfoldable pub is_yes : TokenKind → List ℕ → Bool
 is_yes token.Identifier word = bytes_eq word (codes "yes")
 is_yes _ word = false
 
+-- whether neither a token is left, nor bytes that are none
 abbrev pub is_blank_from : List Mark → Option LexError → Bool
 is_blank_from [] None = true
 is_blank_from [] (Some stop) = false
 is_blank_from (m ∷ ms) stop = false
 
--- whether no token stands here, nor bytes that are none
+-- the same of a whole line
 abbrev pub is_blank : Lexed → Bool
 is_blank l = is_blank_from l.marks l.stop
 
+-- what a line of these tokens is: blank, a `yes` where one may still come, or a line of the
+-- certificate
 abbrev pub kind_from : Bool → List Mark → Option LexError → LineKind
 kind_from fresh [] None = Blank
 kind_from fresh [] (Some stop) = Certificate
@@ -48,6 +51,7 @@ abbrev pub in_line : {A : Type 0} → Result A SchemaRefusal → Result A Diagno
 in_line (Ok x) = Ok x
 in_line (Err e) = Err (bad_line e)
 
+-- the checker state after a line of this kind, and whether a `yes` may still come
 abbrev pub read_as : LineKind → Schema → Bool → ℕ → CheckerStateValue → List ℕ
     → Result (Bool × CheckerStateValue) Diagnostic
 read_as Blank s fresh number state text = Ok (fresh, state)

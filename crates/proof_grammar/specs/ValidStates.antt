@@ -13,19 +13,22 @@ pub record Stands (s : Schema) (o : Opened) : Type 0 where
   pub levels : depth o.tree ≡ o.levels
   pub levels_fit : o.levels ≤ MOST_LEVELS
 
+-- the same of a line that may have been used
 abbrev pub IfOpen : Schema → Option Opened → Type 0
 IfOpen s None = Unit {0}
 IfOpen s (Some o) = Stands s o
 
+-- and of each of some lines
 abbrev pub AllStand : Schema → List (Option Opened) → Type 0
 AllStand s [] = Unit {0}
 AllStand s (o ∷ os) = IfOpen s o × AllStand s os
 
--- how many nodes the open lines have
+-- how many nodes the tree of a line has; 0 where the line was used
 abbrev pub open_nodes : Option Opened → ℕ
 open_nodes None = 0
 open_nodes (Some o) = nodes o.tree
 
+-- how many the trees of some lines have together
 abbrev pub all_nodes : List (Option Opened) → ℕ
 all_nodes [] = 0
 all_nodes (o ∷ os) = open_nodes o + all_nodes os

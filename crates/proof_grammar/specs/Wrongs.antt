@@ -58,6 +58,7 @@ abbrev pub GivenFault : Schema → ℕ → FaultKind → Type 0
 GivenFault s k why = ((k ≡ 0) × (why ≡ NoSuchGiven))
     ⊎ ((i : ℕ) × (k ≡ i + 1) × (leaf_conclusion s (given i) ≡ Err why))
 
+-- the rule table refuses the node of a line, and why
 abbrev pub NodeFault : Schema → List Tree → Line → Body → FaultKind → Type 0
 NodeFault s trees l (by_given k) why = GivenFault s k why
 NodeFault s trees l by_reflexivity why =
@@ -107,6 +108,7 @@ rank (states_other stated concluded) = 8
 rank never_used = 9
 rank empty_proof = 10
 
+-- what is wrong with a line, and comes first of all that is
 pub record IsFirstWrong (s : Schema) (lines : List Line) (trees : List Tree) (l : Line) (c : Diagnostic)
     : Type 0 where
   pub wrong : Wrong s lines trees l c

@@ -12,6 +12,7 @@ use Rattle.proof_text.specs.declared.line.Body as bodies
 use Rattle.proof_text.specs.declared.line.Line as lines
 use Rattle.proof_text.specs.declared.node.Open as opens
 
+-- ---- each value of the code as the value of the grammar that it stands for
 abbrev pub body_of : bodies.Body → Body
 body_of (bodies.TheVariants.Given k) = by_given k
 body_of bodies.TheVariants.Reflexivity = by_reflexivity

@@ -1,6 +1,4 @@
 ghost use Rattle.std.specs.Prelude.{◌≡◌, ℕ, ◌+◌, ◌-◌, ◌==◌, ◌<◌, ◌≤◌, ◌^◌, [], length, IfOk, IfErr, OnOk, Ok, Err, Some, option_map, is_some, position, take, max};
-ghost use Rattle.attr_sets.specs.Sets.{attributes};
-ghost use Rattle.dep_model.specs.Dependencies.{left_of, right_of};
 ghost use Rattle.dep_model.specs.Deps.{dependency_of, IsDepWithin};
 ghost use Rattle.derivation.specs.Derivs.{step_of, pair_of, tree_of};
 ghost use Rattle.proof_grammar.specs.CheckerStates.{root, within_limits};
@@ -13,8 +11,7 @@ ghost use Rattle.proof_grammar.specs.Diagnostics.{IsFound, IsFoundAt, IsRefusalW
 
 use crate::line::{Body, Line};
 use crate::node::{Concluded, Open, given_dependency, leaf, pair, same_dependency, step};
-use attr_sets::AttrSet;
-use dep_model::{Dep, Failure, OutOfMemory, Schema};
+use dep_model::{Dep, Failure, OutOfMemory, Schema, sides};
 use derivation::{Deriv, Fault, FaultKind, LeafRule, MOST_LEVELS, MOST_NODES, PairRule, StepRule};
 use proof_grammar::{ProofRefusal, ProofRefusalKind};
 use std::alloc::Global;
@@ -309,16 +306,5 @@ fn check_limits(before: usize, line: &Line, node: Node) -> Result<(Deriv, Dep), 
                 Err(ProofRefusalKind::StatesOther { stated, concluded })
             }
         }
-    }
-}
-
-/// Both sides of a dependency.
-fn sides(dep: Dep) -> (AttrSet, AttrSet)
-    ensures left { attributes result.0 ≡ left_of (dependency_of dep) }
-    ensures right { attributes result.1 ≡ right_of (dependency_of dep) }
-{
-    match dep {
-        Dep::Fd { lhs, rhs } => (lhs, rhs),
-        Dep::Mvd { lhs, rhs } => (lhs, rhs),
     }
 }

@@ -96,7 +96,9 @@ pub fn read_concluded(
 }
 
 /// Reads one line of the text. Whether a `yes` may still come is handed in and answered.
-#[tactic(auto, unfolding(proof_grammar::specs::Texts::read_one, proof_grammar::specs::Texts::line_kind, proof_grammar::specs::Lines::certificate_line, schema_grammar::specs::Rests::take))]
+#[tactic(auto, unfolding(proof_grammar::specs::Texts::read_one, proof_grammar::specs::Texts::line_kind,
+// the first token tells what the line is, and is taken as its number
+proof_grammar::specs::Lines::certificate_line, schema_grammar::specs::Rests::take))]
 fn read_one(
     alloc: Global,
     schema: &Schema,
@@ -121,6 +123,7 @@ fn read_one(
         NextToken::End => Ok(fresh),
         NextToken::Refusal(refusal) => Err(Failure::Refused(ProofRefusalKind::BadLine(refusal))),
         NextToken::Token(first, word, rest) => {
+            // A text that `implies` printed begins with a line `yes`, which is passed over.
             if fresh && is_yes(first.kind, &word) && is_blank(rest) {
                 return Ok(false);
             }
@@ -152,7 +155,7 @@ fn is_yes(kind: TokenKind, word: &Word<'_>) -> bool
     ensures exact { result ≡ is_yes kind (bytes_of word.now) }
 {
     match kind {
-        TokenKind::Identifier => word.bytes() == b"yes".as_slice(),
+        TokenKind::Identifier => word.bytes().as_slice() == b"yes".as_slice(),
         _ => false,
     }
 }

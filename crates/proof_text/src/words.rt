@@ -73,7 +73,7 @@ fn is_with(kind: TokenKind, word: &Word<'_>) -> bool
     ensures exact { result ≡ is_with kind (bytes_of word.now) }
 {
     match kind {
-        TokenKind::Identifier => word.bytes() == b"with".as_slice(),
+        TokenKind::Identifier => word.bytes().as_slice() == b"with".as_slice(),
         _ => false,
     }
 }
@@ -84,7 +84,7 @@ fn rule_named(kind: TokenKind, word: &Word<'_>) -> Option<RuleName>
     ensures exact { result ≡ rule_named kind (bytes_of word.now) }
 {
     match kind {
-        TokenKind::Identifier => rule_word(word.bytes()),
+        TokenKind::Identifier => rule_word(word.bytes().as_slice()),
         _ => None,
     }
 }

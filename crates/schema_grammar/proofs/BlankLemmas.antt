@@ -17,7 +17,6 @@ abbrev piece_class : Piece → ℕ
 piece_class piece.Gap = 0
 piece_class piece.Comment = 1
 piece_class (piece.Token k n) = 2
-piece_class (piece.Quoted name n) = 2
 piece_class (piece.Flaw why n) = 2
 
 piece_class-cond_two : (b : Bool) (x y : Piece) → piece_class x ≡ 2 → piece_class y ≡ 2 → piece_class (cond b x y) ≡ 2
@@ -56,7 +55,6 @@ piece_plain : (p q : Piece) (column : ℕ) (text : List ℕ) (numbered plain : �
 piece_plain piece.Gap piece.Gap column text numbered plain same rest h = rest h
 piece_plain piece.Comment piece.Comment column text numbered plain same rest h = refl
 piece_plain (piece.Token k n) q column text numbered plain same rest h = let wrong = ap (λ l. l.marks) h in cc
-piece_plain (piece.Quoted name n) q column text numbered plain same rest h = let wrong = ap (λ l. l.marks) h in cc
 piece_plain (piece.Flaw why n) q column text numbered plain same rest h = let wrong = ap (λ l. l.stop) h in cc
 piece_plain p q column text numbered plain same rest h = absurd (omega arith)
 

@@ -1,6 +1,6 @@
 -- The tokens of a line stand at columns that rise.
 use Rattle.std.proofs.Common.{◌≡◌, ◌<◌, ◌≤◌, ◌+◌, ◌-◌, ℕ, zero, suc, List, [], ◌∷◌, length, Option, Some, None, refl, subst, arith}
-use Rattle.lexer.proofs.Steps.{LiesIn, lies_in, FitsQuoted-from}
+use Rattle.lexer.proofs.Steps.{LiesIn, lies_in}
 use Rattle.lexer.specs.declared.piece.Piece.{Piece}
 use Rattle.lexer.specs.declared.piece.Piece.TheVariants as piece
 use Rattle.lexer.specs.declared.mode.Mode.{Mode}
@@ -36,8 +36,6 @@ piece_rises m piece.Gap column text afterwards not_empty is rest = rising_earlie
 piece_rises m piece.Comment column text afterwards not_empty is rest = tt
 piece_rises m (piece.Token k n) column text afterwards not_empty is rest =
     token_rises column n afterwards (lies_in m text k n not_empty is) rest
-piece_rises m (piece.Quoted name n) column text afterwards not_empty is rest =
-    token_rises column n afterwards (FitsQuoted-from m text name n not_empty is).lies rest
 piece_rises m (piece.Flaw why n) column text afterwards not_empty is rest = omega arith
 
 lexed_rises : (m : Mode) (skip column : ℕ) (text : List ℕ) → IsRising (column + skip) (tokens_after m skip column text).marks (tokens_after m skip column text).stop

@@ -1,5 +1,5 @@
 -- What is declared is sound: names differ, and columns fit their format.
-use Rattle.std.proofs.Common.{◌≡◌, ◌<◌, ◌≤◌, ◌+◌, ◌-◌, inl, inr, ℕ, zero, suc, true, false, IsTrue, List, [], ◌∷◌, ◌++◌, length, Some, None, refl, sym, ◌∙◌, ap, subst, arith, length-append, get_or, lt-ltb, ltb-true}
+use Rattle.std.proofs.Common.{◌≡◌, ◌<◌, ◌≤◌, ◌+◌, ◌-◌, inl, inr, ℕ, zero, suc, true, false, IsTrue, List, [], ◌∷◌, ◌++◌, length, take, Some, None, refl, sym, ◌∙◌, ap, subst, arith, length-append, get_or, lt-ltb, ltb-true}
 use Rattle.std.specs.List.{All, AllPairs, Contains, position_or_len}
 use Rattle.std.specs.Str.{bytes_eq}
 use Rattle.std.specs.Result.{IfOk}
@@ -29,8 +29,8 @@ use Rattle.lexer.specs.Modes as mode
 use Rattle.lexer.specs.declared.token.TokenKind.{TokenKind}
 use Rattle.lexer.specs.declared.token.TokenKind.TheVariants as token
 use Rattle.lexer.specs.Pieces.{front_piece}
-use Rattle.lexer.specs.Tokens.{Mark, Lexed, tokens_after, led_by}
-use Rattle.lexer.proofs.Steps.{is_a_word, not_quoted, FitsQuoted-from}
+use Rattle.lexer.specs.Tokens.{Mark, Lexed, tokens_after, led_by, word_of}
+use Rattle.lexer.proofs.Steps.{is_a_word, FitsQuoted-from}
 use Rattle.schema_grammar.specs.declared.format.Format.{Format}
 use Rattle.schema_grammar.specs.declared.format.Format.TheVariants as format
 use Rattle.schema_grammar.specs.Declarations.{Declarations, no_declaration, add_name, add_dependency, read_line}
@@ -89,16 +89,26 @@ bare_kind token.Identifier is unquoted = refl
 bare_kind token.Quoted is unquoted = absurd (unquoted refl)
 bare_kind k is unquoted = cc
 
+-- where no name is quoted, the bytes of a word are those of its text
+bare_word : (k : TokenKind) (own : List ℕ) → is_word_token k ≡ true → (k ≡ token.Quoted → ⊥) → is_bare_name own ≡ true
+    → is_bare_name (word_of k own) ≡ true
+bare_word token.Identifier own is unquoted bare = bare
+bare_word token.Quoted own is unquoted bare = absurd (unquoted refl)
+bare_word k own is unquoted bare = cc
+
 led_proper : (m : Mode) → m.quotes ≡ false → (column : ℕ) (text : List ℕ) (afterwards : ℕ → Lexed) (p : Piece) → 0 < length text
     → p ≡ front_piece m text
     → ((n : ℕ) → All IsProper (afterwards n).marks) → All IsProper (led_by p column text afterwards).marks
 led_proper m none column text afterwards piece.Gap not_empty e later = later 0
 led_proper m none column text afterwards (piece.Token k n) not_empty e later =
-    let unquoted = not_quoted m text k n not_empty e in
+    let unquoted : k ≡ token.Quoted → ⊥ =
+    λ quoted. (let taken = (FitsQuoted-from m text k n not_empty e quoted).taken in cc) in
     All-cons IsProper _ _
-    (record { unquoted = unquoted; bare = λ is. is_a_word m text k n not_empty e (bare_kind k is unquoted) }) (later (n - 1))
-led_proper m none column text afterwards (piece.Quoted name n) not_empty e later =
-    let taken = (FitsQuoted-from m text name n not_empty e).taken in cc
+    (record {
+      unquoted = unquoted;
+      bare = λ is. bare_word k (take n text) is unquoted (is_a_word m text k n not_empty e (bare_kind k is unquoted));
+    })
+    (later (n - 1))
 led_proper m none column text afterwards p not_empty e later = All-nil IsProper
 
 lexed_proper : (m : Mode) → m.quotes ≡ false → (skip column : ℕ) (text : List ℕ) → All IsProper (tokens_after m skip column text).marks

@@ -31,6 +31,7 @@ pub record Declarations : Type 0 where
   pub deps : List Dependency
   pub lines : List ℕ
 
+-- nothing declared; one name more; one dependency more
 abbrev pub no_declaration : Declarations
 no_declaration = record { names = []; columns = []; deps = []; lines = [] }
 
@@ -70,6 +71,7 @@ list_names f column line d any_name next_column (m ∷ ms) stop =
     at line m.column m.length (name_step f column d any_name m.kind m.word)
     >>= (λ next. list_names f column line next true (m.column + m.length) ms stop)
 
+-- the same of what is left of a line
 abbrev pub list_names_rest : Format → ColumnType → Declarations → Bool → Rest → Result Declarations SchemaRefusal
 list_names_rest f column d any_name r = list_names f column r.line d any_name r.next_column r.marks r.stop
 
@@ -88,6 +90,7 @@ dependency_line f line d m ms stop =
     >>= (λ next. follow f d.names line next (m.column + m.length) ms stop
     >>= (λ dep. Ok (add_dependency d dep line)))
 
+-- the same of what is left of a line
 abbrev pub dependency_rest : Format → Declarations → Mark → Rest → Result Declarations SchemaRefusal
 dependency_rest f d m r = dependency_line f r.line d m r.marks r.stop
 
@@ -102,6 +105,7 @@ line_from f line d m ms stop (Some column) =
     list_names f column line d false (m.column + m.length) ms stop
 line_from f line d m ms stop None = dependency_line f line d m ms stop
 
+-- a line of these tokens, which may be none
 abbrev pub line_of_marks : Format → ℕ → Declarations → List Mark → Option LexError
     → Result Declarations SchemaRefusal
 line_of_marks f line d [] None = Ok d

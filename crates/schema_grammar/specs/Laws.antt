@@ -24,19 +24,22 @@ use Rattle.schema_grammar.specs.Sets.{FitsSet, MeansSet, RefusesSet, read_set}
 use Rattle.schema_grammar.specs.Texts.{read_lines, read_text}
 
 -- ---- goals
+-- a goal is read exactly as what it means
 abbrev pub GoalMeaning : Type 0
 GoalMeaning = (declared : List (List ℕ)) (text : List ℕ) (d : Dependency)
     → (read_goal declared text ≡ Ok d) ↔ MeansGoal declared text d
 
+-- it is refused by its first diagnostic, or has none and is read
 abbrev pub GoalDiagnostics : Type 0
 GoalDiagnostics = (declared : List (List ℕ)) (text : List ℕ) → FitsGoal declared text (read_goal declared text)
 
+-- the reading refuses it exactly as the definition does
 abbrev pub GoalRefusal : Type 0
 GoalRefusal =
     (declared : List (List ℕ)) (text : List ℕ) (e : SchemaRefusal)
     → (read_goal declared text ≡ Err e) ↔ RefusesGoal declared text e
 
--- ---- sets
+-- ---- sets: the same three
 abbrev pub SetMeaning : Type 0
 SetMeaning =
     (declared : List (List ℕ)) (text : List ℕ) (x : Attributes)
@@ -50,7 +53,7 @@ SetRefusal =
     (declared : List (List ℕ)) (text : List ℕ) (e : SchemaRefusal)
     → (read_set declared text ≡ Err e) ↔ RefusesSet declared text e
 
--- ---- schema texts
+-- ---- schema texts: the same three of a text, and the diagnostics of a line and of lines
 abbrev pub SchemaMeaning : Type 0
 SchemaMeaning = (text : List ℕ) (whole : Declarations) → (read_text text ≡ Ok whole) ↔ MeansSchema text whole
 
@@ -79,6 +82,7 @@ PositionsRise =
     (span_at line 1 (lex m text).marks (lex m text).stop q).column
 
 -- ---- printed schemas
+-- the printed text of a schema of bare names declares what the schema has
 abbrev pub PrintedSchemaMeans : Type 0
 PrintedSchemaMeans =
     (s : Schema) → naming_of s ≡ Bare → length (deps_of s) ≤ MOST_DEPENDENCY_LINES
@@ -86,5 +90,6 @@ PrintedSchemaMeans =
     → (lines : List ℕ) × MeansSchema (declared_text (types_of s) (names_of s) (theory_of s))
     (record { names = names_of s; columns = types_of s; deps = theory_of s; lines = lines })
 
+-- what a schema text declares are different bare names, of which none is reserved
 abbrev pub DeclaredNames : Type 0
 DeclaredNames = (text : List ℕ) (d : Declarations) → MeansSchema text d → AreNames format.Plain d.names

@@ -46,6 +46,7 @@ follow f declared line reading column (m ∷ ms) stop =
     at line m.column m.length (step f declared reading m.kind m.word)
     >>= (λ next. follow f declared line next (m.column + m.length) ms stop)
 
+-- the same of what is left of a line
 abbrev pub follow_rest : Format → List (List ℕ) → Reached → Rest → Result Dependency SchemaRefusal
 follow_rest f declared reading r = follow f declared r.line reading r.next_column r.marks r.stop
 

@@ -43,11 +43,12 @@ pub record Rest : Type 0 where
   pub marks : List Mark
   pub stop : Option LexError
 
+-- what is left of a line where these tokens are still to be read
 abbrev pub rest_from : ℕ → ℕ → Lexed → Rest
 rest_from line next_column l =
     record { line = line; next_column = next_column; marks = l.marks; stop = l.stop }
 
--- what follows a value, and nothing after an error
+-- a value is handed on to the next step, and an error is the end
 infixl 10 ◌>>=◌
 abbrev pub ◌>>=◌ : {A B E : Type 0} → Result A E → (A → Result B E) → Result B E
 (Ok x) >>= f = f x
@@ -60,6 +61,7 @@ take_from want line next_column [] (Some stop) = Err (refused_by line stop)
 take_from want line next_column (m ∷ ms) stop =
     Ok (m, record { line = line; next_column = m.column + m.length; marks = ms; stop = stop })
 
+-- the same of what is left of a line; `want` is what is wanted, if nothing stands there
 unfoldable pub take : What → Rest → Result (Mark × Rest) SchemaRefusal
 take want r = take_from want r.line r.next_column r.marks r.stop
 
@@ -67,24 +69,27 @@ take want r = take_from want r.line r.next_column r.marks r.stop
 abbrev pub refusal_of_token : What → Mark → Rest → SchemaRefusal
 refusal_of_token want m r = refusal r.line m.column m.length (kind.Expected want)
 
+-- a number, and what is left after it
 unfoldable pub number : Rest → Result (ℕ × Rest) SchemaRefusal
 number r = do
   t ← take what.Number r
   n ← ok_or (number_in t.0.kind) (refusal_of_token what.Number t.0 t.1)
   Ok (n, t.1)
 
+-- an arrow, and what is left after it
 unfoldable pub arrow : Rest → Result (Sign × Rest) SchemaRefusal
 arrow r = do
   t ← take what.Arrow r
   a ← ok_or (arrow_in t.0.kind) (refusal_of_token what.Arrow t.0 t.1)
   Ok (a, t.1)
 
--- what stands where the line is to end
+-- the refusal of what stands where the line is to end
 abbrev pub refusal_at_end_from : ℕ → List Mark → Option LexError → Option SchemaRefusal
 refusal_at_end_from line [] None = None
 refusal_at_end_from line [] (Some stop) = Some (refused_by line stop)
 refusal_at_end_from line (m ∷ ms) stop = Some (refusal line m.column m.length (kind.Expected what.LineEnd))
 
+-- the same of what is left of a line
 unfoldable pub refusal_at_end : Rest → Option SchemaRefusal
 refusal_at_end r = refusal_at_end_from r.line r.marks r.stop
 
@@ -104,6 +109,7 @@ words_from names line x next_column (m ∷ ms) stop =
     (m.column + m.length) ms stop)
     else Ok (x, record { line = line; next_column = next_column; marks = m ∷ ms; stop = stop })
 
+-- the same of what is left of a line
 abbrev pub words : List (List ℕ) → Attributes → Rest → Result (Attributes × Rest) SchemaRefusal
 words names x r = words_from names r.line x r.next_column r.marks r.stop
 

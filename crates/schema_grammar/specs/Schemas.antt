@@ -78,6 +78,7 @@ MeansLines f number d [] whole = whole ≡ d
 MeansLines f number d (line ∷ lines) whole =
     (next : Declarations) × MeansTextLine f number d line next × MeansLines f (number + 1) next lines whole
 
+-- whether a line begins with `version`; where it has no token, what the later lines say
 abbrev pub begins_version : List Mark → Option LexError → Bool → Bool
 begins_version [] None later = later
 begins_version [] (Some stop) later = false
@@ -214,6 +215,7 @@ RefusesText number lines e =
     ((has_version_line lines ≡ false) × RefusesLines format.Plain number no_declaration lines e)
     ⊎ ((text : HasVersionLine lines) × RefusesTyped number lines text e)
 
+-- a schema text is refused, from its first line on
 abbrev pub RefusesSchema : List ℕ → SchemaRefusal → Type 0
 RefusesSchema text e = RefusesText 1 (line_texts (without_mark text)) e
 
@@ -229,5 +231,6 @@ abbrev pub FitsText : ℕ → List (List ℕ) → Result Declarations SchemaRefu
 FitsText number lines (Ok whole) = IsFineText number lines whole
 FitsText number lines (Err e) = RefusesText number lines e
 
+-- the same from the first line of a schema text on
 abbrev pub FitsSchema : List ℕ → Result Declarations SchemaRefusal → Type 0
 FitsSchema text reading = FitsText 1 (line_texts (without_mark text)) reading

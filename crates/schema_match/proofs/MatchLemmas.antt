@@ -12,8 +12,8 @@ use Rattle.dep_model.proofs.ListLemmas.{Contains-map, map-member}
 use Rattle.dep_model.proofs.DepLemmas.{dependencies_all-from}
 use Rattle.schema_match.specs.Columns.{name_of_attribute, SameNames, value_named, reorder_tuple, reorder}
 use Rattle.schema_match.specs.Carried.{carry_attributes, carry_dependency, IsImpliedBy, HaveSameLegalRelations}
-use Rattle.schema_match.proofs.RenamingLemmas.{IsRenaming, Turned, IsRenaming-inverse, SameSet, SameTuple, AreRenamed}
-use Rattle.schema_match.proofs.RenamingLemmas.{SameDependency, turned_relations, turned_dependency}
+use Rattle.schema_match.proofs.RenamingLemmas.{IsRenaming, Inverse, IsRenaming-inverse, SameSet, SameTuple, AreRenamed}
+use Rattle.schema_match.proofs.RenamingLemmas.{SameDependency, AreRenamed-inverse, SameDependency-inverse}
 use Rattle.schema_match.proofs.RenamingLemmas.{obeys_renamed}
 use Rattle.schema_match.proofs.NameLemmas.{attribute_named_is, named_back, declared_attribute, carry_attributes-at}
 
@@ -128,12 +128,12 @@ pub obeys_back : (schema other : Schema) (d : Dependency) (r : Relation) → Sam
     → IsWithin (universe_of schema) d
     → Obeys (width_of other) (carry_dependency schema other d) (reorder schema other r) → Obeys (width_of schema) d r
 obeys_back schema other d r names low =
-    obeys_renamed (width_of other) (width_of schema) (Turned (AreNamesake schema other))
+    obeys_renamed (width_of other) (width_of schema) (Inverse (AreNamesake schema other))
     (carry_dependency schema other d) d (reorder schema other r) r
     (IsRenaming-inverse (width_of schema) (width_of other) (AreNamesake schema other) (namesakes_rename schema other names))
     (carry_dependency-within schema other d) low
-    (turned_dependency (AreNamesake schema other) d (carry_dependency schema other d) (dependency_there schema other d))
-    (turned_relations (AreNamesake schema other) r (reorder schema other r) (relations_there schema other r))
+    (SameDependency-inverse (AreNamesake schema other) d (carry_dependency schema other d) (dependency_there schema other d))
+    (AreRenamed-inverse (AreNamesake schema other) r (reorder schema other r) (relations_there schema other r))
 
 -- the same of a dependency of the other schema
 obeys_other-there : (schema other : Schema) (d : Dependency) (r : Relation) → SameNames schema other
@@ -149,12 +149,12 @@ obeys_other-back : (schema other : Schema) (d : Dependency) (r : Relation) → S
     → IsWithin (universe_of other) d
     → Obeys (width_of other) d (reorder schema other r) → Obeys (width_of schema) (carry_dependency other schema d) r
 obeys_other-back schema other d r names low =
-    obeys_renamed (width_of other) (width_of schema) (Turned (AreNamesake schema other)) d
+    obeys_renamed (width_of other) (width_of schema) (Inverse (AreNamesake schema other)) d
     (carry_dependency other schema d) (reorder schema other r) r
     (IsRenaming-inverse (width_of schema) (width_of other) (AreNamesake schema other) (namesakes_rename schema other names)) low
     (carry_dependency-within other schema d)
-    (turned_dependency (AreNamesake schema other) (carry_dependency other schema d) d (dependency_back schema other d))
-    (turned_relations (AreNamesake schema other) r (reorder schema other r) (relations_there schema other r))
+    (SameDependency-inverse (AreNamesake schema other) (carry_dependency other schema d) d (dependency_back schema other d))
+    (AreRenamed-inverse (AreNamesake schema other) r (reorder schema other r) (relations_there schema other r))
 
 -- ---- legal relations
 pub have_same_legal_relations : (schema other : Schema) → SameNames schema other → IsImpliedBy other schema

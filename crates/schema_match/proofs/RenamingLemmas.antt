@@ -14,10 +14,11 @@ pub record IsRenaming (n m : ℕ) (R : ℕ → ℕ → Type 0) : Type 0 where
   pub there : (a : ℕ) → a < n → (b : ℕ) × R a b
   pub back : (b : ℕ) → b < m → (a : ℕ) × R a b
 
-abbrev pub Turned : (ℕ → ℕ → Type 0) → ℕ → ℕ → Type 0
-Turned R b a = R a b
+-- the same renaming, from the other side
+abbrev pub Inverse : (ℕ → ℕ → Type 0) → ℕ → ℕ → Type 0
+Inverse R b a = R a b
 
-pub IsRenaming-inverse : (n m : ℕ) (R : ℕ → ℕ → Type 0) → IsRenaming n m R → IsRenaming m n (Turned R)
+pub IsRenaming-inverse : (n m : ℕ) (R : ℕ → ℕ → Type 0) → IsRenaming n m R → IsRenaming m n (Inverse R)
 IsRenaming-inverse n m R names = record {
   first = λ b a r. names.second a b r;
   second = λ b a r. names.first a b r;
@@ -41,18 +42,18 @@ SameDependency R (fd x y) (fd v w) = SameSet R x v × SameSet R y w
 SameDependency R (mvd x y) (mvd v w) = SameSet R x v × SameSet R y w
 SameDependency R _ _ = ⊥
 
-pub turned_relations : (R : ℕ → ℕ → Type 0) (r s : Relation) → AreRenamed R r s → AreRenamed (Turned R) s r
-turned_relations R r s same = record {
+pub AreRenamed-inverse : (R : ℕ → ℕ → Type 0) (r s : Relation) → AreRenamed R r s → AreRenamed (Inverse R) s r
+AreRenamed-inverse R r s same = record {
   there = λ u u_in. let found = same.back u u_in in (found.0, found.1, λ (b a : ℕ) h. sym (found.2 a b h));
   back = λ t t_in. let found = same.there t t_in in (found.0, found.1, λ (b a : ℕ) h. sym (found.2 a b h));
 }
 
-pub turned_dependency : (R : ℕ → ℕ → Type 0) (d e : Dependency) → SameDependency R d e → SameDependency (Turned R) e d
-turned_dependency R (fd x y) (fd v w) same = ((λ (b a : ℕ) h. sym (same.0 a b h)), (λ (b a : ℕ) h. sym (same.1 a b h)))
-turned_dependency R (mvd x y) (mvd v w) same =
+pub SameDependency-inverse : (R : ℕ → ℕ → Type 0) (d e : Dependency) → SameDependency R d e → SameDependency (Inverse R) e d
+SameDependency-inverse R (fd x y) (fd v w) same = ((λ (b a : ℕ) h. sym (same.0 a b h)), (λ (b a : ℕ) h. sym (same.1 a b h)))
+SameDependency-inverse R (mvd x y) (mvd v w) same =
     ((λ (b a : ℕ) h. sym (same.0 a b h)), (λ (b a : ℕ) h. sym (same.1 a b h)))
-turned_dependency R (fd x y) (mvd v w) same = absurd same
-turned_dependency R (mvd x y) (fd v w) same = absurd same
+SameDependency-inverse R (fd x y) (mvd v w) same = absurd same
+SameDependency-inverse R (mvd x y) (fd v w) same = absurd same
 
 -- ---- what two tuples agree on
 agree_renamed : (n m : ℕ) (R : ℕ → ℕ → Type 0) (x y : Attributes) (t u v w : Tuple) → IsRenaming n m R
@@ -82,7 +83,7 @@ fd_renamed n m R x y v w r s names x_low w_low left right same obeys t u t_in u_
     let one = same.back t t_in in
     let two = same.back u u_in in
     let before : AgreeOn x one.0 two.0 =
-    agree_renamed m n (Turned R) v x t u one.0 two.0 (IsRenaming-inverse n m R names) x_low (λ (b a : ℕ) h. sym (left a b h))
+    agree_renamed m n (Inverse R) v x t u one.0 two.0 (IsRenaming-inverse n m R names) x_low (λ (b a : ℕ) h. sym (left a b h))
     (λ (b a : ℕ) h. sym (one.2 a b h)) (λ (b a : ℕ) h. sym (two.2 a b h)) agree in
     agree_renamed n m R y w one.0 two.0 t u names w_low right one.2 two.2 (obeys one.0 two.0 one.1 two.1 before)
 
@@ -93,7 +94,7 @@ mvd_renamed n m R x y v w r s names x_low v_low w_low left right same obeys t u 
     let one = same.back t t_in in
     let two = same.back u u_in in
     let before : AgreeOn x one.0 two.0 =
-    agree_renamed m n (Turned R) v x t u one.0 two.0 (IsRenaming-inverse n m R names) x_low (λ (b a : ℕ) h. sym (left a b h))
+    agree_renamed m n (Inverse R) v x t u one.0 two.0 (IsRenaming-inverse n m R names) x_low (λ (b a : ℕ) h. sym (left a b h))
     (λ (b a : ℕ) h. sym (one.2 a b h)) (λ (b a : ℕ) h. sym (two.2 a b h)) agree in
     let mixed = obeys one.0 two.0 one.1 two.1 before in
     let found = same.there mixed.0 mixed.1 in

@@ -1,7 +1,7 @@
 //! Schemas, dependencies and sets, printed in one form, which is the form that their readers take.
 //!
-//! What is printed is an equation over the names of the schema. That it means what was printed is a law of
-//! the grammar, which stands above.
+//! A clause says which text is printed, by a definition over the names of the schema. That the text
+//! means what was printed is a law of `schema_grammar`, which stands above.
 #![tactic(auto)]
 
 pub mod laws;

@@ -130,7 +130,7 @@ impl Draft {
     {
         match kind {
             TokenKind::Identifier | TokenKind::Quoted => {
-                self.declare(format, column, kind, word.bytes())
+                self.declare(format, column, kind, word.bytes().as_slice())
             }
             _ => {
                 let want = if any_name { What::LineEnd } else { What::Name };

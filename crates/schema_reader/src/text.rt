@@ -129,7 +129,7 @@ fn is_version(kind: TokenKind, word: &Word<'_>) -> bool
     ensures exact { result ≡ is_version kind (bytes_of word.now) }
 {
     match kind {
-        TokenKind::Identifier => word.bytes() == b"version".as_slice(),
+        TokenKind::Identifier => word.bytes().as_slice() == b"version".as_slice(),
         _ => false,
     }
 }

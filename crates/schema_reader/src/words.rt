@@ -12,7 +12,7 @@ pub fn column_type_of_token(format: Format, kind: TokenKind, word: &Word<'_>) ->
     ensures exact { result ≡ column_type_of_token format kind (bytes_of word.now) }
 {
     match kind {
-        TokenKind::Identifier => column_type_of_word(format, word.bytes()),
+        TokenKind::Identifier => column_type_of_word(format, word.bytes().as_slice()),
         _ => None,
     }
 }

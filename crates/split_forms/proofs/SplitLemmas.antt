@@ -9,7 +9,7 @@ use Rattle.dep_model.specs.Projections.{IsLossless}
 use Rattle.normal_forms.specs.declared.forms.Form.{Form}
 use Rattle.normal_forms.specs.declared.forms.Form.TheVariants.{Third}
 use Rattle.normal_forms.specs.Violations.{Violates}
-use Rattle.normal_forms.specs.Chosen.{IsInnocent, HasNoVisibleViolation, IsVisibleViolation}
+use Rattle.normal_forms.specs.Chosen.{IsNoViolation, HasNoVisibleViolation, IsVisibleViolation}
 use Rattle.normal_forms.specs.Cuts.{IsCut}
 use Rattle.split_forms.specs.Lists.{IsSplitStep, ReachedIn}
 use Rattle.split_forms.specs.Splitting.{StaysWhole, IsCutBy, IsStuckScheme, ReachedList, FinishedList, IsStuckAt, IsTooWideAt, HasTooManySchemes}
@@ -22,11 +22,11 @@ use Rattle.split_forms.proofs.StepLemmas.{split_at_first-unique, one_successor, 
 pub visible_is_some : (n : ℕ) (ds : List Dependency) (form : Form) (scheme x y : Attributes)
     → HasNoVisibleViolation n ds form scheme → IsVisibleViolation n ds form scheme x y → ⊥
 visible_is_some n ds form scheme x y none visible =
-    let innocent : IsInnocent n ds form scheme visible.given =
-    subst (IsInnocent n ds form scheme)
+    let no_violation : IsNoViolation n ds form scheme visible.given =
+    subst (IsNoViolation n ds form scheme)
     (get_or_from_slice_get ds visible.position visible.given visible.given visible.stands)
     (none visible.position visible.given (slice_get_within ds visible.position visible.given visible.stands)) in
-    innocent y (subst (λ (z : Attributes). Violates n ds form scheme z y)
+    no_violation y (subst (λ (z : Attributes). Violates n ds form scheme z y)
     visible.left visible.violates)
 
 pub stuck_not_whole : (n : ℕ) (ds : List Dependency) (form : Form) (scheme : Attributes) → IsStuckScheme n ds form scheme

@@ -1,4 +1,5 @@
--- A list of schemes has at most one successor, so the reached lists stand in one row, each longer by one.
+-- A list of schemes has at most one successor, so the reached lists are one sequence, each longer
+-- by one.
 use Rattle.std.proofs.Common.{◌≡◌, ℕ, zero, suc, ◌+◌, ◌≤◌, List, [], ◌∷◌, ◌++◌, length, length-append, refl, sym, ap, ◌∙◌, subst, ⊎_elim, arith}
 use Rattle.std.proofs.lemmas.Bool.{cases_eq}
 use Rattle.std.proofs.lemmas.List.Elements.{All-head, All-tail}

@@ -9,7 +9,7 @@ use Rattle.split_forms.specs.declared.refusal.SplitRefusal.{SplitRefusal}
 use Rattle.split_forms.specs.declared.refusal.SplitRefusal.TheVariants.{TooWide, TooManySchemes}
 use Rattle.split_forms.specs.Splitting.{IsTooWideAt, HasTooManySchemes}
 
--- no reached list within the limit is stuck
+-- no list that is reached within the limit is stuck at a scheme that is too wide to be tested
 abbrev pub IsNeverTooWide : ℕ → List Dependency → Form → ℕ → Type 0
 IsNeverTooWide n ds form limit = (scheme : Attributes) → IsTooWideAt n ds form limit scheme → ⊥
 

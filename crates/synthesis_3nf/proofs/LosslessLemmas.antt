@@ -1,4 +1,5 @@
--- A plan with a key of the universe in one scheme and each member of a cover in some scheme loses nothing, and keeps the dependencies.
+-- A plan with a key of the universe in one scheme and each member of a cover in some scheme is
+-- lossless, and keeps the dependencies.
 use Rattle.std.proofs.Common.{◌≡◌, ℕ, ◌<◌, true, List, [], ◌∷◌, length, sym, subst, ◌∙◌, ◌⊎◌, ⊎_elim, arith}
 use Rattle.std.specs.Prelude.{All, Any, Contains}
 use Rattle.std.proofs.lemmas.Bool.{lt-ltb, true≢false}

@@ -1,2 +1,3 @@
 mod PartFiles
 mod MigratedFiles
+mod StatedReferences

@@ -1,22 +1,28 @@
-//! Laws of the files of tables: what a destination over a folder writes of a table as CSV is read back
-//! as the table's rows.
+//! Laws of tables. What a destination over a folder writes of a table as CSV is read back as the table's
+//! rows. A design in its order states each reference that it can.
 #![tactic(auto)]
 
 ghost use Rattle.std.specs.Prelude.{◌≡◌, ◌<◌, ◌≤◌, ℕ, true, List, length, slice_get, Some, All, IsTrue, Ok};
 ghost use Rattle.attr_sets.specs.Attributes.{Attributes, count_below};
+ghost use Rattle.attr_sets.specs.declared.set.AttrSet.{AttrSet};
 ghost use Rattle.csv_migrate.specs.Migration.{column_names, tables_of_migration};
 ghost use Rattle.csv_rows.specs.Reading.{RowsOf, PartOf};
 ghost use Rattle.csv_rows.specs.declared.reading.TheConstants.{MOST_ROWS};
 ghost use Rattle.dep_model.specs.Integers.{IsIntegerText};
 ghost use Rattle.dep_model.specs.Names.{is_bare_name};
 ghost use Rattle.dep_model.specs.OnSchemes.{value_in};
-ghost use Rattle.dep_model.specs.Schemas.{names_of, width_of, types_of, TypedFor};
+ghost use Rattle.dep_model.specs.Plans.{IsPlan, schemes_of};
+ghost use Rattle.dep_model.specs.Schemas.{names_of, width_of, types_of, theory_of, TypedFor};
 ghost use Rattle.dep_model.specs.Tuples.{Relation, IsOver};
 ghost use Rattle.dep_model.specs.declared.column_type.ColumnType.TheVariants.{Integer};
 ghost use Rattle.dep_model.specs.declared.schema.Schema.{Schema};
+ghost use Rattle.ddl_text.specs.Designs.{IsDesign};
+ghost use Rattle.ddl_text.specs.declared.table.TableDesign.{TableDesign};
+ghost use Rattle.design_order.specs.Order.{IsInDesignOrder};
 ghost use Rattle.named_tables.specs.Tables.{TableValue};
 ghost use Rattle.destinations.specs.Formats.{table_file};
 ghost use Rattle.destinations.specs.declared.format.TableFormat.TheVariants.{Csv};
+ghost use Rattle.table_laws.specs.References.{ReferencesAreStated};
 
 /// The CSV file of a table means its rows, where they fit the types of the columns and are no more than a
 /// file may have: of a table with all attributes of a schema, and of one with some of them, at least one.
@@ -40,4 +46,13 @@ pub fn migrated_tables_are_read_back()
         → length rows ≤ MOST_ROWS → All (λ scheme. 0 < count_below scheme (width_of s)) plan
         → All (λ table. PartOf s (table_file Csv table).bytes (Ok table.rows))
         (tables_of_migration s plan rows) }
+{}
+
+/// In the design of a plan in its order each table refers to every other one whose key, not empty, lies
+/// within it, but for later ones that determine the same attributes.
+pub fn references_are_stated()
+    ensures law { (s : Schema) (plan : List Attributes) (schemes : List AttrSet) (tables : List TableDesign)
+        → IsPlan (width_of s) plan
+        → IsInDesignOrder (width_of s) (theory_of s) plan (schemes_of schemes)
+        → IsDesign s schemes tables → ReferencesAreStated s tables }
 {}

@@ -1,4 +1,4 @@
--- What a query gives hangs on the values of its own attributes alone.
+-- What a query gives depends on the values of its own attributes alone.
 use Rattle.std.proofs.Common.{◌≡◌, ℕ, List, [], ◌∷◌, length, map, sym, subst, inl, inr, ◌∙◌, arith}
 use mathlib.Core.Path.{fun_ext}
 use Rattle.std.proofs.lemmas.Bool.{cases_Bool, ltb-true}

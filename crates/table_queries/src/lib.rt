@@ -1,5 +1,6 @@
-//! Queries over one table, as terms, and what they give over a relation: its values on a set of attributes,
-//! values beside more than one other, natural joins and differences.
+//! Queries over one table, as terms, and what they give over a relation: its values on a set of
+//! attributes, those of them beside which more than one value of another set stands, natural joins
+//! and differences.
 //!
 //! `breaches_of` is the query for the tuples that break a dependency, `plan_join` the natural join
 //! of the tables of a plan. The laws say what these give. Each is a function that does nothing,
@@ -16,7 +17,7 @@ ghost use Rattle.dep_model.specs.Projections.{ordered_projection, Covers, IsLoss
 ghost use Rattle.table_queries.specs.Queries.{Query, StoredTable, attributes_of, breaches_of, values_on, plan_join, table_beyond_view, view_beyond_table};
 ghost use Rattle.table_queries.specs.Meanings.{Gives, IsUnionCompatible, IsGiven, GivesNone};
 
-/// What a query gives of a tuple hangs on the values of the query's own attributes alone.
+/// What a query gives of a tuple depends on the values of the query's own attributes alone.
 pub fn own_values_decide()
     ensures law { (n : ℕ) (q : Query) (r : Relation) (t u : Tuple) → IsUnionCompatible n q → length t
         ≡ n → length u ≡ n

@@ -61,6 +61,7 @@ more_is first designs i design lt at =
     ap (joined_with (stored_query first)) (stored_next designs i design lt at)
     ∙ joined_push (stored_query first) (stored_tables (take i designs)) (stored_of design)
 
+-- the attributes of the tables so far, and of one more
 pub seen_more : (n : ℕ) (first : StoredTable) (designs : List TableDesign) (i : ℕ) (design : TableDesign) (seen next : Attributes) → i < length designs
     → design ≡ get_or designs i design
     → seen ≡ attributes_of n (joined_with (stored_query first) (stored_tables (take i designs))) → next ≡ union seen (attributes design.scheme)
@@ -69,6 +70,7 @@ seen_more n first designs i design seen next lt at so_far is =
     is ∙ ap (λ (z : Attributes). union z (attributes design.scheme)) so_far
     ∙ ap (attributes_of n) (sym (more_is first designs i design lt at))
 
+-- the text after FROM: that of the tables so far, and the link to one more
 pub sources_more : (s : Schema) (t : List ℕ) (first : StoredTable) (designs : List TableDesign) (i : ℕ) (design : TableDesign)
     (seen shared : Attributes) (text next piece source : List ℕ) → i < length designs → design ≡ get_or designs i design
     → seen ≡ attributes_of (width_of s) (joined_with (stored_query first) (stored_tables (take i designs)))

@@ -46,21 +46,23 @@ several_grouped s t x y not_empty =
     sym (ap (λ (b : Bool). if b then counted_text (values_text s t y) else grouped_text (name_list s (attributes x)) (values_text s t y)) (empty_fails x not_empty))
 
 -- ---- rules
-abbrev pub line_of : List ℕ → List ℕ
-line_of query = codes "\n" ++ query ++ codes ";\n"
+-- the text of a query that shows the breaches of a rule, on lines of its own
+abbrev pub query_line : List ℕ → List ℕ
+query_line query = codes "\n" ++ query ++ codes ";\n"
 
 pub fd_text : (s : Schema) (t : List ℕ) (x y both : Attributes) → is_subset y x ≡ false → both ≡ union x y
-    → line_of (several_text s t x both) ≡ breaches_text s t (breaches_of_fd x y)
+    → query_line (several_text s t x both) ≡ breaches_text s t (breaches_of_fd x y)
 fd_text s t x y both beyond same =
-    ap (λ (z : Attributes). line_of (several_text s t x z)) same
+    ap (λ (z : Attributes). query_line (several_text s t x z)) same
     ∙ sym (ap (λ (b : Bool). breaches_text s t (if b then None else Some (several x (union x y)))) beyond)
 
-abbrev pub beyond_of : Attributes → Attributes → Query
-beyond_of left right = except (join (values_on left) (values_on right)) whole
+-- the tuples of the join of two projections that the table does not have
+abbrev pub join_beyond_whole : Attributes → Attributes → Query
+join_beyond_whole left right = except (join (values_on left) (values_on right)) whole
 
 pub mvd_text : (s : Schema) (t : List ℕ) (x y universe both outside rest : Attributes) → universe ≡ below (width_of s) → both ≡ union x y
     → outside ≡ difference universe both → rest ≡ union x outside → is_subset y x ≡ false → is_subset universe both ≡ false
-    → line_of (query_text s t (beyond_of both rest)) ≡ breaches_text s t (breaches_of_mvd (width_of s) x y)
+    → query_line (query_text s t (join_beyond_whole both rest)) ≡ breaches_text s t (breaches_of_mvd (width_of s) x y)
 mvd_text s t x y universe both outside rest is_universe is_both is_outside is_rest beyond not_empty =
     let n = width_of s in
     let to_rest : rest ≡ union x (difference (below n) (union x y)) =
@@ -68,7 +70,7 @@ mvd_text s t x y universe both outside rest is_universe is_both is_outside is_re
     ∙ ap (λ (z : Attributes). difference z both) is_universe ∙ ap (λ (z : Attributes). difference (below n) z) is_both) in
     let not_all : is_subset (below n) (union x y) ≡ false =
     ap (λ (z : Attributes). is_subset (below n) z) (sym is_both) ∙ ap (λ (z : Attributes). is_subset z both) (sym is_universe) ∙ not_empty in
-    ap (λ (z : Attributes). line_of (query_text s t (beyond_of z rest))) is_both
-    ∙ ap (λ (z : Attributes). line_of (query_text s t (beyond_of (union x y) z))) to_rest
-    ∙ sym (ap (λ (b : Bool). breaches_text s t (if b || is_subset (below n) (union x y) then None else Some (beyond_of (union x y) (union x (difference (below n) (union x y)))))) beyond
-    ∙ ap (λ (b : Bool). breaches_text s t (if b then None else Some (beyond_of (union x y) (union x (difference (below n) (union x y)))))) not_all)
+    ap (λ (z : Attributes). query_line (query_text s t (join_beyond_whole z rest))) is_both
+    ∙ ap (λ (z : Attributes). query_line (query_text s t (join_beyond_whole (union x y) z))) to_rest
+    ∙ sym (ap (λ (b : Bool). breaches_text s t (if b || is_subset (below n) (union x y) then None else Some (join_beyond_whole (union x y) (union x (difference (below n) (union x y)))))) beyond
+    ∙ ap (λ (b : Bool). breaches_text s t (if b then None else Some (join_beyond_whole (union x y) (union x (difference (below n) (union x y)))))) not_all)

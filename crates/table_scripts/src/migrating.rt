@@ -149,7 +149,7 @@ fn difference_queries_text(
     Ok(text)
 }
 
-// The rows of the view.
+// The query for all rows of the view.
 fn rows_of_view(
     alloc: Global,
     schema: &Schema,

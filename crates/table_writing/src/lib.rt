@@ -1,10 +1,11 @@
 //! Tables handed to destinations.
 //!
 //! [`write_tables`] hands each table in order to each destination in order. A destination is left at
-//! its first fault, and the next one begins; each has an end of its own.
+//! its first fault, and the next one begins; each has an end of its own. [`laws`] says what they then hold.
 #![tactic(auto)]
 
 mod end;
+pub mod laws;
 mod writing;
 
 pub use end::WriteOutcome;

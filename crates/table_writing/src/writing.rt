@@ -1,6 +1,7 @@
-ghost use Rattle.std.specs.Prelude.{◌≡◌, ◌≤◌, ◌^◌, ◌<◌, [], ◌∷◌, length, IfOk, OnOk, OnErr};
+ghost use Rattle.std.specs.Prelude.{◌≡◌, ◌≤◌, ◌^◌, ◌<◌, [], ◌∷◌, length, None, IfOk, OnOk, OnErr};
 ghost use Rattle.desk_outside.specs.Causes.{HasOutsideCause};
-ghost use Rattle.destinations.specs.Destinations.{KeepsFinished};
+ghost use Rattle.desk_outside.specs.Begun.{Begins, MayBegin};
+ghost use Rattle.destinations.specs.Destinations.{MayGiveUp};
 ghost use Rattle.named_tables.specs.Tables.{table_value, table_values};
 ghost use Rattle.table_writing.specs.Writing.{HasAll, WrittenDestination, AtEachPosition};
 
@@ -22,6 +23,8 @@ pub fn write_tables(
     ensures written { IfOk result (λ ends. AtEachPosition
         (WrittenDestination ⟦<Box<dyn Destination> as Destination>⟧.is_known
         ⟦<Box<dyn Destination> as Destination>⟧.finished
+        ⟦<Box<dyn Destination> as Destination>⟧.begun
+        ⟦<Box<dyn Destination> as Destination>⟧.width
         ⟦<Box<dyn Destination> as Destination>⟧.faults (table_values tables.now))
         destinations.old.items destinations.new.items ends.items) }
     ensures err { OnErr result (destinations.new.items ≡ destinations.old.items) }
@@ -36,7 +39,7 @@ pub fn write_tables_to_list<T: Destination>(
     tables: &[NamedTable],
 ) -> Result<Vec<WriteOutcome>, OutOfMemory>
     ensures written { IfOk result
-        (λ ends. AtEachPosition (WrittenDestination T.is_known T.finished T.faults
+        (λ ends. AtEachPosition (WrittenDestination T.is_known T.finished T.begun T.width T.faults
         (table_values tables.now))
         destinations.old.items destinations.new.items ends.items) }
     ensures err { OnErr result (destinations.new.items ≡ destinations.old.items) }
@@ -52,7 +55,7 @@ fn write_tables_to_each<T: Destination>(
 ) -> Result<Vec<WriteOutcome>, OutOfMemory>
     requires { length destinations.old < 2 ^ 64 }
     ensures written { IfOk result
-        (λ ends. AtEachPosition (WrittenDestination T.is_known T.finished T.faults
+        (λ ends. AtEachPosition (WrittenDestination T.is_known T.finished T.begun T.width T.faults
         (table_values tables.now))
         destinations.old destinations.new ends.items) }
     ensures err { OnErr result (destinations.new ≡ destinations.old) }
@@ -69,8 +72,8 @@ fn write_tables_to_each<T: Destination>(
 
 // All tables into one destination, up to its first fault.
 fn write_tables_to_one<T: Destination>(destination: &mut T, tables: &[NamedTable]) -> WriteOutcome
-    ensures written { WrittenDestination T.is_known T.finished T.faults (table_values tables.now)
-        destination.old destination.new result }
+    ensures written { WrittenDestination T.is_known T.finished T.begun T.width T.faults
+        (table_values tables.now) destination.old destination.new result }
 {
     for table in tables {
         match write_table(destination, table) {
@@ -86,10 +89,15 @@ fn write_tables_to_one<T: Destination>(destination: &mut T, tables: &[NamedTable
 #[tactic(auto, using(crate::proofs::WriteLemmas::row_next))]
 fn write_table<T: Destination>(destination: &mut T, table: &NamedTable) -> Result<(), OutsideFault>
     ensures is_known { T.is_known destination.new ≡ T.is_known destination.old }
-    ensures ok { OnOk result (HasAll (table_value table.now
-        ∷ []) (T.finished destination.old) (T.finished destination.new)) }
-    ensures keeps { OnErr result (KeepsFinished (T.finished destination.old)
+    ensures has { OnOk result (HasAll (table_value table.now ∷ []) (T.finished destination.old)
         (T.finished destination.new)) }
+    ensures may_give_up { OnErr result (MayGiveUp (table_value table.now).name
+        (T.finished destination.old) (T.finished destination.new)) }
+    ensures begins { OnOk result (Begins (table_value table.now).name (T.begun destination.old)
+        (T.begun destination.new)) }
+    ensures may_begin { OnErr result (MayBegin (table_value table.now).name
+        (T.begun destination.old) (T.begun destination.new)) }
+    ensures closed { T.width destination.new ≡ None }
     ensures cause { HasOutsideCause (T.faults destination.old) (T.faults destination.new) result }
 {
     destination.begin_table(&table.held.name, &table.held.columns)?;

@@ -61,14 +61,14 @@ no_more_rows t (row ∷ rest) u is count = let e = ap (λ (v : Tableau). length 
 
 -- ---- a round: from its rows, functionally closed to s, whose different rows are t
 module _ (n : ℕ) (ds : List Dependency) (plan : List Attributes) (limit : ℕ) (rows s t : Tableau) (round : IsRound n ds plan limit rows) (closes : ClosesFunctionallyTo ds rows s) (same : SameTableau s t) where
-  pub settles_to : ClosesFunctionallyTo ds rows t
-  settles_to = record {
+  pub closes_to : ClosesFunctionallyTo ds rows t
+  closes_to = record {
     leads = (closes.leads.0, functional_leads_end ds closes.leads.0 rows s t closes.leads.1 same);
     functionally_closed = functionally_closed-same ds s t same closes.functionally_closed;
   }
 
   pub reached_closed : ReachesTableau n ds plan t
-  reached_closed = reaches_functionally_closed n ds settles_to.leads.0 round.reached.0 (plan_tableau n plan) rows t round.reached.1 settles_to.leads.1
+  reached_closed = reaches_functionally_closed n ds closes_to.leads.0 round.reached.0 (plan_tableau n plan) rows t round.reached.1 closes_to.leads.1
 
   pub closed_over : IsTableauOver n t
   closed_over k d l = reached-over n ds plan t reached_closed (get_or t k d) (Contains-get_or t k d l)
@@ -76,14 +76,14 @@ module _ (n : ℕ) (ds : List Dependency) (plan : List Attributes) (limit : ℕ)
   -- where it ends the rounds, none had too many rows
   pub ended : EndsRounds n ds t → RoundsExceed n ds plan limit → ⊥
   ended ends exceed =
-      round.earlier exceed.round exceed.tableau (rounds_end n ds plan round.round rows t round.in_rounds settles_to ends exceed.round exceed.tableau exceed.in_rounds) exceed.in_rounds exceed.more
+      round.earlier exceed.round exceed.tableau (rounds_end n ds plan round.round rows t round.in_rounds closes_to ends exceed.round exceed.tableau exceed.in_rounds) exceed.in_rounds exceed.more
 
   next_of : (u : Tableau) → AddsAll (IsMadeOf n ds t) t u → IsNext n ds t u
   next_of u adds row = (adds.sound row, ⊎_elim (λ old. subst (λ (v : Tableau). Contains v row) (sym adds.extends.1) (Contains-append_left t adds.extends.0 row old)) (adds.complete row))
 
   -- where nothing was added, it is closed
   pub closed_here : AddsAll (IsMadeOf n ds t) t t → IsClosed n ds t
-  closed_here adds u (inl step) = settles_to.functionally_closed u step
+  closed_here adds u (inl step) = closes_to.functionally_closed u step
   closed_here adds u (inr step) = step.step.fresh (adds.complete (exchange_rows n (union step.lhs step.rhs) step.step.first step.step.second)
       (record { lhs = step.lhs; rhs = step.rhs; given = step.given; first = step.step.first; second = step.step.second; first_in = step.step.first_in; second_in = step.step.second_in; agree = step.step.agree; row_is = refl }))
 
@@ -103,7 +103,7 @@ module _ (n : ℕ) (ds : List Dependency) (plan : List Attributes) (limit : ℕ)
       record {
         round = suc round.round;
         tableau = next.0;
-        in_rounds = (rows, t, round.in_rounds, settles_to, (λ ends. ⊎_elim lacks (λ closed. no_more limit t t (Same-refl t) within_limit (over t (λ p h. h) (closed_made closed))) ends), next.1);
+        in_rounds = (rows, t, round.in_rounds, closes_to, (λ ends. ⊎_elim lacks (λ closed. no_more limit t t (Same-refl t) within_limit (over t (λ p h. h) (closed_made closed))) ends), next.1);
         more = over next.0 (λ p h. (next.1 p).1 (inl h)) (λ p h. (next.1 p).1 (inr h));
       }
 
@@ -170,7 +170,7 @@ module _ (n : ℕ) (ds : List Dependency) (plan : List Attributes) (limit : ℕ)
 
     pub next_round : (Contains t (distinguished_row n) → ⊥) → length t < length u → IsRound n ds plan limit u
     next_round lacks grows =
-        let here : InRounds n ds plan (suc round.round) u = (rows, t, round.in_rounds, settles_to, (λ ends. ⊎_elim lacks (not_closed u adds differ grows) ends), next_of u adds) in
+        let here : InRounds n ds plan (suc round.round) u = (rows, t, round.in_rounds, closes_to, (λ ends. ⊎_elim lacks (not_closed u adds differ grows) ends), next_of u adds) in
         record {
           round = suc round.round;
           in_rounds = here;
@@ -184,7 +184,7 @@ module _ (n : ℕ) (ds : List Dependency) (plan : List Attributes) (limit : ℕ)
         }
 
     pub next_lower : length t < length u → what_is_left n (length plan) limit u < what_is_left n (length plan) limit rows
-    next_lower grows = round_lowers n (length plan) limit ds rows t u (reached-over n ds plan rows round.reached) (reached-most n ds plan rows round.reached) settles_to.leads (next_of u adds) round.differ grows within_limit
+    next_lower grows = round_lowers n (length plan) limit ds rows t u (reached-over n ds plan rows round.reached) (reached-most n ds plan rows round.reached) closes_to.leads (next_of u adds) round.differ grows within_limit
 
 -- ---- the answers
 pub closed_rows : (n : ℕ) (ds : List Dependency) (plan : List Attributes) (limit : ℕ) (rows t : Tableau) (texts : Relation) → IsRound n ds plan limit rows → ClosesFunctionallyTo ds rows t → ReachesTableau n ds plan t → IsClosed n ds t → length t ≤ limit
@@ -229,7 +229,7 @@ ends_lossy n ds plan limit rows s t u texts small round closes same within_limit
     let texts_are : AreTextsOf t texts = subst (λ (v : Tableau). AreTextsOf v texts) (no_more_rows t adds.extends.0 u adds.extends.1 count) are in
     record {
       within = ended n ds plan limit rows s t round closes same (inr closed);
-      closed = closed_rows n ds plan limit rows t texts round (settles_to n ds plan limit rows s t round closes same) reached closed within_limit texts_are;
+      closed = closed_rows n ds plan limit rows t texts round (closes_to n ds plan limit rows s t round closes same) reached closed within_limit texts_are;
       gains = closed_gains n ds plan t texts small reached closed texts_are lacks;
     }
 

@@ -98,7 +98,7 @@ fn each_destination_has_an_end_of_its_own(rt: HostRuntime) -> Result<(), Fail> {
         ]
         .as_slice()
     );
-    let counts = [Some(3), None, Some(6)];
+    let counts = [Some(3), None, Some(3)];
     for (destination, count) in destinations.iter().zip(counts.iter()) {
         let held = destination.held_tables().map(|tables| tables.len());
         assert_eq!(rt; held, *count);

@@ -1,5 +1,6 @@
 ghost use Rattle.std.specs.Prelude.{◌<◌};
 
+use dep_model::OutOfMemory;
 use desk_outside::*;
 use std::alloc::Global;
 use std::fmt::Display;
@@ -151,6 +152,23 @@ fn each_call_of_a_folder_may_fail(rt: HostRuntime) -> Result<(), Fail> {
     Ok(())
 }
 
+#[test]
+fn a_file_replaces_one_of_its_name(rt: HostRuntime) -> Result<(), Fail> {
+    let alloc = rt.alloc();
+    let mut folder = MemoryFolder::new(alloc, Vec::new(alloc));
+    for name in [b"a".as_slice(), b"b", b"a"] {
+        assert!(rt; write_file(&mut folder, name) == Ok(()));
+    }
+    let Some(last) = folder.finished_files().get(1) else {
+        return Err(Fail::from(OutOfMemory));
+    };
+    assert_eq!(rt; folder.finished_files().len(), 2);
+    assert_eq!(rt; last.name.bytes(), b"a".as_slice());
+    assert_eq!(rt; folder.begin(b"b"), Ok(()));
+    assert_eq!(rt; folder.finished_files().len(), 1);
+    Ok(())
+}
+
 // A file of two pieces, up to the first fault.
 fn write_file<G: Folder>(folder: &mut G, name: &[u8]) -> Result<(), OutsideFault> {
     folder.begin(name)?;
@@ -161,7 +179,7 @@ fn write_file<G: Folder>(folder: &mut G, name: &[u8]) -> Result<(), OutsideFault
 
 #[test]
 fn the_system_has_a_folder(rt: HostRuntime) -> Result<(), Fail> {
-    let mut folder = FileFolder::new(&rt);
+    let mut folder = FileFolder::new(rt.alloc(), &rt);
     for text in [b"the first text".as_slice(), b"second"] {
         assert_eq!(rt; folder.begin(b"desk_outside_written"), Ok(()));
         assert_eq!(rt; folder.write(text), Ok(text.len()));
@@ -172,18 +190,29 @@ fn the_system_has_a_folder(rt: HostRuntime) -> Result<(), Fail> {
         folder.begin(b"desk_outside_\xff"),
         Err(OutsideFault::Failed)
     );
-    let mut source = RealFiles::new(&rt);
+    let mut source = RealFiles::new(rt.alloc(), &rt);
     let bytes = load(rt.alloc(), &mut source, b"desk_outside_written", 100);
     fs::remove_file(&rt, "desk_outside_written")?;
     assert_eq!(rt; bytes?.as_slice(), b"second".as_slice());
     Ok(())
 }
 
+// A device takes all when it is written, or nothing.
+#[test]
+fn what_cannot_be_flushed_ends(rt: HostRuntime) {
+    let mut folder = FileFolder::new(rt.alloc(), &rt);
+    assert_eq!(rt; folder.begin(b"/dev/null"), Ok(()));
+    assert_eq!(rt; folder.write(b"a text"), Ok(6));
+    assert_eq!(rt; folder.end(), Ok(()));
+    assert_eq!(rt; folder.begin(b"/dev/full"), Ok(()));
+    assert_eq!(rt; folder.write(b"a text"), Err(OutsideFault::Failed));
+}
+
 #[test]
 fn the_system_has_files(rt: HostRuntime) -> Result<(), Fail> {
     fs::write(&rt, "desk_outside_text", TEXT)?;
     let alloc = rt.alloc();
-    let mut source = RealFiles::new(&rt);
+    let mut source = RealFiles::new(rt.alloc(), &rt);
     let bytes = load(alloc, &mut source, b"desk_outside_text", 31);
     let long = load(alloc, &mut source, b"desk_outside_text", 30);
     let missing = load(alloc, &mut source, b"desk_outside_missing", 1000);

@@ -30,6 +30,8 @@ impl Destination for WithoutMemory {
 
     ghost opened = { λ _ _. ⊤ };
 
+    ghost begun = { λ _ _. ⊤ };
+
     ghost width = { λ destination. destination.columns };
 
     ghost faults = { λ _. 0 };

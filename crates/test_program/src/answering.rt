@@ -1,5 +1,5 @@
 use crate::calls::{File, call, failing_destination, slow_sink, slow_source};
-use desk_cli::Status;
+use desk_responses::Status;
 use destinations::Destination;
 use std::alloc::Global;
 use std::process::Abort;

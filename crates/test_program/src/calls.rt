@@ -1,6 +1,7 @@
 use dep_model::OutOfMemory;
-use desk_cli::{Status, desk};
+use desk_cli::desk;
 use desk_outside::{Argument, HeldFile, MemoryFiles, MemorySink};
+use desk_responses::Status;
 use destinations::{Destination, MemoryDestination};
 use std::alloc::Global;
 

@@ -1,7 +1,7 @@
 use crate::calls::{File, call, failing_destination, slow_sink, slow_source};
 use dep_model::OutOfMemory;
-use desk_cli::Status;
 use desk_outside::{MemoryFolder, MemorySink};
+use desk_responses::Status;
 use destinations::{Destination, FileDestination, TableFormat};
 use std::alloc::Global;
 use std::process::Abort;

@@ -18,7 +18,7 @@ fn check(rt: &(impl Alloc<A = Global> + Abort), line: &[u8], name: &[u8], length
         Next::Token(token, word, _) => {
             assert!(rt; token.kind == TokenKind::Quoted && token.column == 1);
             assert_eq!(rt; token.length, length);
-            assert!(rt; word.bytes() == name);
+            assert!(rt; word.bytes().as_slice() == name);
         }
         Next::Error(stop) => {
             assert!(rt; name.is_empty() && stop.flaw == Flaw::BadName && stop.column == 1);

@@ -1,4 +1,4 @@
--- A name that a word is, is the one that the word names.
+-- A word that is a declared name, ASCII case aside, names its attribute.
 use Rattle.std.proofs.Common.{◌≡◌, ◌<◌, ◌≤◌, ℕ, true, false, List, [], length, get_or, slice_get, Some, refl, sym, ◌∙◌, ap, arith}
 use Rattle.std.specs.Prelude.{nat_lt, AllPairs, codes}
 use Rattle.std.specs.Char.{to_ascii_lowercase}

@@ -61,6 +61,7 @@ impl<'a> Cursor<'a> {
 
     /// What comes next.
     #[tactic(auto, unfolding(crate::specs::Views::rest_of))]
+    #[inline(always)]
     pub fn next(self) -> NextToken<'a>
         ensures exact { ComesNext self.entry result }
     {

@@ -26,7 +26,7 @@ pub enum Names<'a> {
 const FEWEST_RESERVED: usize = 4;
 
 /// The attribute that a word of a side, or a quoted name, stands for.
-#[tactic(auto, unfolding(schema_grammar::specs::Words::look_up))]
+#[inline(always)]
 pub fn look_up(
     names: &Names<'_>,
     format: Format,
@@ -37,7 +37,25 @@ pub fn look_up(
     ensures exact { result ≡ look_up format (names_in names.now) kind (bytes_of word.now) }
     ensures declared { IfOk result (λ attribute. attribute < length (names_in names.now)) }
 {
-    let bytes = word.bytes();
+    match word {
+        Word::Bare(text) => look_up_bytes(names, format, kind, text),
+        Word::Quoted(quoted) => look_up_bytes(names, format, kind, quoted.name().bytes()),
+    }
+}
+
+/// The same of the bytes that a token stands for.
+#[tactic(auto, unfolding(schema_grammar::specs::Words::look_up))]
+#[inline(always)]
+fn look_up_bytes(
+    names: &Names<'_>,
+    format: Format,
+    kind: TokenKind,
+    bytes: &[u8],
+) -> Result<u8, SchemaRefusalKind>
+    requires { length (names_in names.now) ≤ MOST_ATTRIBUTES }
+    ensures exact { result ≡ look_up format (names_in names.now) kind bytes.now }
+    ensures declared { IfOk result (λ attribute. attribute < length (names_in names.now)) }
+{
     if is_reserved_token(format, kind, bytes) {
         return Err(SchemaRefusalKind::ReservedName);
     }
@@ -64,6 +82,7 @@ pub fn is_reserved_token(format: Format, kind: TokenKind, word: &[u8]) -> bool
 }
 
 /// The attribute that a word, or a quoted name, in a side of a line stands for.
+#[inline(always)]
 pub fn attribute_of_word(
     names: &Names<'_>,
     line: u32,

@@ -5,8 +5,8 @@ use Rattle.attr_sets.specs.Attributes.{Attributes, only, union, difference}
 use Rattle.dep_model.specs.Dependencies.{Dependency, fd}
 use Rattle.dep_model.specs.Implication.{Implies}
 
--- a pair of a scheme: two different attributes of it, of which the first is determined by all the others
--- of the scheme
+-- a pair of a scheme: two different attributes of it, of which the first is determined by the
+-- attributes of the scheme beside the two
 pub record IsPair (n : ℕ) (ds : List Dependency) (scheme : Attributes) (a b : ℕ) : Type 0 where
   pub first : scheme a ≡ true
   pub second : scheme b ≡ true

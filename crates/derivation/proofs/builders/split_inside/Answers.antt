@@ -1,11 +1,13 @@
--- What is left to prove of `split_inside`: its clause `concludes`, by `BuilderLemmas` and
+-- What is left to prove of `split_inside`: its clauses `concludes` and `size`, by `BuilderLemmas` and
 -- `WithinLemmas`.
-use Rattle.std.proofs.Common.{refl, arith}
-use mathlib.Core.Path.{fun_ext}
+use Rattle.std.proofs.Common.{sym, subst, arith}
+use Rattle.attr_sets.specs.Attributes.{intersection}
 use Rattle.attr_sets.specs.Sets.{attributes}
 use Rattle.dep_model.specs.Dependencies.{mvd}
+use Rattle.derivation.specs.Builders.{IsLittleMore}
+use Rattle.derivation.specs.Conclusions.{Proves}
 use Rattle.derivation.specs.Derivs.{tree_of}
-use Rattle.attr_sets.proofs.AttributesLemmas.{same_at}
+use Rattle.derivation.specs.Trees.{Tree}
 use Rattle.derivation.proofs.WithinLemmas.{tree_of-attributes, conclusion_within}
 use Rattle.derivation.proofs.BuilderLemmas.{split_inside_proves}
 use Rattle.derivation.proofs.builders.split_inside.Goals as goal
@@ -19,6 +21,10 @@ returns-clause-concludes c v p from_lhs from_v first second =
     let w = attributes c.args.block in
     let first_in = conclusion_within s t (mvd x w) (tree_of-attributes c.args.first.value) first in
     let second_in = conclusion_within s u (mvd v p) (tree_of-attributes c.args.second.value) second in
-    split_inside_proves s t u x w v p x (attributes c.difference-outside.result) (attributes c.empty.result) refl
-    (fun_ext (λ k. grind (arith, same_at c.difference-outside.ensures.members k, same_at c.full.ensures.members k, c.width.ensures.count)))
-    c.empty.ensures.members first_in second_in from_lhs from_v first second
+    subst (λ (tree : Tree). Proves s tree (mvd x (intersection w p))) (sym c.intersect_block.ensures.tree)
+    (split_inside_proves s t u x w v p first_in second_in from_lhs from_v first second)
+
+pub returns-clause-size : goal.returns-clause-size
+returns-clause-size c =
+    subst (λ (tree : Tree). IsLittleMore (tree_of c.args.first.value) (tree_of c.args.second.value) tree) (sym c.intersect_block.ensures.tree)
+    (record { node_bound = omega arith; level_bound = omega arith })

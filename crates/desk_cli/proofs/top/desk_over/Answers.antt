@@ -1,10 +1,10 @@
 -- What is left to prove of `desk_over`: its clause `desk`, by `EndingLemmas` and `StepLemmas`.
 use Rattle.desk_cli.specs.Desk.{source_in_call, sink_in_call}
-use Rattle.desk_cli.specs.Outcomes.{destinations_in_call}
-use Rattle.desk_cli.specs.Readings.{known_files}
-use Rattle.desk_cli.specs.Responses.{response_value}
+use Rattle.desk_delivery.specs.Outcomes.{destinations_in_call}
+use Rattle.desk_inputs.specs.Readings.{known_files}
+use Rattle.desk_responses.specs.Responses.{response_value}
 use Rattle.desk_cli.proofs.EndingLemmas.{desk_delivered}
-use Rattle.desk_cli.proofs.StepLemmas.{observed_shows, known_files_shows}
+use Rattle.desk_inputs.proofs.ReadingLemmas.{observed_shows, known_files_shows}
 use Rattle.desk_cli.proofs.top.desk_over.Goals as goal
 
 pub returns : goal.returns
@@ -16,7 +16,7 @@ returns g c =
     let new = c.answer.new.source in
     let source = source_in_call (files old) (files new) (faults old) (faults new) (taken new) in
     let sink = sink_in_call (g.K.Sink.contents c.args.out.now) (g.K.Sink.contents c.deliver.new.out) (g.K.Sink.faults c.args.out.now) (g.K.Sink.faults c.deliver.new.out) in
-    let destinations = destinations_in_call g.T.Destination.is_known g.T.Destination.finished g.T.Destination.faults c.args.destinations.now.items c.deliver.new.destinations.items in
+    let destinations = destinations_in_call g.T.Destination.is_known g.T.Destination.finished g.T.Destination.begun g.T.Destination.width g.T.Destination.faults c.args.destinations.now.items c.deliver.new.destinations.items in
     record {
       desk = desk_delivered c.args.words.now source sink destinations (response_value c.in_ok-response.response) c.deliver.result
           (c.in_ok-response.ensures.response _ (observed_shows files faults taken old new))

@@ -3,7 +3,7 @@ use Rattle.std.proofs.Common.{subst, sym}
 use Rattle.desk_words.specs.declared.command.Command.{Command}
 use Rattle.desk_words.specs.Commands.{command_form}
 use Rattle.desk_cli.specs.Performs.{Performs}
-use Rattle.desk_cli.specs.Responses.{RespondsAs}
+use Rattle.desk_responses.specs.Responses.{RespondsAs}
 use Rattle.desk_cli.proofs.top.perform.Goals as goal
 
 pub returns-in-OverSchema-clause-response : goal.returns-in-OverSchema-clause-response

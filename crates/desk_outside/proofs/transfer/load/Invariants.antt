@@ -1,6 +1,7 @@
 -- What the loop of `load` keeps, in terms of `all_left`; and by what it ends.
 use Rattle.std.proofs.Common.{◌≡◌, ◌+◌, ◌-◌, ◌≤◌, length}
 use Rattle.std.specs.Io.KnownBytes.{prepend_known}
+use Rattle.desk_outside.specs.Begun.{Begins}
 use Rattle.desk_outside.specs.Files.{all_left}
 use Rattle.desk_outside.proofs.transfer.load.Given as goal
 
@@ -11,6 +12,7 @@ invariant-loop-bytes g l =
     record {
       files : source.files l.source ≡ source.files l.fn.source;
       fine : source.faults l.source ≡ source.faults l.fn.source;
+      begins : Begins l.name (source.begun l.fn.source) (source.begun l.source);
       within : length l.bytes.items ≤ l.limit;
       taken : source.taken l.source ≡ length l.bytes.items;
       left : all_left (source.files l.fn.source) l.name ≡ prepend_known l.bytes.items (source.left l.source);

@@ -9,6 +9,7 @@ invariant-loop-written g l =
     let folder = g.G.Folder in
     record {
       is_open : IsTrue (folder.is_open l.folder);
+      same : folder.begun l.folder ≡ folder.begun l.fn.folder;
       fine : folder.faults l.folder ≡ folder.faults l.fn.folder;
       within : l.written ≤ length l.bytes;
       taken : folder.contents l.folder ≡ option_map (with_bytes (take l.written l.bytes)) (folder.contents l.fn.folder);

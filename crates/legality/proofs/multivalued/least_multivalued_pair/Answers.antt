@@ -5,8 +5,9 @@ use Rattle.attr_sets.specs.Sets.{attributes}
 use Rattle.dep_model.specs.Tuples.{Relation}
 use Rattle.csv_rows.specs.Interning.{groups_of, firsts_of}
 use Rattle.csv_rows.specs.Numberings.{number_at}
-use Rattle.legality.proofs.PartLemmas.{grouping, none_short, first_short, below_firsts, short_known, beside_known, missing_known}
+use Rattle.legality.proofs.PartLemmas.{Grouping, grouping, none_short, first_short, below_firsts, short_known, beside_known, missing_known}
 use Rattle.legality.proofs.multivalued.least_multivalued_pair.Goals as goal
+use Rattle.legality.proofs.multivalued.least_multivalued_pair.Goals.{In_ok-all}
 
 pub part_counts-requires-2-clause-same_length : goal.part_counts-requires-2-clause-same_length
 part_counts-requires-2-clause-same_length c =
@@ -33,40 +34,35 @@ first_missing-least-requires-clause-beside c = λ i l.
     subst (λ (m : ℕ). number_at c.numbers-in-Some-4.result.now i < m) (sym size)
     (below_firsts _ _ _ _ c.numbers-in-Some-4.ensures.numbers c.firsts-count.ensures.firsts (c.in_ok-rests.ensures.firsts c.args.width c.args.rows.now c.requires.codes) i l)
 
-pub returns-in-Some : goal.returns-in-Some
-returns-in-Some c =
-    let n : ℕ = c.args.width in
-    let r : Relation = c.args.rows.now in
-    let grouped = grouping n r (attributes c.args.lhs) (attributes c.args.rhs) (attributes c.full-universe.result) (attributes c.union-sides.result) (attributes c.difference-outside.result) (attributes c.union-others.result)
+-- the rows by what they have on the left side, on both sides, on it and the rest, and on all attributes
+grouped : (c : In_ok-all) → Grouping c.args.width c.args.rows.now (attributes c.args.lhs) (attributes c.args.rhs)
     (groups_of c.in_ok-groups.groups) (firsts_of c.in_ok-groups.groups) (groups_of c.in_ok-lefts.lefts) (firsts_of c.in_ok-lefts.lefts)
     (groups_of c.in_ok-rests.rests) (firsts_of c.in_ok-rests.rests) (groups_of c.in_ok-all.all) (firsts_of c.in_ok-all.all)
+grouped c =
+    let n : ℕ = c.args.width in
+    let r : Relation = c.args.rows.now in
+    grouping n r (attributes c.args.lhs) (attributes c.args.rhs) (attributes c.full-universe.result) (attributes c.union-sides.result) (attributes c.difference-outside.result) (attributes c.union-others.result)
+    _ _ _ _ _ _ _ _
     c.full-universe.ensures.members c.union-sides.ensures.members c.difference-outside.ensures.members c.union-others.ensures.members c.requires.lhs c.requires.rhs
     (c.in_ok-groups.ensures.groups n r c.requires.codes) (c.in_ok-groups.ensures.firsts n r c.requires.codes)
     (c.in_ok-lefts.ensures.groups n r c.requires.codes) (c.in_ok-lefts.ensures.firsts n r c.requires.codes)
     (c.in_ok-rests.ensures.groups n r c.requires.codes) (c.in_ok-rests.ensures.firsts n r c.requires.codes)
-    (c.in_ok-all.ensures.groups n r c.requires.codes) (c.in_ok-all.ensures.firsts n r c.requires.codes) in
-    record {
-      pair = first_short n r (attributes c.args.lhs) (attributes c.args.rhs) _ _ _ _ _ _ _ _ grouped c.in_ok-wanted.wanted.items c.in_ok-present.present.items
-          c.in_ok-beside-in-Some.beside.items c.in-Some.first c.first_missing-least.result c.in_ok-wanted.ensures.counts c.in_ok-present.ensures.counts
-          (short_known _ _ _ _ _ _ _ _ (Some c.in-Some.first) c.numbers.ensures.numbers c.deref.ensures.value c.numbers-2.ensures.numbers c.deref-2.ensures.value c.in-Some.ensures.first)
-          (beside_known _ _ _ _ _ _ c.numbers-in-Some.ensures.numbers c.numbers-in-Some-2.ensures.numbers c.in_ok-beside-in-Some.ensures.beside)
-          (missing_known _ _ _ _ _ _ _ _ c.numbers-in-Some-3.ensures.numbers c.numbers-in-Some-4.ensures.numbers c.deref-in-Some.ensures.value c.first_missing-least.ensures.missing);
-    }
+    (c.in_ok-all.ensures.groups n r c.requires.codes) (c.in_ok-all.ensures.firsts n r c.requires.codes)
+
+pub returns-in-Some : goal.returns-in-Some
+returns-in-Some c = record {
+  pair = first_short c.args.width c.args.rows.now (attributes c.args.lhs) (attributes c.args.rhs) _ _ _ _ _ _ _ _ (grouped (goal.at.returns-in-Some c).In_ok-all)
+      c.in_ok-wanted.wanted.items c.in_ok-present.present.items
+      c.in_ok-beside-in-Some.beside.items c.in-Some.first c.first_missing-least.result c.in_ok-wanted.ensures.counts c.in_ok-present.ensures.counts
+      (short_known _ _ _ _ _ _ _ _ (Some c.in-Some.first) c.numbers.ensures.numbers c.deref.ensures.value c.numbers-2.ensures.numbers c.deref-2.ensures.value c.in-Some.ensures.first)
+      (beside_known _ _ _ _ _ _ c.numbers-in-Some.ensures.numbers c.numbers-in-Some-2.ensures.numbers c.in_ok-beside-in-Some.ensures.beside)
+      (missing_known _ _ _ _ _ _ _ _ c.numbers-in-Some-3.ensures.numbers c.numbers-in-Some-4.ensures.numbers c.deref-in-Some.ensures.value c.first_missing-least.ensures.missing);
+}
 
 pub returns : goal.returns
-returns c =
-    let n : ℕ = c.args.width in
-    let r : Relation = c.args.rows.now in
-    let grouped = grouping n r (attributes c.args.lhs) (attributes c.args.rhs) (attributes c.full-universe.result) (attributes c.union-sides.result) (attributes c.difference-outside.result) (attributes c.union-others.result)
-    (groups_of c.in_ok-groups.groups) (firsts_of c.in_ok-groups.groups) (groups_of c.in_ok-lefts.lefts) (firsts_of c.in_ok-lefts.lefts)
-    (groups_of c.in_ok-rests.rests) (firsts_of c.in_ok-rests.rests) (groups_of c.in_ok-all.all) (firsts_of c.in_ok-all.all)
-    c.full-universe.ensures.members c.union-sides.ensures.members c.difference-outside.ensures.members c.union-others.ensures.members c.requires.lhs c.requires.rhs
-    (c.in_ok-groups.ensures.groups n r c.requires.codes) (c.in_ok-groups.ensures.firsts n r c.requires.codes)
-    (c.in_ok-lefts.ensures.groups n r c.requires.codes) (c.in_ok-lefts.ensures.firsts n r c.requires.codes)
-    (c.in_ok-rests.ensures.groups n r c.requires.codes) (c.in_ok-rests.ensures.firsts n r c.requires.codes)
-    (c.in_ok-all.ensures.groups n r c.requires.codes) (c.in_ok-all.ensures.firsts n r c.requires.codes) in
-    record {
-      pair = none_short n r (attributes c.args.lhs) (attributes c.args.rhs) _ _ _ _ _ _ _ _ grouped c.in_ok-wanted.wanted.items c.in_ok-present.present.items
-          c.in_ok-wanted.ensures.counts c.in_ok-present.ensures.counts
-          (short_known _ _ _ _ _ _ _ _ None c.numbers.ensures.numbers c.deref.ensures.value c.numbers-2.ensures.numbers c.deref-2.ensures.value c.in-None.ensures.first);
-    }
+returns c = record {
+  pair = none_short c.args.width c.args.rows.now (attributes c.args.lhs) (attributes c.args.rhs) _ _ _ _ _ _ _ _ (grouped (goal.at.returns c).In_ok-all)
+      c.in_ok-wanted.wanted.items c.in_ok-present.present.items
+      c.in_ok-wanted.ensures.counts c.in_ok-present.ensures.counts
+      (short_known _ _ _ _ _ _ _ _ None c.numbers.ensures.numbers c.deref.ensures.value c.numbers-2.ensures.numbers c.deref-2.ensures.value c.in-None.ensures.first);
+}

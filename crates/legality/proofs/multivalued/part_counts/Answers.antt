@@ -9,6 +9,7 @@ use Rattle.csv_rows.specs.Numberings.{number_at}
 use Rattle.csv_rows.proofs.NumberingLemmas.{same_default}
 use Rattle.legality.proofs.PartLemmas.{no_parts, group_of, group_within, part_counted}
 use Rattle.legality.proofs.multivalued.part_counts.Goals as goal
+use Rattle.legality.proofs.multivalued.part_counts.Goals.{After-index_mut}
 
 pub loop-row-init : goal.loop-row-init
 loop-row-init c = record {
@@ -16,18 +17,33 @@ loop-row-init c = record {
   count = λ h l. no_parts (λ g. number_at (groups_of c.args.groups.now) (number_at (firsts_of c.args.parts.now) g)) (length c.firsts.result.now) h c.in_ok-counts.counts.items c.in_ok-counts.ensures.zeros;
 }
 
+-- the group of a part
+abbrev group : After-index_mut → ℕ → ℕ
+group c g = number_at (groups_of c.args.groups.now) (number_at (firsts_of c.args.parts.now) g)
+
+-- that of the next part is computed, and has a count, which is looked up
+computed : (c : After-index_mut) → number_at c.numbers.result.now (number_at c.firsts-row-items.result.now c.loop-row.row-index) ≡ group c c.loop-row.row-index
+computed c =
+    group_of (groups_of c.args.groups.now) (firsts_of c.args.parts.now) c.numbers.result.now c.firsts-row-items.result.now c.loop-row.row-index
+    c.numbers.ensures.numbers c.firsts-row-items.ensures.firsts
+
+within : (c : After-index_mut) → group c c.loop-row.row-index < length c.loop-row.counts.items
+within c =
+    let at : c.loop-row.row-index < length (firsts_of c.args.parts.now) = subst (λ (xs : List ℕ). c.loop-row.row-index < length xs) c.firsts-row-items.ensures.firsts c.loop-row-test.true in
+    subst (λ (m : ℕ). group c c.loop-row.row-index < m) (sym c.loop-row.invariant.one_each)
+    (group_within _ _ _ _ c.loop-row.row-index c.requires.groups c.requires.parts c.requires.same_length at)
+
+looked_up : (c : After-index_mut) → c.index_mut.result.now ≡ number_at c.loop-row.counts.items (group c c.loop-row.row-index)
+looked_up c =
+    c.index_mut.ensures.value ∙ ap (λ (m : ℕ). slice_index_or c.loop-row.counts.items m c.index_mut.result.now) (computed c)
+    ∙ same_default c.loop-row.counts.items (group c c.loop-row.row-index) c.index_mut.result.now 0 (within c)
+
 pub overflow_add-index_mut : goal.overflow_add-index_mut
 overflow_add-index_mut c =
     let i : ℕ = c.loop-row.row-index in
-    let value : ℕ → ℕ = λ g. number_at (groups_of c.args.groups.now) (number_at (firsts_of c.args.parts.now) g) in
-    let row = group_of (groups_of c.args.groups.now) (firsts_of c.args.parts.now) c.numbers.result.now c.firsts-row-items.result.now i c.numbers.ensures.numbers c.firsts-row-items.ensures.firsts in
-    let at : i < length (firsts_of c.args.parts.now) = subst (λ (xs : List ℕ). i < length xs) c.firsts-row-items.ensures.firsts c.loop-row-test.true in
-    let low : value i < length c.loop-row.counts.items =
-    subst (λ (m : ℕ). value i < m) (sym c.loop-row.invariant.one_each) (group_within _ _ _ _ i c.requires.groups c.requires.parts c.requires.same_length at) in
-    let is : c.index_mut.result.now ≡ number_at c.loop-row.counts.items (value i) =
-    c.index_mut.ensures.value ∙ ap (λ (m : ℕ). slice_index_or c.loop-row.counts.items m c.index_mut.result.now) row ∙ same_default c.loop-row.counts.items (value i) c.index_mut.result.now 0 low in
-    let count : c.index_mut.result.now ≡ count_below (λ g. value g == value i) i = is ∙ c.loop-row.invariant.count (value i) low in
-    let within_limit : count_below (λ g. value g == value i) i ≤ i = count_below-le i (λ g. value g == value i) in
+    let at = (goal.at.overflow_add-index_mut c).After-index_mut in
+    let count : c.index_mut.result.now ≡ count_below (λ g. group at g == group at i) i = looked_up at ∙ c.loop-row.invariant.count (group at i) (within at) in
+    let within_limit : count_below (λ g. group at g == group at i) i ≤ i = count_below-le i (λ g. group at g == group at i) in
     let end : i < length c.firsts-row-items.result.now = c.loop-row-test.true in
     let fits : length c.firsts-row-items.result.now < 18446744073709551616 = c.firsts-row-items.type_inv.0 in
     omega (arith, count, within_limit, end, fits)
@@ -35,18 +51,12 @@ overflow_add-index_mut c =
 pub loop-row-preserved : goal.loop-row-preserved
 loop-row-preserved c =
     let i : ℕ = c.loop-row.row-index in
-    let value : ℕ → ℕ = λ g. number_at (groups_of c.args.groups.now) (number_at (firsts_of c.args.parts.now) g) in
-    let row = group_of (groups_of c.args.groups.now) (firsts_of c.args.parts.now) c.numbers.result.now c.firsts-row-items.result.now i c.numbers.ensures.numbers c.firsts-row-items.ensures.firsts in
-    let at : i < length (firsts_of c.args.parts.now) = subst (λ (xs : List ℕ). i < length xs) c.firsts-row-items.ensures.firsts c.loop-row-test.true in
-    let low : value i < length c.loop-row.counts.items =
-    subst (λ (m : ℕ). value i < m) (sym c.loop-row.invariant.one_each) (group_within _ _ _ _ i c.requires.groups c.requires.parts c.requires.same_length at) in
-    let is : c.index_mut.result.now ≡ number_at c.loop-row.counts.items (value i) =
-    c.index_mut.ensures.value ∙ ap (λ (m : ℕ). slice_index_or c.loop-row.counts.items m c.index_mut.result.now) row ∙ same_default c.loop-row.counts.items (value i) c.index_mut.result.now 0 low in
+    let at = (goal.at.loop-row-preserved c).After-index_mut in
     let new : slice_set c.loop-row.counts.items (slice_index_or c.numbers.result.now (slice_index_or c.firsts-row-items.result.now i 0) 0) (c.index_mut.result.now + 1)
-    ≡ slice_set c.loop-row.counts.items (value i) (number_at c.loop-row.counts.items (value i) + 1) =
-    ap (λ (m : ℕ). slice_set c.loop-row.counts.items m (c.index_mut.result.now + 1)) row
-    ∙ ap (λ (m : ℕ). slice_set c.loop-row.counts.items (value i) (m + 1)) is in
+    ≡ slice_set c.loop-row.counts.items (group at i) (number_at c.loop-row.counts.items (group at i) + 1) =
+    ap (λ (m : ℕ). slice_set c.loop-row.counts.items m (c.index_mut.result.now + 1)) (computed at)
+    ∙ ap (λ (m : ℕ). slice_set c.loop-row.counts.items (group at i) (m + 1)) (looked_up at) in
     record {
       one_each = length-set c.loop-row.counts.items _ _ ∙ c.loop-row.invariant.one_each;
-      count = part_counted value c.loop-row.counts.items _ i low new c.loop-row.invariant.count;
+      count = part_counted (group at) c.loop-row.counts.items _ i (within at) new c.loop-row.invariant.count;
     }

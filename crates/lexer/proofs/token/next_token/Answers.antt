@@ -2,7 +2,7 @@
 -- loop keeps the invariant, and that its sums fit, by `Steps`.
 use Rattle.std.proofs.Common.{arith, sym, ◌∙◌, ap, ◌+◌}
 use Rattle.lexer.specs.Tokens.{tokens_after}
-use Rattle.lexer.proofs.Steps.{is_some, is_none, after_gap, at_comment, at_end, at_flaw, lies_in, flaw_lies_in, token_leads, token_after, FitsQuoted-from, quoted_leads}
+use Rattle.lexer.proofs.Steps.{is_some, is_none, after_gap, at_comment, at_end, at_flaw, lies_in, flaw_lies_in, FitsQuoted-from, token_leads, token_after}
 use Rattle.lexer.proofs.token.next_token.Goals as goal
 
 pub pieces-preserved : goal.pieces-preserved
@@ -36,29 +36,16 @@ split_at-requires-in-Token c = (lies_in _ _ _ _ (is_some _ c.pieces-test.ensures
 
 pub returns-in-Token-clause-exact : goal.returns-in-Token-clause-exact
 returns-in-Token-clause-exact c =
-    token_leads _ _ _ _ _ _ _ _ _ c.pieces.invariant (is_some _ c.pieces-test.ensures) c.in-Token.ensures.exact
-    c.split_at-in-Token.ensures.front c.split_at-in-Token.ensures.back
+    token_leads _ _ _ _ _ _ _ _ _ _ c.pieces.invariant (is_some _ c.pieces-test.ensures) c.in-Token.ensures.exact
+    c.split_at-in-Token.ensures.front c.of.ensures.bytes c.split_at-in-Token.ensures.back
 
 pub returns-in-Token-clause-advances : goal.returns-in-Token-clause-advances
 returns-in-Token-clause-advances c =
     let lies = lies_in _ _ _ _ (is_some _ c.pieces-test.ensures) c.in-Token.ensures.exact in
     token_after _ _ _ _ _ _ _ _ c.pieces.invariant lies c.split_at-in-Token.ensures.back_len
 
-pub split_at-requires-in-Quoted : goal.split_at-requires-in-Quoted
-split_at-requires-in-Quoted c =
-    (FitsQuoted-from _ _ _ _ (is_some _ c.pieces-test.ensures) c.in-Quoted.ensures.exact).lies.within
-
-pub returns-in-Quoted-clause-exact : goal.returns-in-Quoted-clause-exact
-returns-in-Quoted-clause-exact c =
-    quoted_leads _ _ _ _ _ _ _ _ c.pieces.invariant (is_some _ c.pieces-test.ensures) c.in-Quoted.ensures.exact
-    c.split_at-in-Quoted.ensures.back
-
-pub returns-in-Quoted-clause-advances : goal.returns-in-Quoted-clause-advances
-returns-in-Quoted-clause-advances c =
-    let fits = FitsQuoted-from _ _ _ _ (is_some _ c.pieces-test.ensures) c.in-Quoted.ensures.exact in
-    token_after _ _ _ _ _ _ _ _ c.pieces.invariant fits.lies c.split_at-in-Quoted.ensures.back_len
-
-pub overflow_cast-token-in-Quoted : goal.overflow_cast-token-in-Quoted
-overflow_cast-token-in-Quoted c =
-    let fits = FitsQuoted-from _ _ _ _ (is_some _ c.pieces-test.ensures) c.in-Quoted.ensures.exact in
-    omega (arith, fits.lies.within, c.pieces.invariant.fits)
+pub of-requires : goal.of-requires
+of-requires c = record {
+  quoted = λ quoted. rw c.split_at-in-Token.ensures.front
+      (FitsQuoted-from _ _ _ _ (is_some _ c.pieces-test.ensures) c.in-Token.ensures.exact quoted).quoted;
+}

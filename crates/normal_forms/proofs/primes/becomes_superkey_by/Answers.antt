@@ -20,8 +20,8 @@ returns-then-is_superkey c =
     let a = c.args.attribute in
     let more = subst (λ (v : Attributes). IsSuperkey n fs scheme v) c.with.ensures.members (c.is_superkey.ensures.superkey.0 c.if-is_superkey.true) in
     record {
-      turned = IsTrue-not c.is_superkey-then-is_superkey.result (IsSuperkey n fs scheme x) (BecomesSuperkeyBy n fs scheme x a) c.is_superkey-then-is_superkey.ensures.superkey
-          (λ superkey turned. turned.1 superkey)
+      becomes_superkey = IsTrue-not c.is_superkey-then-is_superkey.result (IsSuperkey n fs scheme x) (BecomesSuperkeyBy n fs scheme x a) c.is_superkey-then-is_superkey.ensures.superkey
+          (λ superkey becomes_superkey. becomes_superkey.1 superkey)
           (λ none. (more, none));
     }
 
@@ -34,8 +34,8 @@ returns-else-is_superkey c =
     let x = attributes c.args.set in
     let a = c.args.attribute in
     record {
-      turned = (
+      becomes_superkey = (
         (λ e. absurd (false≢true (sym c.if-is_superkey.false ∙ e))),
-        (λ turned. c.is_superkey.ensures.superkey.1 (subst (λ (v : Attributes). IsSuperkey n fs scheme v) (sym c.with.ensures.members) turned.0)),
+        (λ becomes_superkey. c.is_superkey.ensures.superkey.1 (subst (λ (v : Attributes). IsSuperkey n fs scheme v) (sym c.with.ensures.members) becomes_superkey.0)),
       );
     }

@@ -16,18 +16,21 @@ use Rattle.fd_closure.proofs.SchemaLemmas.{of_functional_part}
 use Rattle.normal_forms.specs.Primes.{BecomesSuperkeyBy}
 use Rattle.attr_sets.proofs.AttributesLemmas.{same_at}
 use Rattle.normal_forms.proofs.SearchLemmas.{IsSearched, search_start, search_on, search_end, subsets_left-less}
-use Rattle.normal_forms.proofs.PrimeLemmas.{without_in, beside_in, turned_key, turned_member, not_prime}
+use Rattle.normal_forms.proofs.PrimeLemmas.{without_in, beside_in, completed_key, completed_member, not_prime}
 use Rattle.normal_forms.proofs.primes.key_with.Goals as goal
 use Rattle.normal_forms.proofs.primes.key_with.Goals.{In-Some}
 
--- a set with the rest becomes a superkey by the attribute
-abbrev Turns : (c : In-Some) → Attributes → Type 0
-Turns c y =
-    BecomesSuperkeyBy (width_of c.args.schema.now) (functional_part (theory_of c.args.schema.now)) (attributes c.args.scheme) (union y (attributes c.without-rest.result)) c.args.attribute
+-- a set becomes a superkey by the attribute
+abbrev Becomes : (c : In-Some) → Attributes → Type 0
+Becomes c y = BecomesSuperkeyBy (width_of c.args.schema.now) (functional_part (theory_of c.args.schema.now)) (attributes c.args.scheme) y c.args.attribute
+
+-- a set does with the rest
+abbrev BecomesWithRest : (c : In-Some) → Attributes → Type 0
+BecomesWithRest c y = Becomes c (union y (attributes c.without-rest.result))
 
 -- the subsets before the one that is tried
-searched : (c : In-Some) → IsSearched (Turns c) (attributes c.without-others.result) (Some c.in-Some.set)
-searched c = subst (λ (o : Option AttrSet). IsSearched (Turns c) (attributes c.without-others.result) o) c.in-Some.is c.loop-next.invariant
+searched : (c : In-Some) → IsSearched (BecomesWithRest c) (attributes c.without-others.result) (Some c.in-Some.set)
+searched c = subst (λ (o : Option AttrSet). IsSearched (BecomesWithRest c) (attributes c.without-others.result) o) c.in-Some.is c.loop-next.invariant
 
 -- the rest is the scheme without the whole and the attribute
 rest_is : (c : In-Some) → attributes c.without-rest.result ≡ difference (difference (attributes c.args.scheme) (attributes c.args.whole)) (only c.args.attribute)
@@ -65,12 +68,12 @@ returns-then-becomes_superkey_by c =
     ] in
     let greedy = of_functional_part s c.deps.result.now c.deps.ensures.deps (λ m ds. IsSubset (attributes c.with.result) (below m) → IsGreedyKey m ds (attributes c.with.result) (attributes c.functional_key.result))
     c.functional_key.ensures.greedy with_low in
-    let turned = c.becomes_superkey_by.ensures.turned.0 c.if-becomes_superkey_by.true in
+    let becomes_superkey = c.becomes_superkey_by.ensures.becomes_superkey.0 c.if-becomes_superkey_by.true in
     let key = attributes c.functional_key.result in
     record {
       none = λ never. absurd (true≢false never);
-      key = turned_key n fs scheme set (attributes c.with.result) key a c.requires.scheme set_in turned c.with.ensures.members greedy;
-      member = turned_member n fs scheme set (attributes c.with.result) key a c.requires.scheme set_in turned c.with.ensures.members greedy;
+      key = completed_key n fs scheme set (attributes c.with.result) key a c.requires.scheme set_in becomes_superkey c.with.ensures.members greedy;
+      member = completed_member n fs scheme set (attributes c.with.result) key a c.requires.scheme set_in becomes_superkey c.with.ensures.members greedy;
     }
 
 pub next_subset-next-requires : goal.next_subset-next-requires
@@ -81,17 +84,11 @@ loop-next-smaller c = subsets_left-less c.in-Some.set c.loop-next.next c.next_su
 
 pub loop-next-preserved : goal.loop-next-preserved
 loop-next-preserved c =
-    let s = c.args.schema.now in
-    let n = width_of s in
-    let fs = functional_part (theory_of s) in
-    let scheme = attributes c.args.scheme in
-    let others = attributes c.without-others.result in
-    let a = c.args.attribute in
     let at = (goal.at.loop-next-preserved c).In-Some in
-    let before = searched at in
-    let same : union (attributes c.in-Some.set) (attributes c.without-rest.result) ≡ attributes c.union-before.result = sym c.union-before.ensures.members in
-    search_on n (Turns at) others c.in-Some.set c.next_subset-next.result (λ k m. c.requires.scheme k (c.requires.within_scheme k (without_in others (attributes c.args.whole) a c.without-others.ensures.members k m))) before
-    (λ turned. false≢true (sym c.if-becomes_superkey_by.false ∙ c.becomes_superkey_by.ensures.turned.1 (subst (λ (v : Attributes). BecomesSuperkeyBy n fs scheme v a) same turned)))
+    let others = attributes c.without-others.result in
+    search_on (width_of c.args.schema.now) (BecomesWithRest at) others c.in-Some.set c.next_subset-next.result
+    (λ k m. c.requires.scheme k (c.requires.within_scheme k (without_in others (attributes c.args.whole) c.args.attribute c.without-others.ensures.members k m))) (searched at)
+    (λ becomes_superkey. false≢true (sym c.if-becomes_superkey_by.false ∙ c.becomes_superkey_by.ensures.becomes_superkey.1 (subst (Becomes at) (sym c.union-before.ensures.members) becomes_superkey)))
     c.next_subset-next.ensures.none.0 c.next_subset-next.ensures.next
 
 pub returns-clause-none : goal.returns-clause-none

@@ -13,10 +13,10 @@ use Rattle.dep_model.specs.declared.dep.Dep.TheVariants.{Fd}
 use Rattle.dep_model.specs.Dependencies.{Dependency, left_of}
 use Rattle.dep_model.specs.Deps.{dependency_of, dependencies_of}
 use Rattle.dep_model.specs.Schemas.{width_of, theory_of, deps_of}
-use Rattle.normal_forms.specs.Chosen.{IsInnocent}
+use Rattle.normal_forms.specs.Chosen.{IsNoViolation}
 use Rattle.normal_forms.specs.Breaking.{Breaks}
 use Rattle.normal_forms.specs.Violations.{Violates}
-use Rattle.normal_forms.proofs.FormLemmas.{given_left, innocent_outside, innocent_whole}
+use Rattle.normal_forms.proofs.FormLemmas.{given_left, no_violation_outside, no_violation_whole}
 use Rattle.normal_forms.proofs.testing.visible_violation.Goals.{else-is_subset-via-then-is_subset+else-breaks, else-is_subset-via-else-is_subset}
 use Rattle.normal_forms.proofs.testing.visible_violation.Goals as goal
 
@@ -43,7 +43,7 @@ returns-then-breaks-clause-none c =
     let short = given_short c.deps-dep-items.result.now (deps_of s) i c.deps-dep-items.ensures.deps c.loop-dep-test.true in
     let left = looked_at c.deps-dep-items.result.now (deps_of s) i (attributes c.sides.result.0) c.deps-dep-items.ensures.deps c.loop-dep-test.true c.sides.ensures.left in (
       (λ e. absurd (true≢false e)),
-      (λ innocent. absurd (innocent i (dependency_of first) short (attributes c.right_side-rhs.result)
+      (λ no_violation. absurd (no_violation i (dependency_of first) short (attributes c.right_side-rhs.result)
           (subst (λ (x : Attributes). Violates n ds c.args.form (attributes c.args.scheme) x (attributes c.right_side-rhs.result)) (sym left) c.right_side-rhs.ensures.violates))),
     )
 
@@ -76,19 +76,19 @@ loop-dep-preserved c =
     let x = attributes c.sides.result.0 in
     let short = given_short c.deps-dep-items.result.now (deps_of s) i c.deps-dep-items.ensures.deps c.loop-dep-test.true in
     let left = looked_at c.deps-dep-items.result.now (deps_of s) i x c.deps-dep-items.ensures.deps c.loop-dep-test.true c.sides.ensures.left in
-    let innocent : IsInnocent n ds form scheme (get_or ds i d) = elim c.else-is_subset.branch [
-      | else-is_subset-via-then-is_subset+else-breaks w ↦ innocent_whole n ds form scheme (get_or ds i d) c.requires.scheme c.requires.form
+    let no_violation : IsNoViolation n ds form scheme (get_or ds i d) = elim c.else-is_subset.branch [
+      | else-is_subset-via-then-is_subset+else-breaks w ↦ no_violation_whole n ds form scheme (get_or ds i d) c.requires.scheme c.requires.form
           (λ breaks. false≢true (sym w.if-breaks.false ∙ w.breaks.ensures.breaks.1 (subst (λ (v : Attributes). Breaks n ds form scheme v) left breaks)))
-      | else-is_subset-via-else-is_subset w ↦ innocent_outside n ds form scheme (get_or ds i d) c.requires.scheme
+      | else-is_subset-via-else-is_subset w ↦ no_violation_outside n ds form scheme (get_or ds i d) c.requires.scheme
           (λ inside. false≢true (sym w.if-is_subset.false ∙ c.is_subset.ensures.subset.1 (subst (λ (v : Attributes). IsSubset v scheme) left inside)))
     ] in
-    All-more (IsInnocent n ds form scheme) ds i d short c.loop-dep.invariant innocent
+    All-more (IsNoViolation n ds form scheme) ds i d short c.loop-dep.invariant no_violation
 
 pub returns-clause-none : goal.returns-clause-none
 returns-clause-none c =
     let s = c.args.schema.now in
     let ds = theory_of s in
     let past : length ds ≤ c.loop-dep.dep-index = omega (arith, c.loop-dep-test.false, ap (λ (es : List Dep). length es) c.deps-dep-items.ensures.deps, length-map (deps_of s) dependency_of) in (
-      (λ _. subst (λ (es : List Dependency). All (IsInnocent (width_of s) ds c.args.form (attributes c.args.scheme)) es) (take_all c.loop-dep.dep-index ds past) c.loop-dep.invariant),
+      (λ _. subst (λ (es : List Dependency). All (IsNoViolation (width_of s) ds c.args.form (attributes c.args.scheme)) es) (take_all c.loop-dep.dep-index ds past) c.loop-dep.invariant),
       (λ _. refl),
     )

@@ -7,6 +7,7 @@ use Rattle.std.proofs.lemmas.Bool.{true≢false, false_from_ne_true, ltb-true}
 use Rattle.std.specs.Prelude.{Option, Some}
 use Rattle.attr_sets.specs.declared.set.AttrSet.{AttrSet}
 use Rattle.attr_sets.specs.declared.set.TheConstants.{MOST_ATTRIBUTES}
+use Rattle.attr_sets.specs.Attributes.{Attributes}
 use Rattle.attr_sets.specs.Sets.{attributes}
 use Rattle.attr_sets.proofs.AttributesLemmas.{attributes_below, same_at}
 use Rattle.dep_model.specs.Dependencies.{functional_part}
@@ -14,24 +15,24 @@ use Rattle.dep_model.specs.Schemas.{width_of, theory_of, deps_of}
 use Rattle.normal_forms.specs.Violations.{ViolatesThird}
 use Rattle.normal_forms.proofs.AddedLemmas.{functional_within, functional_twice}
 use Rattle.normal_forms.proofs.SearchLemmas.{IsSearched, search_start, search_weaker, search_on, search_end, subsets_left-less}
-use Rattle.normal_forms.proofs.FormLemmas.{IsUntold, third_from, third_first}
+use Rattle.normal_forms.proofs.FormLemmas.{MayViolateThird, third_from, third_first}
 use Rattle.normal_forms.proofs.third.third_violation.Goals as goal
 use Rattle.normal_forms.proofs.third.third_violation.Goals.{In-Some}
 
+-- a set may violate the form, as far as these are the primes
+abbrev MayViolate : (c : In-Some) → Attributes → Attributes → Type 0
+MayViolate c primes = MayViolateThird (width_of c.args.schema.now) (functional_part (theory_of c.args.schema.now)) (attributes c.args.scheme) primes
+
 -- the subsets before the one that is tried
-searched : (c : In-Some) → IsSearched (IsUntold (width_of c.args.schema.now) (functional_part (theory_of c.args.schema.now)) (attributes c.args.scheme) (attributes c.loop-next.primes))
-    (attributes c.functionally_searched_attributes-whole.result) (Some c.in-Some.lhs)
-searched c =
-    let s = c.args.schema.now in
-    let P = IsUntold (width_of s) (functional_part (theory_of s)) (attributes c.args.scheme) (attributes c.loop-next.primes) in
-    subst (λ (o : Option AttrSet). IsSearched P (attributes c.functionally_searched_attributes-whole.result) o) c.in-Some.is c.loop-next.invariant.searched
+searched : (c : In-Some) → IsSearched (MayViolate c (attributes c.loop-next.primes)) (attributes c.functionally_searched_attributes-whole.result) (Some c.in-Some.lhs)
+searched c = subst (λ (o : Option AttrSet). IsSearched (MayViolate c (attributes c.loop-next.primes)) (attributes c.functionally_searched_attributes-whole.result) o) c.in-Some.is c.loop-next.invariant.searched
 
 pub loop-next-init : goal.loop-next-init
 loop-next-init c =
     let s = c.args.schema.now in
     record {
       prime = λ a m. absurd (true≢false (sym m ∙ same_at c.empty-primes.ensures.members a));
-      searched = search_start (IsUntold (width_of s) (functional_part (theory_of s)) (attributes c.args.scheme) (attributes c.empty-primes.result)) (attributes c.functionally_searched_attributes-whole.result)
+      searched = search_start (MayViolateThird (width_of s) (functional_part (theory_of s)) (attributes c.args.scheme) (attributes c.empty-primes.result)) (attributes c.functionally_searched_attributes-whole.result)
           c.empty.result c.empty.ensures.members;
     }
 
@@ -82,20 +83,16 @@ loop-next-smaller c = subsets_left-less c.in-Some.lhs c.loop-next.next c.next_su
 
 pub loop-next-preserved : goal.loop-next-preserved
 loop-next-preserved c =
-    let s = c.args.schema.now in
-    let n = width_of s in
-    let fs = functional_part (theory_of s) in
-    let scheme = attributes c.args.scheme in
+    let at = (goal.at.loop-next-preserved c).In-Some in
     let primes = attributes c.loop-next.primes in
     let known = attributes c.in-Prime.known in
     let whole = attributes c.functionally_searched_attributes-whole.result in
     let sifted = c.in-Prime.ensures.prime_or_not in
-    let before = searched (goal.at.loop-next-preserved c).In-Some in
-    let fewer = search_weaker (IsUntold n fs scheme primes) (IsUntold n fs scheme known) whole (Some c.in-Some.lhs)
-    (λ x u. (u.0, (u.1.0, u.1.1, false_from_ne_true (primes u.1.0) (λ m. true≢false (sym (sifted.2 u.1.0 m) ∙ u.1.2))))) before in
+    let fewer = search_weaker (MayViolate at primes) (MayViolate at known) whole (Some c.in-Some.lhs)
+    (λ x u. (u.0, (u.1.0, u.1.1, false_from_ne_true (primes u.1.0) (λ m. true≢false (sym (sifted.2 u.1.0 m) ∙ u.1.2))))) (searched at) in
     record {
       prime = sifted.0;
-      searched = search_on n (IsUntold n fs scheme known) whole c.in-Some.lhs c.next_subset-next.result
+      searched = search_on (width_of c.args.schema.now) (MayViolate at known) whole c.in-Some.lhs c.next_subset-next.result
           (λ k m. c.requires.scheme k (c.functionally_searched_attributes-whole.ensures.within k m)) fewer
           (λ u. true≢false (sym (sifted.1 u.1.0 ((c.determined_beyond-beyond.ensures.beyond u.1.0).1 (u.0, u.1.1))) ∙ u.1.2))
           c.next_subset-next.ensures.none.0 c.next_subset-next.ensures.next;
@@ -109,6 +106,6 @@ returns-clause-none c = λ _.
     let scheme = attributes c.args.scheme in
     let primes = attributes c.loop-next.primes in
     let whole = attributes c.functionally_searched_attributes-whole.result in
-    let P = IsUntold n fs scheme primes in
+    let P = MayViolateThird n fs scheme primes in
     third_from n fs scheme whole c.requires.scheme c.functionally_searched_attributes-whole.ensures.added primes (functional_within n (deps_of s) s.valid.deps_within) (functional_twice (theory_of s))
     c.loop-next.invariant.prime (search_end P whole (subst (λ (o : Option AttrSet). IsSearched P whole o) c.in_default.is c.loop-next.invariant.searched))

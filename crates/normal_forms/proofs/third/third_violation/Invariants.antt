@@ -4,13 +4,13 @@ use Rattle.dep_model.specs.Dependencies.{functional_part}
 use Rattle.dep_model.specs.Schemas.{width_of, theory_of}
 use Rattle.normal_forms.specs.Primes.{ArePrime}
 use Rattle.normal_forms.proofs.SearchLemmas.{IsSearched, subsets_left}
-use Rattle.normal_forms.proofs.FormLemmas.{IsUntold}
+use Rattle.normal_forms.proofs.FormLemmas.{MayViolateThird}
 use Rattle.normal_forms.proofs.third.third_violation.Given as goal
 
 abbrev pub invariant-loop-next : goal.invariant-loop-next
 invariant-loop-next l = record {
   prime : ArePrime (width_of l.schema) (functional_part (theory_of l.schema)) (attributes l.scheme) (attributes l.primes);
-  searched : IsSearched (IsUntold (width_of l.schema) (functional_part (theory_of l.schema)) (attributes l.scheme) (attributes l.primes)) (attributes l.whole) l.next;
+  searched : IsSearched (MayViolateThird (width_of l.schema) (functional_part (theory_of l.schema)) (attributes l.scheme) (attributes l.primes)) (attributes l.whole) l.next;
 }
 
 abbrev pub decreases-loop-next : goal.decreases-loop-next

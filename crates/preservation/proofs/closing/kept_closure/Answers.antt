@@ -20,7 +20,7 @@ use Rattle.attr_sets.proofs.AttributesLemmas.{
 use Rattle.dep_model.proofs.RuleLemmas.{transitivity_obeyed, reflexivity_obeyed}
 use Rattle.dep_model.specs.Schemas.{width_of, theory_of}
 use Rattle.dep_model.specs.TwoTuples.{two_tuples}
-use Rattle.preservation.specs.Insides.{schemes_of_closures, plan_of_closures}
+use Rattle.preservation.specs.SchemeClosures.{schemes_of_closures, plan_of_closures}
 use Rattle.preservation.specs.Keeping.{ObeysInside}
 use Rattle.preservation.specs.FunctionallyClosed.{IsFunctionallyClosedIn}
 use Rattle.preservation.proofs.KeepingLemmas.{functionally_closed_inside, functionally_closed_exactly}
@@ -51,7 +51,7 @@ loop-wanted-preserved c =
           transitivity_obeyed (attributes c.args.from) (attributes c.loop-wanted.closed) (attributes more.result) r
           (before.kept r inside)
           (more.ensures.kept r (same_plan_obeyed (width_of c.args.schema.now) (theory_of c.args.schema.now)
-          c.args.insides.now c.loop-wanted.insides r before.schemes inside));
+          c.args.closures.now c.loop-wanted.closures r before.schemes inside));
       known = more.ensures.known;
       schemes = more.ensures.schemes ∙ before.schemes;
       switches = more.ensures.switches ∙ before.switches;
@@ -79,15 +79,15 @@ returns-then-eq c =
     let now = attributes c.loop-wanted.closed in
     let before = c.loop-wanted.invariant in
     let more = c.with_schemes-more in
-    let schemes = schemes_of_closures c.args.insides.now in
-    let plan = plan_of_closures c.args.insides.now in
+    let schemes = schemes_of_closures c.args.closures.now in
+    let plan = plan_of_closures c.args.closures.now in
     let closed_then : All (λ (x : AttrSet). IsFunctionallyClosedIn n ds (attributes x) now now)
-    (schemes_of_closures c.loop-wanted.insides) =
+    (schemes_of_closures c.loop-wanted.closures) =
     more.ensures.functionally_closed (IsSubset-same (attributes more.result) now (c.if-eq.ensures.same.0 refl)) in
     let is_closed : All (λ (x : AttrSet). IsFunctionallyClosedIn n ds (attributes x) now now) schemes =
     rw before.schemes at closed_then in
     let inside : ObeysInside n ds plan (two_tuples n now) =
-    functionally_closed_inside n ds plan now (known_within n ds c.args.insides.now c.requires.known)
+    functionally_closed_inside n ds plan now (known_within n ds c.args.closures.now c.requires.known)
     (All-map (λ (x : Attributes). IsFunctionallyClosedIn n ds x now now) attributes schemes is_closed) in
     record {
       follows = before.kept;
@@ -110,7 +110,7 @@ returns-then-is_subset c =
           transitivity_obeyed (attributes c.args.from) (attributes c.loop-wanted.closed) (attributes more.result) r
           (before.kept r inside)
           (more.ensures.kept r (same_plan_obeyed (width_of c.args.schema.now) (theory_of c.args.schema.now)
-          c.args.insides.now c.loop-wanted.insides r before.schemes inside));
+          c.args.closures.now c.loop-wanted.closures r before.schemes inside));
       found = inl (c.if-is_subset.ensures.subset.0 refl);
       known = more.ensures.known;
       schemes = more.ensures.schemes ∙ before.schemes;

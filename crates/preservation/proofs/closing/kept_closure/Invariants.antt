@@ -9,7 +9,7 @@ use Rattle.dep_model.specs.Dependencies.{ObeysFd}
 use Rattle.dep_model.specs.Schemas.{width_of, theory_of, universe_of}
 use Rattle.dep_model.specs.Tuples.{Relation}
 use Rattle.fd_closure.specs.Counting.{switches_of}
-use Rattle.preservation.specs.Insides.{IsKnown, schemes_of_closures, plan_of_closures}
+use Rattle.preservation.specs.SchemeClosures.{IsSchemeClosure, schemes_of_closures, plan_of_closures}
 use Rattle.preservation.specs.Keeping.{ObeysInside}
 use Rattle.preservation.proofs.closing.kept_closure.Given as goal
 
@@ -17,10 +17,10 @@ abbrev pub invariant-loop-wanted : goal.invariant-loop-wanted
 invariant-loop-wanted l = record {
   grows : IsSubset (attributes l.initial.closed) (attributes l.closed);
   within : IsSubset (attributes l.closed) (universe_of l.schema);
-  kept : (r : Relation) → ObeysInside (width_of l.schema) (theory_of l.schema) (plan_of_closures l.initial.insides) r
+  kept : (r : Relation) → ObeysInside (width_of l.schema) (theory_of l.schema) (plan_of_closures l.initial.closures) r
       → ObeysFd (attributes l.initial.closed) (attributes l.closed) r;
-  known : All (IsKnown (width_of l.schema) (theory_of l.schema)) l.insides;
-  schemes : schemes_of_closures l.insides ≡ schemes_of_closures l.initial.insides;
+  known : All (IsSchemeClosure (width_of l.schema) (theory_of l.schema)) l.closures;
+  schemes : schemes_of_closures l.closures ≡ schemes_of_closures l.initial.closures;
   switches : switches_of l.counters ≡ switches_of l.initial.counters;
 }
 

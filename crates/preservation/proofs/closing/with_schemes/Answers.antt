@@ -9,8 +9,8 @@ use Rattle.attr_sets.specs.Sets.{attributes}
 use Rattle.attr_sets.specs.declared.set.AttrSet.{AttrSet}
 use Rattle.dep_model.proofs.RuleLemmas.{transitivity_obeyed, reflexivity_obeyed}
 use Rattle.dep_model.specs.Schemas.{width_of, theory_of}
-use Rattle.preservation.specs.declared.inside.Inside.{Inside}
-use Rattle.preservation.specs.Insides.{IsClosureWithin, IsKnown, schemes_of_closures, plan_of_closures}
+use Rattle.preservation.specs.declared.scheme_closure.SchemeClosure.{SchemeClosure}
+use Rattle.preservation.specs.SchemeClosures.{IsClosureWithin, IsSchemeClosure, schemes_of_closures, plan_of_closures}
 use Rattle.preservation.specs.FunctionallyClosed.{IsFunctionallyClosedIn}
 use Rattle.attr_sets.proofs.AttributesLemmas.{same_at}
 use Rattle.preservation.proofs.KeepingLemmas.{added_follows, added_closes_functionally}
@@ -35,18 +35,18 @@ loop-i-preserved c =
     let ds = theory_of s in
     let i = c.loop-i.i in
     let before = c.loop-i.invariant in
-    let old = c.args.insides.now in
+    let old = c.args.closures.now in
     let from = attributes c.args.closed in
     let now = attributes c.loop-i.more in
     let next = attributes c.union-more.result in
     let nothing : AttrSet = record { 0 = 0 } in
-    let nowhere : Inside = record { scheme = nothing; part = nothing; closed = nothing } in
-    let scheme = attributes (get_or c.loop-i.insides i nowhere).scheme in
-    let inside = c.inside_by-inside in
+    let nowhere : SchemeClosure = record { scheme = nothing; part = nothing; closed = nothing } in
+    let scheme = attributes (get_or c.loop-i.closures i nowhere).scheme in
+    let closure = c.closure_covering-closure in
     let low : i < length old = c.loop-i-test.true in
-    let known : IsClosureWithin n ds scheme (attributes inside.result.part) (attributes inside.result.closed) =
-    subst (λ (scheme : AttrSet). IsClosureWithin n ds (attributes scheme) (attributes inside.result.part)
-    (attributes inside.result.closed)) inside.ensures.scheme inside.ensures.known in
+    let known : IsClosureWithin n ds scheme (attributes closure.result.part) (attributes closure.result.closed) =
+    subst (λ (scheme : AttrSet). IsClosureWithin n ds (attributes scheme) (attributes closure.result.part)
+    (attributes closure.result.closed)) closure.ensures.scheme closure.ensures.known in
     let grows : IsSubset now next = (λ k m. grind (arith, same_at c.union-more.ensures.members k, m)) in
     record {
       grows = λ k m. grows k (before.grows k m);
@@ -55,28 +55,28 @@ loop-i-preserved c =
         | inr new ↦ known.universe k ((known.closure k).0 (grind (arith, same_at c.union-more.ensures.members k, new, m))).0
       ];
       kept = λ r obeys. transitivity_obeyed from now next r (before.kept r obeys)
-          (added_follows n ds (plan_of_closures old) scheme now (attributes inside.result.part)
-          (attributes inside.result.closed) next r
-          known inside.ensures.part c.union-more.ensures.members
-          (scheme_at old c.loop-i.insides i nowhere before.schemes low) obeys);
+          (added_follows n ds (plan_of_closures old) scheme now (attributes closure.result.part)
+          (attributes closure.result.closed) next r
+          known closure.ensures.part c.union-more.ensures.members
+          (scheme_at old c.loop-i.closures i nowhere before.schemes low) obeys);
       closed_so_far = All-more (λ (scheme : AttrSet). IsFunctionallyClosedIn n ds (attributes scheme) from next)
           (schemes_of_closures old) i nothing
-          (omega (arith, low, length-map old (λ (inside : Inside). inside.scheme)))
+          (omega (arith, low, length-map old (λ (closure : SchemeClosure). closure.scheme)))
           (λ k d l x y within implied inside a m. grows a (before.closed_so_far k d l x y within implied inside a m))
           (subst (λ (scheme : AttrSet). IsFunctionallyClosedIn n ds (attributes scheme) from next)
-          (sym (scheme_of old c.loop-i.insides i nowhere before.schemes))
-          (λ x y within implied x_in. added_closes_functionally n ds scheme now (attributes inside.result.part)
-          (attributes inside.result.closed) next known inside.ensures.covers c.union-more.ensures.members
+          (sym (scheme_of old c.loop-i.closures i nowhere before.schemes))
+          (λ x y within implied x_in. added_closes_functionally n ds scheme now (attributes closure.result.part)
+          (attributes closure.result.closed) next known closure.ensures.covers c.union-more.ensures.members
           x y within implied (λ k m. before.grows k (x_in k m))));
-      known = All-set (IsKnown n ds) c.loop-i.insides i inside.result inside.ensures.known before.known;
-      schemes = same_schemes old c.loop-i.insides i inside.result nowhere before.schemes inside.ensures.scheme;
-      switches = inside.ensures.switches ∙ before.switches;
+      known = All-set (IsSchemeClosure n ds) c.loop-i.closures i closure.result closure.ensures.known before.known;
+      schemes = same_schemes old c.loop-i.closures i closure.result nowhere before.schemes closure.ensures.scheme;
+      switches = closure.ensures.switches ∙ before.switches;
     }
 
 pub returns-clause-functionally_closed : goal.returns-clause-functionally_closed
 returns-clause-functionally_closed c = λ same.
-    let schemes = schemes_of_closures c.args.insides.now in
+    let schemes = schemes_of_closures c.args.closures.now in
     let long : length schemes ≤ c.loop-i.i =
-    omega (arith, c.loop-i-test.false, length-map c.args.insides.now (λ (inside : Inside). inside.scheme)) in
+    omega (arith, c.loop-i-test.false, length-map c.args.closures.now (λ (closure : SchemeClosure). closure.scheme)) in
     let all = (rw (take_all c.loop-i.i schemes long) at c.loop-i.invariant.closed_so_far) in
     λ k d l x y within implied inside a m. same a (all k d l x y within implied inside a m)

@@ -8,7 +8,7 @@ use Rattle.dep_model.specs.Dependencies.{ObeysFd}
 use Rattle.dep_model.specs.Schemas.{width_of, theory_of, universe_of}
 use Rattle.dep_model.specs.Tuples.{Relation}
 use Rattle.fd_closure.specs.Counting.{switches_of}
-use Rattle.preservation.specs.Insides.{IsKnown, schemes_of_closures, plan_of_closures}
+use Rattle.preservation.specs.SchemeClosures.{IsSchemeClosure, schemes_of_closures, plan_of_closures}
 use Rattle.preservation.specs.Keeping.{ObeysInside}
 use Rattle.preservation.specs.FunctionallyClosed.{IsFunctionallyClosedIn}
 use Rattle.preservation.proofs.closing.with_schemes.Given as goal
@@ -17,11 +17,11 @@ abbrev pub invariant-loop-i : goal.invariant-loop-i
 invariant-loop-i l = record {
   grows : IsSubset (attributes l.initial.more) (attributes l.more);
   within : IsSubset (attributes l.more) (universe_of l.schema);
-  kept : (r : Relation) → ObeysInside (width_of l.schema) (theory_of l.schema) (plan_of_closures l.initial.insides) r
+  kept : (r : Relation) → ObeysInside (width_of l.schema) (theory_of l.schema) (plan_of_closures l.initial.closures) r
       → ObeysFd (attributes l.initial.more) (attributes l.more) r;
   closed_so_far : All (λ scheme. IsFunctionallyClosedIn (width_of l.schema) (theory_of l.schema) (attributes scheme)
-      (attributes l.initial.more) (attributes l.more)) (take l.i (schemes_of_closures l.initial.insides));
-  known : All (IsKnown (width_of l.schema) (theory_of l.schema)) l.insides;
-  schemes : schemes_of_closures l.insides ≡ schemes_of_closures l.initial.insides;
+      (attributes l.initial.more) (attributes l.more)) (take l.i (schemes_of_closures l.initial.closures));
+  known : All (IsSchemeClosure (width_of l.schema) (theory_of l.schema)) l.closures;
+  schemes : schemes_of_closures l.closures ≡ schemes_of_closures l.initial.closures;
   switches : switches_of l.counters ≡ switches_of l.initial.counters;
 }

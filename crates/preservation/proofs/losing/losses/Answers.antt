@@ -7,8 +7,8 @@ use Rattle.dep_model.specs.declared.dep.Dep.TheVariants.{Fd}
 use Rattle.dep_model.specs.Deps.{IsDepWithin}
 use Rattle.dep_model.specs.Plans.{schemes_of}
 use Rattle.dep_model.specs.Schemas.{deps_of, theory_of, width_of, universe_of}
-use Rattle.preservation.specs.declared.inside.Inside.{Inside}
-use Rattle.preservation.specs.Insides.{IsKnown, schemes_of_closures}
+use Rattle.preservation.specs.declared.scheme_closure.SchemeClosure.{SchemeClosure}
+use Rattle.preservation.specs.SchemeClosures.{IsSchemeClosure, schemes_of_closures}
 use Rattle.preservation.specs.Keeping.{LossesOf}
 use Rattle.preservation.proofs.KnownLemmas.{take-known}
 use Rattle.preservation.proofs.LossLemmas.{no_losses, next_kept, next_lost, all_looked_at}
@@ -22,9 +22,9 @@ nothing = Fd (record { 0 = 0 }) (record { 0 = 0 })
 pub loop-k-init : goal.loop-k-init
 loop-k-init c = record {
   losses = no_losses _ _ _ _ _ _ refl c.new-losses.ensures.items;
-  known = c.in_ok-insides.ensures.known;
-  schemes = c.in_ok-insides.ensures.schemes;
-  switches = c.insides_of.ensures.switches ∙ c.in_ok-counters.ensures.on
+  known = c.in_ok-closures.ensures.known;
+  schemes = c.in_ok-closures.ensures.schemes;
+  switches = c.scheme_closures.ensures.switches ∙ c.in_ok-counters.ensures.on
       ∙ ap (λ (ds : List Dep). replicate (length ds) true) c.deps.ensures.deps;
   last = tt;
 }
@@ -50,15 +50,15 @@ loop-k-preserved c =
     let low : c.loop-k.k < length ds =
     subst (λ (ds : List Dep). c.loop-k.k < length ds) (c.deps-k-end.ensures.deps ∙ sym same) c.loop-k-test.true in
     let before = c.loop-k.invariant in
-    let old = c.loop-k.insides.items in
+    let old = c.loop-k.closures.items in
     let call = c.loss_of-loss in
     let given : c.deref_mut.result.now ≡ old = c.deref_mut.ensures.value in
-    let count : c.loop-k.insides.len ≡ length old =
-    sym c.deref_mut.ensures.len ∙ ap (λ (l : List Inside). length l) given in
-    let back = sym (take-known old call.new.insides c.loop-k.insides.len count
+    let count : c.loop-k.closures.len ≡ length old =
+    sym c.deref_mut.ensures.len ∙ ap (λ (l : List SchemeClosure). length l) given in
+    let back = sym (take-known old call.new.closures c.loop-k.closures.len count
     (call.ensures.schemes ∙ ap schemes_of_closures given)) in
-    let known = subst (λ (l : List Inside). All (IsKnown n (theory_of s)) l) back call.ensures.known in
-    let schemes = subst (λ (l : List Inside). schemes_of_closures l ≡ c.args.schemes.now) back
+    let known = subst (λ (l : List SchemeClosure). All (IsSchemeClosure n (theory_of s)) l) back call.ensures.known in
+    let schemes = subst (λ (l : List SchemeClosure). schemes_of_closures l ≡ c.args.schemes.now) back
     (call.ensures.schemes ∙ ap schemes_of_closures given ∙ before.schemes) in
     let plan_of = ap schemes_of_closures given ∙ before.schemes in
     let switches = call.ensures.switches ∙ before.switches in

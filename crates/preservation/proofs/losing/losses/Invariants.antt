@@ -3,7 +3,7 @@ use Rattle.std.proofs.Common.{◌≡◌, take}
 use Rattle.std.specs.Prelude.{All, IfSome}
 use Rattle.dep_model.specs.Plans.{schemes_of}
 use Rattle.dep_model.specs.Schemas.{width_of, theory_of}
-use Rattle.preservation.specs.Insides.{IsKnown, schemes_of_closures, AreAllOn}
+use Rattle.preservation.specs.SchemeClosures.{IsSchemeClosure, schemes_of_closures, AreAllOn}
 use Rattle.preservation.specs.Keeping.{LossesFrom}
 use Rattle.preservation.specs.FunctionallyClosed.{TellsKeptClosure}
 use Rattle.preservation.proofs.losing.losses.Given as goal
@@ -13,8 +13,8 @@ abbrev pub invariant-loop-k : goal.invariant-loop-k
 invariant-loop-k l = record {
   losses : LossesFrom (width_of l.schema) (theory_of l.schema) (schemes_of l.schemes) 0
       (take l.k (theory_of l.schema)) l.losses.items;
-  known : All (IsKnown (width_of l.schema) (theory_of l.schema)) l.insides.items;
-  schemes : schemes_of_closures l.insides.items ≡ l.schemes;
+  known : All (IsSchemeClosure (width_of l.schema) (theory_of l.schema)) l.closures.items;
+  schemes : schemes_of_closures l.closures.items ≡ l.schemes;
   switches : AreAllOn l.schema l.counters;
   last : IfSome l.last (TellsKeptClosure (width_of l.schema) (theory_of l.schema) (schemes_of l.schemes));
 }

@@ -10,7 +10,7 @@ use Rattle.attr_sets.specs.Attributes.{Attributes, below, IsSubset}
 use Rattle.attr_sets.specs.Sets.{attributes}
 use Rattle.dep_model.specs.declared.dep.Dep.{Dep}
 use Rattle.dep_model.specs.declared.schema.Schema.{Schema}
-use Rattle.dep_model.specs.Dependencies.{IsWithin}
+use Rattle.dep_model.specs.Dependencies.{Dependency, IsWithin}
 use Rattle.dep_model.specs.Deps.{dependencies_of, IsDepWithin}
 use Rattle.dep_model.specs.Plans.{schemes_of}
 use Rattle.dep_model.specs.Projections.{IsLossless}
@@ -24,6 +24,7 @@ use Rattle.synthesis_3nf.specs.GroupedPlans.{IsWithKey}
 use Rattle.synthesis_3nf.proofs.GroupLemmas.{groups_are}
 use Rattle.synthesis_3nf.proofs.CompleteLemmas.{IsSynthesized, whole, are_plan, are_lossless, kept_third, kept_keeps}
 use Rattle.synthesis_3nf.proofs.synthesis.synthesize.Goals as goal
+use Rattle.synthesis_3nf.proofs.synthesis.synthesize.Goals.{In_ok-schemes}
 
 -- what is known of a schema and its cover
 record IsCovered (s : Schema) (cover : List Dep) : Type 0 where
@@ -47,12 +48,31 @@ groups_within s cover groups is are =
     (subst (λ (xs : List Attributes). Contains xs (attributes g)) are (Contains-map attributes groups g has))).2)
     groups (All-contains_itself groups)
 
--- what is proved of the schemes before contained ones are dropped
-synthesized : (s : Schema) (cover : List Dep) (groups all : List AttrSet) → IsCovered s cover → schemes_of groups ≡ schemes_of_groups (dependencies_of cover)
-    → IsWithKey (width_of s) (theory_of s) (schemes_of groups) (schemes_of all) → IsSynthesized (width_of s) (theory_of s) (dependencies_of cover) (schemes_of all)
-synthesized s cover groups all is are completed =
-    whole (width_of s) (theory_of s) (dependencies_of cover) (attributes_within_limit s) (attributes_not_empty s) is.minimal (members_within s cover is) (schemes_of all)
-    (subst (λ (xs : List Attributes). IsWithKey (width_of s) (theory_of s) xs (schemes_of all)) are completed)
+-- the schemes before contained ones are dropped: those of the groups of the cover, with a key where none holds one
+record AreMade (s : Schema) (cover : List Dep) (groups all : List AttrSet) : Type 0 where
+  covered : IsCovered s cover
+  grouped : schemes_of groups ≡ schemes_of_groups (dependencies_of cover)
+  completed : IsWithKey (width_of s) (theory_of s) (schemes_of groups) (schemes_of all)
+
+module _ (s : Schema) (cover : List Dep) (groups all : List AttrSet) (made : AreMade s cover groups all) where
+  abbrev ds : List Dependency
+  ds = dependencies_of cover
+
+  members : All (IsWithin (below (width_of s))) ds
+  members = members_within s cover made.covered
+
+  completed : IsWithKey (width_of s) (theory_of s) (schemes_of_groups ds) (schemes_of all)
+  completed = subst (λ (xs : List Attributes). IsWithKey (width_of s) (theory_of s) xs (schemes_of all)) made.grouped made.completed
+
+  synthesized : IsSynthesized (width_of s) (theory_of s) ds (schemes_of all)
+  synthesized = whole (width_of s) (theory_of s) ds (attributes_within_limit s) (attributes_not_empty s) made.covered.minimal members (schemes_of all) completed
+
+made : (c : In_ok-schemes) → AreMade c.args.schema.now c.in_ok-cover.cover.items c.in_ok-groups.groups.items c.in_ok-schemes.schemes.items
+made c = record {
+  covered = record { minimal = c.in_ok-cover.ensures.minimal; within = c.in_ok-cover.ensures.within };
+  grouped = c.in_ok-groups.ensures.grouped ∙ ap (λ (ds : List Dep). schemes_of_groups (dependencies_of ds)) c.deref.ensures.value;
+  completed = c.in_ok-schemes.ensures.completed;
+}
 
 pub with_key-requires : goal.with_key-requires
 with_key-requires c = record {
@@ -64,57 +84,38 @@ with_key-requires c = record {
 pub new-requires : goal.new-requires
 new-requires c =
     let s = c.args.schema.now in
-    let cover = c.in_ok-cover.cover.items in
-    let covered : IsCovered s cover = record { minimal = c.in_ok-cover.ensures.minimal; within = c.in_ok-cover.ensures.within } in
-    let are = c.in_ok-groups.ensures.grouped ∙ ap (λ (ds : List Dep). schemes_of_groups (dependencies_of ds)) c.deref.ensures.value in
-    record {
-      plan = are_plan (width_of s) (theory_of s) (dependencies_of cover) (attributes_within_limit s) (attributes_not_empty s) covered.minimal (members_within s cover covered) (schemes_of c.in_ok-schemes.schemes.items)
-          (synthesized s cover c.in_ok-groups.groups.items c.in_ok-schemes.schemes.items covered are c.in_ok-schemes.ensures.completed);
-    }
+    let before = made (goal.at.new-requires c).In_ok-schemes in
+    record { plan = are_plan _ _ _ (attributes_within_limit s) (attributes_not_empty s) before.covered.minimal (members _ _ _ _ before) _ (synthesized _ _ _ _ before) }
 
 pub returns-clause-grouped : goal.returns-clause-grouped
-returns-clause-grouped c =
-    let s = c.args.schema.now in
-    let are = c.in_ok-groups.ensures.grouped ∙ ap (λ (ds : List Dep). schemes_of_groups (dependencies_of ds)) c.deref.ensures.value in
-    record {
-      cover = dependencies_of c.in_ok-cover.cover.items;
-      fixed = c.in_ok-cover.ensures.fixed;
-      all = c.in_ok-schemes.schemes.items;
-      completed = subst (λ (xs : List Attributes). IsWithKey (width_of s) (theory_of s) xs (schemes_of c.in_ok-schemes.schemes.items)) are c.in_ok-schemes.ensures.completed;
-      kept = c.drop_contained.ensures.schemes ∙ ap (λ (xs : List AttrSet). without_contained xs) c.new.ensures.schemes;
-    }
+returns-clause-grouped c = record {
+  cover = dependencies_of c.in_ok-cover.cover.items;
+  fixed = c.in_ok-cover.ensures.fixed;
+  all = c.in_ok-schemes.schemes.items;
+  completed = completed _ _ _ _ (made (goal.at.returns-clause-grouped c).In_ok-schemes);
+  kept = c.drop_contained.ensures.schemes ∙ ap (λ (xs : List AttrSet). without_contained xs) c.new.ensures.schemes;
+}
 
 pub returns-clause-lossless : goal.returns-clause-lossless
 returns-clause-lossless c =
     let s = c.args.schema.now in
-    let cover = c.in_ok-cover.cover.items in
-    let covered : IsCovered s cover = record { minimal = c.in_ok-cover.ensures.minimal; within = c.in_ok-cover.ensures.within } in
-    let are = c.in_ok-groups.ensures.grouped ∙ ap (λ (ds : List Dep). schemes_of_groups (dependencies_of ds)) c.deref.ensures.value in
+    let before = made (goal.at.returns-clause-lossless c).In_ok-schemes in
     c.drop_contained.ensures.lossless (theory_of s)
     (subst (λ (xs : List AttrSet). IsLossless (width_of s) (theory_of s) (schemes_of xs)) (sym c.new.ensures.schemes)
-    (are_lossless (width_of s) (theory_of s) (dependencies_of cover) (attributes_within_limit s) (attributes_not_empty s) covered.minimal (members_within s cover covered) (schemes_of c.in_ok-schemes.schemes.items)
-    (synthesized s cover c.in_ok-groups.groups.items c.in_ok-schemes.schemes.items covered are c.in_ok-schemes.ensures.completed)))
+    (are_lossless _ _ _ (attributes_within_limit s) (attributes_not_empty s) before.covered.minimal (members _ _ _ _ before) _ (synthesized _ _ _ _ before)))
 
 pub returns-clause-third : goal.returns-clause-third
 returns-clause-third c =
     let s = c.args.schema.now in
-    let cover = c.in_ok-cover.cover.items in
-    let covered : IsCovered s cover = record { minimal = c.in_ok-cover.ensures.minimal; within = c.in_ok-cover.ensures.within } in
-    let are = c.in_ok-groups.ensures.grouped ∙ ap (λ (ds : List Dep). schemes_of_groups (dependencies_of ds)) c.deref.ensures.value in
-    let all = c.in_ok-schemes.schemes.items in
+    let before = made (goal.at.returns-clause-third c).In_ok-schemes in
     let kept = c.drop_contained.result.schemes.items in
-    kept_third (width_of s) (theory_of s) (dependencies_of cover) (attributes_within_limit s) (attributes_not_empty s) covered.minimal (members_within s cover covered) all kept
-    (synthesized s cover c.in_ok-groups.groups.items all covered are c.in_ok-schemes.ensures.completed)
+    kept_third _ _ _ (attributes_within_limit s) (attributes_not_empty s) before.covered.minimal (members _ _ _ _ before) _ kept (synthesized _ _ _ _ before)
     (subst (λ (xs : List AttrSet). All (λ (k : AttrSet). Contains xs k) kept) c.new.ensures.schemes c.drop_contained.ensures.among)
 
 pub returns-clause-keeps : goal.returns-clause-keeps
 returns-clause-keeps c =
     let s = c.args.schema.now in
-    let cover = c.in_ok-cover.cover.items in
-    let covered : IsCovered s cover = record { minimal = c.in_ok-cover.ensures.minimal; within = c.in_ok-cover.ensures.within } in
-    let are = c.in_ok-groups.ensures.grouped ∙ ap (λ (ds : List Dep). schemes_of_groups (dependencies_of ds)) c.deref.ensures.value in
-    let all = c.in_ok-schemes.schemes.items in
+    let before = made (goal.at.returns-clause-keeps c).In_ok-schemes in
     let kept = c.drop_contained.result.schemes.items in
-    kept_keeps (width_of s) (theory_of s) (dependencies_of cover) (attributes_within_limit s) (attributes_not_empty s) covered.minimal (members_within s cover covered) all kept
-    (synthesized s cover c.in_ok-groups.groups.items all covered are c.in_ok-schemes.ensures.completed)
+    kept_keeps _ _ _ (attributes_within_limit s) (attributes_not_empty s) before.covered.minimal (members _ _ _ _ before) _ kept (synthesized _ _ _ _ before)
     (subst (λ (xs : List AttrSet). All (λ (old : AttrSet). list_any (lies_within old) kept ≡ true) xs) c.new.ensures.schemes c.drop_contained.ensures.held)

@@ -8,7 +8,7 @@ use Rattle.table_writing.proofs.writing.write_tables_to_each.Goals as goal
 
 pub loop-destination-preserved : goal.loop-destination-preserved
 loop-destination-preserved g c =
-    let written = WrittenDestination g.T.Destination.is_known g.T.Destination.finished g.T.Destination.faults (table_values c.args.tables.now) in
+    let written = WrittenDestination g.T.Destination.is_known g.T.Destination.finished g.T.Destination.begun g.T.Destination.width g.T.Destination.faults (table_values c.args.tables.now) in
     record {
       written = holds_next written _ _ _ _ _ c.destination-item.result c.write_tables_to_one-end.new.destination c.write_tables_to_one-end.result
           c.push_reserved.ensures.items
@@ -18,5 +18,5 @@ loop-destination-preserved g c =
 
 pub returns-clause-written : goal.returns-clause-written
 returns-clause-written g c =
-    let written = WrittenDestination g.T.Destination.is_known g.T.Destination.finished g.T.Destination.faults (table_values c.args.tables.now) in
+    let written = WrittenDestination g.T.Destination.is_known g.T.Destination.finished g.T.Destination.begun g.T.Destination.width g.T.Destination.faults (table_values c.args.tables.now) in
     holds_all written _ _ _ _ (omega arith) c.loop-destination.invariant.written

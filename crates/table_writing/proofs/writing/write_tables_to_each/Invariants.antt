@@ -13,7 +13,7 @@ invariant-loop-destination g l =
     let destination = g.T.Destination in
     record {
       written : HoldsSoFar
-          (WrittenDestination destination.is_known destination.finished destination.faults
+          (WrittenDestination destination.is_known destination.finished destination.begun destination.width destination.faults
           (table_values l.tables)) l.destination-index l.fn.destinations l.destinations l.ends.items;
       room : length l.destinations ≤ vec_capacity l.ends;
     }

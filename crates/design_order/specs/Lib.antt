@@ -1,0 +1,2 @@
+-- The definitions of design_order: the order of the tables of a design.
+pub mod Order

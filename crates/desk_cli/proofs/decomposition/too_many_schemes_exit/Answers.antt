@@ -1,5 +1,0 @@
--- What is left to prove of `too_many_schemes_exit`: its clause `says`.
-use Rattle.desk_cli.proofs.decomposition.too_many_schemes_exit.Goals as goal
-
-pub returns : goal.returns
-returns c = record { says = λ response is. c.with_text.ensures.says _ c.too_many_schemes_line.ensures.line response is }

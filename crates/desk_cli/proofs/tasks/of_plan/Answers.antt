@@ -1,0 +1,16 @@
+-- What is left to prove of `of_plan`: its clause `response`.
+use Rattle.std.proofs.Common.{List}
+use Rattle.attr_sets.specs.Attributes.{Attributes}
+use Rattle.plans.specs.Plans.{plan_of}
+use Rattle.desk_words.specs.Commands.{plan_question}
+use Rattle.desk_cli.specs.Performs.{AnswersPlan}
+use Rattle.desk_inputs.specs.Plans.{PlanStops, IsPlanFile}
+use Rattle.desk_responses.proofs.StepLemmas.{With-found}
+use Rattle.desk_cli.proofs.tasks.of_plan.Goals as goal
+
+pub returns-clause-response : goal.returns-clause-response
+returns-clause-response g c = λ r shows.
+    let s = c.args.schema.now in
+    let file = c.args.file.now in
+    With-found (PlanStops r s file) (IsPlanFile r s file) (λ (plan : List Attributes). AnswersPlan s plan (plan_question c.args.question))
+    (plan_of c.in-Ok.plan) c.answer_plan.result (c.in-Ok.ensures.ok r shows.same) c.answer_plan.ensures.response

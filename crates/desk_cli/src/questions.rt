@@ -1,0 +1,96 @@
+//! What is asked of values that were read: a pure function for each kind of question.
+
+ghost use Rattle.std.specs.Prelude.{◌≤◌, ◌<◌, ◌^◌, length};
+ghost use Rattle.dep_model.specs.Projections.{Covers};
+ghost use Rattle.dep_model.specs.Schemas.{width_of};
+ghost use Rattle.dep_model.specs.Tuples.{IsOver};
+ghost use Rattle.plans.specs.Plans.{IsPlanOver, plan_of};
+ghost use Rattle.desk_words.specs.Commands.{plan_question, rows_question, schema_question};
+ghost use Rattle.desk_cli.specs.Performs.{AnswersPlan, AnswersRows, AnswersSchema};
+ghost use Rattle.desk_responses.specs.Responses.{RespondsAs};
+
+use dep_model::Schema;
+use desk_designs::{
+    check_form, check_join, check_keeps, draw_form, draw_plan, script_check, script_migration,
+    script_migration_by_plan, split_by_pairs, split_in_form, synthesize_plan, write_form,
+    write_plan,
+};
+use desk_implication::{
+    cover, exhibit_relation, give_basis, implies, list_keys, list_keys_of_plan,
+};
+use desk_responses::{EarlyExit, Response};
+use desk_tables::{check_rows, migrate_in_form};
+use desk_words::{PlanQuestion, RowsQuestion, SchemaQuestion};
+use plan_reader::MOST_SCHEMES;
+use plans::Plan;
+use row_store::Rows;
+use std::alloc::Global;
+
+/// Answers what is asked of a schema alone.
+#[tactic(auto, unfolding(crate::specs::Performs::AnswersSchema))]
+pub fn answer_schema(
+    alloc: Global,
+    schema: &Schema,
+    question: SchemaQuestion<'_>,
+) -> Result<Response, EarlyExit>
+    ensures response { RespondsAs (AnswersSchema schema.now (schema_question question.entry)) result }
+{
+    match question {
+        SchemaQuestion::Implies { goal } => implies(alloc, schema, goal),
+        SchemaQuestion::Cover => cover(alloc, schema),
+        SchemaQuestion::Basis { set } => give_basis(alloc, schema, set),
+        SchemaQuestion::Keys => list_keys(alloc, schema),
+        SchemaQuestion::Synthesize => synthesize_plan(alloc, schema),
+        SchemaQuestion::Split { form } => split_in_form(alloc, schema, form),
+        SchemaQuestion::SplitWide => split_by_pairs(alloc, schema),
+        SchemaQuestion::Exhibit => exhibit_relation(alloc, schema),
+        SchemaQuestion::Ddl { form } => write_form(alloc, schema, form),
+        SchemaQuestion::SqlCheck { name } => script_check(alloc, schema, name),
+        SchemaQuestion::SqlMigrate { form, name } => script_migration(alloc, schema, form, name),
+        SchemaQuestion::Draw { form } => draw_form(alloc, schema, form),
+    }
+}
+
+/// Answers what is asked of a schema and a plan.
+#[tactic(auto, unfolding(crate::specs::Performs::AnswersPlan))]
+pub fn answer_plan(
+    alloc: Global,
+    schema: &Schema,
+    plan: &Plan,
+    question: PlanQuestion<'_>,
+) -> Result<Response, EarlyExit>
+    requires universe { IsPlanOver schema.now plan.now }
+    requires within_limit { length (plan_of plan.now) ≤ MOST_SCHEMES }
+    requires covers { Covers (width_of schema.now) (plan_of plan.now) }
+    ensures response { RespondsAs
+        (AnswersPlan schema.now (plan_of plan.now) (plan_question question.entry)) result }
+{
+    match question {
+        PlanQuestion::CheckJoin => check_join(alloc, schema, plan),
+        PlanQuestion::CheckForm { form } => check_form(alloc, schema, form, plan),
+        PlanQuestion::CheckKeeps => check_keeps(alloc, schema, plan),
+        PlanQuestion::Keys => list_keys_of_plan(alloc, schema, plan),
+        PlanQuestion::Ddl => write_plan(alloc, schema, plan),
+        PlanQuestion::SqlMigrate { name } => script_migration_by_plan(alloc, schema, plan, name),
+        PlanQuestion::Draw => draw_plan(alloc, schema, plan),
+    }
+}
+
+/// Answers what is asked of a schema and rows.
+#[tactic(auto, unfolding(crate::specs::Performs::AnswersRows))]
+pub fn answer_rows(
+    alloc: Global,
+    schema: &Schema,
+    rows: &Rows,
+    question: RowsQuestion,
+) -> Result<Response, EarlyExit>
+    requires over { IsOver (width_of schema.now) rows.now }
+    requires fits_u32 { length rows.now < 2 ^ 32 }
+    ensures response { RespondsAs
+        (AnswersRows schema.now rows.now (rows_question question)) result }
+{
+    match question {
+        RowsQuestion::CheckRows => check_rows(alloc, schema, rows),
+        RowsQuestion::Migrate { form } => migrate_in_form(alloc, schema, form, rows),
+    }
+}

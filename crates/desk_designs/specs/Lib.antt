@@ -1,0 +1,9 @@
+-- The definitions of desk_designs, in reading order: plans, tests of plans, and what is made of them.
+pub mod Synthesis
+pub mod Decompositions
+pub mod NormalForms
+pub mod Joins
+pub mod Keeping
+pub mod Designs
+pub mod Scripts
+pub mod Drawings

@@ -1,0 +1,59 @@
+-- Whether the schemes of a plan are in a normal form: for `check form`.
+use Rattle.std.specs.Prelude.{◌⊎◌, ℕ, List, ◌++◌, codes, All}
+use Rattle.attr_sets.specs.Attributes.{Attributes}
+use Rattle.dep_model.specs.Dependencies.{Dependency, fd, mvd}
+use Rattle.dep_model.specs.Schemas.{width_of, theory_of}
+use Rattle.dep_model.specs.declared.schema.Schema.{Schema}
+use Rattle.normal_forms.specs.declared.forms.Form.{Form}
+use Rattle.normal_forms.specs.declared.forms.Form.TheVariants.{Third, Bcnf, Fourth}
+use Rattle.normal_forms.specs.Chosen.{IsInForm, IsWide, IsChosenViolation}
+use Rattle.schema_printer.specs.Printing.{set_text, dependency_text}
+use Rattle.schema_printer.specs.Spelling.{printed_names_of}
+use Rattle.desk_responses.specs.declared.status.Status.TheVariants.{Yes, No, Refused}
+use Rattle.desk_responses.specs.ResponseValues.{Allowed, Says, IsFirstFailing}
+use Rattle.desk_responses.specs.Lines.{too_wide_text}
+use Rattle.desk_texts.specs.Texts.{line}
+
+-- ---- texts
+-- the word of a normal form
+abbrev pub form_word : Form → List ℕ
+form_word Third = codes "3nf"
+form_word Bcnf = codes "bcnf"
+form_word Fourth = codes "4nf"
+
+abbrev pub in_form_text : Form → List ℕ
+in_form_text form = line (codes "every scheme is in " ++ form_word form)
+
+-- a violation, as a dependency
+abbrev pub violation_of : Form → Attributes → Attributes → Dependency
+violation_of Third x y = fd x y
+violation_of Bcnf x y = fd x y
+violation_of Fourth x y = mvd x y
+
+-- a scheme, and what violates the form on it
+abbrev pub violated_text : List (List ℕ) → Form → Attributes → Attributes → Attributes → List ℕ
+violated_text names form scheme x y =
+    line (codes "scheme " ++ set_text names scheme)
+    ++ line (codes "violated by " ++ dependency_text names (violation_of form x y))
+
+-- ---- answers
+-- a scheme does not end the test of a plan: it is narrow enough to be tested, and in the form
+pub record PassesForm (schema : Schema) (form : Form) (scheme : Attributes) : Type 0 where
+  pub narrow : IsWide scheme → ⊥
+  pub in_form : IsInForm (width_of schema) (theory_of schema) form scheme
+
+-- a scheme ends the test: it is too wide, or narrow and violates the form
+abbrev pub EndsForm : Schema → Form → Attributes → Allowed
+EndsForm schema form scheme response =
+    (IsWide scheme × Says Refused (too_wide_text (printed_names_of schema) scheme) response)
+    ⊎ ((IsWide scheme → ⊥)
+    × ((x : Attributes) × (y : Attributes) × IsChosenViolation (width_of schema) (theory_of schema) form scheme x y
+    × Says No (violated_text (printed_names_of schema) form scheme x y) response))
+
+-- yes exactly where every scheme passes; else the first that does not decides: refused where it is too
+-- wide, and no, with what violates the form, where it is not
+abbrev pub JudgesForm : Schema → Form → List Attributes → Allowed
+JudgesForm schema form plan response =
+    (All (PassesForm schema form) plan × Says Yes (in_form_text form) response)
+    ⊎ ((scheme : Attributes) × IsFirstFailing (PassesForm schema form) plan scheme
+    × EndsForm schema form scheme response)

@@ -1,0 +1,72 @@
+-- SQL scripts over a table of the user's: for `sql check` and `sql migrate`.
+use Rattle.std.specs.Prelude.{◌≡◌, ◌↔◌, ℕ, IsTrue, List, codes}
+use Rattle.attr_sets.specs.Attributes.{Attributes}
+use Rattle.attr_sets.specs.declared.set.AttrSet.{AttrSet}
+use Rattle.dep_model.specs.Plans.{schemes_of}
+use Rattle.dep_model.specs.Schemas.{width_of, LegalFor}
+use Rattle.dep_model.specs.Tuples.{Relation, IsOver}
+use Rattle.dep_model.specs.declared.schema.Schema.{Schema}
+use Rattle.ddl_text.specs.declared.table.TableDesign.{TableDesign}
+use Rattle.normal_forms.specs.declared.forms.Form.{Form}
+use Rattle.table_scripts.specs.Checking.{check_text, NothingBreaks}
+use Rattle.table_scripts.specs.Migrating.{migrate_text, FillsTables, ViewIsTable}
+use Rattle.table_scripts.specs.Naming.{is_table_name, quoted_table}
+use Rattle.desk_responses.specs.declared.status.Status.TheVariants.{Yes, Refused}
+use Rattle.desk_responses.specs.ResponseValues.{Allowed, Says, Unless}
+use Rattle.desk_designs.specs.Decompositions.{WithPlanInForm}
+use Rattle.desk_designs.specs.Designs.{IsSoundDesign}
+use Rattle.desk_designs.specs.Joins.{WithoutLoss}
+use Rattle.desk_texts.specs.Texts.{line}
+
+-- ---- names
+abbrev pub bad_name_text : List ℕ
+bad_name_text = line (codes "refused: bad table name")
+
+-- how the name of a table ends a command: where it is none
+abbrev pub TableNameStops : List ℕ → Allowed
+TableNameStops name response = (IsTrue (is_table_name name) → ⊥) × Says Refused bad_name_text response
+
+-- a word names a table, and then the rest follows
+abbrev pub WithTableName : List ℕ → Allowed → Allowed
+WithTableName name = Unless (TableNameStops name) (IsTrue (is_table_name name))
+
+-- ---- checking
+-- over a relation, the queries for the rules give nothing exactly where it is legal
+abbrev pub TellLegal : Schema → Type 0
+TellLegal schema =
+    (r : Relation) → IsOver (width_of schema) r → LegalFor schema r ↔ NothingBreaks schema r
+
+-- yes, with the queries for what breaks each rule
+abbrev pub AsksTable : Schema → List ℕ → Allowed
+AsksTable schema name response =
+    TellLegal schema × Says Yes (check_text schema (quoted_table name)) response
+
+abbrev pub ScriptsCheck : Schema → List ℕ → Allowed
+ScriptsCheck schema name = WithTableName name (AsksTable schema name)
+
+-- ---- migrating
+-- what the queries of a script that makes tables give
+pub record IsSoundScript (schema : Schema) (tables : List TableDesign) : Type 0 where
+  pub fills : FillsTables schema tables
+  pub view : ViewIsTable schema tables
+
+-- yes, with the statements that make the tables of a plan from the user's
+abbrev pub MakesTables : Schema → List ℕ → List AttrSet → Allowed
+MakesTables schema name plan response =
+    (tables : List TableDesign) × IsSoundDesign schema plan tables × IsSoundScript schema tables
+    × Says Yes (migrate_text schema (quoted_table name) tables) response
+
+-- the same of the plan of a normal form
+abbrev pub ScriptsMigration : Schema → Form → List ℕ → Allowed
+ScriptsMigration schema form name =
+    WithTableName name (WithPlanInForm schema form (MakesTables schema name))
+
+-- the same of schemes, as sets of attributes
+abbrev pub MakesSchemes : Schema → List ℕ → List Attributes → Allowed
+MakesSchemes schema name schemes response =
+    (plan : List AttrSet) × (schemes_of plan ≡ schemes) × MakesTables schema name plan response
+
+-- the same of a plan, where it loses nothing
+abbrev pub ScriptsMigrationByPlan : Schema → List Attributes → List ℕ → Allowed
+ScriptsMigrationByPlan schema schemes name =
+    WithTableName name (WithoutLoss schema schemes (MakesSchemes schema name schemes))

@@ -1,0 +1,69 @@
+ghost use Rattle.std.specs.Prelude.{◌≤◌, length, IfOk};
+ghost use Rattle.dep_model.specs.Projections.{Covers};
+ghost use Rattle.dep_model.specs.Schemas.{width_of};
+ghost use Rattle.plans.specs.Plans.{IsPlanOver, plan_of, scheme_sets};
+ghost use Rattle.desk_designs.specs.Designs.{IsSoundDesign, WritesForm, WritesPlan, WritesTables};
+ghost use Rattle.desk_responses.specs.Responses.{response_value, RespondsAs};
+
+use crate::decomposition::plan_in_form;
+use crate::join::test_loss;
+use ddl_text::{DesignList, design, print_ddl};
+use dep_model::{OutOfMemory, Schema};
+use design_order::in_design_order;
+use desk_responses::{EarlyExit, Response, Status};
+use normal_forms::Form;
+use plan_reader::MOST_SCHEMES;
+use plans::Plan;
+use std::alloc::Global;
+use table_names::MOST_TABLES;
+
+/// The statements that create the tables of a normal form.
+pub fn write_form(alloc: Global, schema: &Schema, form: Form) -> Result<Response, EarlyExit>
+    ensures response { RespondsAs (WritesForm schema.now form) result }
+{
+    let plan = match plan_in_form(alloc, schema, form) {
+        Ok(plan) => plan,
+        Err(exit) => return Err(exit),
+    };
+    Ok(tables_response(alloc, schema, &plan)?)
+}
+
+/// The statements that create the tables of a plan, where it loses nothing.
+pub fn write_plan(alloc: Global, schema: &Schema, plan: &Plan) -> Result<Response, EarlyExit>
+    requires universe { IsPlanOver schema.now plan.now }
+    requires within_limit { length (plan_of plan.now) ≤ MOST_SCHEMES }
+    requires covers { Covers (width_of schema.now) (plan_of plan.now) }
+    ensures response { RespondsAs (WritesPlan schema.now (plan_of plan.now)) result }
+{
+    match test_loss(alloc, schema, plan) {
+        Ok(()) => {}
+        Err(exit) => return Err(exit),
+    }
+    Ok(tables_response(alloc, schema, plan)?)
+}
+
+// The statements that create the tables of a plan.
+fn tables_response(alloc: Global, schema: &Schema, plan: &Plan) -> Result<Response, OutOfMemory>
+    requires universe { IsPlanOver schema.now plan.now }
+    ensures response { IfOk result (λ response. WritesTables schema.now (scheme_sets plan.now)
+        (response_value response)) }
+{
+    let tables = design_of_plan(alloc, schema, plan)?;
+    Ok(Response::with_text(Status::Yes, print_ddl(alloc, schema, &tables)?))
+}
+
+/// The design of a plan in its order. No memory holds a plan of more tables than have a name.
+pub fn design_of_plan(
+    alloc: Global,
+    schema: &Schema,
+    plan: &Plan,
+) -> Result<DesignList, OutOfMemory>
+    requires universe { IsPlanOver schema.now plan.now }
+    ensures sound { IfOk result (λ tables. IsSoundDesign schema.now (scheme_sets plan.now) tables) }
+{
+    let ordered = in_design_order(alloc, schema, plan)?;
+    if ordered.schemes().len() > MOST_TABLES as usize {
+        return Err(OutOfMemory);
+    }
+    Ok(design(alloc, schema, &ordered)?)
+}

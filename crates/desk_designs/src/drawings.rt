@@ -1,0 +1,42 @@
+ghost use Rattle.std.specs.Prelude.{IfOk};
+ghost use Rattle.plans.specs.Plans.{IsPlanOver, plan_of, scheme_sets};
+ghost use Rattle.desk_designs.specs.Drawings.{DrawsForm, DrawsSchemes, DrawsTables};
+ghost use Rattle.desk_responses.specs.Responses.{response_value, RespondsAs};
+
+use crate::decomposition::plan_in_form;
+use crate::designs::design_of_plan;
+use dep_model::{OutOfMemory, Schema};
+use desk_responses::{EarlyExit, Response, Status};
+use normal_forms::Form;
+use plans::Plan;
+use std::alloc::Global;
+use table_drawing::draw;
+
+/// The picture of the tables of a normal form.
+pub fn draw_form(alloc: Global, schema: &Schema, form: Form) -> Result<Response, EarlyExit>
+    ensures response { RespondsAs (DrawsForm schema.now form) result }
+{
+    let plan = match plan_in_form(alloc, schema, form) {
+        Ok(plan) => plan,
+        Err(exit) => return Err(exit),
+    };
+    Ok(drawing_response(alloc, schema, &plan)?)
+}
+
+/// The picture of the tables of a plan, which may lose something.
+pub fn draw_plan(alloc: Global, schema: &Schema, plan: &Plan) -> Result<Response, EarlyExit>
+    requires universe { IsPlanOver schema.now plan.now }
+    ensures response { RespondsAs (DrawsSchemes schema.now (plan_of plan.now)) result }
+{
+    Ok(drawing_response(alloc, schema, plan)?)
+}
+
+// The picture of the tables of a plan.
+fn drawing_response(alloc: Global, schema: &Schema, plan: &Plan) -> Result<Response, OutOfMemory>
+    requires universe { IsPlanOver schema.now plan.now }
+    ensures response { IfOk result (λ response. DrawsTables schema.now (scheme_sets plan.now)
+        (response_value response)) }
+{
+    let tables = design_of_plan(alloc, schema, plan)?;
+    Ok(Response::with_text(Status::Yes, draw(alloc, schema, &tables)?))
+}

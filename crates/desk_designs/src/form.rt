@@ -1,0 +1,165 @@
+ghost use Rattle.std.specs.Prelude.{◌≡◌, ◌++◌, codes, All, IfOk, IfErr};
+ghost use Rattle.attr_sets.specs.Attributes.{IsSubset};
+ghost use Rattle.attr_sets.specs.Sets.{attributes};
+ghost use Rattle.dep_model.specs.Deps.{dependency_of};
+ghost use Rattle.dep_model.specs.Plans.{schemes_of};
+ghost use Rattle.dep_model.specs.Schemas.{universe_of};
+ghost use Rattle.plans.specs.Plans.{IsPlanOver, plan_of};
+ghost use Rattle.desk_responses.specs.ResponseValues.{Says};
+ghost use Rattle.desk_designs.specs.NormalForms.{EndsForm, JudgesForm, PassesForm, form_word, in_form_text, violated_text, violation_of};
+ghost use Rattle.schema_printer.specs.Printing.{dependency_text, set_text};
+ghost use Rattle.schema_printer.specs.Spelling.{printed_names_of};
+ghost use Rattle.desk_responses.specs.Responses.{response_value, RespondsAs, ExitsAs};
+ghost use Rattle.desk_texts.specs.Texts.{line};
+
+use attr_sets::AttrSet;
+use dep_model::{Dep, OutOfMemory, Schema};
+use desk_responses::{EarlyExit, Response, Status, too_wide_exit};
+use desk_texts::line_of;
+use normal_forms::{Breach, Form, violation};
+use plans::Plan;
+use schema_printer::{add, add_dep, add_set};
+use std::alloc::Global;
+
+/// Whether each scheme of a plan is in a normal form.
+pub fn check_form(
+    alloc: Global,
+    schema: &Schema,
+    form: Form,
+    plan: &Plan,
+) -> Result<Response, EarlyExit>
+    requires universe { IsPlanOver schema.now plan.now }
+    ensures response { RespondsAs (JudgesForm schema.now form (plan_of plan.now)) result }
+{
+    judge_schemes(alloc, schema, form, plan.schemes())
+}
+
+// Whether each of these schemes is in a normal form. The first that is not, or is too wide, decides.
+fn judge_schemes(
+    alloc: Global,
+    schema: &Schema,
+    form: Form,
+    schemes: &[AttrSet],
+) -> Result<Response, EarlyExit>
+    requires within { All (λ scheme. IsSubset (attributes scheme)
+        (universe_of schema.now)) schemes.now }
+    ensures response { RespondsAs (JudgesForm schema.now form (schemes_of schemes.now)) result }
+{
+    for scheme in schemes {
+        match test_scheme(alloc, schema, form, *scheme) {
+            Ok(()) => {}
+            Err(exit) => return Err(exit),
+        }
+    }
+    Ok(in_form_response(alloc, form)?)
+}
+
+// Whether a scheme passes the test of a form.
+fn test_scheme(alloc: Global, schema: &Schema, form: Form, scheme: AttrSet) -> Result<(), EarlyExit>
+    requires within { IsSubset (attributes scheme) (universe_of schema.now) }
+    ensures passes { IfOk result (λ _. PassesForm schema.now form (attributes scheme)) }
+    ensures ends { IfErr result (ExitsAs (EndsForm schema.now form (attributes scheme))) }
+{
+    match violation(schema, scheme, form) {
+        Ok(None) => Ok(()),
+        Ok(Some(breach)) => Err(violation_exit(alloc, schema, form, scheme, breach)),
+        Err(_) => Err(too_wide_exit(alloc, schema, scheme)),
+    }
+}
+
+// Each scheme is in the form.
+fn in_form_response(alloc: Global, form: Form) -> Result<Response, OutOfMemory>
+    ensures says { IfOk result (λ response. Says Status.Yes (in_form_text form)
+        (response_value response)) }
+{
+    Ok(Response::with_text(
+        Status::Yes,
+        line_of(alloc, b"every scheme is in ", word_of(form), b"")?,
+    ))
+}
+
+// The word of a normal form.
+fn word_of(form: Form) -> &'static [u8]
+    ensures word { result.now ≡ form_word form }
+{
+    match form {
+        Form::Third => b"3nf",
+        Form::Bcnf => b"bcnf",
+        Form::Fourth => b"4nf",
+    }
+}
+
+// A scheme is not in the form.
+fn violation_exit(
+    alloc: Global,
+    schema: &Schema,
+    form: Form,
+    scheme: AttrSet,
+    breach: Breach,
+) -> EarlyExit
+    ensures says { ExitsAs
+        (Says Status.No
+        (violated_text (printed_names_of schema.now) form (attributes scheme) (attributes breach.lhs)
+        (attributes breach.rhs))) result }
+{
+    EarlyExit::with_text(
+        Status::No,
+        violation_lines(alloc, schema, form, scheme, breach),
+    )
+}
+
+fn violation_lines(
+    alloc: Global,
+    schema: &Schema,
+    form: Form,
+    scheme: AttrSet,
+    breach: Breach,
+) -> Result<Vec<u8>, OutOfMemory>
+    ensures text { IfOk result
+        (λ text. text.items ≡ violated_text (printed_names_of schema.now) form (attributes scheme)
+        (attributes breach.lhs) (attributes breach.rhs)) }
+{
+    let mut text = scheme_line(alloc, schema, scheme)?;
+    add(&mut text, &breach_line(alloc, schema, form, breach)?)?;
+    Ok(text)
+}
+
+fn scheme_line(alloc: Global, schema: &Schema, scheme: AttrSet) -> Result<Vec<u8>, OutOfMemory>
+    ensures text { IfOk result
+        (λ text. text.items ≡ line (codes "scheme " ++ set_text (printed_names_of schema.now) (attributes scheme))) }
+{
+    let mut text = Vec::new(alloc);
+    add(&mut text, b"scheme ")?;
+    add_set(&mut text, schema, scheme)?;
+    add(&mut text, b"\n")?;
+    Ok(text)
+}
+
+fn breach_line(
+    alloc: Global,
+    schema: &Schema,
+    form: Form,
+    breach: Breach,
+) -> Result<Vec<u8>, OutOfMemory>
+    ensures text { IfOk result (λ text. text.items ≡ line (codes "violated by "
+        ++ dependency_text (printed_names_of schema.now)
+        (violation_of form (attributes breach.lhs) (attributes breach.rhs)))) }
+{
+    let mut text = Vec::new(alloc);
+    add(&mut text, b"violated by ")?;
+    add_dep(&mut text, schema, violation_dependency(form, breach))?;
+    add(&mut text, b"\n")?;
+    Ok(text)
+}
+
+// A violation, as a dependency.
+fn violation_dependency(form: Form, breach: Breach) -> Dep
+    ensures dep { dependency_of result
+        ≡ violation_of form (attributes breach.lhs) (attributes breach.rhs) }
+{
+    let Breach { lhs, rhs } = breach;
+    match form {
+        Form::Third | Form::Bcnf => Dep::Fd { lhs, rhs },
+        Form::Fourth => Dep::Mvd { lhs, rhs },
+    }
+}

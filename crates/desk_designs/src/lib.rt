@@ -1,0 +1,23 @@
+//! Plans and what is made of them: the answers about normal forms, lossless joins, kept dependencies, SQL
+//! tables, scripts and pictures.
+//!
+//! Each is a pure function of values, with the one clause that its response is allowed.
+#![tactic(auto)]
+
+mod decomposition;
+mod designs;
+mod drawings;
+mod form;
+mod join;
+mod keeping;
+mod scripts;
+mod synthesis;
+
+pub use decomposition::{plan_in_form, split_by_pairs, split_in_form};
+pub use designs::{write_form, write_plan};
+pub use drawings::{draw_form, draw_plan};
+pub use form::check_form;
+pub use join::{check_join, test_loss};
+pub use keeping::check_keeps;
+pub use scripts::{script_check, script_migration, script_migration_by_plan};
+pub use synthesis::synthesize_plan;

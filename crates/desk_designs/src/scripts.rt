@@ -1,0 +1,130 @@
+ghost use Rattle.std.specs.Prelude.{◌≡◌, ◌≤◌, length, IsTrue, IfOk, IfErr};
+ghost use Rattle.dep_model.specs.Projections.{Covers};
+ghost use Rattle.dep_model.specs.Schemas.{width_of};
+ghost use Rattle.plans.specs.Plans.{IsPlanOver, plan_of, scheme_sets};
+ghost use Rattle.table_scripts.specs.Naming.{is_table_name};
+ghost use Rattle.desk_responses.specs.ResponseValues.{Says};
+ghost use Rattle.desk_responses.specs.Responses.{response_value, RespondsAs, ExitsAs};
+ghost use Rattle.desk_designs.specs.Scripts.{AsksTable, MakesTables, TableNameStops, ScriptsCheck, ScriptsMigration, ScriptsMigrationByPlan, bad_name_text};
+
+use crate::decomposition::plan_in_form;
+use crate::designs::design_of_plan;
+use crate::join::test_loss;
+use dep_model::{OutOfMemory, Schema};
+use desk_outside::Argument;
+use desk_responses::{EarlyExit, Response, Status};
+use desk_texts::line_of;
+use normal_forms::Form;
+use plan_reader::MOST_SCHEMES;
+use plans::Plan;
+use std::alloc::Global;
+use table_scripts::{check_script, is_table_name, migrate_script};
+
+/// The queries for what breaks each rule in a table.
+pub fn script_check(alloc: Global, schema: &Schema, name: &Argument) -> Result<Response, EarlyExit>
+    ensures response { RespondsAs (ScriptsCheck schema.now name.now) result }
+{
+    match test_name(alloc, name) {
+        Ok(()) => {}
+        Err(exit) => return Err(exit),
+    }
+    Ok(queries_response(alloc, schema, name)?)
+}
+
+/// The statements that make the tables of a normal form from a table.
+pub fn script_migration(
+    alloc: Global,
+    schema: &Schema,
+    form: Form,
+    name: &Argument,
+) -> Result<Response, EarlyExit>
+    ensures response { RespondsAs (ScriptsMigration schema.now form name.now) result }
+{
+    match test_name(alloc, name) {
+        Ok(()) => {}
+        Err(exit) => return Err(exit),
+    }
+    let plan = match plan_in_form(alloc, schema, form) {
+        Ok(plan) => plan,
+        Err(exit) => return Err(exit),
+    };
+    Ok(statements_response(alloc, schema, name, &plan)?)
+}
+
+/// The statements that make the tables of a plan from a table, where the plan loses nothing.
+pub fn script_migration_by_plan(
+    alloc: Global,
+    schema: &Schema,
+    plan: &Plan,
+    name: &Argument,
+) -> Result<Response, EarlyExit>
+    requires universe { IsPlanOver schema.now plan.now }
+    requires within_limit { length (plan_of plan.now) ≤ MOST_SCHEMES }
+    requires covers { Covers (width_of schema.now) (plan_of plan.now) }
+    ensures response { RespondsAs (ScriptsMigrationByPlan schema.now (plan_of plan.now) name.now) result }
+{
+    match test_name(alloc, name) {
+        Ok(()) => {}
+        Err(exit) => return Err(exit),
+    }
+    match test_loss(alloc, schema, plan) {
+        Ok(()) => {}
+        Err(exit) => return Err(exit),
+    }
+    Ok(statements_response(alloc, schema, name, plan)?)
+}
+
+// Whether a word names a table.
+fn test_name(alloc: Global, name: &Argument) -> Result<(), EarlyExit>
+    ensures ok { IfOk result (λ _. IsTrue (is_table_name name.now)) }
+    ensures exit { IfErr result (ExitsAs (TableNameStops name.now)) }
+{
+    if is_table_name(name.bytes()) {
+        return Ok(());
+    }
+    Err(bad_name_exit(alloc))
+}
+
+// A word names no table.
+fn bad_name_exit(alloc: Global) -> EarlyExit
+    ensures says { ExitsAs (Says Status.Refused bad_name_text) result }
+{
+    EarlyExit::with_text(Status::Refused, bad_name_line(alloc))
+}
+
+fn bad_name_line(alloc: Global) -> Result<Vec<u8>, OutOfMemory>
+    ensures line { IfOk result (λ text. text.items ≡ bad_name_text) }
+{
+    line_of(alloc, b"refused: bad table name", b"", b"")
+}
+
+// The queries for what breaks each rule.
+fn queries_response(
+    alloc: Global,
+    schema: &Schema,
+    name: &Argument,
+) -> Result<Response, OutOfMemory>
+    requires name { IsTrue (is_table_name name.now) }
+    ensures response { IfOk result (λ response. AsksTable schema.now name.now
+        (response_value response)) }
+{
+    let script = check_script(alloc, schema, name.bytes())?;
+    Ok(Response::with_text(Status::Yes, script))
+}
+
+// The statements that make the tables of a plan.
+fn statements_response(
+    alloc: Global,
+    schema: &Schema,
+    name: &Argument,
+    plan: &Plan,
+) -> Result<Response, OutOfMemory>
+    requires name { IsTrue (is_table_name name.now) }
+    requires universe { IsPlanOver schema.now plan.now }
+    ensures response { IfOk result
+        (λ response. MakesTables schema.now name.now (scheme_sets plan.now) (response_value response)) }
+{
+    let tables = design_of_plan(alloc, schema, plan)?;
+    let script = migrate_script(alloc, schema, &tables, name.bytes())?;
+    Ok(Response::with_text(Status::Yes, script))
+}

@@ -1,0 +1,8 @@
+-- What the loop of `list_keys_of_schemes` keeps: `Told`.
+use Rattle.std.proofs.Common.{take}
+use Rattle.desk_implication.proofs.KeyLemmas.{Told}
+use Rattle.desk_implication.proofs.scheme_keys.list_keys_of_schemes.Given as goal
+
+-- the schemes so far were listed with their keys
+abbrev pub invariant-loop-scheme : goal.invariant-loop-scheme
+invariant-loop-scheme l = Told l.schema (take l.scheme-index l.schemes) l.text.items

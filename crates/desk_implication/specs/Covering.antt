@@ -1,0 +1,18 @@
+-- What says the same as a schema, shortened: for `cover`.
+use Rattle.std.specs.Prelude.{List}
+use Rattle.dep_model.specs.Dependencies.{Dependency, functional_part}
+use Rattle.dep_model.specs.Schemas.{width_of, theory_of}
+use Rattle.dep_model.specs.declared.schema.Schema.{Schema}
+use Rattle.schema_printer.specs.Printing.{schema_text}
+use Rattle.min_cover.specs.Covers.{IsFixedWholeCover, IsMinimalCover, IsWholeCover}
+use Rattle.desk_responses.specs.declared.status.Status.TheVariants.{Yes}
+use Rattle.desk_responses.specs.ResponseValues.{Allowed, Says}
+
+-- yes, with the fixed whole cover as a schema text: the same relations are legal for it, its functional part
+-- is a minimal cover of the functional dependencies, and none of its multivalued ones follows from the rest
+abbrev pub GivesCover : Schema → Allowed
+GivesCover schema response =
+    (whole : List Dependency) × IsFixedWholeCover (width_of schema) (theory_of schema) whole
+    × IsMinimalCover (width_of schema) (theory_of schema) (functional_part whole)
+    × IsWholeCover (width_of schema) (theory_of schema) whole
+    × Says Yes (schema_text schema whole) response

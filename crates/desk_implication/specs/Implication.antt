@@ -1,0 +1,35 @@
+-- Whether a schema implies a goal: for `implies`.
+use Rattle.std.specs.Prelude.{◌⊎◌, ℕ, List, ◌++◌}
+use Rattle.attr_sets.specs.Attributes.{Attributes}
+use Rattle.dep_model.specs.Dependencies.{Dependency}
+use Rattle.dep_model.specs.Schemas.{names_of, width_of, theory_of, ImpliedBy}
+use Rattle.dep_model.specs.declared.schema.Schema.{Schema}
+use Rattle.dep_model.specs.TwoTuples.{two_tuples}
+use Rattle.derivation.specs.declared.deriv.Deriv.{Deriv}
+use Rattle.derivation.specs.Derivs.{tree_of}
+use Rattle.dep_basis.specs.Decisions.{IsBrokenBy}
+use Rattle.dep_basis.specs.JoinedProofs.{IsProofOf}
+use Rattle.dep_basis.specs.Proofs.{IsChainIfFunctional, IsDirectUnlessChain}
+use Rattle.proof_grammar.specs.Printing.{canonical_certificate}
+use Rattle.desk_responses.specs.declared.status.Status.TheVariants.{Yes, No}
+use Rattle.desk_responses.specs.ResponseValues.{Allowed, Says}
+use Rattle.desk_implication.specs.Goals.{WithGoal}
+use Rattle.desk_texts.specs.Texts.{yes_text, no_text}
+
+-- yes exactly where every relation that obeys the schema's dependencies obeys the goal, with a derivation
+-- of the goal, which is the functional chain where the functional part alone implies it, and else a direct
+-- one; else no, with two tuples that obey the dependencies and break the goal
+abbrev pub Decided : Schema → Dependency → Allowed
+Decided schema goal response =
+    (ImpliedBy schema goal
+    × ((proof : Deriv) × IsProofOf schema goal (tree_of proof)
+    × IsChainIfFunctional schema goal (tree_of proof)
+    × IsDirectUnlessChain schema goal (tree_of proof)
+    × Says Yes (yes_text ++ canonical_certificate schema (tree_of proof)) response))
+    ⊎ ((ImpliedBy schema goal → ⊥)
+    × ((agreement : Attributes) × IsBrokenBy (width_of schema) (theory_of schema) goal agreement
+    × Says No (no_text (names_of schema) (two_tuples (width_of schema) agreement)) response))
+
+-- the same of a goal that is given as a text
+abbrev pub DecidesGoal : Schema → List ℕ → Allowed
+DecidesGoal schema goal = WithGoal schema goal (Decided schema)

@@ -1,0 +1,85 @@
+ghost use Rattle.std.specs.Prelude.{◌≡◌, IfOk};
+ghost use Rattle.dep_model.specs.Deps.{dependency_of, IsDepWithin};
+ghost use Rattle.dep_model.specs.Schemas.{universe_of};
+ghost use Rattle.schema_printer.specs.Spelling.{printed_names_of};
+ghost use Rattle.derivation.specs.Conclusions.{Proves};
+ghost use Rattle.derivation.specs.Trees.{Tree};
+ghost use Rattle.desk_implication.specs.Certificates.{Checked, ChecksProof};
+ghost use Rattle.desk_texts.specs.ProofTexts.{checked_text, concludes_text};
+ghost use Rattle.desk_responses.specs.Responses.{response_value, RespondsAs};
+
+use crate::goal::goal_of;
+use dep_model::{Dep, OutOfMemory, Schema};
+use desk_outside::Argument;
+use desk_responses::{EarlyExit, Response, Status};
+use desk_texts::line_of;
+use proof_text::same_dependency;
+use schema_printer::{add, print_dep};
+use std::alloc::Global;
+
+/// Whether a certificate that concludes this dependency, by the rules alone, proves a goal over a schema.
+pub fn check_proof(
+    alloc: Global,
+    schema: &Schema,
+    concluded: Dep,
+    goal: &Argument,
+) -> Result<Response, EarlyExit>
+    requires within { IsDepWithin (universe_of schema.now) concluded }
+    ensures response { (tree : Tree) → Proves schema.now tree (dependency_of concluded)
+        → RespondsAs (ChecksProof schema.now tree goal.now) result }
+{
+    let dep = match goal_of(alloc, schema, goal) {
+        Ok(dep) => dep,
+        Err(exit) => return Err(exit),
+    };
+    Ok(proof_response(alloc, schema, concluded, dep)?)
+}
+
+// The answer to what a certificate concludes and what is asked.
+fn proof_response(
+    alloc: Global,
+    schema: &Schema,
+    concluded: Dep,
+    dep: Dep,
+) -> Result<Response, OutOfMemory>
+    requires concluded { IsDepWithin (universe_of schema.now) concluded }
+    requires dep { IsDepWithin (universe_of schema.now) dep }
+    ensures response { (tree : Tree) → Proves schema.now tree (dependency_of concluded)
+        → IfOk result (λ response. Checked schema.now tree (dependency_of dep)
+        (response_value response)) }
+{
+    if same_dependency(concluded, dep) {
+        return Ok(Response::with_text(Status::Yes, checked_line(alloc, schema, dep)?));
+    }
+    Ok(Response::with_text(Status::No, concludes_lines(alloc, schema, concluded, dep)?))
+}
+
+fn checked_line(alloc: Global, schema: &Schema, dep: Dep) -> Result<Vec<u8>, OutOfMemory>
+    requires { IsDepWithin (universe_of schema.now) dep }
+    ensures text { IfOk result (λ text. text.items ≡ checked_text (printed_names_of schema.now) (dependency_of dep)) }
+{
+    line_of(alloc, b"checked ", &print_dep(alloc, schema, dep)?, b"")
+}
+
+fn concludes_lines(
+    alloc: Global,
+    schema: &Schema,
+    concluded: Dep,
+    goal: Dep,
+) -> Result<Vec<u8>, OutOfMemory>
+    requires concluded { IsDepWithin (universe_of schema.now) concluded }
+    requires goal { IsDepWithin (universe_of schema.now) goal }
+    ensures text { IfOk result
+        (λ text. text.items ≡ concludes_text (printed_names_of schema.now) (dependency_of concluded)
+        (dependency_of goal)) }
+{
+    let mut text = line_of(
+        alloc,
+        b"concludes ",
+        &print_dep(alloc, schema, concluded)?,
+        b"",
+    )?;
+    let goal = line_of(alloc, b"asked ", &print_dep(alloc, schema, goal)?, b"")?;
+    add(&mut text, &goal)?;
+    Ok(text)
+}

@@ -1,0 +1,18 @@
+//! The files of a command: how each is read and turned into its value or its refusal.
+//!
+//! Each `open_..` loads a file from a file source, within its limit, and has it read by its grammar. It
+//! promises the value under every reading that the file source shows, or how the command ends.
+#![tactic(auto)]
+
+mod headed;
+mod parts;
+mod plan;
+mod read;
+mod row_refusals;
+mod rows;
+
+pub use headed::open_headed;
+pub use parts::open_parts;
+pub use plan::open_plan;
+pub use read::{open_proof, open_schema};
+pub use rows::open_rows;

@@ -1,0 +1,131 @@
+ghost use Rattle.std.specs.Prelude.{◌≡◌, ◌≤◌, ◌++◌, [], length, IfOk, IfErr};
+ghost use Rattle.std.specs.Fmt.{decimal};
+ghost use Rattle.dep_model.specs.Projections.{Covers};
+ghost use Rattle.dep_model.specs.Schemas.{names_of, width_of};
+ghost use Rattle.plans.specs.Plans.{plan_of, IsPlanOver};
+ghost use Rattle.plan_grammar.specs.RefusalTexts.{plan_reason_text};
+ghost use Rattle.plan_grammar.specs.declared.refusal.TheConstants.{MOST_SCHEMES};
+ghost use Rattle.plan_grammar.specs.declared.refusal.PlanRefusal.TheVariants as refusals;
+ghost use Rattle.desk_responses.specs.ResponseValues.{Says};
+ghost use Rattle.desk_inputs.specs.Plans.{PlanStops, IsPlanFile, plan_refusal_text};
+ghost use Rattle.desk_inputs.specs.Readings.{Reading, files_in, Shows};
+ghost use Rattle.desk_responses.specs.Responses.{ExitsAs};
+
+use crate::read::open_file;
+use dep_model::{Failure, OutOfMemory, Schema};
+use desk_outside::{Argument, FileSource};
+use desk_responses::{EarlyExit, Status, name_of};
+use desk_texts::add_displayed;
+use plan_reader::{MOST_PLAN_BYTES, PlanRefusal, read_plan};
+use plans::Plan;
+use schema_printer::{add, add_number};
+use schema_reader::SchemaRefusal;
+use std::alloc::Global;
+
+/// The plan of a file.
+pub fn open_plan<F: FileSource>(
+    alloc: Global,
+    source: &mut F,
+    schema: &Schema,
+    name: &Argument,
+) -> Result<Plan, EarlyExit>
+    ensures files { F.files source.new ≡ F.files source.old }
+    ensures later { F.faults source.old ≤ F.faults source.new }
+    ensures ok { (r : Reading) → files_in r ≡ F.files source.old
+        → IfOk result (λ plan. IsPlanFile r schema.now name.now (plan_of plan)) }
+    ensures universe { IfOk result (IsPlanOver schema.now) }
+    ensures within_limit { IfOk result (λ plan. length (plan_of plan) ≤ MOST_SCHEMES) }
+    ensures covers { IfOk result (λ plan. Covers (width_of schema.now) (plan_of plan)) }
+    ensures exit { (r : Reading) → Shows F.files F.faults F.taken source.old source.new r
+        → IfErr result (ExitsAs (PlanStops r schema.now name.now)) }
+{
+    let bytes = match open_file(alloc, source, name, MOST_PLAN_BYTES) {
+        Ok(bytes) => bytes,
+        Err(exit) => return Err(exit),
+    };
+    match read_plan(alloc, schema, &bytes) {
+        Ok(plan) => Ok(plan),
+        Err(Failure::Refused(refusal)) => Err(plan_refusal_exit(
+            alloc,
+            schema,
+            name.bytes(),
+            refusal,
+        )),
+        Err(Failure::OutOfMemory) => Err(EarlyExit::OutOfMemory),
+    }
+}
+
+// A command that ends with the refusal of a plan.
+fn plan_refusal_exit(alloc: Global, schema: &Schema, name: &[u8], refusal: PlanRefusal) -> EarlyExit
+    ensures says { ExitsAs (Says Status.Refused
+        (plan_refusal_text (names_of schema.now) name.now refusal)) result }
+{
+    EarlyExit::with_text(
+        Status::Refused,
+        plan_refusal_line(alloc, schema, name, refusal),
+    )
+}
+
+// The line that words a refusal of a plan.
+fn plan_refusal_line(
+    alloc: Global,
+    schema: &Schema,
+    name: &[u8],
+    refusal: PlanRefusal,
+) -> Result<Vec<u8>, OutOfMemory>
+    ensures text { IfOk result (λ text.
+        text.items ≡ plan_refusal_text (names_of schema.now) name.now refusal) }
+{
+    let mut text = Vec::new(alloc);
+    add(&mut text, b"refused: plan ")?;
+    add_number(&mut text, alloc, refusal.number())?;
+    add(&mut text, b" at ")?;
+    add(&mut text, name)?;
+    add(&mut text, b":")?;
+    add(&mut text, &plan_reason(alloc, schema, refusal)?)?;
+    add(&mut text, b"\n")?;
+    Ok(text)
+}
+
+// The place of a refusal and its reason in words.
+fn plan_reason(alloc: Global, schema: &Schema, refusal: PlanRefusal) -> Result<Vec<u8>, OutOfMemory>
+    ensures text { IfOk result (λ text. text.items ≡ plan_reason_text (names_of schema.now) refusal) }
+{
+    match refusal {
+        PlanRefusal::Text(refusal) => text_reason(alloc, refusal),
+        PlanRefusal::EmptyScheme { line } => line_reason(alloc, line, b" empty scheme"),
+        PlanRefusal::NotCovered { attribute } => uncovered_reason(alloc, schema, attribute),
+        PlanRefusal::TooManySchemes { line } => line_reason(alloc, line, b" too many schemes"),
+    }
+}
+
+// A line, a column and a reason.
+fn text_reason(alloc: Global, refusal: SchemaRefusal) -> Result<Vec<u8>, OutOfMemory>
+    ensures text { IfOk result (λ text. text.items ≡ plan_reason_text [] (refusals.Text refusal)) }
+{
+    let mut text = Vec::new(alloc);
+    add_displayed(&mut text, alloc, &refusal)?;
+    Ok(text)
+}
+
+// A line and a reason.
+fn line_reason(alloc: Global, line: u32, reason: &[u8]) -> Result<Vec<u8>, OutOfMemory>
+    ensures text { IfOk result (λ text. text.items ≡ decimal line ++ reason.now) }
+{
+    let mut text = Vec::new(alloc);
+    add_number(&mut text, alloc, line)?;
+    add(&mut text, reason)?;
+    Ok(text)
+}
+
+// An attribute that is in no scheme.
+fn uncovered_reason(alloc: Global, schema: &Schema, attribute: u8) -> Result<Vec<u8>, OutOfMemory>
+    ensures text { IfOk result
+        (λ text. text.items ≡ plan_reason_text (names_of schema.now) (refusals.NotCovered attribute)) }
+{
+    let mut text = Vec::new(alloc);
+    add(&mut text, b" ")?;
+    add(&mut text, name_of(schema, attribute))?;
+    add(&mut text, b" is in no scheme")?;
+    Ok(text)
+}

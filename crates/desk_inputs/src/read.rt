@@ -1,0 +1,150 @@
+ghost use Rattle.std.specs.Prelude.{◌≡◌, ◌^◌, ◌<◌, ◌≤◌, length, IfOk, IfErr};
+ghost use Rattle.dep_model.specs.Schemas.{universe_of};
+ghost use Rattle.dep_model.specs.Deps.{dependency_of, IsDepWithin};
+ghost use Rattle.schema_printer.specs.Spelling.{printed_names_of};
+ghost use Rattle.derivation.specs.Conclusions.{Proves};
+ghost use Rattle.derivation.specs.Derivs.{tree_of};
+ghost use Rattle.proof_grammar.specs.Diagnostics.{line_diagnostic_of, IsRefusalWithin};
+ghost use Rattle.desk_responses.specs.ResponseValues.{Says};
+ghost use Rattle.desk_texts.specs.ProofTexts.{proof_refusal_text};
+ghost use Rattle.desk_texts.specs.Texts.{cannot_read_text, too_long_text};
+ghost use Rattle.desk_inputs.specs.Inputs.{FileStops, SchemaStops, IsSchemaFile, ProofStops, IsProofFile};
+ghost use Rattle.desk_inputs.specs.Readings.{Reading, files_in, Shows, IsContent};
+ghost use Rattle.desk_responses.specs.Responses.{ExitsAs};
+
+use dep_model::{Failure, OutOfMemory, Schema};
+use desk_outside::{Argument, FileSource, LoadRefusal, load};
+use desk_responses::{EarlyExit, Status, refusal_exit};
+use desk_texts::{line_of, proof_refusal_line};
+use proof_text::{Concluded, MOST_PROOF_BYTES, ProofRefusal, read_concluded};
+use schema_reader::{MOST_TEXT_BYTES, read_schema};
+use std::alloc::Global;
+
+/// The bytes of a file, of which there are at most so many.
+pub fn open_file<F: FileSource>(
+    alloc: Global,
+    source: &mut F,
+    name: &Argument,
+    limit: usize,
+) -> Result<Vec<u8>, EarlyExit>
+    requires { limit < 2 ^ 32 }
+    ensures files { F.files source.new ≡ F.files source.old }
+    ensures later { F.faults source.old ≤ F.faults source.new }
+    ensures within { IfOk result (λ bytes. length bytes.items ≤ limit) }
+    ensures ok { (r : Reading) → files_in r ≡ F.files source.old
+        → IfOk result (λ bytes. IsContent r name.now limit bytes.items) }
+    ensures exit { (r : Reading) → Shows F.files F.faults F.taken source.old source.new r
+        → IfErr result (ExitsAs (FileStops r name.now limit)) }
+{
+    match load(alloc, source, name.bytes(), limit) {
+        Ok(bytes) => Ok(bytes),
+        Err(LoadRefusal::CannotRead) => Err(cannot_read_exit(alloc, name)),
+        Err(LoadRefusal::TooLong) => Err(too_long_exit(alloc, name)),
+        Err(LoadRefusal::OutOfMemory) => Err(EarlyExit::OutOfMemory),
+    }
+}
+
+// A file that cannot be read.
+fn cannot_read_exit(alloc: Global, name: &Argument) -> EarlyExit
+    ensures says { ExitsAs (Says Status.CannotRead (cannot_read_text name.now)) result }
+{
+    EarlyExit::with_text(Status::CannotRead, cannot_read_line(alloc, name))
+}
+
+fn cannot_read_line(alloc: Global, name: &Argument) -> Result<Vec<u8>, OutOfMemory>
+    ensures line { IfOk result (λ text. text.items ≡ cannot_read_text name.now) }
+{
+    line_of(alloc, b"cannot read ", name.bytes(), b"")
+}
+
+// A file that is too long.
+fn too_long_exit(alloc: Global, name: &Argument) -> EarlyExit
+    ensures says { ExitsAs (Says Status.Refused (too_long_text name.now)) result }
+{
+    EarlyExit::with_text(Status::Refused, too_long_line(alloc, name))
+}
+
+fn too_long_line(alloc: Global, name: &Argument) -> Result<Vec<u8>, OutOfMemory>
+    ensures line { IfOk result (λ text. text.items ≡ too_long_text name.now) }
+{
+    line_of(alloc, b"refused: ", name.bytes(), b" is too long")
+}
+
+/// The schema of a file.
+pub fn open_schema<F: FileSource>(
+    alloc: Global,
+    source: &mut F,
+    name: &Argument,
+) -> Result<Schema, EarlyExit>
+    ensures files { F.files source.new ≡ F.files source.old }
+    ensures later { F.faults source.old ≤ F.faults source.new }
+    ensures ok { (r : Reading) → files_in r ≡ F.files source.old
+        → IfOk result (IsSchemaFile r name.now) }
+    ensures exit { (r : Reading) → Shows F.files F.faults F.taken source.old source.new r
+        → IfErr result (ExitsAs (SchemaStops r name.now)) }
+{
+    let bytes = match open_file(alloc, source, name, MOST_TEXT_BYTES) {
+        Ok(bytes) => bytes,
+        Err(exit) => return Err(exit),
+    };
+    match read_schema(alloc, &bytes) {
+        Ok(schema) => Ok(schema),
+        Err(Failure::Refused(refusal)) => Err(refusal_exit(
+            alloc,
+            b"schema",
+            name.bytes(),
+            refusal,
+        )),
+        Err(Failure::OutOfMemory) => Err(EarlyExit::OutOfMemory),
+    }
+}
+
+/// The derivation of a certificate file, and the dependency that it concludes.
+pub fn open_proof<F: FileSource>(
+    alloc: Global,
+    source: &mut F,
+    schema: &Schema,
+    name: &Argument,
+) -> Result<Concluded, EarlyExit>
+    ensures files { F.files source.new ≡ F.files source.old }
+    ensures later { F.faults source.old ≤ F.faults source.new }
+    ensures ok { (r : Reading) → files_in r ≡ F.files source.old
+        → IfOk result (λ read. IsProofFile r schema.now name.now (tree_of read.deriv.value)) }
+    ensures concludes { IfOk result
+        (λ read. Proves schema.now (tree_of read.deriv.value) (dependency_of read.dep)) }
+    ensures within { IfOk result (λ read. IsDepWithin (universe_of schema.now) read.dep) }
+    ensures exit { (r : Reading) → Shows F.files F.faults F.taken source.old source.new r
+        → IfErr result (ExitsAs (ProofStops r schema.now name.now)) }
+{
+    let bytes = match open_file(alloc, source, name, MOST_PROOF_BYTES) {
+        Ok(bytes) => bytes,
+        Err(exit) => return Err(exit),
+    };
+    match read_concluded(alloc, schema, &bytes) {
+        Ok(read) => Ok(read),
+        Err(Failure::Refused(refusal)) => Err(proof_refusal_exit(
+            alloc,
+            schema,
+            name.bytes(),
+            refusal,
+        )),
+        Err(Failure::OutOfMemory) => Err(EarlyExit::OutOfMemory),
+    }
+}
+
+// A command that ends with the refusal of a certificate.
+fn proof_refusal_exit(
+    alloc: Global,
+    schema: &Schema,
+    name: &[u8],
+    refusal: ProofRefusal,
+) -> EarlyExit
+    requires within { IsRefusalWithin (universe_of schema.now) refusal.kind }
+    ensures says { ExitsAs (Says Status.Refused
+        (proof_refusal_text (printed_names_of schema.now) name.now (line_diagnostic_of refusal))) result }
+{
+    EarlyExit::with_text(
+        Status::Refused,
+        proof_refusal_line(alloc, schema, name, refusal),
+    )
+}

@@ -1,0 +1,113 @@
+ghost use Rattle.std.specs.Prelude.{◌≡◌, ◌++◌, codes, IfOk, OnOk};
+ghost use Rattle.std.specs.Fmt.{decimal};
+ghost use Rattle.dep_model.specs.Schemas.{names_of};
+ghost use Rattle.csv_rows.specs.RefusalTexts.{row_reason_text};
+ghost use Rattle.desk_inputs.specs.Rows.{row_refusal_text};
+
+use csv_rows::RowRefusal;
+use dep_model::{OutOfMemory, Schema};
+use desk_responses::name_of;
+use desk_texts::put_pair;
+use schema_printer::{add, add_number};
+use std::alloc::Global;
+
+/// The line that words a refusal of rows.
+pub fn row_refusal_line(
+    alloc: Global,
+    schema: &Schema,
+    name: &[u8],
+    refusal: RowRefusal,
+) -> Result<Vec<u8>, OutOfMemory>
+    ensures text { IfOk result (λ text.
+        text.items ≡ row_refusal_text (names_of schema.now) name.now refusal) }
+{
+    let mut text = Vec::new(alloc);
+    add(&mut text, b"refused: rows ")?;
+    add_number(&mut text, alloc, refusal.number())?;
+    add(&mut text, b" at ")?;
+    add(&mut text, name)?;
+    add(&mut text, b": ")?;
+    put_reason(alloc, &mut text, schema, refusal)?;
+    add(&mut text, b"\n")?;
+    Ok(text)
+}
+
+/// A refusal in words, at the end of a text.
+fn put_reason(
+    alloc: Global,
+    text: &mut Vec<u8>,
+    schema: &Schema,
+    refusal: RowRefusal,
+) -> Result<(), OutOfMemory>
+    ensures added { OnOk result (text.new.items
+        ≡ text.old.items ++ row_reason_text (names_of schema.now) refusal) }
+{
+    match refusal {
+        RowRefusal::NoHeader => add(text, b"no header"),
+        RowRefusal::UnknownColumn { column } => {
+            put_before_number(alloc, text, b"unknown column ", column)
+        }
+        RowRefusal::DoubleColumn { column } => {
+            put_numbered(alloc, text, b"column ", column, b" repeated")
+        }
+        RowRefusal::MissingColumn { attribute } => {
+            put_pair(text, b"missing column ", name_of(schema, attribute))
+        }
+        RowRefusal::UnevenRow { row } => {
+            put_numbered(alloc, text, b"row ", row, b" has the wrong length")
+        }
+        RowRefusal::TooManyRows => add(text, b"too many rows"),
+        RowRefusal::NotInteger { row, attribute } => {
+            put_no_integer(alloc, text, row, name_of(schema, attribute))
+        }
+    }
+}
+
+/// A piece and a number, at the end of a text.
+fn put_before_number(
+    alloc: Global,
+    text: &mut Vec<u8>,
+    front: &[u8],
+    number: u32,
+) -> Result<(), OutOfMemory>
+    ensures added { OnOk result (text.new.items ≡ text.old.items ++ (front.now ++ decimal number)) }
+{
+    add(text, front)?;
+    add_number(text, alloc, number)
+}
+
+/// A row and the name of an attribute of which it has no integer, at the end of a text.
+fn put_no_integer(
+    alloc: Global,
+    text: &mut Vec<u8>,
+    row: u32,
+    name: &[u8],
+) -> Result<(), OutOfMemory>
+    ensures added { OnOk result (text.new.items
+        ≡ text.old.items ++ (codes "row " ++ decimal row ++ codes ": " ++ name.now
+        ++ codes " is no integer")) }
+{
+    let mut reason = Vec::new(alloc);
+    add(&mut reason, b"row ")?;
+    add_number(&mut reason, alloc, row)?;
+    add(&mut reason, b": ")?;
+    add(&mut reason, name)?;
+    add(&mut reason, b" is no integer")?;
+    add(text, &reason)
+}
+
+/// A number between two pieces, at the end of a text.
+fn put_numbered(
+    alloc: Global,
+    text: &mut Vec<u8>,
+    front: &[u8],
+    number: u32,
+    back: &[u8],
+) -> Result<(), OutOfMemory>
+    ensures added { OnOk result (text.new.items
+        ≡ text.old.items ++ (front.now ++ decimal number ++ back.now)) }
+{
+    add(text, front)?;
+    add_number(text, alloc, number)?;
+    add(text, back)
+}

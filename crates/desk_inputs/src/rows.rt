@@ -1,0 +1,69 @@
+ghost use Rattle.std.specs.Prelude.{◌≡◌, ◌≤◌, length, Ok, IfOk, IfErr};
+ghost use Rattle.csv_rows.specs.declared.reading.TheConstants.{MOST_ROWS};
+ghost use Rattle.dep_model.specs.Schemas.{names_of, width_of, TypedFor};
+ghost use Rattle.dep_model.specs.Tuples.{IsOver};
+ghost use Rattle.desk_responses.specs.ResponseValues.{Says};
+ghost use Rattle.desk_inputs.specs.Readings.{Reading, files_in, Shows};
+ghost use Rattle.desk_responses.specs.Responses.{ExitsAs};
+ghost use Rattle.desk_inputs.specs.Rows.{IsRowsFile, RowStops, row_refusal_text};
+
+use crate::read::open_file;
+use crate::row_refusals::row_refusal_line;
+use csv_rows::{RowRefusal, read_rows};
+use dep_model::{Failure, Schema};
+use desk_outside::{Argument, FileSource};
+use desk_responses::{EarlyExit, Status};
+use row_store::Rows;
+use std::alloc::Global;
+
+/// The most bytes of a CSV file.
+pub const MOST_CSV_BYTES: usize = 16_777_216;
+
+/// The rows of a CSV file in which each attribute of a schema has a column.
+pub fn open_rows<F: FileSource>(
+    alloc: Global,
+    source: &mut F,
+    schema: &Schema,
+    name: &Argument,
+) -> Result<Rows, EarlyExit>
+    ensures files { F.files source.new ≡ F.files source.old }
+    ensures later { F.faults source.old ≤ F.faults source.new }
+    ensures ok { (r : Reading) → files_in r ≡ F.files source.old
+        → IfOk result (λ rows. IsRowsFile r schema.now name.now rows) }
+    ensures over { IfOk result (λ rows. IsOver (width_of schema.now) rows) }
+    ensures within_limit { IfOk result (λ rows. length rows ≤ MOST_ROWS) }
+    ensures typed { IfOk result (λ rows. TypedFor schema.now rows) }
+    ensures exit { (r : Reading) → Shows F.files F.faults F.taken source.old source.new r
+        → IfErr result (ExitsAs (RowStops r schema.now name.now)) }
+{
+    let bytes = match open_file(alloc, source, name, MOST_CSV_BYTES) {
+        Ok(bytes) => bytes,
+        Err(exit) => return Err(exit),
+    };
+    match read_rows(alloc, schema, &bytes) {
+        Ok(rows) => Ok(rows),
+        Err(Failure::Refused(refusal)) => Err(rows_refusal_exit(
+            alloc,
+            schema,
+            name.bytes(),
+            refusal,
+        )),
+        Err(Failure::OutOfMemory) => Err(EarlyExit::OutOfMemory),
+    }
+}
+
+/// A command that ends with the refusal of rows.
+pub fn rows_refusal_exit(
+    alloc: Global,
+    schema: &Schema,
+    name: &[u8],
+    refusal: RowRefusal,
+) -> EarlyExit
+    ensures says { ExitsAs (Says Status.Refused
+        (row_refusal_text (names_of schema.now) name.now refusal)) result }
+{
+    EarlyExit::with_text(
+        Status::Refused,
+        row_refusal_line(alloc, schema, name, refusal),
+    )
+}

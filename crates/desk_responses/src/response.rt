@@ -1,0 +1,80 @@
+ghost use Rattle.std.specs.Prelude.{◌≡◌, IsSome};
+ghost use Rattle.desk_responses.specs.declared.status.Status.TheVariants.{Yes};
+
+use crate::Status;
+use dep_model::OutOfMemory;
+use named_tables::NamedTable;
+
+/// A status, the text that goes with it, and tables for the destinations, which only yes has.
+#[derive(Debug, Drop)]
+pub struct Response {
+    pub status: Status,
+    pub text: Vec<u8>,
+    pub tables: Option<Vec<NamedTable>>,
+    pub ghost yes: { IsSome tables → status ≡ Yes },
+}
+
+impl Response {
+    ghost use Rattle.named_tables.specs.Tables.{table_values};
+    ghost use Rattle.desk_responses.specs.ResponseValues.{Says, RespondsWithTables};
+    ghost use Rattle.desk_responses.specs.Responses.{response_value};
+
+    /// A status with a text.
+    pub fn with_text(status: Status, text: Vec<u8>) -> Response
+        ensures says { Says status text.items (response_value result) }
+    {
+        Response {
+            status,
+            text,
+            tables: None,
+        }
+    }
+
+    /// Yes with a text, and these tables for the destinations.
+    pub fn with_tables(text: Vec<u8>, tables: Vec<NamedTable>) -> Response
+        ensures gives { RespondsWithTables text.items (table_values tables.items)
+            (response_value result) }
+    {
+        Response {
+            status: Status::Yes,
+            text,
+            tables: Some(tables),
+        }
+    }
+}
+
+/// Why a command ends early.
+#[derive(Debug, Drop)]
+pub enum EarlyExit {
+    /// With this response.
+    Answered(Response),
+    /// Out of memory.
+    OutOfMemory,
+}
+
+impl EarlyExit {
+    ghost use Rattle.std.specs.Prelude.{ℕ, List, IfOk};
+    ghost use Rattle.desk_responses.specs.ResponseValues.{Says};
+    ghost use Rattle.desk_responses.specs.Responses.{ExitsAs};
+
+    /// With a status and a text, or out of memory where the text is that error.
+    pub fn with_text(status: Status, text: Result<Vec<u8>, OutOfMemory>) -> EarlyExit
+        ensures says { (t : List ℕ) → IfOk text (λ v. v.items ≡ t) → ExitsAs (Says status t) result }
+    {
+        match text {
+            Ok(text) => EarlyExit::Answered(Response::with_text(status, text)),
+            Err(OutOfMemory) => EarlyExit::OutOfMemory,
+        }
+    }
+}
+
+impl From<OutOfMemory> for EarlyExit {
+    ghost use Rattle.std.specs.Prelude.{◌≡◌};
+    ghost use Rattle.desk_responses.specs.declared.response.EarlyExit.TheVariants.{OutOfMemory};
+
+    ghost from_gives = { λ _ exit. exit ≡ OutOfMemory };
+
+    fn from(_error: OutOfMemory) -> Self {
+        EarlyExit::OutOfMemory
+    }
+}

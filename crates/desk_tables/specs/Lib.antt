@@ -1,0 +1,4 @@
+-- The definitions of desk_tables, in reading order: rows, tables of rows, and tables joined again.
+pub mod Legality
+pub mod Migrations
+pub mod Rejoining

@@ -1,0 +1,15 @@
+//! Rows and tables: the answers about legal rows, rows migrated to the tables of a plan, invented rows, and
+//! tables joined again.
+//!
+//! Each is a pure function of values, with the one clause that its response is allowed.
+#![tactic(auto)]
+
+mod migration;
+mod rejoining;
+mod rows;
+mod sampling;
+
+pub use migration::{migrate_by_plan, migrate_in_form};
+pub use rejoining::rejoin;
+pub use rows::check_rows;
+pub use sampling::migrate_sample;

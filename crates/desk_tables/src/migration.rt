@@ -1,0 +1,186 @@
+ghost use Rattle.std.specs.Prelude.{◌≡◌, ◌≤◌, ◌<◌, ◌^◌, ◌++◌, length, codes, IfOk, OnOk};
+ghost use Rattle.std.specs.Fmt.{decimal};
+ghost use Rattle.std.specs.List.{flat_map};
+ghost use Rattle.named_tables.specs.Tables.{table_value, table_values};
+ghost use Rattle.plans.specs.Plans.{IsPlanOver, plan_of};
+ghost use Rattle.dep_model.specs.Projections.{Covers, IsLossless};
+ghost use Rattle.dep_model.specs.Schemas.{LegalFor, theory_of, width_of};
+ghost use Rattle.dep_model.specs.Tuples.{IsOver};
+ghost use Rattle.schema_printer.specs.Printing.{words_text};
+ghost use Rattle.desk_tables.specs.Migrations.{AreTablesOf, GivesTables, Migrates, MigratesPlan, MigratesRows, migrated_text, table_line};
+ghost use Rattle.desk_responses.specs.Responses.{response_value, RespondsAs};
+ghost use Rattle.desk_texts.specs.Texts.{line};
+
+use crate::rows::test_rows;
+use csv_migrate::tables;
+use dep_model::{Name, OutOfMemory, Schema};
+use design_order::in_design_order;
+use desk_designs::{plan_in_form, test_loss};
+use desk_responses::{EarlyExit, Response};
+use desk_texts::line_of;
+use itoa::Buffer;
+use named_tables::NamedTable;
+use normal_forms::Form;
+use plan_reader::MOST_SCHEMES;
+use plans::Plan;
+use row_store::Rows;
+use schema_printer::add;
+use std::alloc::Global;
+use table_names::MOST_TABLES;
+
+/// Rows as tables in a normal form.
+pub fn migrate_in_form(
+    alloc: Global,
+    schema: &Schema,
+    form: Form,
+    rows: &Rows,
+) -> Result<Response, EarlyExit>
+    requires over { IsOver (width_of schema.now) rows.now }
+    requires fits_u32 { length rows.now < 2 ^ 32 }
+    ensures response { RespondsAs (Migrates schema.now form rows.now) result }
+{
+    let plan = match plan_in_form(alloc, schema, form) {
+        Ok(plan) => plan,
+        Err(exit) => return Err(exit),
+    };
+    migrate_rows(alloc, schema, &plan, rows)
+}
+
+/// Rows as tables of a plan, where it loses nothing.
+pub fn migrate_by_plan(
+    alloc: Global,
+    schema: &Schema,
+    plan: &Plan,
+    rows: &Rows,
+) -> Result<Response, EarlyExit>
+    requires universe { IsPlanOver schema.now plan.now }
+    requires within_limit { length (plan_of plan.now) ≤ MOST_SCHEMES }
+    requires covers { Covers (width_of schema.now) (plan_of plan.now) }
+    requires over { IsOver (width_of schema.now) rows.now }
+    requires fits_u32 { length rows.now < 2 ^ 32 }
+    ensures response { RespondsAs (MigratesPlan schema.now (plan_of plan.now) rows.now) result }
+{
+    match test_loss(alloc, schema, plan) {
+        Ok(()) => {}
+        Err(exit) => return Err(exit),
+    }
+    migrate_rows(alloc, schema, plan, rows)
+}
+
+/// Rows as tables of a plan that loses nothing, if they are legal.
+pub fn migrate_rows(
+    alloc: Global,
+    schema: &Schema,
+    plan: &Plan,
+    rows: &Rows,
+) -> Result<Response, EarlyExit>
+    requires over { IsOver (width_of schema.now) rows.now }
+    requires fits_u32 { length rows.now < 2 ^ 32 }
+    requires universe { IsPlanOver schema.now plan.now }
+    requires lossless { IsLossless (width_of schema.now) (theory_of schema.now) (plan_of plan.now) }
+    ensures response { RespondsAs (MigratesRows schema.now (plan_of plan.now) rows.now) result }
+{
+    match test_rows(alloc, schema, rows) {
+        Ok(()) => {}
+        Err(exit) => return Err(exit),
+    }
+    Ok(tables_response(alloc, schema, plan, rows)?)
+}
+
+// Legal rows as the tables of a plan.
+fn tables_response(
+    alloc: Global,
+    schema: &Schema,
+    plan: &Plan,
+    rows: &Rows,
+) -> Result<Response, OutOfMemory>
+    requires over { IsOver (width_of schema.now) rows.now }
+    requires fits_u32 { length rows.now < 2 ^ 32 }
+    requires universe { IsPlanOver schema.now plan.now }
+    requires lossless { IsLossless (width_of schema.now) (theory_of schema.now) (plan_of plan.now) }
+    requires legal { LegalFor schema.now rows.now }
+    ensures response { IfOk result
+        (λ response. GivesTables schema.now (plan_of plan.now) rows.now (response_value response)) }
+{
+    let tables = tables_of(alloc, schema, plan, rows)?;
+    let text = migrated_lines(alloc, rows, &tables)?;
+    Ok(Response::with_tables(text, tables))
+}
+
+// The tables of a plan, in the order of a design. No memory holds a plan of more tables than have a name.
+fn tables_of(
+    alloc: Global,
+    schema: &Schema,
+    plan: &Plan,
+    rows: &Rows,
+) -> Result<Vec<NamedTable>, OutOfMemory>
+    requires over { IsOver (width_of schema.now) rows.now }
+    requires fits_u32 { length rows.now < 2 ^ 32 }
+    requires universe { IsPlanOver schema.now plan.now }
+    requires lossless { IsLossless (width_of schema.now) (theory_of schema.now) (plan_of plan.now) }
+    requires legal { LegalFor schema.now rows.now }
+    ensures tables { IfOk result
+        (λ tables. AreTablesOf schema.now (plan_of plan.now) rows.now (table_values tables.items)) }
+{
+    let ordered = in_design_order(alloc, schema, plan)?;
+    if ordered.schemes().len() > MOST_TABLES as usize {
+        return Err(OutOfMemory);
+    }
+    Ok(tables(alloc, schema, &ordered, rows)?)
+}
+
+// How many rows were read, and the tables that they became.
+fn migrated_lines(alloc: Global, rows: &Rows, tables: &[NamedTable]) -> Result<Vec<u8>, OutOfMemory>
+    ensures text { IfOk result (λ text. text.items ≡ migrated_text rows.now (table_values tables.now)) }
+{
+    let mut text = read_line(alloc, rows.len())?;
+    put_tables(&mut text, tables)?;
+    Ok(text)
+}
+
+// How many rows were read.
+fn read_line(alloc: Global, rows: usize) -> Result<Vec<u8>, OutOfMemory>
+    ensures line { IfOk result (λ text. text.items ≡ line (codes "read " ++ decimal rows ++ codes " rows")) }
+{
+    line_of(
+        alloc,
+        b"read ",
+        Buffer::new().format(rows).as_bytes(),
+        b" rows",
+    )
+}
+
+// A line for each table, at the end of a text.
+fn put_tables(text: &mut Vec<u8>, tables: &[NamedTable]) -> Result<(), OutOfMemory>
+    ensures added { OnOk result (text.new.items
+        ≡ text.old.items ++ flat_map (λ table. table_line (table_value table)) tables.now) }
+{
+    for table in tables {
+        put_table(text, table)?;
+    }
+    Ok(())
+}
+
+// A table: its name, how many rows it has, and its columns.
+fn put_table(text: &mut Vec<u8>, table: &NamedTable) -> Result<(), OutOfMemory>
+    ensures added { OnOk result (text.new.items ≡ text.old.items
+        ++ table_line (table_value table.now)) }
+{
+    add(text, table.held.name.bytes())?;
+    add(text, b" ")?;
+    add(text, Buffer::new().format(table.held.rows.len()).as_bytes())?;
+    add(text, b" rows:")?;
+    put_names(text, &table.held.columns)?;
+    add(text, b"\n")
+}
+
+// Names, each after a blank, at the end of a text.
+fn put_names(text: &mut Vec<u8>, names: &[Name]) -> Result<(), OutOfMemory>
+    ensures added { OnOk result (text.new.items ≡ text.old.items ++ words_text names.now) }
+{
+    for name in names {
+        add(text, b" ")?;
+        add(text, name.bytes())?;
+    }
+    Ok(())
+}

@@ -1,0 +1,103 @@
+ghost use Rattle.std.specs.Prelude.{◌≡◌, ◌<◌, ◌^◌, ◌++◌, length, codes, All, IfOk, OnOk};
+ghost use Rattle.std.specs.Fmt.{decimal};
+ghost use Rattle.csv_text.specs.Rows.{rows_text};
+ghost use Rattle.dep_model.specs.Schemas.{names_of, width_of};
+ghost use Rattle.dep_model.specs.Tuples.{IsOver};
+ghost use Rattle.table_join.specs.RefusalTexts.{join_reason_text};
+ghost use Rattle.table_join.specs.Tables.{IsTable, tables_of};
+ghost use Rattle.desk_tables.specs.declared.rejoining.TheConstants.{MOST_JOINED_ROWS};
+ghost use Rattle.desk_responses.specs.ResponseValues.{Says};
+ghost use Rattle.desk_tables.specs.Rejoining.{JoinsTables, join_refusal_text};
+ghost use Rattle.desk_responses.specs.Responses.{response_value, RespondsAs, ExitsAs};
+
+use csv_rows::{PartialRows, print_rows};
+use dep_model::{Failure, OutOfMemory, Schema};
+use desk_responses::{EarlyExit, Response, Status, name_of};
+use desk_texts::put_pair;
+use row_store::Rows;
+use schema_printer::{add, add_number};
+use std::alloc::Global;
+use table_join::{JoinRefusal, join};
+
+/// The most rows of a join.
+pub const MOST_JOINED_ROWS: u32 = 200_000;
+
+/// The natural join of tables.
+pub fn rejoin(alloc: Global, schema: &Schema, parts: &[PartialRows]) -> Result<Response, EarlyExit>
+    requires fits_u32 { length parts.now < 2 ^ 32 }
+    requires tables { All (IsTable (width_of schema.now)) (tables_of parts.now) }
+    ensures response { RespondsAs (JoinsTables schema.now (tables_of parts.now)) result }
+{
+    match join(alloc, schema, parts, MOST_JOINED_ROWS) {
+        Ok(rows) => Ok(response_of(alloc, schema, &rows)?),
+        Err(Failure::Refused(refusal)) => Err(join_refusal_exit(alloc, schema, refusal)),
+        Err(Failure::OutOfMemory) => Err(EarlyExit::OutOfMemory),
+    }
+}
+
+// Rows as CSV.
+fn response_of(alloc: Global, schema: &Schema, rows: &Rows) -> Result<Response, OutOfMemory>
+    requires over { IsOver (width_of schema.now) rows.now }
+    ensures says { IfOk result
+        (λ response. Says Status.Yes (rows_text (names_of schema.now) rows.now)
+        (response_value response)) }
+{
+    Ok(Response::with_text(Status::Yes, print_rows(alloc, schema, rows)?))
+}
+
+// A command that ends with the refusal of a join.
+fn join_refusal_exit(alloc: Global, schema: &Schema, refusal: JoinRefusal) -> EarlyExit
+    ensures says { ExitsAs (Says Status.Refused
+        (join_refusal_text (names_of schema.now) refusal)) result }
+{
+    EarlyExit::with_text(Status::Refused, join_refusal_line(alloc, schema, refusal))
+}
+
+// The line that words a refusal of a join.
+fn join_refusal_line(
+    alloc: Global,
+    schema: &Schema,
+    refusal: JoinRefusal,
+) -> Result<Vec<u8>, OutOfMemory>
+    ensures line { IfOk result (λ text. text.items ≡ join_refusal_text (names_of schema.now) refusal) }
+{
+    let mut text = Vec::new(alloc);
+    add(&mut text, b"refused: join ")?;
+    add_number(&mut text, alloc, refusal.number())?;
+    add(&mut text, b": ")?;
+    put_reason(alloc, &mut text, schema, refusal)?;
+    add(&mut text, b"\n")?;
+    Ok(text)
+}
+
+// A refusal in words, at the end of a text.
+fn put_reason(
+    alloc: Global,
+    text: &mut Vec<u8>,
+    schema: &Schema,
+    refusal: JoinRefusal,
+) -> Result<(), OutOfMemory>
+    ensures added { OnOk result (text.new.items
+        ≡ text.old.items ++ join_reason_text (names_of schema.now) MOST_JOINED_ROWS refusal) }
+{
+    match refusal {
+        JoinRefusal::NotCovered { attribute } => {
+            put_pair(text, name_of(schema, attribute), b" is in no file")
+        }
+        JoinRefusal::TooManyRows { after } => put_too_many(alloc, text, after),
+    }
+}
+
+// That the join of so many files is too large, at the end of a text.
+fn put_too_many(alloc: Global, text: &mut Vec<u8>, after: u32) -> Result<(), OutOfMemory>
+    ensures added { OnOk result (text.new.items
+        ≡ text.old.items ++ (codes "more than " ++ decimal MOST_JOINED_ROWS ++ codes " rows after file "
+        ++ decimal after)) }
+{
+    let mut reason = Vec::new(alloc);
+    add(&mut reason, b"more than ")?;
+    add_number(&mut reason, alloc, MOST_JOINED_ROWS)?;
+    add(&mut reason, b" rows after file ")?;
+    add_number(&mut reason, alloc, after)?;
+    add(text, &reason)
+}

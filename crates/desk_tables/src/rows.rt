@@ -1,0 +1,85 @@
+ghost use Rattle.std.specs.Prelude.{◌≡◌, ◌<◌, ◌^◌, length, IfOk, IfErr};
+ghost use Rattle.dep_model.specs.Schemas.{width_of, LegalFor};
+ghost use Rattle.dep_model.specs.Tuples.{IsOver};
+ghost use Rattle.desk_tables.specs.Legality.{JudgesRows, OffenceStops, legal_text, offence_text, offences_text};
+ghost use Rattle.desk_responses.specs.ResponseValues.{Says};
+ghost use Rattle.desk_responses.specs.Responses.{response_value, RespondsAs, ExitsAs};
+
+use dep_model::{OutOfMemory, Schema};
+use desk_responses::{EarlyExit, Response, Status, put_dep, put_line};
+use desk_texts::line_of;
+use legality::{Offence, offences};
+use row_store::Rows;
+use schema_printer::{add, add_number};
+use std::alloc::Global;
+
+/// Whether rows are legal for a schema.
+pub fn check_rows(alloc: Global, schema: &Schema, rows: &Rows) -> Result<Response, EarlyExit>
+    requires over { IsOver (width_of schema.now) rows.now }
+    requires fits_u32 { length rows.now < 2 ^ 32 }
+    ensures response { RespondsAs (JudgesRows schema.now rows.now) result }
+{
+    match test_rows(alloc, schema, rows) {
+        Ok(()) => {}
+        Err(exit) => return Err(exit),
+    }
+    Ok(legal_response(alloc)?)
+}
+
+/// The test that rows are legal.
+pub fn test_rows(alloc: Global, schema: &Schema, rows: &Rows) -> Result<(), EarlyExit>
+    requires over { IsOver (width_of schema.now) rows.now }
+    requires fits_u32 { length rows.now < 2 ^ 32 }
+    ensures ok { IfOk result (λ _. LegalFor schema.now rows.now) }
+    ensures exit { IfErr result (ExitsAs (OffenceStops schema.now rows.now)) }
+{
+    let found = offences(alloc, schema, rows)?;
+    if found.is_empty() {
+        return Ok(());
+    }
+    Err(offences_exit(alloc, schema, &found))
+}
+
+// Rows break dependencies.
+fn offences_exit(alloc: Global, schema: &Schema, found: &[Offence]) -> EarlyExit
+    ensures says { ExitsAs (Says Status.No (offences_text schema.now found.now)) result }
+{
+    EarlyExit::with_text(Status::No, offence_lines(alloc, schema, found))
+}
+
+// The rows obey every dependency.
+fn legal_response(alloc: Global) -> Result<Response, OutOfMemory>
+    ensures says { IfOk result (λ response. Says Status.Yes legal_text (response_value response)) }
+{
+    Ok(Response::with_text(Status::Yes, line_of(alloc, b"legal", b"", b"")?))
+}
+
+fn offence_lines(
+    alloc: Global,
+    schema: &Schema,
+    offences: &[Offence],
+) -> Result<Vec<u8>, OutOfMemory>
+    ensures text { IfOk result (λ text. text.items ≡ offences_text schema.now offences.now) }
+{
+    let mut text = Vec::new(alloc);
+    for offence in offences {
+        add(&mut text, &offence_line(alloc, schema, *offence)?)?;
+    }
+    Ok(text)
+}
+
+fn offence_line(alloc: Global, schema: &Schema, offence: Offence) -> Result<Vec<u8>, OutOfMemory>
+    ensures text { IfOk result (λ text. text.items ≡ offence_text schema.now offence) }
+{
+    let mut text = Vec::new(alloc);
+    add(&mut text, b"line ")?;
+    put_line(alloc, &mut text, schema, offence.dep as usize)?;
+    add(&mut text, b": ")?;
+    put_dep(&mut text, schema, offence.dep as usize)?;
+    add(&mut text, b" broken by rows ")?;
+    add_number(&mut text, alloc, offence.first)?;
+    add(&mut text, b" and ")?;
+    add_number(&mut text, alloc, offence.second)?;
+    add(&mut text, b"\n")?;
+    Ok(text)
+}

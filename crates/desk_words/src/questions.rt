@@ -1,0 +1,97 @@
+use desk_outside::Argument;
+use normal_forms::Form;
+
+/// What is asked of a schema alone, with the words that go with it.
+#[derive(Clone, Copy, Debug)]
+pub enum SchemaQuestion<'a> {
+    /// Whether it implies a goal.
+    Implies { goal: &'a Argument },
+    /// What says the same, shortened.
+    Cover,
+    /// What a set of attributes determines, and its blocks.
+    Basis { set: &'a Argument },
+    /// All its keys.
+    Keys,
+    /// A plan in third normal form.
+    Synthesize,
+    /// A plan in Boyce-Codd or fourth normal form.
+    Split { form: Form },
+    /// A plan in Boyce-Codd normal form, at any width.
+    SplitWide,
+    /// A relation that obeys just what it implies.
+    Exhibit,
+    /// SQL tables in a normal form.
+    Ddl { form: Form },
+    /// Queries for what breaks each rule in a table of this name.
+    SqlCheck { name: &'a Argument },
+    /// Statements that make the tables of a normal form from a table of this name.
+    SqlMigrate { form: Form, name: &'a Argument },
+    /// A picture of the tables of a normal form.
+    Draw { form: Form },
+}
+
+/// What is asked of a schema and a plan.
+#[derive(Clone, Copy, Debug)]
+pub enum PlanQuestion<'a> {
+    /// Whether the plan loses nothing.
+    CheckJoin,
+    /// Whether its schemes are in a normal form.
+    CheckForm { form: Form },
+    /// Whether it keeps the functional dependencies.
+    CheckKeeps,
+    /// The keys of its schemes.
+    Keys,
+    /// Its SQL tables.
+    Ddl,
+    /// Statements that make its tables from a table of this name.
+    SqlMigrate { name: &'a Argument },
+    /// A picture of its tables.
+    Draw,
+}
+
+/// What is asked of a schema and rows.
+#[derive(Clone, Copy, Debug)]
+pub enum RowsQuestion {
+    /// Whether they are legal.
+    CheckRows,
+    /// The rows as tables in a normal form.
+    Migrate { form: Form },
+}
+
+/// What is asked of a schema, with the files that are read after its own, in their order.
+#[derive(Clone, Copy, Debug)]
+pub enum Task<'a> {
+    /// A question to it alone.
+    OfSchema {
+        question: SchemaQuestion<'a>,
+    },
+    /// A question to it and the plan of a file.
+    OfPlan {
+        plan: &'a Argument,
+        question: PlanQuestion<'a>,
+    },
+    /// A question to it and the rows of a file.
+    OfRows {
+        file: &'a Argument,
+        question: RowsQuestion,
+    },
+    /// The rows of a file, as tables of the plan of another.
+    MigratePlan {
+        plan: &'a Argument,
+        file: &'a Argument,
+    },
+    /// Whether the certificate of a file proves a goal.
+    CheckProof {
+        file: &'a Argument,
+        goal: &'a Argument,
+    },
+    /// Whether it, in the first file, says the same as the schema of a second file.
+    CheckSame {
+        file: &'a Argument,
+        other: &'a Argument,
+    },
+    /// The natural join of the tables of files.
+    Rejoin {
+        files: &'a [Argument],
+    },
+}

@@ -1,0 +1,50 @@
+-- There is one list of differences, and one of minimal functional dependencies.
+use Rattle.std.proofs.Common.{◌≡◌, ◌<◌, ℕ, List, sym, subst, inl, inr, ⊎_elim, arith}
+use Rattle.std.specs.Prelude.{Contains}
+use Rattle.std.proofs.lemmas.List.Elements.{All-contains}
+use Rattle.attr_sets.specs.Attributes.{Attributes, IsBefore}
+use Rattle.attr_sets.proofs.OrderLemmas.{IsBefore-irrefl, IsBefore-trans}
+use Rattle.dep_model.specs.Dependencies.{Dependency, left_of, right_of}
+use Rattle.dep_model.specs.Tuples.{Relation}
+use Rattle.dep_model.specs.declared.schema.Schema.{Schema}
+use Rattle.fd_discovery.specs.Minimal.{AreAllMinimal, IsMinimalFd, Precedes}
+use Rattle.schema_match.specs.Differences.{AreDifferences}
+use Rattle.implication_laws.proofs.OrderedLists.{HoldsAll, IsOneWay, one_ordered_list}
+
+-- ---- differences
+numbers_one_way : (P : ℕ → Type 0) → IsOneWay P (λ (j k : ℕ). j < k)
+numbers_one_way P j k j_is k_is there back = omega (arith, there, back)
+
+differences_held : (schema other : Schema) (first second : List ℕ) → AreDifferences schema other first → AreDifferences schema other second
+    → HoldsAll first second
+differences_held schema other first second one two k has =
+    let (d, at, differs) = one.each k has in
+    ⊎_elim (λ there. there) (λ follows. absurd (differs follows)) (two.all k d at)
+
+pub one_differences : (schema other : Schema) (first second : List ℕ) → AreDifferences schema other first → AreDifferences schema other second
+    → first ≡ second
+one_differences schema other first second one two =
+    one_ordered_list (λ (k : ℕ). Unit {0}) (λ (j k : ℕ). j < k) first second (numbers_one_way (λ (k : ℕ). Unit {0}))
+    (λ i d l. tt) (λ i d l. tt) one.ascending two.ascending
+    (differences_held schema other first second one two) (differences_held schema other second first two one)
+
+-- ---- minimal dependencies
+precedes_one_way : (P : Dependency → Type 0) → IsOneWay P Precedes
+precedes_one_way P d e d_is e_is (inl there) (inl back) =
+    IsBefore-irrefl (left_of d) (IsBefore-trans (left_of d) (left_of e) (left_of d) there back)
+precedes_one_way P d e d_is e_is (inl there) (inr (same, right)) =
+    IsBefore-irrefl (left_of d) (subst (λ (x : Attributes). IsBefore (left_of d) x) same there)
+precedes_one_way P d e d_is e_is (inr (same, right)) (inl back) =
+    IsBefore-irrefl (left_of e) (subst (λ (x : Attributes). IsBefore (left_of e) x) same back)
+precedes_one_way P d e d_is e_is (inr (same, there)) (inr (also, back)) =
+    IsBefore-irrefl (right_of d) (IsBefore-trans (right_of d) (right_of e) (right_of d) there back)
+
+rules_held : (n : ℕ) (rows : Relation) (one other : List Dependency) → AreAllMinimal n rows one → AreAllMinimal n rows other → HoldsAll one other
+rules_held n rows one other first second d has =
+    let (x, a, is, minimal) = All-contains (IsMinimalFd n rows) one d first.each has in
+    subst (λ (e : Dependency). Contains other e) (sym is) (second.all x a minimal)
+
+pub one_rules : (n : ℕ) (rows : Relation) (one other : List Dependency) → AreAllMinimal n rows one → AreAllMinimal n rows other → one ≡ other
+one_rules n rows one other first second =
+    one_ordered_list (IsMinimalFd n rows) Precedes one other (precedes_one_way (IsMinimalFd n rows)) first.each second.each
+    first.ascending second.ascending (rules_held n rows one other first second) (rules_held n rows other one second first)

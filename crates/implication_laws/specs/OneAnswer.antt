@@ -1,0 +1,19 @@
+-- When one answer alone is allowed: for the laws that each command on implication has one. `Desk` does not
+-- cite it.
+use Rattle.std.specs.Prelude.{◌≡◌, ℕ}
+use Rattle.dep_model.specs.Dependencies.{Dependency, fd, mvd, functional_part}
+use Rattle.dep_model.specs.Implication.{Implies}
+use Rattle.dep_model.specs.Schemas.{width_of, theory_of}
+use Rattle.dep_model.specs.declared.schema.Schema.{Schema}
+use Rattle.dep_basis.specs.Proofs.{IsFirstGiven}
+use Rattle.desk_responses.specs.ResponseValues.{ResponseValue, Allowed}
+
+-- any two answers that are allowed are equal
+abbrev pub AllowsOne : Allowed → Type 0
+AllowsOne allowed = (one other : ResponseValue) → allowed one → allowed other → one ≡ other
+
+-- the derivation that is printed of a dependency is fixed: it is the functional chain, or the one line of a
+-- multivalued dependency that is given
+abbrev pub HasFixedProof : Schema → Dependency → Type 0
+HasFixedProof s (fd x y) = Implies (width_of s) (functional_part (theory_of s)) (fd x y)
+HasFixedProof s (mvd x y) = (k : ℕ) × IsFirstGiven s (mvd x y) k

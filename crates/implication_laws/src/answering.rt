@@ -1,0 +1,65 @@
+//! Laws that each command on implication has one answer, but for the derivation of a goal.
+
+ghost use Rattle.std.specs.Prelude.{◌≡◌, ℕ, List};
+ghost use Rattle.attr_sets.specs.Attributes.{Attributes};
+ghost use Rattle.derivation.specs.Trees.{Tree};
+ghost use Rattle.dep_model.specs.Dependencies.{Dependency};
+ghost use Rattle.dep_model.specs.declared.schema.Schema.{Schema};
+ghost use Rattle.fd_discovery.specs.declared.headed_rows.Headed.{Headed};
+ghost use Rattle.desk_implication.specs.Bases.{GivesBasis};
+ghost use Rattle.desk_implication.specs.Certificates.{ChecksProof};
+ghost use Rattle.desk_implication.specs.Covering.{GivesCover};
+ghost use Rattle.desk_implication.specs.Discoveries.{FindsRules};
+ghost use Rattle.desk_implication.specs.Exhibits.{Exhibits};
+ghost use Rattle.desk_implication.specs.Goals.{IsGoal};
+ghost use Rattle.desk_implication.specs.Implication.{DecidesGoal};
+ghost use Rattle.desk_implication.specs.Keys.{ListsKeys, ListsKeysOfPlan};
+ghost use Rattle.desk_implication.specs.Sameness.{ChecksSame};
+ghost use Rattle.desk_responses.specs.ResponseValues.{ResponseValue};
+ghost use Rattle.desk_responses.specs.declared.status.Status.TheVariants.{Yes};
+ghost use Rattle.implication_laws.specs.OneAnswer.{AllowsOne, HasFixedProof};
+
+/// `implies` has one answer to a goal, but for the derivation of one that is no functional chain and not
+/// given.
+pub fn implies_has_one_answer()
+    ensures law { (schema : Schema) (goal : List ℕ) (d : Dependency) (one other : ResponseValue)
+        → IsGoal schema goal d → (one.status ≡ Yes → HasFixedProof schema d)
+        → DecidesGoal schema goal one → DecidesGoal schema goal other → one ≡ other }
+{}
+
+/// `check proof` has one answer to a certificate and a goal.
+pub fn check_proof_has_one_answer()
+    ensures law { (schema : Schema) (tree : Tree) (goal : List ℕ) → AllowsOne (ChecksProof schema tree goal) }
+{}
+
+/// `cover` has one answer.
+pub fn cover_has_one_answer()
+    ensures law { (schema : Schema) → AllowsOne (GivesCover schema) }
+{}
+
+/// `basis` has one answer to a set.
+pub fn basis_has_one_answer()
+    ensures law { (schema : Schema) (set : List ℕ) → AllowsOne (GivesBasis schema set) }
+{}
+
+/// `keys` has one answer, of a schema and of the schemes of a plan.
+pub fn keys_has_one_answer()
+    ensures universe { (schema : Schema) → AllowsOne (ListsKeys schema) }
+    ensures plan { (schema : Schema) (plan : List Attributes) → AllowsOne (ListsKeysOfPlan schema plan) }
+{}
+
+/// `exhibit` has one answer.
+pub fn exhibit_has_one_answer()
+    ensures law { (schema : Schema) → AllowsOne (Exhibits schema) }
+{}
+
+/// `check same` has one answer.
+pub fn check_same_has_one_answer()
+    ensures law { (schema other : Schema) (file other_file : List ℕ)
+        → AllowsOne (ChecksSame schema other file other_file) }
+{}
+
+/// `discover` has one answer.
+pub fn discover_has_one_answer()
+    ensures law { (headed : Headed) → AllowsOne (FindsRules headed) }
+{}

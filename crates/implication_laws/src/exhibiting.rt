@@ -1,0 +1,44 @@
+//! Laws of the relation that `exhibit` prints.
+
+ghost use Rattle.std.specs.Prelude.{◌≡◌, ◌↔◌, ℕ, true, List};
+ghost use Rattle.csv_text.specs.Rows.{rows_text};
+ghost use Rattle.dep_model.specs.Dependencies.{Dependency, Obeys, is_fd};
+ghost use Rattle.dep_model.specs.Schemas.{names_of, width_of, LegalFor};
+ghost use Rattle.dep_model.specs.Tuples.{Relation};
+ghost use Rattle.dep_model.specs.declared.schema.Schema.{Schema};
+ghost use Rattle.fd_discovery.specs.Headings.{names_under, rows_under};
+ghost use Rattle.fd_discovery.specs.declared.headed_rows.Headed.{Headed};
+ghost use Rattle.desk_implication.specs.Discoveries.{FindsRules, found_text};
+ghost use Rattle.desk_implication.specs.Exhibits.{Exhibits};
+ghost use Rattle.desk_implication.specs.Goals.{IsGoal};
+ghost use Rattle.desk_implication.specs.Implication.{DecidesGoal};
+ghost use Rattle.desk_tables.specs.Legality.{JudgesRows};
+ghost use Rattle.desk_responses.specs.ResponseValues.{ResponseValue, Says};
+ghost use Rattle.desk_responses.specs.declared.status.Status.TheVariants.{Yes};
+ghost use Rattle.implication_laws.specs.Alike.{AnswersAlikeWith};
+
+/// The relation that `exhibit` prints is legal for its schema, and `check rows` answers yes to it.
+pub fn exhibits_are_legal()
+    ensures law { (schema : Schema) (shown : ResponseValue) → Exhibits schema shown → shown.status ≡ Yes
+        → (rows : Relation) × Says Yes (rows_text (names_of schema) rows) shown × LegalFor schema rows
+        × ((judged : ResponseValue) → JudgesRows schema rows judged → judged.status ≡ Yes) }
+{}
+
+/// `implies` answers yes to a functional goal exactly where the relation that `exhibit` prints obeys it.
+pub fn exhibits_decide_goals()
+    ensures law { (schema : Schema) (shown : ResponseValue) → Exhibits schema shown → shown.status ≡ Yes
+        → (rows : Relation) × Says Yes (rows_text (names_of schema) rows) shown
+        × ((goal : List ℕ) (d : Dependency) (decided : ResponseValue) → IsGoal schema goal d → is_fd d ≡ true
+        → DecidesGoal schema goal decided → (decided.status ≡ Yes) ↔ Obeys (width_of schema) d rows) }
+{}
+
+/// What `discover` finds in the relation that `exhibit` prints are dependencies that, in place of the
+/// schema's own, are answered alike.
+pub fn rules_of_exhibits_are_answered_alike()
+    ensures law { (schema : Schema) (shown : ResponseValue) → Exhibits schema shown → shown.status ≡ Yes
+        → (rows : Relation) × Says Yes (rows_text (names_of schema) rows) shown
+        × ((headed : Headed) (found : ResponseValue) → names_under headed ≡ names_of schema
+        → rows_under headed ≡ rows → FindsRules headed found
+        → (ds : List Dependency) × Says Yes (found_text (names_of schema) ds) found
+        × AnswersAlikeWith schema ds) }
+{}

@@ -1,0 +1,30 @@
+//! Laws between the answers of the commands on implication: what one of them answers, another confirms,
+//! and what each prints is the only one that its definition allows.
+//!
+//! Each law is a function that does nothing, whose clause is the law; so the gate asks for its proof.
+#![tactic(auto)]
+
+mod answering;
+mod exhibiting;
+mod implying;
+mod rewriting;
+mod uniqueness;
+
+pub use answering::{
+    basis_has_one_answer, check_proof_has_one_answer, check_same_has_one_answer,
+    cover_has_one_answer, discover_has_one_answer, exhibit_has_one_answer, implies_has_one_answer,
+    keys_has_one_answer,
+};
+pub use exhibiting::{
+    exhibits_are_legal, exhibits_decide_goals, rules_of_exhibits_are_answered_alike,
+};
+pub use implying::{
+    accepted_goals_are_implied, legal_rows_obey_implied_goals, yes_and_no_exclude_each_other,
+};
+pub use rewriting::{
+    covers_are_answered_alike, line_order_is_free, same_legal_relations_are_answered_alike,
+};
+pub use uniqueness::{
+    one_basis, one_fixed_cover, one_fixed_whole_cover, one_greedy_key, one_list_of_differences,
+    one_list_of_keys, one_list_of_rules, one_refutation,
+};

@@ -1,0 +1,31 @@
+//! Laws of schemas over the same names whose dependencies are written otherwise.
+
+ghost use Rattle.std.specs.Prelude.{◌≡◌, ℕ, List};
+ghost use Rattle.dep_model.specs.Dependencies.{Dependency};
+ghost use Rattle.dep_model.specs.Schemas.{names_of, width_of, theory_of};
+ghost use Rattle.dep_model.specs.declared.schema.Schema.{Schema};
+ghost use Rattle.min_cover.specs.Covers.{HaveSameLegal};
+ghost use Rattle.schema_printer.specs.Printing.{schema_text};
+ghost use Rattle.desk_implication.specs.Covering.{GivesCover};
+ghost use Rattle.desk_responses.specs.ResponseValues.{ResponseValue, Says};
+ghost use Rattle.desk_responses.specs.declared.status.Status.TheVariants.{Yes};
+ghost use Rattle.implication_laws.specs.Alike.{AnswerAlike, AnswersAlikeWith};
+ghost use Rattle.implication_laws.specs.Rewriting.{HaveSameDependencies};
+
+/// Two schemas with the same names for which the same relations are legal are answered alike.
+pub fn same_legal_relations_are_answered_alike()
+    ensures law { (schema other : Schema) → names_of schema ≡ names_of other
+        → HaveSameLegal (width_of schema) (theory_of other) (theory_of schema) → AnswerAlike schema other }
+{}
+
+/// Two schemas with the same names and the same dependencies, in any order, are answered alike.
+pub fn line_order_is_free()
+    ensures law { (schema other : Schema) → HaveSameDependencies schema other → AnswerAlike schema other }
+{}
+
+/// What `cover` prints is the text of dependencies that, in place of the schema's own, are answered alike.
+pub fn covers_are_answered_alike()
+    ensures law { (schema : Schema) (printed : ResponseValue) → GivesCover schema printed
+        → (whole : List Dependency) × Says Yes (schema_text schema whole) printed
+        × AnswersAlikeWith schema whole }
+{}

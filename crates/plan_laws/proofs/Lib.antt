@@ -1,0 +1,6 @@
+mod PassingLaws
+mod DesignedLaws
+mod RejoinedLaws
+mod UniqueLaws
+mod FormTables
+mod NameLaws

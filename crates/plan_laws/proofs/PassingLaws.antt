@@ -1,0 +1,165 @@
+-- Plans whose schemes are in a form pass the test of that form, lossless plans that of their join.
+use Rattle.std.proofs.Common.{◌≡◌, ◌≤◌, ◌++◌, ℕ, List, [], ◌∷◌, length, get_or, refl, sym, ap, subst, inl, inr, arith}
+use Rattle.std.specs.Prelude.{All, Contains}
+use Rattle.std.proofs.lemmas.List.{length-map}
+use Rattle.std.proofs.lemmas.Bool.{cases_Bool}
+use Rattle.std.proofs.lemmas.List.Elements.{All-cons, All-head, All-tail, All-weaker, All-contains, Contains-append_right}
+use Rattle.attr_sets.specs.Attributes.{Attributes, below, IsSubset}
+use Rattle.attr_sets.specs.Sets.{attributes}
+use Rattle.attr_sets.specs.declared.set.AttrSet.{AttrSet}
+use Rattle.chase_laws.proofs.RoundLemmas.{functional_within_limit}
+use Rattle.dep_model.specs.Dependencies.{Dependency, mvd}
+use Rattle.dep_model.specs.Plans.{schemes_of}
+use Rattle.dep_model.specs.Schemas.{width_of, theory_of}
+use Rattle.dep_model.specs.declared.schema.Schema.{Schema}
+use Rattle.dep_model.proofs.FormLemmas.{fourth_bcnf}
+use Rattle.dep_model.proofs.ListLemmas.{Any-from, Contains-head}
+use Rattle.normal_forms.specs.Chosen.{IsInForm, IsWide}
+use Rattle.normal_forms.specs.Violations.{Violates}
+use Rattle.normal_forms.specs.declared.forms.Form.{Form}
+use Rattle.normal_forms.specs.declared.forms.Form.TheVariants.{Third, Bcnf, Fourth}
+use Rattle.normal_forms.proofs.ViolationLemmas.{not_in_form}
+use Rattle.plans.specs.Containing.{is_contained, without_contained_after, without_contained}
+use Rattle.split_forms.specs.Splitting.{StaysWhole}
+use Rattle.split_forms.proofs.WalkLemmas.{reached_plan}
+use Rattle.wide_bcnf.proofs.SplitLemmas.{schema_parts}
+use Rattle.desk_responses.specs.ResponseValues.{ResponseValue, IsFirstFailing}
+use Rattle.desk_designs.specs.declared.join.TheConstants.{MOST_TABLEAU_ROWS}
+use Rattle.desk_designs.specs.Decompositions.{IsPlanInForm, IsSplitInForm, IsWideSplit}
+use Rattle.desk_designs.specs.Joins.{IsTooLarge, LosesNothing}
+use Rattle.desk_designs.specs.NormalForms.{PassesForm}
+use Rattle.desk_designs.specs.Synthesis.{IsThirdFormPlan}
+use Rattle.plan_laws.specs.Passing.{PassesCheckForm, PassesCheckJoin, PassesCheckKeeps}
+
+-- ---- schemes in a form
+-- a violation of third form is found in any scheme, of another form in a scheme of the universe
+not_violated : (n : ℕ) (ds : List Dependency) (form : Form) (scheme x y : Attributes)
+    → ((form ≡ Third → ⊥) → IsSubset scheme (below n)) → IsInForm n ds form scheme → Violates n ds form scheme x y → ⊥
+not_violated n ds Third scheme x y low formed violates =
+    elim (formed x violates.attribute violates.determined.0.0 violates.determined.0.1) [
+      | inl superkey ↦ violates.no_superkey superkey
+      | inr prime ↦ violates.determined.1 prime
+    ]
+not_violated n ds Bcnf scheme x y low formed violates =
+    not_in_form n ds Bcnf scheme x y (low (λ same. cc)) violates formed
+not_violated n ds Fourth scheme x y low formed violates =
+    not_in_form n ds Fourth scheme x y (low (λ same. cc)) violates formed
+
+-- what is so of each scheme is so of the first that fails
+failing_in : (Passes : Attributes → Type 0) (plan : List Attributes) (scheme : Attributes)
+    → IsFirstFailing Passes plan scheme → Contains plan scheme
+failing_in Passes plan scheme first =
+    subst (λ (l : List Attributes). Contains l scheme) (sym first.list)
+    (Contains-append_right first.earlier (scheme ∷ first.later) scheme (Contains-head scheme first.later))
+
+form_passes : (s : Schema) (form : Form) (plan : List Attributes)
+    → ((form ≡ Third → ⊥) → All (λ scheme. IsSubset scheme (below (width_of s))) plan)
+    → All (IsInForm (width_of s) (theory_of s) form) plan → PassesCheckForm s form plan
+form_passes s form plan low formed response (inl passed) = inl passed.1
+form_passes s form plan low formed response (inr (scheme, first, inl (wide, says))) =
+    inr (
+      Any-from IsWide plan scheme (failing_in (PassesForm s form) plan scheme first) wide,
+      ap (λ (r : ResponseValue). r.status) says,
+    )
+form_passes s form plan low formed response (inr (scheme, first, inr (narrow, found))) =
+    let within = failing_in (PassesForm s form) plan scheme first in
+    absurd (not_violated (width_of s) (theory_of s) form scheme found.0 found.1
+    (λ other. All-contains (λ (z : Attributes). IsSubset z (below (width_of s))) plan scheme (low other) within)
+    (All-contains (IsInForm (width_of s) (theory_of s) form) plan scheme formed within) found.2.violates)
+
+join_passes : (s : Schema) (plan : List Attributes) → LosesNothing s plan → PassesCheckJoin s plan
+join_passes s plan lossless response (inl (inl (fits, lossy, found))) = absurd (lossy lossless)
+join_passes s plan lossless response (inl (inr (large, says))) = inr (large, ap (λ (r : ResponseValue). r.status) says)
+join_passes s plan lossless response (inr (shown, says)) = inl says
+
+-- ---- the schemes of a split
+-- what is so of each scheme of a list is so of those that are kept
+all_kept : (P : Attributes → Type 0) (earlier later : List AttrSet) → All P (schemes_of later)
+    → All P (schemes_of (without_contained_after earlier later))
+all_kept P earlier [] all = all
+all_kept P earlier (x ∷ later) all =
+    let rest = all_kept P (earlier ++ x ∷ []) later (All-tail P (attributes x) (schemes_of later) all) in
+    elim (cases_Bool (is_contained earlier x later)) [
+      | inl spare ↦ rw spare rest
+      | inr kept ↦ rw kept (All-cons P (attributes x) (schemes_of (without_contained_after (earlier ++ x ∷ []) later))
+          (All-head P (attributes x) (schemes_of later) all) rest)
+    ]
+
+plan_all : (P : Attributes → Type 0) (all plan : List AttrSet) → plan ≡ without_contained all → All P (schemes_of all)
+    → All P (schemes_of plan)
+plan_all P all plan kept each = subst (λ (l : List AttrSet). All P (schemes_of l)) (sym kept) (all_kept P [] all each)
+
+pub split_narrow : (s : Schema) (form : Form) (plan : List AttrSet) → IsSplitInForm s form plan
+    → All (λ scheme. IsWide scheme → ⊥) (schemes_of plan)
+split_narrow s form plan is =
+    plan_all (λ (x : Attributes). IsWide x → ⊥) is.split.all plan is.split.kept
+    (All-weaker (StaysWhole (width_of s) (theory_of s) form) (λ (x : Attributes). IsWide x → ⊥) (λ x whole. whole.narrow)
+    (schemes_of is.split.all) is.split.finished.whole)
+
+split_low : (s : Schema) (form : Form) (plan : List AttrSet) → IsSplitInForm s form plan → (form ≡ Third → ⊥)
+    → All (λ scheme. IsSubset scheme (below (width_of s))) (schemes_of plan)
+split_low s form plan is other =
+    plan_all (λ (x : Attributes). IsSubset x (below (width_of s))) is.split.all plan is.split.kept
+    (reached_plan (width_of s) (theory_of s) form (schemes_of is.split.all) s.valid.names_not_empty other
+    is.split.finished.reached).within
+
+pub split_passes : (s : Schema) (form : Form) (plan : List AttrSet) → IsSplitInForm s form plan
+    → PassesCheckForm s form (schemes_of plan)
+split_passes s form plan is = form_passes s form (schemes_of plan) (split_low s form plan is) is.in_form
+
+pub fourth_passes : (s : Schema) (plan : List AttrSet) → IsSplitInForm s Fourth plan
+    → PassesCheckForm s Bcnf (schemes_of plan)
+fourth_passes s plan is =
+    let n = width_of s in
+    let ds = theory_of s in
+    let low = split_low s Fourth plan is (λ same. cc) in
+    form_passes s Bcnf (schemes_of plan) (λ other. low)
+    (λ k d l. fourth_bcnf n ds (get_or (schemes_of plan) k d) (low k d l) (is.in_form k d l))
+
+-- ---- the plans of forms
+third_passes : (s : Schema) (plan : List AttrSet) → IsThirdFormPlan s plan → PassesCheckForm s Third (schemes_of plan)
+third_passes s plan is = form_passes s Third (schemes_of plan) (λ other. absurd (other refl)) is.third
+
+pub planned_form : (s : Schema) (form : Form) (plan : List AttrSet) → IsPlanInForm s form plan
+    → PassesCheckForm s form (schemes_of plan)
+planned_form s Third plan is = third_passes s plan is
+planned_form s Bcnf plan is = split_passes s Bcnf plan is
+planned_form s Fourth plan is = split_passes s Fourth plan is
+
+pub planned_lossless : (s : Schema) (form : Form) (plan : List AttrSet) → IsPlanInForm s form plan
+    → LosesNothing s (schemes_of plan)
+planned_lossless s Third plan is = is.lossless
+planned_lossless s Bcnf plan is = is.lossless
+planned_lossless s Fourth plan is = is.lossless
+
+pub planned_join : (s : Schema) (form : Form) (plan : List AttrSet) → IsPlanInForm s form plan
+    → PassesCheckJoin s (schemes_of plan)
+planned_join s form plan is = join_passes s (schemes_of plan) (planned_lossless s form plan is)
+
+pub third_keeps : (s : Schema) (plan : List AttrSet) → IsThirdFormPlan s plan → PassesCheckKeeps s (schemes_of plan)
+third_keeps s plan is response (inl (keeps, says)) = says
+third_keeps s plan is response (inr (lost, found)) = absurd (lost is.keeps)
+
+-- ---- wide splits
+pub wide_form : (s : Schema) (plan : List AttrSet) → IsWideSplit s plan → PassesCheckForm s Bcnf (schemes_of plan)
+wide_form s plan is =
+    form_passes s Bcnf (schemes_of plan)
+    (λ other. plan_all (λ (x : Attributes). IsSubset x (below (width_of s))) is.split.all plan is.split.kept
+    (schema_parts s is.split.all is.split.split).within)
+    is.bcnf
+
+pub wide_join : (s : Schema) (plan : List AttrSet) → IsWideSplit s plan → PassesCheckJoin s (schemes_of plan)
+wide_join s plan is = join_passes s (schemes_of plan) is.lossless
+
+-- ---- tableaux
+pub functional_small : (s : Schema) (plan : List Attributes)
+    → ((x y : Attributes) → Contains (theory_of s) (mvd x y) → ⊥) → length plan ≤ MOST_TABLEAU_ROWS
+    → IsTooLarge s plan → ⊥
+functional_small s plan functional short =
+    functional_within_limit (width_of s) (theory_of s) plan MOST_TABLEAU_ROWS functional short
+
+pub wide_small : (s : Schema) (plan : List AttrSet) → ((x y : Attributes) → Contains (theory_of s) (mvd x y) → ⊥)
+    → IsWideSplit s plan → IsTooLarge s (schemes_of plan) → ⊥
+wide_small s plan functional is =
+    functional_small s (schemes_of plan) functional
+    (omega (arith, length-map plan attributes, is.within_limit, s.valid.names_within_limit))

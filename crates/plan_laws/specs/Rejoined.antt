@@ -1,0 +1,30 @@
+-- The tables of a migration joined again: for the laws of `rejoined`. `Desk` does not cite it.
+use Rattle.std.specs.Prelude.{◌≡◌, ◌⊎◌, ℕ, List}
+use Rattle.attr_sets.specs.Attributes.{Attributes}
+use Rattle.csv_migrate.specs.Migration.{relations_of}
+use Rattle.csv_text.specs.Rows.{rows_text}
+use Rattle.dep_model.specs.Schemas.{names_of, width_of, theory_of}
+use Rattle.dep_model.specs.Tuples.{Relation, SameRelation}
+use Rattle.dep_model.specs.declared.schema.Schema.{Schema}
+use Rattle.design_order.specs.Order.{IsInDesignOrder}
+use Rattle.named_tables.specs.Tables.{TableValue}
+use Rattle.table_join.specs.Answers.{IsOnceEach}
+use Rattle.table_join.specs.Tables.{PartialRelation, plan_of_tables, rows_of_tables}
+use Rattle.table_join.specs.declared.refusal.JoinRefusal.TheVariants.{TooManyRows}
+use Rattle.desk_responses.specs.declared.status.Status.TheVariants.{Yes, Refused}
+use Rattle.desk_responses.specs.ResponseValues.{ResponseValue, Says}
+use Rattle.desk_tables.specs.Rejoining.{JoinsTables, join_refusal_text}
+
+-- parts have the rows of the tables of a migration, over the schemes of its plan in the order of a design
+pub record HaveRowsOf (schema : Schema) (plan : List Attributes) (tables : List TableValue)
+    (parts : List PartialRelation) : Type 0 where
+  pub order : IsInDesignOrder (width_of schema) (theory_of schema) plan (plan_of_tables parts)
+  pub rows : rows_of_tables parts ≡ relations_of tables
+
+-- `rejoin` of parts gives a relation, each of its tuples once, or refuses a join of too many tuples
+abbrev pub GivesTheRows : Schema → List PartialRelation → Relation → Type 0
+GivesTheRows schema parts rows =
+    (response : ResponseValue) → JoinsTables schema parts response
+    → ((found : Relation) × SameRelation found rows × IsOnceEach found
+    × Says Yes (rows_text (names_of schema) found) response)
+    ⊎ ((k : ℕ) × Says Refused (join_refusal_text (names_of schema) (TooManyRows k)) response)

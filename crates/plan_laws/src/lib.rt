@@ -1,0 +1,23 @@
+//! Laws of plans: what one command gives, another accepts, and gives again.
+//!
+//! Each law is a function that does nothing, whose clause is the law; so the gate asks for its proof.
+#![tactic(auto)]
+
+mod designed;
+mod passing;
+mod rejoined;
+mod unique;
+
+pub use designed::{
+    migrated_tables_are_designed, migrated_tables_have_different_names,
+    migrated_tables_obey_the_design, tables_of_a_form_are_designed,
+};
+pub use passing::{
+    functional_plans_are_small, plans_in_form_pass, split_plans_are_narrow, synthesized_plans_keep,
+    wide_splits_pass,
+};
+pub use rejoined::migrated_tables_are_rejoined;
+pub use unique::{
+    one_answer_of_check_form, one_answer_of_check_join, one_answer_of_check_keeps,
+    one_answer_of_synthesize, one_plan_in_form, one_split_plan,
+};

@@ -1,0 +1,60 @@
+//! The plans that commands give pass the commands that test plans.
+
+ghost use Rattle.std.specs.Prelude.{◌≡◌, ◌≤◌, List, All, Contains, length};
+ghost use Rattle.attr_sets.specs.Attributes.{Attributes};
+ghost use Rattle.attr_sets.specs.declared.set.AttrSet.{AttrSet};
+ghost use Rattle.dep_model.specs.Dependencies.{mvd};
+ghost use Rattle.dep_model.specs.Plans.{schemes_of};
+ghost use Rattle.dep_model.specs.Schemas.{theory_of};
+ghost use Rattle.dep_model.specs.declared.schema.Schema.{Schema};
+ghost use Rattle.normal_forms.specs.Chosen.{IsWide};
+ghost use Rattle.normal_forms.specs.declared.forms.Form.{Form};
+ghost use Rattle.normal_forms.specs.declared.forms.Form.TheVariants as forms;
+ghost use Rattle.desk_designs.specs.declared.join.TheConstants.{MOST_TABLEAU_ROWS};
+ghost use Rattle.desk_designs.specs.Decompositions.{IsPlanInForm, IsSplitInForm, IsWideSplit};
+ghost use Rattle.desk_designs.specs.Joins.{IsTooLarge};
+ghost use Rattle.desk_designs.specs.Synthesis.{IsThirdFormPlan};
+ghost use Rattle.plan_laws.specs.Passing.{PassesCheckForm, PassesCheckJoin, PassesCheckKeeps};
+
+/// The plan of a normal form, which `synthesize` and `split` print and other commands take, passes
+/// `check form` of that form, and `check join`.
+pub fn plans_in_form_pass()
+    ensures form { (schema : Schema) (form : Form) (plan : List AttrSet) → IsPlanInForm schema form plan
+        → PassesCheckForm schema form (schemes_of plan) }
+    ensures join { (schema : Schema) (form : Form) (plan : List AttrSet) → IsPlanInForm schema form plan
+        → PassesCheckJoin schema (schemes_of plan) }
+{}
+
+/// The plan of third normal form passes `check keeps`.
+pub fn synthesized_plans_keep()
+    ensures law { (schema : Schema) (plan : List AttrSet) → IsThirdFormPlan schema plan
+        → PassesCheckKeeps schema (schemes_of plan) }
+{}
+
+/// The plan of a split in Boyce-Codd or fourth form has no scheme of more attributes than are tested, so
+/// that `check form` never refuses it; one in fourth form passes `check form bcnf` too.
+pub fn split_plans_are_narrow()
+    ensures narrow { (schema : Schema) (form : Form) (plan : List AttrSet) → IsSplitInForm schema form plan
+        → All (λ scheme. IsWide scheme → ⊥) (schemes_of plan) }
+    ensures fourth { (schema : Schema) (plan : List AttrSet) → IsSplitInForm schema forms.Fourth plan
+        → PassesCheckForm schema forms.Bcnf (schemes_of plan) }
+{}
+
+/// The plan of `split wide-bcnf` passes `check form bcnf` and `check join`.
+pub fn wide_splits_pass()
+    ensures form { (schema : Schema) (plan : List AttrSet) → IsWideSplit schema plan
+        → PassesCheckForm schema forms.Bcnf (schemes_of plan) }
+    ensures join { (schema : Schema) (plan : List AttrSet) → IsWideSplit schema plan
+        → PassesCheckJoin schema (schemes_of plan) }
+{}
+
+/// Where no dependency is multivalued, `check join` refuses no plan of at most as many schemes as a
+/// tableau may have rows; so it never refuses the plan of `split wide-bcnf`.
+pub fn functional_plans_are_small()
+    ensures law { (schema : Schema) (plan : List Attributes)
+        → ((x y : Attributes) → Contains (theory_of schema) (mvd x y) → ⊥) → length plan ≤ MOST_TABLEAU_ROWS
+        → IsTooLarge schema plan → ⊥ }
+    ensures wide { (schema : Schema) (plan : List AttrSet)
+        → ((x y : Attributes) → Contains (theory_of schema) (mvd x y) → ⊥) → IsWideSplit schema plan
+        → IsTooLarge schema (schemes_of plan) → ⊥ }
+{}

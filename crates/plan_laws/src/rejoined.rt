@@ -1,0 +1,21 @@
+//! The tables that `migrate` makes of rows, `rejoin` joins to the rows.
+
+ghost use Rattle.std.specs.Prelude.{List};
+ghost use Rattle.attr_sets.specs.Attributes.{Attributes};
+ghost use Rattle.dep_model.specs.Schemas.{LegalFor};
+ghost use Rattle.dep_model.specs.Tuples.{Relation};
+ghost use Rattle.dep_model.specs.declared.schema.Schema.{Schema};
+ghost use Rattle.named_tables.specs.Tables.{TableValue};
+ghost use Rattle.table_join.specs.Tables.{PartialRelation};
+ghost use Rattle.desk_designs.specs.Joins.{LosesNothing};
+ghost use Rattle.desk_tables.specs.Migrations.{AreTablesOf};
+ghost use Rattle.plan_laws.specs.Rejoined.{HaveRowsOf, GivesTheRows};
+
+/// Of the tables that `migrate` makes of legal rows by a plan that loses nothing, `rejoin` gives the rows, each
+/// once, or refuses a join of too many.
+pub fn migrated_tables_are_rejoined()
+    ensures law { (schema : Schema) (plan : List Attributes) (rows : Relation) (tables : List TableValue)
+        (parts : List PartialRelation) → LosesNothing schema plan → LegalFor schema rows
+        → AreTablesOf schema plan rows tables → HaveRowsOf schema plan tables parts
+        → GivesTheRows schema parts rows }
+{}

@@ -1,0 +1,57 @@
+//! What a schema and a plan determine is one: the plan in a form, and the answers of `synthesize`,
+//! `check form`, `check join` and `check keeps`.
+
+ghost use Rattle.std.specs.Prelude.{◌≡◌, List};
+ghost use Rattle.attr_sets.specs.Attributes.{Attributes};
+ghost use Rattle.attr_sets.specs.declared.set.AttrSet.{AttrSet};
+ghost use Rattle.dep_model.specs.Plans.{IsPlan, schemes_of};
+ghost use Rattle.dep_model.specs.Schemas.{width_of};
+ghost use Rattle.dep_model.specs.declared.schema.Schema.{Schema};
+ghost use Rattle.normal_forms.specs.declared.forms.Form.{Form};
+ghost use Rattle.normal_forms.specs.declared.forms.Form.TheVariants as forms;
+ghost use Rattle.desk_designs.specs.Decompositions.{IsPlanInForm, IsSplitInForm, IsWideSplit};
+ghost use Rattle.desk_designs.specs.Joins.{JudgesJoin};
+ghost use Rattle.desk_designs.specs.Keeping.{JudgesKeeping};
+ghost use Rattle.desk_designs.specs.NormalForms.{JudgesForm};
+ghost use Rattle.desk_designs.specs.Synthesis.{Synthesizes};
+ghost use Rattle.desk_responses.specs.ResponseValues.{ResponseValue};
+
+/// A schema has one plan of `split` in a form, and one of `split wide-bcnf`.
+pub fn one_split_plan()
+    ensures form { (schema : Schema) (form : Form) (plan other : List AttrSet) → (form ≡ forms.Third → ⊥)
+        → IsSplitInForm schema form plan → IsSplitInForm schema form other → schemes_of plan ≡ schemes_of other }
+    ensures wide { (schema : Schema) (plan other : List AttrSet) → IsWideSplit schema plan
+        → IsWideSplit schema other → schemes_of plan ≡ schemes_of other }
+{}
+
+/// A schema has one plan of third form, the grouped one; so one plan in each form.
+pub fn one_plan_in_form()
+    ensures law { (schema : Schema) (form : Form) (plan other : List AttrSet) → IsPlanInForm schema form plan
+        → IsPlanInForm schema form other → schemes_of plan ≡ schemes_of other }
+{}
+
+/// `synthesize` has one answer to a schema.
+pub fn one_answer_of_synthesize()
+    ensures law { (schema : Schema) (one other : ResponseValue) → Synthesizes schema one
+        → Synthesizes schema other → one ≡ other }
+{}
+
+/// `check form` has one answer to a schema, a form and a plan.
+pub fn one_answer_of_check_form()
+    ensures law { (schema : Schema) (form : Form) (plan : List Attributes) (one other : ResponseValue)
+        → IsPlan (width_of schema) plan → JudgesForm schema form plan one → JudgesForm schema form plan other
+        → one ≡ other }
+{}
+
+/// `check join` has one answer to a schema and a plan.
+pub fn one_answer_of_check_join()
+    ensures law { (schema : Schema) (plan : List Attributes) (one other : ResponseValue)
+        → JudgesJoin schema plan one → JudgesJoin schema plan other → one ≡ other }
+{}
+
+/// `check keeps` has one answer to a schema and a plan; so the losses of a plan are one list, each with
+/// one pair of tuples.
+pub fn one_answer_of_check_keeps()
+    ensures law { (schema : Schema) (plan : List Attributes) (one other : ResponseValue)
+        → JudgesKeeping schema plan one → JudgesKeeping schema plan other → one ≡ other }
+{}

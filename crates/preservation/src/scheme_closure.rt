@@ -1,0 +1,89 @@
+ghost use Rattle.std.specs.Prelude.{◌≡◌, All, IfOk};
+ghost use Rattle.attr_sets.specs.Attributes.{IsSubset, intersection};
+ghost use Rattle.attr_sets.specs.Sets.{attributes};
+ghost use Rattle.dep_model.specs.Schemas.{width_of, theory_of, universe_of};
+ghost use Rattle.fd_closure.specs.Counting.{switches_of};
+ghost use Rattle.preservation.specs.SchemeClosures.{IsSchemeClosure, schemes_of_closures, AreAllOn};
+
+use attr_sets::AttrSet;
+use dep_model::{OutOfMemory, Schema};
+use fd_closure::{Counters, closure_with};
+use std::alloc::Global;
+
+/// What a part of a scheme determines inside it.
+///
+/// Any part between the two determines the same, so it is found anew only for others.
+#[derive(Clone, Copy, Debug)]
+pub struct SchemeClosure {
+    pub scheme: AttrSet,
+    pub part: AttrSet,
+    pub closed: AttrSet,
+}
+
+/// What nothing determines inside each scheme of a plan.
+pub fn scheme_closures(
+    alloc: Global,
+    schema: &Schema,
+    counters: &mut Counters,
+    schemes: &[AttrSet],
+) -> Result<Vec<SchemeClosure>, OutOfMemory>
+    requires on { AreAllOn schema.now counters.old }
+    requires schemes { All (λ scheme. IsSubset (attributes scheme)
+        (universe_of schema.now)) schemes.now }
+    ensures known { IfOk result (λ v. All (IsSchemeClosure (width_of schema.now) (theory_of schema.now)) v.items) }
+    ensures schemes { IfOk result (λ v. schemes_of_closures v.items ≡ schemes.now) }
+    ensures switches { switches_of counters.new ≡ switches_of counters.old }
+{
+    let mut closures = Vec::with_capacity(alloc, schemes.len())?;
+    for scheme in schemes {
+        closures.push(closure_within(schema, counters, *scheme, AttrSet::empty()))?;
+    }
+    Ok(closures)
+}
+
+// What a part determines inside a scheme.
+fn closure_within(
+    schema: &Schema,
+    counters: &mut Counters,
+    scheme: AttrSet,
+    part: AttrSet,
+) -> SchemeClosure
+    requires on { AreAllOn schema.now counters.old }
+    requires scheme { IsSubset (attributes scheme) (universe_of schema.now) }
+    requires part { IsSubset (attributes part) (attributes scheme) }
+    ensures known { IsSchemeClosure (width_of schema.now) (theory_of schema.now) result }
+    ensures scheme { result.scheme ≡ scheme }
+    ensures part { result.part ≡ part }
+    ensures switches { switches_of counters.new ≡ switches_of counters.old }
+{
+    let closed = closure_with(counters, schema.deps(), part).intersection(scheme);
+    SchemeClosure {
+        scheme,
+        part,
+        closed,
+    }
+}
+
+/// What some part of a set determines inside a scheme, where the set has no more of the scheme.
+pub fn closure_covering(
+    schema: &Schema,
+    counters: &mut Counters,
+    closure: SchemeClosure,
+    closed: AttrSet,
+) -> SchemeClosure
+    requires on { AreAllOn schema.now counters.old }
+    requires known { IsSchemeClosure (width_of schema.now) (theory_of schema.now) closure }
+    ensures known { IsSchemeClosure (width_of schema.now) (theory_of schema.now) result }
+    ensures scheme { result.scheme ≡ closure.scheme }
+    ensures part { IsSubset (attributes result.part) (attributes closed) }
+    ensures covers { IsSubset (intersection (attributes closed) (attributes closure.scheme))
+        (attributes result.closed) }
+    ensures switches { switches_of counters.new ≡ switches_of counters.old }
+{
+    let part = closed.intersection(closure.scheme);
+    if closure.part.is_subset(part) && part.is_subset(closure.closed) {
+        closure
+    } else {
+        closure_within(schema, counters, closure.scheme, part)
+    }
+}
