@@ -6,11 +6,11 @@ ghost use Rattle.desk_words.specs.Forms as forms;
 
 use crate::command::Command;
 use crate::questions::{PlanQuestion, RowsQuestion, Task};
-use crate::shapes::{normal_form, over};
+use crate::shapes::{normal_form, over, schema_and_plan, schema_and_rows};
 use desk_outside::Argument;
 
 /// After `check`.
-#[tactic(auto, unfolding(crate::specs::Forms::after_check, crate::specs::Forms::schema_and_two, crate::specs::Forms::schema_and_rows, crate::specs::Forms::schema_and_plan, crate::specs::Forms::two_schemas))]
+#[tactic(auto, unfolding(crate::specs::Forms::after_check))]
 pub fn after_check(words: &[Argument]) -> Option<Command<'_>>
     ensures form { option_map command_form result ≡ forms.after_check words.now }
 {
@@ -18,84 +18,64 @@ pub fn after_check(words: &[Argument]) -> Option<Command<'_>>
         return None;
     };
     if what.bytes() == b"proof".as_slice() {
-        let [schema, file, goal] = rest else {
-            return None;
-        };
-        return over(schema, Task::CheckProof { file, goal });
+        return after_check_proof(rest);
     }
     if what.bytes() == b"rows".as_slice() {
-        let [schema, file] = rest else {
-            return None;
-        };
-        return over(
-            schema,
-            Task::OfRows {
-                file,
-                question: RowsQuestion::CheckRows,
-            },
-        );
+        return schema_and_rows(RowsQuestion::CheckRows, rest);
     }
     if what.bytes() == b"join".as_slice() {
-        let [schema, plan] = rest else {
-            return None;
-        };
-        return over(
-            schema,
-            Task::OfPlan {
-                plan,
-                question: PlanQuestion::CheckJoin,
-            },
-        );
+        return schema_and_plan(PlanQuestion::CheckJoin, rest);
     }
     if what.bytes() == b"form".as_slice() {
         return after_check_form(rest);
     }
     if what.bytes() == b"keeps".as_slice() {
-        let [schema, plan] = rest else {
-            return None;
-        };
-        return over(
-            schema,
-            Task::OfPlan {
-                plan,
-                question: PlanQuestion::CheckKeeps,
-            },
-        );
+        return schema_and_plan(PlanQuestion::CheckKeeps, rest);
     }
     if what.bytes() == b"same".as_slice() {
-        let [schema, other] = rest else {
-            return None;
-        };
-        return over(
-            schema,
-            Task::CheckSame {
-                file: schema,
-                other,
-            },
-        );
+        return after_check_same(rest);
     }
     None
 }
 
+// A schema, a certificate and a goal.
+#[tactic(auto, unfolding(crate::specs::Forms::schema_and_two))]
+fn after_check_proof(words: &[Argument]) -> Option<Command<'_>>
+    ensures form { option_map command_form result ≡ forms.schema_and_two forms.check_proof words.now }
+{
+    match words {
+        [schema, file, goal] => over(schema, Task::CheckProof { file, goal }),
+        _ => None,
+    }
+}
+
 // After `check form`.
-#[tactic(auto, unfolding(crate::specs::Forms::after_check_form, crate::specs::Forms::schema_and_plan))]
+#[tactic(auto, unfolding(crate::specs::Forms::after_check_form))]
 fn after_check_form(words: &[Argument]) -> Option<Command<'_>>
     ensures form { option_map command_form result ≡ forms.after_check_form words.now }
 {
     let [what, rest @ ..] = words else {
         return None;
     };
-    let Some(form) = normal_form(what) else {
-        return None;
-    };
-    let [schema, plan] = rest else {
-        return None;
-    };
-    over(
-        schema,
-        Task::OfPlan {
-            plan,
-            question: PlanQuestion::CheckForm { form },
-        },
-    )
+    match normal_form(what) {
+        Some(form) => schema_and_plan(PlanQuestion::CheckForm { form }, rest),
+        None => None,
+    }
+}
+
+// Two schemas.
+#[tactic(auto, unfolding(crate::specs::Forms::two_schemas))]
+fn after_check_same(words: &[Argument]) -> Option<Command<'_>>
+    ensures form { option_map command_form result ≡ forms.two_schemas forms.check_same words.now }
+{
+    match words {
+        [schema, other] => over(
+            schema,
+            Task::CheckSame {
+                file: schema,
+                other,
+            },
+        ),
+        _ => None,
+    }
 }

@@ -37,7 +37,7 @@ pub enum Command<'a> {
 }
 
 /// The command that the words form, if they form one.
-#[tactic(auto, unfolding(crate::specs::Forms::form_of, crate::specs::Forms::word_alone, crate::specs::Forms::persons_alone))]
+#[tactic(auto, unfolding(crate::specs::Forms::form_of, crate::specs::Forms::word_alone))]
 pub fn parse(words: &[Argument]) -> Option<Command<'_>>
     ensures form { option_map command_form result ≡ forms.form_of words.now }
 {

@@ -1,11 +1,11 @@
 //! What commands have in common: the words that stand after their own.
 
 ghost use Rattle.std.specs.Prelude.{◌≡◌, Some, option_map};
-ghost use Rattle.desk_words.specs.Commands.{command_form, schema_question, task_form};
+ghost use Rattle.desk_words.specs.Commands.{command_form, plan_question, rows_question, schema_question, task_form};
 ghost use Rattle.desk_words.specs.Forms as forms;
 
 use crate::command::Command;
-use crate::questions::{SchemaQuestion, Task};
+use crate::questions::{PlanQuestion, RowsQuestion, SchemaQuestion, Task};
 use desk_outside::Argument;
 use normal_forms::Form;
 
@@ -42,6 +42,30 @@ pub fn schema_alone<'a>(question: SchemaQuestion<'a>, words: &'a [Argument]) -> 
 {
     match words {
         [schema] => over(schema, Task::OfSchema { question }),
+        _ => None,
+    }
+}
+
+/// A schema and a plan.
+#[tactic(auto, unfolding(crate::specs::Forms::schema_and_plan))]
+pub fn schema_and_plan<'a>(question: PlanQuestion<'a>, words: &'a [Argument]) -> Option<Command<'a>>
+    ensures form { option_map command_form result
+        ≡ forms.schema_and_plan (plan_question question.entry) words.now }
+{
+    match words {
+        [schema, plan] => over(schema, Task::OfPlan { plan, question }),
+        _ => None,
+    }
+}
+
+/// A schema and rows.
+#[tactic(auto, unfolding(crate::specs::Forms::schema_and_rows))]
+pub fn schema_and_rows(question: RowsQuestion, words: &[Argument]) -> Option<Command<'_>>
+    ensures form { option_map command_form result
+        ≡ forms.schema_and_rows (rows_question question) words.now }
+{
+    match words {
+        [schema, file] => over(schema, Task::OfRows { file, question }),
         _ => None,
     }
 }

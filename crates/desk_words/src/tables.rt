@@ -6,7 +6,7 @@ ghost use Rattle.desk_words.specs.Forms as forms;
 
 use crate::command::{Command, MOST_FILES};
 use crate::questions::{PlanQuestion, RowsQuestion, SchemaQuestion, Task};
-use crate::shapes::{normal_form, over, schema_alone};
+use crate::shapes::{normal_form, over, schema_alone, schema_and_plan, schema_and_rows};
 use desk_outside::Argument;
 use normal_forms::Form;
 
@@ -54,7 +54,7 @@ pub fn after_split(words: &[Argument]) -> Option<Command<'_>>
 }
 
 /// After `ddl`.
-#[tactic(auto, unfolding(crate::specs::Forms::after_ddl, crate::specs::Forms::schema_and_plan))]
+#[tactic(auto, unfolding(crate::specs::Forms::after_ddl))]
 pub fn after_ddl(words: &[Argument]) -> Option<Command<'_>>
     ensures form { option_map command_form result ≡ forms.after_ddl words.now }
 {
@@ -62,16 +62,7 @@ pub fn after_ddl(words: &[Argument]) -> Option<Command<'_>>
         return None;
     };
     if what.bytes() == b"plan".as_slice() {
-        let [schema, plan] = rest else {
-            return None;
-        };
-        return over(
-            schema,
-            Task::OfPlan {
-                plan,
-                question: PlanQuestion::Ddl,
-            },
-        );
+        return schema_and_plan(PlanQuestion::Ddl, rest);
     }
     match normal_form(what) {
         Some(form) => schema_alone(SchemaQuestion::Ddl { form }, rest),
@@ -80,7 +71,7 @@ pub fn after_ddl(words: &[Argument]) -> Option<Command<'_>>
 }
 
 /// After `migrate`.
-#[tactic(auto, unfolding(crate::specs::Forms::after_migrate, crate::specs::Forms::schema_and_two, crate::specs::Forms::schema_and_rows))]
+#[tactic(auto, unfolding(crate::specs::Forms::after_migrate))]
 pub fn after_migrate(words: &[Argument]) -> Option<Command<'_>>
     ensures form { option_map command_form result ≡ forms.after_migrate words.now }
 {
@@ -88,24 +79,23 @@ pub fn after_migrate(words: &[Argument]) -> Option<Command<'_>>
         return None;
     };
     if what.bytes() == b"plan".as_slice() {
-        let [schema, plan, file] = rest else {
-            return None;
-        };
-        return over(schema, Task::MigratePlan { plan, file });
+        return after_migrate_plan(rest);
     }
-    let Some(form) = normal_form(what) else {
-        return None;
-    };
-    let [schema, file] = rest else {
-        return None;
-    };
-    over(
-        schema,
-        Task::OfRows {
-            file,
-            question: RowsQuestion::Migrate { form },
-        },
-    )
+    match normal_form(what) {
+        Some(form) => schema_and_rows(RowsQuestion::Migrate { form }, rest),
+        None => None,
+    }
+}
+
+// A schema, a plan and rows.
+#[tactic(auto, unfolding(crate::specs::Forms::schema_and_two))]
+fn after_migrate_plan(words: &[Argument]) -> Option<Command<'_>>
+    ensures form { option_map command_form result ≡ forms.schema_and_two forms.migrate_plan words.now }
+{
+    match words {
+        [schema, plan, file] => over(schema, Task::MigratePlan { plan, file }),
+        _ => None,
+    }
 }
 
 /// A schema and from one to `MOST_FILES` files.
@@ -148,7 +138,7 @@ pub fn after_sql(words: &[Argument]) -> Option<Command<'_>>
 }
 
 // After `sql migrate`.
-#[tactic(auto, unfolding(crate::specs::Forms::after_sql_migrate, crate::specs::Forms::schema_and_plan_and_word, crate::specs::Forms::schema_and_word))]
+#[tactic(auto, unfolding(crate::specs::Forms::after_sql_migrate))]
 fn after_sql_migrate(words: &[Argument]) -> Option<Command<'_>>
     ensures form { option_map command_form result ≡ forms.after_sql_migrate words.now }
 {
@@ -156,33 +146,49 @@ fn after_sql_migrate(words: &[Argument]) -> Option<Command<'_>>
         return None;
     };
     if what.bytes() == b"plan".as_slice() {
-        let [schema, plan, name] = rest else {
-            return None;
-        };
-        return over(
+        return after_sql_migrate_plan(rest);
+    }
+    match normal_form(what) {
+        Some(form) => after_sql_migrate_form(form, rest),
+        None => None,
+    }
+}
+
+// A schema, a plan and the name of a table.
+#[tactic(auto, unfolding(crate::specs::Forms::schema_and_plan_and_word))]
+fn after_sql_migrate_plan(words: &[Argument]) -> Option<Command<'_>>
+    ensures form { option_map command_form result ≡ forms.schema_and_plan_and_word forms.sql_migrate_plan words.now }
+{
+    match words {
+        [schema, plan, name] => over(
             schema,
             Task::OfPlan {
                 plan,
                 question: PlanQuestion::SqlMigrate { name },
             },
-        );
+        ),
+        _ => None,
     }
-    let Some(form) = normal_form(what) else {
-        return None;
-    };
-    let [schema, name] = rest else {
-        return None;
-    };
-    over(
-        schema,
-        Task::OfSchema {
-            question: SchemaQuestion::SqlMigrate { form, name },
-        },
-    )
+}
+
+// A schema and the name of a table.
+#[tactic(auto, unfolding(crate::specs::Forms::schema_and_word))]
+fn after_sql_migrate_form(form: Form, words: &[Argument]) -> Option<Command<'_>>
+    ensures form { option_map command_form result ≡ forms.schema_and_word (forms.sql_migrate form) words.now }
+{
+    match words {
+        [schema, name] => over(
+            schema,
+            Task::OfSchema {
+                question: SchemaQuestion::SqlMigrate { form, name },
+            },
+        ),
+        _ => None,
+    }
 }
 
 /// After `draw`.
-#[tactic(auto, unfolding(crate::specs::Forms::after_draw, crate::specs::Forms::schema_and_plan))]
+#[tactic(auto, unfolding(crate::specs::Forms::after_draw))]
 pub fn after_draw(words: &[Argument]) -> Option<Command<'_>>
     ensures form { option_map command_form result ≡ forms.after_draw words.now }
 {
@@ -190,16 +196,7 @@ pub fn after_draw(words: &[Argument]) -> Option<Command<'_>>
         return None;
     };
     if what.bytes() == b"plan".as_slice() {
-        let [schema, plan] = rest else {
-            return None;
-        };
-        return over(
-            schema,
-            Task::OfPlan {
-                plan,
-                question: PlanQuestion::Draw,
-            },
-        );
+        return schema_and_plan(PlanQuestion::Draw, rest);
     }
     match normal_form(what) {
         Some(form) => schema_alone(SchemaQuestion::Draw { form }, rest),
