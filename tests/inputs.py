@@ -1,4 +1,5 @@
 """Large inputs of the black-box cases, each from few numbers."""
+import itertools
 
 
 def attributes(count, first="a"):
@@ -28,6 +29,13 @@ def doubling(count):
     pairs = [f"a{i} b{i}" for i in range(1, count + 1)]
     text = "attributes " + " ".join(pairs) + "\n"
     return text + lines(f"{' '.join(pairs[i:]) or '()'} -> a{i}" for i in range(1, count + 1))
+
+
+def any_five():
+    """A schema of 128 attributes: each five of the first 15 determine the next, and that one all others."""
+    fives = itertools.combinations(range(1, 16), 5)
+    return attributes(128) + lines(" ".join(f"a{i}" for i in five) + " -> a16" for five in fives) \
+        + f"a16 -> {names(128, begin=17)}\n"
 
 
 def ring(count):

@@ -54,6 +54,17 @@ class Maker:
             out.append(r.choice(out))
         return names, columns, out
 
+    def wide_schema(self, mvd):
+        """Many attributes, few of which stand in left sides."""
+        r = self.r
+        n = r.randint(17, 40)
+        used = sum(1 << a for a in r.sample(range(n), r.randint(1, 6)))
+        out = []
+        for _ in range(r.randint(1, 8)):
+            x = self.some(n, 6, 0) & used
+            out.append((MVD if r.random() < mvd else FD, x, self.some(n, r.choice((1, 2, 9)), 1)))
+        return [f"a{i + 1}" for i in range(n)], ["text"] * n, out
+
     def spelled(self, name):
         r = self.r.random()
         return name if r < .7 else name.lower() if r < .85 else name.upper()
@@ -310,8 +321,9 @@ def f_split(m):
 
 
 def wide(m, deps):
+    """A schema of up to 40 attributes with few of them in left sides, or, one time in eight, with more than are tried."""
     r = m.r
-    n = r.randint(19, 26)
+    n = r.randint(19, 40)
     names = [f"a{i}" for i in range(1, n + 1)]
     core = r.sample(range(n), r.randint(2, 7))
     out = []
@@ -319,6 +331,9 @@ def wide(m, deps):
         x = sum(1 << i for i in r.sample(core, r.randint(1, 2)))
         y = sum(1 << i for i in r.sample(range(n), r.randint(1, 9)))
         out.append((MVD if r.random() < .3 else FD, x, y))
+    if n > 20 and r.random() < .125:
+        x = sum(1 << i for i in r.sample(range(n), r.randint(18, n)))
+        out.append((MVD if r.random() < .3 else FD, x, 1 << r.randrange(n)))
     return names, ["text"] * n, out
 
 
@@ -330,6 +345,16 @@ def f_wide_split(m):
 def f_wide_form(m):
     s = wide(m, m.r.randint(0, 5))
     return ["check", "form", m.r.choice(model.FORMS), "s", "p"], {"s": m.schema_text(s), "p": m.plan_text(s[0], m.plan(len(s[0]), 1, 3))}
+
+
+def f_wide_keys(m):
+    s = wide(m, m.r.randint(0, 5))
+    return ["keys", "s"], {"s": m.schema_text(s)}
+
+
+def f_wide_keys_plan(m):
+    s = wide(m, m.r.randint(0, 5))
+    return ["keys", "s", "p"], {"s": m.schema_text(s), "p": m.plan_text(s[0], m.plan(len(s[0]), 1, 3))}
 
 
 def f_split_wide(m):
@@ -404,7 +429,7 @@ def f_sample(m):
 
 
 def f_exhibit(m):
-    s = m.schema(1, 7, mvd=0 if m.r.random() < .9 else .2)
+    s = m.schema(1, 7, mvd=0 if m.r.random() < .9 else .2) if m.r.random() < .7 else m.wide_schema(.05)
     return ["exhibit", "s"], {"s": m.schema_text(s)}
 
 
@@ -439,6 +464,16 @@ def f_basis(m):
     return ["basis", "s", side], {"s": m.schema_text(s)}
 
 
+def f_closure(m):
+    words, files = f_basis(m)
+    return ["closure", *words[1:]], files
+
+
+def f_key(m):
+    words, files = f_basis(m)
+    return ["check", "key", *words[1:]], files
+
+
 def f_same(m):
     r = m.r
     names, columns, deps = m.schema(1, 5)
@@ -464,6 +499,21 @@ def f_same(m):
                                          "o": m.schema_text((spelled, ["text"] * len(spelled), others))}
 
 
+def f_check_cover(m):
+    """A schema beside what is said of it by a cover, which may be spoilt."""
+    r = m.r
+    s = m.schema(1, 5)
+    text = m.schema_text(s)
+    words, files = f_same(m)
+    if r.random() < .5:
+        cover = model.run(["cover", "s"], {"s": text}).text
+        lines = cover.split(b"\n")
+        if r.random() < .5 and len(lines) > 3:
+            lines.insert(r.randrange(2, len(lines)), lines[r.randrange(1, len(lines) - 1)])
+        files = {"s": text, "o": b"\n".join(lines)}
+    return ["check", "cover", "s", "o"], files
+
+
 TABLES = ["t", "orders", "public.addresses", "a.b.c", "a.b.c.d", "joined", "main.Joined", "x.T12", "t1x", "joined.t", "_x", "1x", "a..b",
           "", ".", "a b", 'a"b', "a;b", "t_1", "T", "x" * 63, "x" * 64, "é", "t0", "a.t", "select"]
 
@@ -481,7 +531,7 @@ def f_sql(m):
 
 
 ALL_WORDS = ["implies", "keys", "cover", "synthesize", "split", "bcnf", "4nf", "3nf", "wide-bcnf", "ddl", "plan", "check", "proof", "join", "form",
-             "rows", "same", "keeps", "migrate", "sample", "exhibit", "discover", "rejoin", "basis", "sql", "draw", "help", "--help", "-h", "--version",
+             "rows", "same", "keeps", "migrate", "sample", "exhibit", "discover", "rejoin", "basis", "closure", "key", "sql", "draw", "help", "--help", "-h", "--version",
              "s", "p", "r", "A -> B", "1", "missing", "", "Keys", "table"]
 
 

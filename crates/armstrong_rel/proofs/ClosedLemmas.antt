@@ -78,7 +78,7 @@ module _ (n : ℕ) (ds : List Dependency) where
   }
 
   -- ---- one attribute more
-  with_more : (c d : Attributes) (a : ℕ) → IsSubset c d → d a ≡ true → IsSubset (union c (only a)) d
+  pub with_more : (c d : Attributes) (a : ℕ) → IsSubset c d → d a ≡ true → IsSubset (union c (only a)) d
   with_more c d a inside member k m = elim (cases_eq k a) [
     | inl same ↦ ap d same ∙ member
     | inr other ↦ inside k (grind (arith, nat_tests, m, other))

@@ -9,7 +9,6 @@ use Rattle.attr_sets.specs.Attributes.{Attributes, below, intersection, IsSubset
 use Rattle.attr_sets.proofs.AttributesLemmas.{tell_subset, same_at}
 use Rattle.dep_model.specs.declared.column_type.ColumnType.{ColumnType}
 use Rattle.dep_model.specs.declared.column_type.ColumnType.TheVariants.{Integer}
-use Rattle.attr_sets.specs.Sets.{attributes}
 use Rattle.dep_model.specs.declared.schema.Schema.{Schema}
 use Rattle.dep_model.specs.Schemas.{width_of, types_of, theory_of, deps_of, LegalFor, TypedFor}
 use Rattle.dep_model.specs.Columns.{IsTyped}

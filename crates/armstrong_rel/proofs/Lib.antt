@@ -1,8 +1,11 @@
 pub mod KindLemmas
-pub mod NumberLemmas
 pub mod ClosedLemmas
-pub mod IntersectionLemmas
+pub mod KnownLemmas
+pub mod PartLemmas
+pub mod SharedLemmas
+pub mod PermutationLemmas
 pub mod FoundLemmas
 pub mod TupleLemmas
 pub mod ExactLemmas
+pub mod ExhibitLemmas
 pub mod OneExhibit

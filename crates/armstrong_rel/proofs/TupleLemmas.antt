@@ -34,6 +34,14 @@ pub value_outside : (n number : ℕ) (x : Attributes) (k : ℕ) → k < n → x 
 value_outside n number x k low outside = value_at-numbered_tuple n number x k low
     ∙ ap (λ (b : Bool). cond b zero_text (decimal number)) outside
 
+-- how many tuples there are
+pub length-numbered_from : (n number : ℕ) (sets : List Attributes) → length (numbered_from n number sets) ≡ length sets
+length-numbered_from n number [] = refl
+length-numbered_from n number (x ∷ later) = ap suc (length-numbered_from n (number + 1) later)
+
+pub length-tuples_for : (n : ℕ) (sets : List Attributes) → length (tuples_for n sets) ≡ length sets + 1
+length-tuples_for n sets = omega (arith, length-numbered_from n 1 sets)
+
 -- the tuple of all `0` is one too
 pub zeros_numbered : (n : ℕ) → all_zeros n ≡ numbered_tuple n 0 (below n)
 zeros_numbered n = same_lists (all_zeros n) (numbered_tuple n 0 (below n))

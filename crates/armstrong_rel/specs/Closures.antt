@@ -1,25 +1,21 @@
--- The closures of all sets of attributes, as a table: for the functions of armstrong_rel and its
--- law on irreducible sets. `Desk` does not cite it.
-use Rattle.std.specs.Prelude.{◌≡◌, ℕ, ◌<◌, ◌↔◌, true, false, List, length, slice_index_or}
+-- Closures of sets of attributes: for the functions of armstrong_rel and its law on irreducible sets.
+-- `Desk` does not cite it.
+use Rattle.std.specs.Prelude.{◌≡◌, ℕ, ◌<◌, ◌↔◌, true, false, List}
 use Rattle.attr_sets.specs.Attributes.{Attributes, only, union}
 use Rattle.attr_sets.specs.Sets.{attributes}
-use Rattle.attr_sets.specs.declared.set.AttrSet.{AttrSet}
+use Rattle.dep_model.specs.declared.schema.Schema.{Schema}
 use Rattle.dep_model.specs.Dependencies.{Dependency}
 use Rattle.dep_model.specs.Keys.{InClosure}
-
--- the set with this number
-abbrev pub set_at : ℕ → AttrSet
-set_at number = record { 0 = number }
+use Rattle.dep_model.specs.Schemas.{width_of, theory_of}
+use Rattle.armstrong_rel.specs.declared.closures.KnownClosure.{KnownClosure}
 
 -- c is the closure of x
 abbrev pub IsClosureOf : ℕ → List Dependency → Attributes → Attributes → Type 0
 IsClosureOf n ds x c = (a : ℕ) → (c a ≡ true) ↔ InClosure n ds x a
 
--- the closure of each set with a number below this one, by its number
-pub record AreClosures (n : ℕ) (ds : List Dependency) (count : ℕ) (table : List AttrSet) : Type 0 where
-  pub size : length table ≡ count
-  pub each : (number : ℕ) (c : AttrSet) → number < count
-      → IsClosureOf n ds (attributes (set_at number)) (attributes (slice_index_or table number c))
+-- what is kept with a set is its closure
+abbrev pub IsKnown : Schema → KnownClosure → Type 0
+IsKnown s known = IsClosureOf (width_of s) (theory_of s) (attributes known.of) (attributes known.closure)
 
 -- m is the intersection of the closures of x with each attribute outside it, one at a time; all of the
 -- universe where there is none

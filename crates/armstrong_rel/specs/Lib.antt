@@ -4,3 +4,5 @@ pub mod ClosedSets
 pub mod Exhibits
 pub mod Closures
 pub mod Refusals
+pub mod Parts
+pub mod Searching

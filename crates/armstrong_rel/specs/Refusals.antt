@@ -1,12 +1,15 @@
 -- Why a schema has no exhibit: for `exhibit` and the command of that name (`desk_cli/Exhibits`).
-use Rattle.std.specs.Prelude.{◌≡◌, ℕ, ◌<◌, true, Some, List, All, slice_get, take}
-use Rattle.attr_sets.specs.Attributes.{Attributes}
+use Rattle.std.specs.Prelude.{◌≡◌, ℕ, ◌<◌, ◌≤◌, true, Some, List, length, All, AllPairs, slice_get, take}
+use Rattle.attr_sets.specs.Attributes.{Attributes, IsBefore, count_below}
+use Rattle.attr_sets.specs.declared.set.TheConstants.{MOST_ATTRIBUTES}
 use Rattle.dep_model.specs.declared.schema.Schema.{Schema}
 use Rattle.dep_model.specs.Dependencies.{Dependency, mvd, is_fd, functional_part}
 use Rattle.dep_model.specs.Schemas.{width_of, theory_of}
+use Rattle.fd_closure.specs.LeftSides.{left_sides}
 use Rattle.armstrong_rel.specs.declared.refusal.ExhibitRefusal.{ExhibitRefusal}
-use Rattle.armstrong_rel.specs.declared.refusal.ExhibitRefusal.TheVariants.{NotFunctional, TooWide}
-use Rattle.armstrong_rel.specs.declared.refusal.TheConstants.{WIDEST_EXHIBITED}
+use Rattle.armstrong_rel.specs.declared.refusal.ExhibitRefusal.TheVariants.{NotFunctional, TooWide, TooManyRows}
+use Rattle.armstrong_rel.specs.declared.refusal.TheConstants.{WIDEST_EXHIBITED, MOST_EXHIBITED_ROWS}
+use Rattle.armstrong_rel.specs.ClosedSets.{IsIrreducible}
 
 -- dependency k, from 0, is the first multivalued one of a list
 pub record IsFirstMvd (ds : List Dependency) (k : ℕ) : Type 0 where
@@ -19,7 +22,23 @@ pub record IsFirstMvd (ds : List Dependency) (k : ℕ) : Type 0 where
 abbrev pub IsFunctional : Schema → Type 0
 IsFunctional s = functional_part (theory_of s) ≡ theory_of s
 
+-- more attributes than are exhibited stand in left sides
+abbrev pub IsTooWideToExhibit : Schema → Type 0
+IsTooWideToExhibit s = WIDEST_EXHIBITED < count_below (left_sides (theory_of s)) MOST_ATTRIBUTES
+
+-- so many irreducible closed sets, ascending and so all different, that with the row of all `0` a
+-- relation of them has more rows than an exhibit may have
+pub record AreTooMany (n : ℕ) (ds : List Dependency) (sets : List Attributes) : Type 0 where
+  pub each : All (IsIrreducible n ds) sets
+  pub ascending : AllPairs IsBefore sets
+  pub count : MOST_EXHIBITED_ROWS ≤ length sets
+
+-- a schema has so many
+abbrev pub HasTooManyRows : Schema → Type 0
+HasTooManyRows s = (sets : List Attributes) × AreTooMany (width_of s) (theory_of s) sets
+
 -- why a schema has no exhibit
 abbrev pub IsRefusedExhibit : Schema → ExhibitRefusal → Type 0
 IsRefusedExhibit s (NotFunctional dep) = IsFirstMvd (theory_of s) dep
-IsRefusedExhibit s TooWide = IsFunctional s × (WIDEST_EXHIBITED < width_of s)
+IsRefusedExhibit s TooWide = IsFunctional s × IsTooWideToExhibit s
+IsRefusedExhibit s TooManyRows = IsFunctional s × (IsTooWideToExhibit s → ⊥) × HasTooManyRows s

@@ -1,27 +1,56 @@
-ghost use Rattle.std.specs.Prelude.{◌≡◌, ◌≤◌, ◌^◌, IfOk, All};
-ghost use Rattle.attr_sets.specs.Attributes.{below};
-ghost use Rattle.dep_model.specs.Dependencies.{functional_part};
-ghost use Rattle.dep_model.specs.Deps.{dependencies_of, IsDepWithin};
-ghost use Rattle.armstrong_rel.specs.declared.refusal.TheConstants.{WIDEST_EXHIBITED};
-ghost use Rattle.armstrong_rel.specs.Closures.{AreClosures};
+ghost use Rattle.std.specs.Prelude.{IfOk, All};
+ghost use Rattle.attr_sets.specs.Attributes.{IsSubset};
+ghost use Rattle.attr_sets.specs.Sets.{attributes};
+ghost use Rattle.dep_model.specs.Schemas.{width_of, universe_of, theory_of};
+ghost use Rattle.armstrong_rel.specs.Closures.{IsClosureOf, IsKnown};
+ghost use Rattle.armstrong_rel.specs.Refusals.{IsFunctional};
 
-use crate::refusal::WIDEST_EXHIBITED;
 use attr_sets::AttrSet;
-use dep_model::{Dep, OutOfMemory};
+use dep_model::{OutOfMemory, Schema};
 use fd_closure::closure;
 use std::alloc::Global;
 
-// The closure of each set of attributes, by the number of the set: each is found once.
-pub fn closures(alloc: Global, deps: &[Dep], width: u8) -> Result<Vec<AttrSet>, OutOfMemory>
-    requires width { width ≤ WIDEST_EXHIBITED }
-    requires deps { All (IsDepWithin (below width)) deps.now }
-    requires functional { functional_part (dependencies_of deps.now) ≡ dependencies_of deps.now }
-    ensures closures { IfOk result (λ table.
-        AreClosures width (dependencies_of deps.now) (2 ^ width) table.items) }
+/// A set, and its closure.
+#[derive(Clone, Copy, Drop)]
+pub struct KnownClosure {
+    pub of: AttrSet,
+    pub closure: AttrSet,
+}
+
+// The closure of each subset of a set, in their order, so that each is found once.
+pub fn closures(
+    alloc: Global,
+    schema: &Schema,
+    whole: AttrSet,
+) -> Result<Vec<KnownClosure>, OutOfMemory>
+    requires functional { IsFunctional schema.now }
+    requires whole { IsSubset (attributes whole) (universe_of schema.now) }
+    ensures known { IfOk result (λ table. All (IsKnown schema.now) table.items) }
 {
     let mut table = Vec::new(alloc);
-    for number in 0..1u32 << width {
-        table.push(closure(deps, AttrSet(number as u128)))?;
+    let mut next = Some(AttrSet::empty());
+    while let Some(set) = next {
+        table.push(KnownClosure {
+            of: set,
+            closure: closure(schema.deps(), set),
+        })?;
+        next = set.next_subset(whole);
     }
     Ok(table)
+}
+
+// The closure of a set, by a table where the set stands there at a position. The position is a guess.
+pub fn closure_of(schema: &Schema, table: &[KnownClosure], set: AttrSet, position: usize) -> AttrSet
+    requires functional { IsFunctional schema.now }
+    requires set { IsSubset (attributes set) (universe_of schema.now) }
+    requires table { All (IsKnown schema.now) table.now }
+    ensures closure { IsClosureOf (width_of schema.now) (theory_of schema.now) (attributes set)
+        (attributes result) }
+{
+    if let Some(known) = table.get(position) {
+        if known.of == set {
+            return known.closure;
+        }
+    }
+    closure(schema.deps(), set)
 }

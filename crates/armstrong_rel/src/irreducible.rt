@@ -1,73 +1,144 @@
-ghost use Rattle.std.specs.Prelude.{◌≡◌, ◌<◌, ◌≤◌, ◌^◌, ◌↔◌, List, length, IsTrue, IfOk};
-ghost use Rattle.attr_sets.specs.Attributes.{below, IsSubset};
+ghost use Rattle.std.specs.Prelude.{◌≡◌, ℕ, ◌<◌, ◌≤◌, ◌↔◌, ◌++◌, ◌∷◌, [], true, length, All, IfOk, OnOk};
+ghost use Rattle.attr_sets.specs.Attributes.{IsSubset};
 ghost use Rattle.attr_sets.specs.Sets.{attributes};
-ghost use Rattle.dep_model.specs.Dependencies.{Dependency};
-ghost use Rattle.dep_model.specs.Plans.{schemes_of};
-ghost use Rattle.armstrong_rel.specs.declared.refusal.TheConstants.{WIDEST_EXHIBITED};
-ghost use Rattle.armstrong_rel.specs.ClosedSets.{IsIrreducible, AreIrreducible};
-ghost use Rattle.armstrong_rel.specs.Closures.{AreClosures, IsIntersectionBeyond, IsClosureOf};
+ghost use Rattle.dep_model.specs.Schemas.{width_of, universe_of, theory_of};
+ghost use Rattle.fd_closure.specs.LeftSides.{left_sides};
+ghost use Rattle.armstrong_rel.specs.declared.refusal.TheConstants.{MOST_EXHIBITED_ROWS};
+ghost use Rattle.armstrong_rel.specs.Closures.{IsKnown};
+ghost use Rattle.armstrong_rel.specs.Parts.{IsClosedPart, IsSharedBeyond, IsLacking};
+ghost use Rattle.armstrong_rel.specs.Refusals.{IsFunctional};
+ghost use Rattle.armstrong_rel.specs.Searching.{AreFound, AreFoundSets, HasPartBefore, HasPartUpTo};
 
+use crate::closures::{KnownClosure, closure_of, closures};
+use crate::refusal::MOST_EXHIBITED_ROWS;
 use attr_sets::AttrSet;
-use dep_model::OutOfMemory;
+use dep_model::{OutOfMemory, Schema};
 use std::alloc::Global;
 
-// The irreducible closed sets, ascending, by a table of the closures of all sets.
+// The irreducible closed sets, ascending: all of them, or as many as a relation has no rows for. Each is
+// found from what it has of the left sides.
 pub fn irreducible_sets(
     alloc: Global,
-    width: u8,
-    table: &[AttrSet],
+    schema: &Schema,
+    used: AttrSet,
 ) -> Result<Vec<AttrSet>, OutOfMemory>
-    requires width { width ≤ WIDEST_EXHIBITED }
-    requires table { length table.now ≡ 2 ^ width }
-    ensures irreducible { (ds : List Dependency) → AreClosures width ds (2 ^ width) table.now
-        → IfOk result (λ sets. AreIrreducible width ds (schemes_of sets.items)) }
+    requires functional { IsFunctional schema.now }
+    requires used { attributes used ≡ left_sides (theory_of schema.now) }
+    ensures sets { IfOk result (λ found.
+        AreFoundSets (width_of schema.now) (theory_of schema.now) found.items) }
 {
-    let mut sets = Vec::new(alloc);
-    for number in 0..table.len() {
-        let set = AttrSet(number as u128);
-        if is_irreducible(width, table, set) {
-            sets.push(set)?;
+    let table = closures(alloc, schema, used)?;
+    let mut found = Vec::new(alloc);
+    let mut position: usize = 0;
+    let mut next = Some(AttrSet::empty());
+    while let Some(part) = next {
+        add_sets_with(schema, used, &table, part, position, &mut found)?;
+        position = position.wrapping_add(1);
+        next = part.next_subset(used);
+    }
+    found.sort_unstable();
+    Ok(found)
+}
+
+// Adds the irreducible closed sets that have just this part of the left sides.
+fn add_sets_with(
+    schema: &Schema,
+    used: AttrSet,
+    table: &[KnownClosure],
+    part: AttrSet,
+    position: usize,
+    found: &mut Vec<AttrSet>,
+) -> Result<(), OutOfMemory>
+    requires functional { IsFunctional schema.now }
+    requires used { attributes used ≡ left_sides (theory_of schema.now) }
+    requires table { All (IsKnown schema.now) table.now }
+    requires part { IsSubset (attributes part) (left_sides (theory_of schema.now)) }
+    requires found { AreFound (width_of schema.now) (theory_of schema.now)
+        (HasPartBefore (theory_of schema.now) (attributes part)) found.old.items }
+    ensures found { OnOk result (AreFound (width_of schema.now) (theory_of schema.now)
+        (HasPartUpTo (theory_of schema.now) (attributes part)) found.new.items) }
+{
+    let closed = closure_of(schema, table, part, position);
+    if closed.intersection(used) != part {
+        return Ok(());
+    }
+    let shared = shared_beyond(schema, used, table, part, position);
+    add_lacking(schema, used, part, shared.difference(closed), found)
+}
+
+// The attributes that a part of the left sides determines with each further attribute of them.
+fn shared_beyond(
+    schema: &Schema,
+    used: AttrSet,
+    table: &[KnownClosure],
+    part: AttrSet,
+    position: usize,
+) -> AttrSet
+    requires functional { IsFunctional schema.now }
+    requires used { attributes used ≡ left_sides (theory_of schema.now) }
+    requires table { All (IsKnown schema.now) table.now }
+    requires part { IsSubset (attributes part) (left_sides (theory_of schema.now)) }
+    ensures shared { IsSharedBeyond (width_of schema.now) (theory_of schema.now) (attributes part)
+        (attributes result) }
+{
+    let mut shared = AttrSet::full(schema.width());
+    let mut step: usize = 1;
+    for attribute in 0..schema.width() {
+        if used.difference(part).contains(attribute) {
+            let more = part.with(attribute);
+            let closed = closure_of(schema, table, more, position.wrapping_add(step));
+            shared = shared.intersection(closed);
+        }
+        if used.contains(attribute) {
+            step = step.wrapping_mul(2);
         }
     }
-    Ok(sets)
+    shared
 }
 
-// Whether a set is closed, and not the intersection of the closures of itself with each attribute
-// outside it.
-fn is_irreducible(width: u8, table: &[AttrSet], set: AttrSet) -> bool
-    requires width { width ≤ WIDEST_EXHIBITED }
-    requires table { length table.now ≡ 2 ^ width }
-    requires set { IsSubset (attributes set) (below width) }
-    ensures irreducible { (ds : List Dependency) → AreClosures width ds (2 ^ width) table.now
-        → IsTrue result ↔ IsIrreducible width ds (attributes set) }
+// Adds the irreducible closed sets with a closed part of the left sides: for each attribute that the part
+// lacks and would determine with any further attribute, all attributes in no left side but that one.
+fn add_lacking(
+    schema: &Schema,
+    used: AttrSet,
+    part: AttrSet,
+    lacking: AttrSet,
+    found: &mut Vec<AttrSet>,
+) -> Result<(), OutOfMemory>
+    requires functional { IsFunctional schema.now }
+    requires used { attributes used ≡ left_sides (theory_of schema.now) }
+    requires part { IsSubset (attributes part) (left_sides (theory_of schema.now)) }
+    requires closed { IsClosedPart (width_of schema.now) (theory_of schema.now) (attributes part) }
+    requires lacking { (a : ℕ) → (attributes lacking a ≡ true)
+        ↔ IsLacking (width_of schema.now) (theory_of schema.now) (attributes part) a }
+    requires found { AreFound (width_of schema.now) (theory_of schema.now)
+        (HasPartBefore (theory_of schema.now) (attributes part)) found.old.items }
+    ensures found { OnOk result (AreFound (width_of schema.now) (theory_of schema.now)
+        (HasPartUpTo (theory_of schema.now) (attributes part)) found.new.items) }
 {
-    closure_of(width, table, set) == set && intersection_beyond(width, table, set) != set
-}
-
-// the intersection of the closures of a set with each attribute outside it.
-fn intersection_beyond(width: u8, table: &[AttrSet], set: AttrSet) -> AttrSet
-    requires width { width ≤ WIDEST_EXHIBITED }
-    requires table { length table.now ≡ 2 ^ width }
-    requires set { IsSubset (attributes set) (below width) }
-    ensures intersection { (ds : List Dependency) → AreClosures width ds (2 ^ width) table.now
-        → IsIntersectionBeyond width ds (attributes set) (attributes result) }
-{
-    let mut intersection = AttrSet::full(width);
-    for attribute in 0..width {
-        if !set.contains(attribute) {
-            intersection = intersection.intersection(closure_of(width, table, set.with(attribute)));
+    let rest = AttrSet::full(schema.width()).difference(used);
+    let whole = part.union(rest);
+    let lacking_rest = lacking.intersection(rest);
+    for attribute in 0..schema.width() {
+        if lacking_rest.contains(attribute) {
+            add_set(whole.without(attribute), found)?;
         }
     }
-    intersection
+    if lacking.intersects(used) {
+        add_set(whole, found)?;
+    }
+    Ok(())
 }
 
-// The closure of a set, by the table.
-fn closure_of(width: u8, table: &[AttrSet], set: AttrSet) -> AttrSet
-    requires width { width ≤ WIDEST_EXHIBITED }
-    requires table { length table.now ≡ 2 ^ width }
-    requires set { IsSubset (attributes set) (below width) }
-    ensures closure { (ds : List Dependency) → AreClosures width ds (2 ^ width) table.now
-        → IsClosureOf width ds (attributes set) (attributes result) }
+// Adds a set, where there are not as many as a relation has no rows for.
+fn add_set(set: AttrSet, found: &mut Vec<AttrSet>) -> Result<(), OutOfMemory>
+    ensures added { OnOk result (length found.old.items < MOST_EXHIBITED_ROWS
+        → found.new.items ≡ found.old.items ++ set ∷ []) }
+    ensures full { OnOk result (MOST_EXHIBITED_ROWS ≤ length found.old.items
+        → found.new.items ≡ found.old.items) }
 {
-    table[set.0 as usize]
+    if found.len() < MOST_EXHIBITED_ROWS {
+        found.push(set)?;
+    }
+    Ok(())
 }

@@ -7,6 +7,7 @@ ghost use Rattle.dep_model.specs.Dependencies.{Dependency, functional_part, IsWi
 ghost use Rattle.dep_model.specs.Tuples.{Relation};
 ghost use Rattle.armstrong_rel.specs.ClosedSets.{IsClosedSet, IsIrreducible, AreIrreducible};
 ghost use Rattle.armstrong_rel.specs.Closures.{IsIntersectionBeyond};
+ghost use Rattle.armstrong_rel.specs.Parts.{IsFilledPart};
 ghost use Rattle.armstrong_rel.specs.Exhibits.{tuples_for, IsArmstrong, IsExhibit};
 
 /// A closed set is irreducible exactly where it is not the intersection of the closures of itself with
@@ -15,6 +16,14 @@ pub fn irreducible_where_no_intersection()
     ensures law { (n : ℕ) (ds : List Dependency) (c m : Attributes) → All (IsWithin (below n)) ds
         → functional_part ds ≡ ds → IsClosedSet n ds c → IsIntersectionBeyond n ds c m
         → IsIrreducible n ds c ↔ (m ≡ c → ⊥) }
+{}
+
+/// The irreducible closed sets are, for some attribute, the largest closed sets without it: each is a
+/// closed part of the left sides that does not determine the attribute, and would with any further
+/// attribute of them, together with all other attributes in no left side.
+pub fn irreducible_by_left_sides()
+    ensures law { (n : ℕ) (ds : List Dependency) → All (IsWithin (below n)) ds → functional_part ds ≡ ds
+        → (c : Attributes) → IsIrreducible n ds c ↔ IsFilledPart n ds c }
 {}
 
 /// The relation of the irreducible closed sets obeys exactly the functional dependencies that are

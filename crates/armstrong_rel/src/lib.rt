@@ -15,4 +15,4 @@ mod refusal;
 mod rows;
 
 pub use exhibiting::exhibit;
-pub use refusal::{ExhibitRefusal, WIDEST_EXHIBITED};
+pub use refusal::{ExhibitRefusal, MOST_EXHIBITED_ROWS, WIDEST_EXHIBITED};

@@ -1,5 +1,5 @@
 -- The tables of a migration, and their join: for `tables`, and for `migrate` and `sample`
--- (`desk_cli/Migrations`).
+-- (`desk_tables/Migrations`).
 use Rattle.std.specs.Prelude.{ℕ, ◌+◌, ◌↔◌, List, [], ◌∷◌, map, Contains}
 use Rattle.attr_sets.specs.Attributes.{Attributes}
 use Rattle.attr_sets.specs.declared.set.AttrSet.{AttrSet}

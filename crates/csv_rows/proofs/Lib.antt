@@ -1,6 +1,7 @@
 pub mod RowLemmas
 pub mod RecordLemmas
 pub mod HeaderLemmas
+pub mod QuoteLemmas
 pub mod ReadingLemmas
 pub mod NumberingLemmas
 pub mod UniqueRows

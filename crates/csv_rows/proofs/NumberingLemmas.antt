@@ -13,7 +13,7 @@ use Rattle.std.proofs.lemmas.Option.{slice_get-map, slice_get_within, slice_get-
 use Rattle.attr_sets.specs.Attributes.{Attributes, IsSubset, below, intersection, only, union, none}
 use Rattle.dep_model.specs.Tuples.{Tuple, Relation, AgreeOn, value_at}
 use Rattle.indexmap.specs.IndexSet.{insert_key}
-use Rattle.csv_rows.specs.Numberings.{number_at, AreGroups, AreFirsts, AreNumbered, AreInOrder}
+use Rattle.csv_rows.specs.Numberings.{number_at, AreGroups, AreNumbered, AreInOrder}
 use Rattle.row_store.specs.Rows.{row_at}
 use Rattle.dep_model.proofs.TwoRowLemmas.{AgreeOn-union, AgreeOn-left, AgreeOn-right}
 use Rattle.std.specs.Prelude.{Contains}

@@ -1,12 +1,14 @@
 -- Printed rows: the records of the printed text, the columns of its header, and the rows.
-use Rattle.std.proofs.Common.{◌≡◌, ◌≢◌, ◌+◌, ◌<◌, ◌≤◌, ◌==◌, ◌&&◌, ◌||◌, ℕ, zero, suc, Bool, true, false, nat_lt, nat_eq, List, [], ◌∷◌, ◌++◌, length, map, Option, Some, None, Result, Ok, IsTrue, slice_index_or, get_or, refl, sym, ap, subst, ◌∙◌, arith}
+use Rattle.std.proofs.Common.{◌≡◌, ◌+◌, ◌<◌, ◌≤◌, ◌==◌, ◌&&◌, ◌||◌, ℕ, zero, suc, Bool, true, false, nat_lt, nat_eq, List, [], ◌∷◌, ◌++◌, length, map, Option, Some, None, Result, Ok, IsTrue, slice_index_or, get_or, refl, sym, ap, subst, ◌∙◌, arith}
 use Rattle.std.specs.Prelude.{All, AllPairs}
 use Rattle.std.specs.List.{slice_get, position_or_len, range_with_len, list_any}
 use Rattle.std.specs.Char.{is_ascii_alphabetic}
 use Rattle.std.proofs.Math.ListN.{get_or-map}
 use Rattle.std.proofs.lemmas.Bool.{false≢true}
 use Rattle.std.proofs.lemmas.Bool.Decides.{nat_tests}
-use Rattle.std.proofs.lemmas.List.{append_assoc, append-nil, length-append, length-map, ext_get_or}
+use Rattle.std.specs.List.{fold}
+use Rattle.std.proofs.lemmas.List.Sums.{fold-append}
+use Rattle.std.proofs.lemmas.List.{append_cancel_right, append_assoc, append-nil, length-append, length-map, ext_get_or}
 use Rattle.std.proofs.lemmas.List.FromFn.{length-range_with_len, get_or-range_with_len}
 use Rattle.std.proofs.lemmas.List.Sums.{position_or_len_is}
 use Rattle.attr_sets.specs.Attributes.{Attributes, IsSubset, below}
@@ -29,12 +31,15 @@ use Rattle.csv_rows.proofs.NumberingLemmas.{same_default}
 use Rattle.csv_rows.proofs.ReadingLemmas.{whole_count}
 use Rattle.csv_rows.proofs.RecordLemmas.{one_more, no_more}
 use Rattle.csv_rows.specs.Columns.{with_columns, column_of, columns_of_header, columns_from, IsHeaderOf, ◌>>=◌}
-use Rattle.csv_rows.specs.Reading.{value_of, tuple_of, RowOf, AreFirstRows, RowsOf, TableOf}
+use Rattle.csv_rows.specs.Reading.{value_of, tuple_of, ClosedRowOf, AreFirstRows, RowsOf, TableOf}
+use Rattle.csv_rows.specs.Quotes.{next_place, is_quoted, ends_within_quotes, open_record}
+use Rattle.csv_rows.specs.declared.quotes.Place.{Place}
+use Rattle.csv_rows.specs.declared.quotes.Place.TheVariants as place
+use Rattle.csv_rows.proofs.QuoteLemmas.{ended}
 use Rattle.csv_rows.specs.Records.{records_of}
 use Rattle.csv_text.specs.Rows.{rows_only, rows_text}
 use Rattle.csv_rows.specs.declared.reading.TheConstants.{MOST_ROWS}
 use Rattle.csv_rows.specs.declared.refusal.RowRefusal.{RowRefusal}
-use Rattle.csv_rows.specs.declared.refusal.RowRefusal.TheVariants as refusal
 use Rattle.attr_sets.proofs.AttributesLemmas.{same_at}
 
 -- ---- the records of the text
@@ -117,6 +122,28 @@ printed_records names rows not_empty proper wide =
     first : All (λ row. 0 < length row) rows → All (λ row. 0 < length row) (names ∷ rows)
     first all zero d h = not_empty
     first all (suc k) d h = all k d (omega (arith, h))
+
+-- ---- no quote of the text is open
+-- the bytes of a record that is read, up to the text after it, lead between two records
+row_closed : (row : List (List ℕ)) → fold next_place place.BetweenRecords (row_text default_writer row) ≡ place.BetweenRecords
+row_closed row =
+    let (before, all, end) = ended (row_text default_writer row ++ 10 ∷ []) st.StartRecord [] [] (read_back row, st.StartRecord, 10 ∷ []) tt
+    (read-write row (10 ∷ [])) (omega arith) in
+    ap (λ (t : List ℕ). fold next_place place.BetweenRecords t) (append_cancel_right (row_text default_writer row) before (10 ∷ []) all) ∙ end
+
+rows_closed : (rows : Relation) → fold next_place place.BetweenRecords (rows_only rows) ≡ place.BetweenRecords
+rows_closed [] = refl
+rows_closed (row ∷ rows) =
+    fold-append next_place place.BetweenRecords (row_text default_writer row) (rows_only rows)
+    ∙ ap (λ (p : Place). fold next_place p (rows_only rows)) (row_closed row) ∙ rows_closed rows
+
+pub printed_closed : (names : List (List ℕ)) (rows : Relation) → 0 < length names
+    → All (λ name. IsTrue (is_bare_name name)) names → open_record (rows_text names rows) ≡ None
+printed_closed names rows not_empty proper =
+    let none : ends_within_quotes (rows_text names rows) ≡ false =
+    ap (λ (t : List ℕ). is_quoted (fold next_place place.BetweenRecords t)) (text_unmarked names rows not_empty proper)
+    ∙ ap is_quoted (rows_closed (names ∷ rows)) in
+    rw none refl
 
 -- ---- the columns of the header
 range_push : (a n : ℕ) → range_with_len a (suc n) ≡ range_with_len a n ++ (a + n) ∷ []
@@ -217,7 +244,7 @@ tuple_is n t size =
 
 row_is : (s : Schema) (row : ℕ) (t : Tuple) → length t ≡ width_of s → row ≤ MOST_ROWS
     → ((k : ℕ) → slice_get (types_of s) k ≡ Some Integer → IsIntegerText (value_at t k))
-    → RowOf s (range_with_len 0 (width_of s)) row t (Ok t)
+    → ClosedRowOf s (range_with_len 0 (width_of s)) row t (Ok t)
 row_is s row t size within_limit typed =
     let n = width_of s in (
       (size ∙ sym (length-range_with_len 0 n), within_limit),
@@ -238,9 +265,11 @@ printed_back s rows proper over typed within_limit =
     let records : records_of (rows_text names rows) ≡ names ∷ rows =
     printed_records names rows s.valid.names_not_empty proper wide in
     let header : IsHeaderOf n names names (Ok columns) = (own_columns names s.valid.names_differ, all_named n) in
-    let first : AreFirstRows s columns rows rows = record {
+    let closed : open_record (rows_text names rows) ≡ None = printed_closed names rows s.valid.names_not_empty proper in
+    let first : AreFirstRows s columns None rows rows = record {
       within = omega arith;
       each =
           λ i less. row_is s (i + 1) (slice_index_or rows i []) (over i [] less) (omega (arith, less, within_limit)) (λ k integer. typed i [] less k integer);
     } in
-    subst (λ (rs : List (List (List ℕ))). TableOf s (IsHeaderOf n names) rs (Ok rows)) (sym records) (Ok columns, header, (first, refl))
+    subst (λ (rs : List (List (List ℕ))). TableOf s (IsHeaderOf n names) (open_record (rows_text names rows)) rs (Ok rows)) (sym records)
+    (subst (λ (o : Option ℕ). TableOf s (IsHeaderOf n names) o (names ∷ rows) (Ok rows)) (sym closed) (Ok columns, header, (first, refl)))

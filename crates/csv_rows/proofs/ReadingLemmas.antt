@@ -30,34 +30,42 @@ use Rattle.csv_rows.specs.declared.refusal.RowRefusal.{RowRefusal}
 use Rattle.csv_rows.specs.declared.refusal.RowRefusal.TheVariants as refusal
 use Rattle.csv_rows.specs.Records.{HasLeft, TakesRecord, records_of}
 use Rattle.csv_rows.specs.Columns.{with_columns, attribute_with_column, order_of, column_of, columns_from, columns_of_header, ◌>>=◌, IsHeader, IsHeaderOf}
-use Rattle.csv_rows.specs.Reading.{value_of, HasInteger, RowOf, RowAt, AreFirstRows, RowsUnder, TableOf, RowsOf, ReadsHeader, RefusesHeader}
+use Rattle.csv_rows.specs.Quotes.{open_record, is_open}
+use Rattle.csv_rows.specs.Reading.{value_of, HasInteger, ClosedRowOf, RowOf, HeaderOf, RowAt, AreFirstRows, RowsUnder, TableOf, RowsOf, PartOf, ReadsHeader, RefusesHeader}
 
 -- the first record is the header
-pub header_read : (s : Schema) (old new : Reader (Bor (List ℕ))) (fields : List (List ℕ)) (b : Bool) (r : Result Header (Failure RowRefusal)) (rs : List (List (List ℕ)))
-    → b ≡ true → TakesRecord b old new fields → HasLeft old rs
+pub header_read : (s : Schema) (unclosed : Option ℕ) (old new : Reader (Bor (List ℕ))) (fields : List (List ℕ)) (b : Bool) (r : Result Header (Failure RowRefusal)) (rs : List (List (List ℕ)))
+    → is_open unclosed 1 ≡ false → b ≡ true → TakesRecord b old new fields → HasLeft old rs
     → IfOk r (λ h. (columns : List ℕ) × (columns_of_header (names_of s) fields ≡ Ok columns) × IsHeader (width_of s) columns h)
-    → IfOk r (λ h. ReadsHeader s rs new h)
-header_read s old new fields b (Err e) rs is takes left means = tt
-header_read s old new fields b (Ok h) rs is takes left means =
+    → IfOk r (λ h. ReadsHeader s unclosed rs new h)
+header_read s unclosed old new fields b (Err e) rs closed is takes left means = tt
+header_read s unclosed old new fields b (Ok h) rs closed is takes left means =
     let takes : TakesRecord true old new fields = subst (λ (t : Bool). TakesRecord t old new fields) is takes in
     let (more, all, rest) = takes rs left in
-    record { fields = fields; records = more; all = all; columns = means.0; means = means.1; kept = means.2; left = rest }
+    record { fields = fields; records = more; all = all; closed = closed; columns = means.0; means = means.1; kept = means.2; left = rest }
 
-pub header_refused : (names : List (List ℕ)) (old new : Reader (Bor (List ℕ))) (fields : List (List ℕ)) (b : Bool) (r : Result Header (Failure RowRefusal)) (rs : List (List (List ℕ)))
-    → b ≡ true → TakesRecord b old new fields → HasLeft old rs
-    → IfErr r (RefusesAs (λ e. columns_of_header names fields ≡ Err e)) → IfErr r (RefusesAs (RefusesHeader names rs))
-header_refused names old new fields b (Ok h) rs is takes left means = tt
-header_refused names old new fields b (Err OutOfMemory) rs is takes left means = tt
-header_refused names old new fields b (Err (Refused e)) rs is takes left means =
+pub header_refused : (names : List (List ℕ)) (unclosed : Option ℕ) (old new : Reader (Bor (List ℕ))) (fields : List (List ℕ)) (b : Bool) (r : Result Header (Failure RowRefusal)) (rs : List (List (List ℕ)))
+    → is_open unclosed 1 ≡ false → b ≡ true → TakesRecord b old new fields → HasLeft old rs
+    → IfErr r (RefusesAs (λ e. columns_of_header names fields ≡ Err e)) → IfErr r (RefusesAs (RefusesHeader names unclosed rs))
+header_refused names unclosed old new fields b (Ok h) rs closed is takes left means = tt
+header_refused names unclosed old new fields b (Err OutOfMemory) rs closed is takes left means = tt
+header_refused names unclosed old new fields b (Err (Refused e)) rs closed is takes left means =
     let takes : TakesRecord true old new fields = subst (λ (t : Bool). TakesRecord t old new fields) is takes in
     let (more, all, rest) = takes rs left in
-    subst (λ (l : List (List (List ℕ))). RefusesHeader names l e) (sym all) means
+    subst (λ (l : List (List (List ℕ))). RefusesHeader names unclosed l e) (sym all) (rw closed means)
 
-pub no_header : (names : List (List ℕ)) (old new : Reader (Bor (List ℕ))) (fields : List (List ℕ)) (b : Bool) (rs : List (List (List ℕ)))
-    → b ≡ false → TakesRecord b old new fields → HasLeft old rs → RefusesHeader names rs refusal.NoHeader
-no_header names old new fields b rs is takes left =
+pub open_header : (names : List (List ℕ)) (unclosed : Option ℕ) (old new : Reader (Bor (List ℕ))) (fields : List (List ℕ)) (b : Bool) (rs : List (List (List ℕ)))
+    → is_open unclosed 1 ≡ true → b ≡ true → TakesRecord b old new fields → HasLeft old rs → RefusesHeader names unclosed rs refusal.OpenHeader
+open_header names unclosed old new fields b rs unclosed_is is takes left =
+    let takes : TakesRecord true old new fields = subst (λ (t : Bool). TakesRecord t old new fields) is takes in
+    let (more, all, rest) = takes rs left in
+    subst (λ (l : List (List (List ℕ))). RefusesHeader names unclosed l refusal.OpenHeader) (sym all) (rw unclosed_is refl)
+
+pub no_header : (names : List (List ℕ)) (unclosed : Option ℕ) (old new : Reader (Bor (List ℕ))) (fields : List (List ℕ)) (b : Bool) (rs : List (List (List ℕ)))
+    → b ≡ false → TakesRecord b old new fields → HasLeft old rs → RefusesHeader names unclosed rs refusal.NoHeader
+no_header names unclosed old new fields b rs is takes left =
     let takes : TakesRecord false old new fields = subst (λ (t : Bool). TakesRecord t old new fields) is takes in
-    subst (λ (l : List (List (List ℕ))). RefusesHeader names l refusal.NoHeader) (sym (takes rs left)) refl
+    subst (λ (l : List (List (List ℕ))). RefusesHeader names unclosed l refusal.NoHeader) (sym (takes rs left)) refl
 
 -- no field of a header says of a missing column
 never_missing : (names : List (List ℕ)) (before : List ℕ) (fields : List (List ℕ)) (a : ℕ) → columns_from names before fields ≡ Err (refusal.MissingColumn a) → ⊥
@@ -76,47 +84,65 @@ never_missing names before (f ∷ fs) a h = by (attribute_named names f) h (λ (
     by (Some b) g later = tested (with_columns before b) b g (later b)
 
 -- a header that is refused is so in either reading
-pub refused_whole : (s : Schema) (rs : List (List (List ℕ))) (e : RowRefusal) → RefusesHeader (names_of s) rs e
-    → TableOf s (IsHeaderOf (width_of s) (names_of s)) rs (Err e)
-refused_whole s [] e h = ap Err h
-refused_whole s (header ∷ records) e h = (Err e, whole e h, refl)
+pub refused_whole : (s : Schema) (unclosed : Option ℕ) (rs : List (List (List ℕ))) (e : RowRefusal) → RefusesHeader (names_of s) unclosed rs e
+    → TableOf s (IsHeaderOf (width_of s) (names_of s)) unclosed rs (Err e)
+refused_whole s unclosed [] e h = ap Err h
+refused_whole s unclosed (header ∷ records) e h = (Err e, under (is_open unclosed 1) h, refl)
   where
-    whole : (e : RowRefusal) → columns_of_header (names_of s) header ≡ Err e → IsHeaderOf (width_of s) (names_of s) header (Err e)
-    whole (refusal.MissingColumn a) h = absurd (never_missing (names_of s) [] header a h)
-    whole refusal.NoHeader h = h
-    whole (refusal.UnknownColumn c) h = h
-    whole (refusal.DoubleColumn c) h = h
-    whole (refusal.UnevenRow r) h = h
-    whole refusal.TooManyRows h = h
-    whole (refusal.NotInteger r a) h = h
+    under : (b : Bool) → HeaderOf b (λ columns. columns_of_header (names_of s) header ≡ columns) (Err e)
+        → HeaderOf b (IsHeaderOf (width_of s) (names_of s) header) (Err e)
+    under true g = g
+    under false g = whole e g
+      where
+        whole : (e : RowRefusal) → columns_of_header (names_of s) header ≡ Err e → IsHeaderOf (width_of s) (names_of s) header (Err e)
+        whole (refusal.MissingColumn a) h = absurd (never_missing (names_of s) [] header a h)
+        whole refusal.NoHeader h = h
+        whole (refusal.UnknownColumn c) h = h
+        whole (refusal.DoubleColumn c) h = h
+        whole (refusal.UnevenRow r) h = h
+        whole refusal.TooManyRows h = h
+        whole (refusal.NotInteger r a) h = h
+        whole refusal.OpenHeader h = h
+        whole (refusal.OpenRow r) h = h
 
-pub refused_part : (s : Schema) (rs : List (List (List ℕ))) (e : RowRefusal) → RefusesHeader (names_of s) rs e
-    → TableOf s (λ header columns. columns ≡ columns_of_header (names_of s) header) rs (Err e)
-refused_part s [] e h = ap Err h
-refused_part s (header ∷ records) e h = (Err e, sym h, refl)
+pub refused_part : (s : Schema) (unclosed : Option ℕ) (rs : List (List (List ℕ))) (e : RowRefusal) → RefusesHeader (names_of s) unclosed rs e
+    → TableOf s (λ header columns. columns ≡ columns_of_header (names_of s) header) unclosed rs (Err e)
+refused_part s unclosed [] e h = ap Err h
+refused_part s unclosed (header ∷ records) e h = (Err e, under (is_open unclosed 1) h, refl)
+  where
+    under : (b : Bool) → HeaderOf b (λ columns. columns_of_header (names_of s) header ≡ columns) (Err e)
+        → HeaderOf b (λ columns. columns ≡ columns_of_header (names_of s) header) (Err e)
+    under true g = g
+    under false g = sym g
+
+-- a header without an open quote
+closed_header : (b : Bool) (Means : Result (List ℕ) RowRefusal → Type 0) (columns : Result (List ℕ) RowRefusal) → b ≡ false
+    → Means columns → HeaderOf b Means columns
+closed_header b Means columns closed means =
+    subst (λ (t : Bool). HeaderOf t Means columns) (sym closed) means
 
 -- a header without a column for each attribute
-pub refused_missing : (s : Schema) (rs : List (List (List ℕ))) (reader : Reader (Bor (List ℕ))) (h : Header) (x : Attributes) (a : ℕ)
-    → ReadsHeader s rs reader h → x ≡ difference (below (width_of s)) (attributes h.scheme) → IsFirstFrom x 0 a
-    → TableOf s (IsHeaderOf (width_of s) (names_of s)) rs (Err (refusal.MissingColumn a))
-refused_missing s rs reader h x a read same least =
+pub refused_missing : (s : Schema) (unclosed : Option ℕ) (rs : List (List (List ℕ))) (reader : Reader (Bor (List ℕ))) (h : Header) (x : Attributes) (a : ℕ)
+    → ReadsHeader s unclosed rs reader h → x ≡ difference (below (width_of s)) (attributes h.scheme) → IsFirstFrom x 0 a
+    → TableOf s (IsHeaderOf (width_of s) (names_of s)) unclosed rs (Err (refusal.MissingColumn a))
+refused_missing s unclosed rs reader h x a read same least =
     let all : x ≡ difference (below (width_of s)) (with_columns read.columns) = same ∙ ap (λ (z : Attributes). difference (below (width_of s)) z) read.kept.scheme in
     let moved : IsFirstFrom (difference (below (width_of s)) (with_columns read.columns)) 0 a = record {
       from_on = least.from_on;
       member = sym (same_at all a) ∙ least.member;
       least = λ k f l. sym (same_at all k) ∙ least.least k f l;
     } in
-    subst (λ (l : List (List (List ℕ))). TableOf s (IsHeaderOf (width_of s) (names_of s)) l (Err (refusal.MissingColumn a))) (sym read.all)
-    (Err (refusal.MissingColumn a), (read.columns, read.means, moved), refl)
+    subst (λ (l : List (List (List ℕ))). TableOf s (IsHeaderOf (width_of s) (names_of s)) unclosed l (Err (refusal.MissingColumn a))) (sym read.all)
+    (Err (refusal.MissingColumn a), closed_header _ (IsHeaderOf (width_of s) (names_of s) read.fields) _ read.closed (read.columns, read.means, moved), refl)
 
 -- the rows under a header with a column for each attribute
-pub whole_rows : (s : Schema) (rs : List (List (List ℕ))) (reader : Reader (Bor (List ℕ))) (h : Header) (x : Attributes) (result : Result Relation RowRefusal)
-    → (read : ReadsHeader s rs reader h) → x ≡ difference (below (width_of s)) (attributes h.scheme) → IsEmpty x → RowsUnder s (Ok read.columns) read.records result
-    → TableOf s (IsHeaderOf (width_of s) (names_of s)) rs result
-whole_rows s rs reader h x result read same empty rows =
+pub whole_rows : (s : Schema) (unclosed : Option ℕ) (rs : List (List (List ℕ))) (reader : Reader (Bor (List ℕ))) (h : Header) (x : Attributes) (result : Result Relation RowRefusal)
+    → (read : ReadsHeader s unclosed rs reader h) → x ≡ difference (below (width_of s)) (attributes h.scheme) → IsEmpty x → RowsUnder s (Ok read.columns) unclosed read.records result
+    → TableOf s (IsHeaderOf (width_of s) (names_of s)) unclosed rs result
+whole_rows s unclosed rs reader h x result read same empty rows =
     let within : IsSubset (below (width_of s)) (with_columns read.columns) = λ k has. inside k has (sym (same_at read.kept.scheme k)) (sym (same_at same k) ∙ empty k) in
-    subst (λ (l : List (List (List ℕ))). TableOf s (IsHeaderOf (width_of s) (names_of s)) l result) (sym read.all)
-    (Ok read.columns, (read.means, within), rows)
+    subst (λ (l : List (List (List ℕ))). TableOf s (IsHeaderOf (width_of s) (names_of s)) unclosed l result) (sym read.all)
+    (Ok read.columns, closed_header _ (IsHeaderOf (width_of s) (names_of s) read.fields) _ read.closed (read.means, within), rows)
   where
     inside : (k : ℕ) → nat_lt k (width_of s) ≡ true → {b : Bool} → b ≡ attributes h.scheme k → (nat_lt k (width_of s) && not (attributes h.scheme k)) ≡ false → b ≡ true
     inside k has {b} e none = e ∙ by (attributes h.scheme k) (ap (λ (t : Bool). t && not (attributes h.scheme k)) (sym has) ∙ none)
@@ -125,12 +151,12 @@ whole_rows s rs reader h x result read same empty rows =
         by true f = refl
         by false f = cc
 
-pub part_rows : (s : Schema) (rs : List (List (List ℕ))) (reader : Reader (Bor (List ℕ))) (h : Header) (result : Result Relation RowRefusal)
-    → (read : ReadsHeader s rs reader h) → RowsUnder s (Ok read.columns) read.records result
-    → TableOf s (λ header columns. columns ≡ columns_of_header (names_of s) header) rs result
-part_rows s rs reader h result read rows =
-    subst (λ (l : List (List (List ℕ))). TableOf s (λ header columns. columns ≡ columns_of_header (names_of s) header) l result) (sym read.all)
-    (Ok read.columns, sym read.means, rows)
+pub part_rows : (s : Schema) (unclosed : Option ℕ) (rs : List (List (List ℕ))) (reader : Reader (Bor (List ℕ))) (h : Header) (result : Result Relation RowRefusal)
+    → (read : ReadsHeader s unclosed rs reader h) → RowsUnder s (Ok read.columns) unclosed read.records result
+    → TableOf s (λ header columns. columns ≡ columns_of_header (names_of s) header) unclosed rs result
+part_rows s unclosed rs reader h result read rows =
+    subst (λ (l : List (List (List ℕ))). TableOf s (λ header columns. columns ≡ columns_of_header (names_of s) header) unclosed l result) (sym read.all)
+    (Ok read.columns, closed_header _ (λ columns. columns ≡ columns_of_header (names_of s) read.fields) _ read.closed (sym read.means), rows)
 
 -- the members of a set in their order
 pub member_at : (n : ℕ) (x : Attributes) (i a : ℕ) → i < length (members_below n x) → a ≡ get_or (members_below n x) i a → (a < n) × (x a ≡ true) × (i ≡ count_below x a)
@@ -234,7 +260,7 @@ takes_one s columns fields values i p value column takes at is type fits =
 
 -- all values are taken
 pub takes_all : (s : Schema) (columns : List ℕ) (fields values : List (List ℕ)) (h : Header) (i row : ℕ) → IsHeader (width_of s) columns h → Takes s columns fields i values → i ≡ length h.order.items
-    → length fields ≡ h.columns → row ≤ 100000 → RowOf s columns row fields (Ok values)
+    → length fields ≡ h.columns → row ≤ 10000000 → ClosedRowOf s columns row fields (Ok values)
 takes_all s columns fields values h i row kept takes end even within_limit =
     let ms = members_below (width_of s) (with_columns columns) in
     let size : length h.order.items ≡ length ms = ap length kept.order ∙ length-map ms (attribute_with_column columns) in
@@ -250,7 +276,7 @@ takes_all s columns fields values h i row kept takes end even within_limit =
 pub not_integer : (s : Schema) (columns : List ℕ) (fields values : List (List ℕ)) (h : Header) (i row : ℕ) (p : ColumnOfAttribute) (value : List ℕ) (column : ColumnType)
     → IsHeader (width_of s) columns h → Takes s columns fields i values → IsColumnOfAttribute (width_of s) columns i p → value ≡ slice_index_or fields p.column []
     → slice_get (types_of s) p.attribute ≡ Some column → (column ≡ Integer) × (IsIntegerText value → ⊥)
-    → length fields ≡ h.columns → row ≤ 100000 → RowOf s columns row fields (Err (refusal.NotInteger row p.attribute))
+    → length fields ≡ h.columns → row ≤ 10000000 → ClosedRowOf s columns row fields (Err (refusal.NotInteger row p.attribute))
 not_integer s columns fields values h i row p value column kept takes at is type breaks even within_limit =
     let here : value ≡ value_of columns fields p.attribute = is ∙ ap (λ (j : ℕ). slice_index_or fields j []) at.column in (
       (even ∙ kept.count, within_limit),
@@ -262,13 +288,13 @@ not_integer s columns fields values h i row p value column kept takes at is type
     )
 
 -- records of which some were taken, each giving a row
-pub record Progress (s : Schema) (columns : List ℕ) (rs : List (List (List ℕ))) (reader : Reader (Bor (List ℕ))) (rows : Relation) : Type 0 where
+pub record Progress (s : Schema) (columns : List ℕ) (unclosed : Option ℕ) (rs : List (List (List ℕ))) (reader : Reader (Bor (List ℕ))) (rows : Relation) : Type 0 where
   pub taken : List (List (List ℕ))
   pub rest : List (List (List ℕ))
   pub all : rs ≡ taken ++ rest
   pub as_many : length taken ≡ length rows
   pub left : HasLeft reader rest
-  pub first : AreFirstRows s columns rs rows
+  pub first : AreFirstRows s columns unclosed rs rows
 
 -- the record that was taken stands at the next position
 next_at : (rs taken more : List (List (List ℕ))) (fields : List (List ℕ)) (n : ℕ) → rs ≡ taken ++ fields ∷ more → length taken ≡ n
@@ -276,10 +302,11 @@ next_at : (rs taken more : List (List (List ℕ))) (fields : List (List ℕ)) (n
 next_at rs taken more fields n e size =
     (omega (arith, ap length e ∙ length-append taken (fields ∷ more), size), ap (λ (l : List (List (List ℕ))). slice_index_or l n []) e ∙ ap (λ (j : ℕ). slice_index_or (taken ++ fields ∷ more) j []) (sym size) ∙ get_or-append_seam taken fields more [])
 
-pub progress_one : (s : Schema) (columns : List ℕ) (rs : List (List (List ℕ))) (old new : Reader (Bor (List ℕ))) (b : Bool) (fields : List (List ℕ)) (rows : Relation) (n : ℕ) (t : Tuple)
-    → Progress s columns rs old rows → b ≡ true → TakesRecord b old new fields → n ≡ length rows → RowOf s columns (n + 1) fields (Ok t)
-    → Progress s columns rs new (rows ++ t ∷ [])
-progress_one s columns rs old new b fields rows n t p is takes count row =
+pub progress_one : (s : Schema) (columns : List ℕ) (unclosed : Option ℕ) (rs : List (List (List ℕ))) (old new : Reader (Bor (List ℕ))) (b o : Bool) (fields : List (List ℕ)) (rows : Relation) (n : ℕ) (t : Tuple)
+    → Progress s columns unclosed rs old rows → b ≡ true → TakesRecord b old new fields → n ≡ length rows
+    → o ≡ is_open unclosed (n + 2) → RowOf s columns o (n + 1) fields (Ok t)
+    → Progress s columns unclosed rs new (rows ++ t ∷ [])
+progress_one s columns unclosed rs old new b o fields rows n t p is takes count opens row =
     let takes : TakesRecord true old new fields = subst (λ (t : Bool). TakesRecord t old new fields) is takes in
     let (more, rest, left) = takes p.rest p.left in
     let all : rs ≡ p.taken ++ fields ∷ more = p.all ∙ ap (λ (l : List (List (List ℕ))). p.taken ++ l) rest in
@@ -293,33 +320,47 @@ progress_one s columns rs old new b fields rows n t p is takes count row =
       first = record {
         within = omega (arith, length-append rows (t ∷ []), within);
         each = λ i l. elim (cases_lt i (length rows)) [
-          | inl front ↦ subst (λ (u : Tuple). RowAt s columns rs i (Ok u)) (sym (get_or_append_left rows (t ∷ []) [] i front)) (p.first.each i front)
+          | inl front ↦ subst (λ (u : Tuple). RowAt s columns unclosed rs i (Ok u)) (sym (get_or_append_left rows (t ∷ []) [] i front)) (p.first.each i front)
           | inr last ↦
               let here : length rows ≡ i = omega (arith, l, last, length-append rows (t ∷ [])) in
-              subst (λ (j : ℕ). RowAt s columns rs j (Ok (slice_index_or (rows ++ t ∷ []) j []))) here
-              (rw (get_or-append_seam rows t [] [], at, ← count) row)
+              subst (λ (j : ℕ). RowAt s columns unclosed rs j (Ok (slice_index_or (rows ++ t ∷ []) j []))) here
+              (rw (get_or-append_seam rows t [] [], at, ← count, ← opens) row)
         ];
       };
     }
 
-pub rows_read : (s : Schema) (columns : List ℕ) (rs : List (List (List ℕ))) (old new : Reader (Bor (List ℕ))) (b : Bool) (fields : List (List ℕ)) (rows : Relation)
-    → Progress s columns rs old rows → b ≡ false → TakesRecord b old new fields → RowsUnder s (Ok columns) rs (Ok rows)
-rows_read s columns rs old new b fields rows p is takes =
+pub rows_read : (s : Schema) (columns : List ℕ) (unclosed : Option ℕ) (rs : List (List (List ℕ))) (old new : Reader (Bor (List ℕ))) (b : Bool) (fields : List (List ℕ)) (rows : Relation)
+    → Progress s columns unclosed rs old rows → b ≡ false → TakesRecord b old new fields → RowsUnder s (Ok columns) unclosed rs (Ok rows)
+rows_read s columns unclosed rs old new b fields rows p is takes =
     let takes : TakesRecord false old new fields = subst (λ (t : Bool). TakesRecord t old new fields) is takes in
     let none = takes p.rest p.left in
     (p.first, sym p.as_many ∙ ap length (sym (append-nil p.taken) ∙ ap (λ (l : List (List (List ℕ))). p.taken ++ l) (sym none) ∙ sym p.all))
 
-pub row_refused : (s : Schema) (columns : List ℕ) (rs : List (List (List ℕ))) (old new : Reader (Bor (List ℕ))) (b : Bool) (fields : List (List ℕ)) (rows : Relation) (n : ℕ) (e : RowRefusal)
-    → Progress s columns rs old rows → b ≡ true → TakesRecord b old new fields → n ≡ length rows → RowOf s columns (n + 1) fields (Err e)
-    → RowsUnder s (Ok columns) rs (Err e)
-row_refused s columns rs old new b fields rows n e p is takes count row =
+pub row_refused : (s : Schema) (columns : List ℕ) (unclosed : Option ℕ) (rs : List (List (List ℕ))) (old new : Reader (Bor (List ℕ))) (b o : Bool) (fields : List (List ℕ)) (rows : Relation) (n : ℕ) (e : RowRefusal)
+    → Progress s columns unclosed rs old rows → b ≡ true → TakesRecord b old new fields → n ≡ length rows
+    → o ≡ is_open unclosed (n + 2) → RowOf s columns o (n + 1) fields (Err e)
+    → RowsUnder s (Ok columns) unclosed rs (Err e)
+row_refused s columns unclosed rs old new b o fields rows n e p is takes count opens row =
     let takes : TakesRecord true old new fields = subst (λ (t : Bool). TakesRecord t old new fields) is takes in
     let (more, rest, left) = takes p.rest p.left in
     let all : rs ≡ p.taken ++ fields ∷ more = p.all ∙ ap (λ (l : List (List (List ℕ))). p.taken ++ l) rest in
     let (within, at) = next_at rs p.taken more fields (length rows) all p.as_many in
-    let here : RowOf s columns (length rows + 1) (slice_index_or rs (length rows) []) (Err e) =
-    subst (λ (f : List (List ℕ)). RowOf s columns (length rows + 1) f (Err e)) (sym at) (subst (λ (m : ℕ). RowOf s columns (m + 1) fields (Err e)) count row) in
+    let here : RowAt s columns unclosed rs (length rows) (Err e) =
+    subst (λ (f : List (List ℕ)). RowOf s columns (is_open unclosed (length rows + 2)) (length rows + 1) f (Err e)) (sym at)
+    (subst (λ (m : ℕ). RowOf s columns (is_open unclosed (m + 2)) (m + 1) fields (Err e)) count
+    (subst (λ (t : Bool). RowOf s columns t (n + 1) fields (Err e)) opens row)) in
     (rows, p.first, within, here)
+
+-- the rows of a text, whose open record was found
+pub rows_of_text : (s : Schema) (text : List ℕ) (unclosed : Option ℕ) (r : Result Relation RowRefusal) → unclosed ≡ open_record text
+    → TableOf s (IsHeaderOf (width_of s) (names_of s)) unclosed (records_of text) r → RowsOf s text r
+rows_of_text s text unclosed r same rows =
+    subst (λ (o : Option ℕ). TableOf s (IsHeaderOf (width_of s) (names_of s)) o (records_of text) r) same rows
+
+pub part_of_text : (s : Schema) (text : List ℕ) (unclosed : Option ℕ) (r : Result Relation RowRefusal) → unclosed ≡ open_record text
+    → TableOf s (λ header columns. columns ≡ columns_of_header (names_of s) header) unclosed (records_of text) r → PartOf s text r
+part_of_text s text unclosed r same rows =
+    subst (λ (o : Option ℕ). TableOf s (λ header columns. columns ≡ columns_of_header (names_of s) header) o (records_of text) r) same rows
 
 -- the attributes without a column, as the sets of the code have them
 pub without_column-same : (n m : ℕ) (full scheme x : Attributes) → n ≡ m → full ≡ below n → x ≡ difference full scheme → x ≡ difference (below m) scheme
@@ -340,7 +381,7 @@ whole_count n x within k l =
     count_below-equal k x (below k) (λ j m. within j (grind (arith, l, m)) ∙ sym (grind (arith, m))) ∙ count_below-below k k (omega arith)
 
 -- a row of a text in which each attribute has a column
-row_whole : (s : Schema) (columns : List ℕ) (row : ℕ) (fields : List (List ℕ)) (t : Tuple) → IsSubset (below (width_of s)) (with_columns columns) → RowOf s columns row fields (Ok t)
+row_whole : (s : Schema) (columns : List ℕ) (row : ℕ) (fields : List (List ℕ)) (t : Tuple) → IsSubset (below (width_of s)) (with_columns columns) → ClosedRowOf s columns row fields (Ok t)
     → (length t ≡ width_of s) × ((k : ℕ) → slice_get (types_of s) k ≡ Some Integer → IsIntegerText (value_at t k))
 row_whole s columns row fields t within (fits, is, typed) =
     let n : ℕ = width_of s in
@@ -357,18 +398,32 @@ row_whole s columns row fields t within (fits, is, typed) =
           subst IsIntegerText (sym value) (typed k (has, integer)),
     )
 
-whole_table : (s : Schema) (rs : List (List (List ℕ))) (rows : Relation) → TableOf s (IsHeaderOf (width_of s) (names_of s)) rs (Ok rows)
+-- a row that is given has no open quote
+pub closed_row : (s : Schema) (columns : List ℕ) (b : Bool) (row : ℕ) (fields : List (List ℕ)) (t : Tuple)
+    → RowOf s columns b row fields (Ok t) → ClosedRowOf s columns row fields (Ok t)
+closed_row s columns true row fields t h = cc
+closed_row s columns false row fields t h = h
+
+-- a header that means columns has no open quote
+pub closed_means : (b : Bool) (Means : Result (List ℕ) RowRefusal → Type 0) (columns : List ℕ)
+    → HeaderOf b Means (Ok columns) → Means (Ok columns)
+closed_means true Means columns h = cc
+closed_means false Means columns h = h
+
+whole_table : (s : Schema) (unclosed : Option ℕ) (rs : List (List (List ℕ))) (rows : Relation) → TableOf s (IsHeaderOf (width_of s) (names_of s)) unclosed rs (Ok rows)
     → (i : ℕ) → i < length rows
     → (length (slice_index_or rows i []) ≡ width_of s) × ((k : ℕ) → slice_get (types_of s) k ≡ Some Integer → IsIntegerText (value_at (slice_index_or rows i []) k))
-whole_table s [] rows h i l = cc
-whole_table s (header ∷ records) rows (Err e, means, under) i l = cc
-whole_table s (header ∷ records) rows (Ok columns, means, under) i l =
-    row_whole s columns (i + 1) (slice_index_or records i []) (slice_index_or rows i []) means.1 (under.0.each i l)
+whole_table s unclosed [] rows h i l = cc
+whole_table s unclosed (header ∷ records) rows (Err e, means, under) i l = cc
+whole_table s unclosed (header ∷ records) rows (Ok columns, means, under) i l =
+    row_whole s columns (i + 1) (slice_index_or records i []) (slice_index_or rows i [])
+    (closed_means _ (IsHeaderOf (width_of s) (names_of s) header) columns means).1
+    (closed_row s columns _ (i + 1) _ _ (under.0.each i l))
 
 -- the rows have a value for each attribute, and fit the types of the columns
 pub rows_over : (s : Schema) (text : List ℕ) (rows : Relation) → RowsOf s text (Ok rows) → IsOver (width_of s) rows
-rows_over s text rows h k d l = ap length (same_default rows k d [] l) ∙ (whole_table s (records_of text) rows h k l).0
+rows_over s text rows h k d l = ap length (same_default rows k d [] l) ∙ (whole_table s (open_record text) (records_of text) rows h k l).0
 
 pub rows_typed : (s : Schema) (text : List ℕ) (rows : Relation) → RowsOf s text (Ok rows) → TypedFor s rows
 rows_typed s text rows h k d l j integer =
-    subst (λ (t : Tuple). IsIntegerText (value_at t j)) (sym (same_default rows k d [] l)) ((whole_table s (records_of text) rows h k l).1 j integer)
+    subst (λ (t : Tuple). IsIntegerText (value_at t j)) (sym (same_default rows k d [] l)) ((whole_table s (open_record text) (records_of text) rows h k l).1 j integer)

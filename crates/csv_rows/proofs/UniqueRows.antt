@@ -1,5 +1,5 @@
 -- A text has one list of rows for a schema, or one refusal.
-use Rattle.std.proofs.Common.{inl, inr, ◌≡◌, ◌≢◌, ◌+◌, ◌<◌, ◌≤◌, ◌⊎◌, ℕ, false, List, [], ◌∷◌, length, Result, Ok, Err, slice_index_or, refl, sym, ap, subst, ◌∙◌, arith}
+use Rattle.std.proofs.Common.{inl, inr, ◌≡◌, ◌+◌, ◌<◌, ◌≤◌, ◌⊎◌, ℕ, Bool, true, false, Option, List, [], ◌∷◌, length, Result, Ok, Err, slice_index_or, refl, sym, ap, subst, ◌∙◌, arith}
 use Rattle.std.proofs.lemmas.Bool.{cases_lt, true≢false}
 use Rattle.std.proofs.lemmas.List.{ext_get_or}
 use Rattle.attr_sets.specs.Attributes.{IsSubset, below, difference, IsFirstFrom}
@@ -7,7 +7,8 @@ use Rattle.dep_model.specs.Schemas.{names_of, width_of}
 use Rattle.dep_model.specs.Tuples.{Tuple, Relation}
 use Rattle.dep_model.specs.declared.schema.Schema.{Schema}
 use Rattle.csv_rows.specs.Columns.{with_columns, columns_of_header, IsHeaderOf}
-use Rattle.csv_rows.specs.Reading.{RowOf, AreFirstRows, RowsUnder, TableOf}
+use Rattle.csv_rows.specs.Quotes.{is_open}
+use Rattle.csv_rows.specs.Reading.{ClosedRowOf, RowOf, HeaderOf, AreFirstRows, RowsUnder, TableOf}
 use Rattle.csv_rows.specs.declared.reading.TheConstants.{MOST_ROWS}
 use Rattle.csv_rows.specs.declared.refusal.RowRefusal.{RowRefusal}
 use Rattle.csv_rows.specs.declared.refusal.RowRefusal.TheVariants as refusal
@@ -23,12 +24,12 @@ same_integer r u k l e f =
 -- what a record can give: a tuple, or one of three refusals
 abbrev SeenRow : Schema → List ℕ → ℕ → List (List ℕ) → Result Tuple RowRefusal → Type 0
 SeenRow s columns row fields r =
-    let gives : Result Tuple RowRefusal → Type 0 = λ given. (r ≡ given) × RowOf s columns row fields given in
+    let gives : Result Tuple RowRefusal → Type 0 = λ given. (r ≡ given) × ClosedRowOf s columns row fields given in
     ((t : Tuple) × gives (Ok t)) ⊎ ((u : ℕ) × gives (Err (refusal.UnevenRow u))) ⊎ gives (Err refusal.TooManyRows)
     ⊎ ((u : ℕ) × (a : ℕ) × gives (Err (refusal.NotInteger u a)))
 
 seen_row : (s : Schema) (columns : List ℕ) (row : ℕ) (fields : List (List ℕ)) (r : Result Tuple RowRefusal)
-    → RowOf s columns row fields r → SeenRow s columns row fields r
+    → ClosedRowOf s columns row fields r → SeenRow s columns row fields r
 seen_row s columns row fields (Ok t) h = inl (t, (refl, h))
 seen_row s columns row fields (Err (refusal.UnevenRow u)) h = inr (inl (u, (refl, h)))
 seen_row s columns row fields (Err refusal.TooManyRows) h = inr (inr (inl (refl, h)))
@@ -37,11 +38,13 @@ seen_row s columns row fields (Err refusal.NoHeader) h = absurd h
 seen_row s columns row fields (Err (refusal.UnknownColumn c)) h = absurd h
 seen_row s columns row fields (Err (refusal.DoubleColumn c)) h = absurd h
 seen_row s columns row fields (Err (refusal.MissingColumn a)) h = absurd h
+seen_row s columns row fields (Err refusal.OpenHeader) h = absurd h
+seen_row s columns row fields (Err (refusal.OpenRow r)) h = absurd h
 
--- a record gives one tuple or one refusal
-row_same : (s : Schema) (columns : List ℕ) (row : ℕ) (fields : List (List ℕ)) (one other : Result Tuple RowRefusal)
-    → RowOf s columns row fields one → RowOf s columns row fields other → one ≡ other
-row_same s columns row fields one other p q = by (seen_row s columns row fields one p) (seen_row s columns row fields other q)
+-- a record whose quotes are closed gives one tuple or one refusal
+closed_row_same : (s : Schema) (columns : List ℕ) (row : ℕ) (fields : List (List ℕ)) (one other : Result Tuple RowRefusal)
+    → ClosedRowOf s columns row fields one → ClosedRowOf s columns row fields other → one ≡ other
+closed_row_same s columns row fields one other p q = by (seen_row s columns row fields one p) (seen_row s columns row fields other q)
   where
     by : SeenRow s columns row fields one → SeenRow s columns row fields other → one ≡ other
     by (inl (t, (e, p))) (inl (w, (f, q))) = e ∙ ap Ok (p.1 ∙ sym q.1) ∙ sym f
@@ -68,6 +71,12 @@ row_same s columns row fields one other p q = by (seen_row s columns row fields 
       ]
     ]
 
+-- a record gives one tuple or one refusal
+row_same : (s : Schema) (columns : List ℕ) (b : Bool) (row : ℕ) (fields : List (List ℕ)) (one other : Result Tuple RowRefusal)
+    → RowOf s columns b row fields one → RowOf s columns b row fields other → one ≡ other
+row_same s columns true row fields one other p q = p ∙ sym q
+row_same s columns false row fields one other p q = closed_row_same s columns row fields one other p q
+
 not_both : (t : Tuple) (e : RowRefusal) → ◌≡◌ {A = Result Tuple RowRefusal} (Ok t) (Err e) → ⊥
 not_both t e same = cc
 
@@ -78,40 +87,40 @@ tuple_same : (t u : Tuple) → ◌≡◌ {A = Result Tuple RowRefusal} (Ok t) (O
 tuple_same t u same = cc
 
 -- the first records give one list of tuples of each length
-rows_same : (s : Schema) (columns : List ℕ) (records : List (List (List ℕ))) (one other : Relation)
-    → AreFirstRows s columns records one → AreFirstRows s columns records other → length one ≡ length other
+rows_same : (s : Schema) (columns : List ℕ) (unclosed : Option ℕ) (records : List (List (List ℕ))) (one other : Relation)
+    → AreFirstRows s columns unclosed records one → AreFirstRows s columns unclosed records other → length one ≡ length other
     → one ≡ other
-rows_same s columns records one other p q size =
+rows_same s columns unclosed records one other p q size =
     ext_get_or [] one other size
-    (λ i l. tuple_same _ _ (row_same s columns (i + 1) (slice_index_or records i []) _ _ (p.each i l) (q.each i (omega (arith, l, size)))))
+    (λ i l. tuple_same _ _ (row_same s columns (is_open unclosed (i + 2)) (i + 1) (slice_index_or records i []) _ _ (p.each i l) (q.each i (omega (arith, l, size)))))
 
 -- what the records under a header give
-under_same : (s : Schema) (columns : Result (List ℕ) RowRefusal) (records : List (List (List ℕ)))
+under_same : (s : Schema) (columns : Result (List ℕ) RowRefusal) (unclosed : Option ℕ) (records : List (List (List ℕ)))
     (one other : Result Relation RowRefusal)
-    → RowsUnder s columns records one → RowsUnder s columns records other → one ≡ other
-under_same s (Err e) records one other p q = p ∙ sym q
-under_same s (Ok columns) records (Ok one) (Ok other) p q =
-    ap Ok (rows_same s columns records one other p.0 q.0 (p.1 ∙ sym q.1))
-under_same s (Ok columns) records (Ok one) (Err f) p (other, first, less, at) =
+    → RowsUnder s columns unclosed records one → RowsUnder s columns unclosed records other → one ≡ other
+under_same s (Err e) unclosed records one other p q = p ∙ sym q
+under_same s (Ok columns) unclosed records (Ok one) (Ok other) p q =
+    ap Ok (rows_same s columns unclosed records one other p.0 q.0 (p.1 ∙ sym q.1))
+under_same s (Ok columns) unclosed records (Ok one) (Err f) p (other, first, less, at) =
     let i = length other in
-    absurd (not_both _ f (row_same s columns (i + 1) (slice_index_or records i []) _ _ (p.0.each i (omega (arith, less, p.1))) at))
-under_same s (Ok columns) records (Err e) (Ok other) (one, first, less, at) q =
+    absurd (not_both _ f (row_same s columns (is_open unclosed (i + 2)) (i + 1) (slice_index_or records i []) _ _ (p.0.each i (omega (arith, less, p.1))) at))
+under_same s (Ok columns) unclosed records (Err e) (Ok other) (one, first, less, at) q =
     let i = length one in
-    absurd (not_both _ e (row_same s columns (i + 1) (slice_index_or records i []) _ _ (q.0.each i (omega (arith, less, q.1))) at))
-under_same s (Ok columns) records (Err e) (Err f) (one, first, less, at) (other, also, fewer, there) =
+    absurd (not_both _ e (row_same s columns (is_open unclosed (i + 2)) (i + 1) (slice_index_or records i []) _ _ (q.0.each i (omega (arith, less, q.1))) at))
+under_same s (Ok columns) unclosed records (Err e) (Err f) (one, first, less, at) (other, also, fewer, there) =
     let i = length one in
     let j = length other in
     elim (cases_lt i j) [
       | inl before ↦ absurd
-          (not_both _ e (row_same s columns (i + 1) (slice_index_or records i []) _ _ (also.each i before) at))
+          (not_both _ e (row_same s columns (is_open unclosed (i + 2)) (i + 1) (slice_index_or records i []) _ _ (also.each i before) at))
       | inr on ↦ elim (cases_lt j i) [
         | inl before ↦ absurd
-            (not_both _ f (row_same s columns (j + 1) (slice_index_or records j []) _ _ (first.each j before) there))
+            (not_both _ f (row_same s columns (is_open unclosed (j + 2)) (j + 1) (slice_index_or records j []) _ _ (first.each j before) there))
         | inr here ↦
             let size : j ≡ i = omega (arith, on, here) in
-            let same : RowOf s columns (i + 1) (slice_index_or records i []) (Err f) =
-            subst (λ (m : ℕ). RowOf s columns (m + 1) (slice_index_or records m []) (Err f)) size there in
-            ap Err (refusal_same e f (row_same s columns (i + 1) (slice_index_or records i []) _ _ at same))
+            let same : RowOf s columns (is_open unclosed (i + 2)) (i + 1) (slice_index_or records i []) (Err f) =
+            subst (λ (m : ℕ). RowOf s columns (is_open unclosed (m + 2)) (m + 1) (slice_index_or records m []) (Err f)) size there in
+            ap Err (refusal_same e f (row_same s columns (is_open unclosed (i + 2)) (i + 1) (slice_index_or records i []) _ _ at same))
       ]
     ]
 
@@ -133,6 +142,8 @@ seen_header n names header (Err (refusal.NotInteger r k)) h = inr (inr ((refusal
 seen_header n names header (Err refusal.NoHeader) h = inr (inr (refusal.NoHeader, refl, h))
 seen_header n names header (Err (refusal.UnknownColumn m)) h = inr (inr ((refusal.UnknownColumn m), refl, h))
 seen_header n names header (Err (refusal.DoubleColumn m)) h = inr (inr ((refusal.DoubleColumn m), refl, h))
+seen_header n names header (Err refusal.OpenHeader) h = inr (inr (refusal.OpenHeader, refl, h))
+seen_header n names header (Err (refusal.OpenRow r)) h = inr (inr ((refusal.OpenRow r), refl, h))
 
 columns_same : (r : Result (List ℕ) RowRefusal) (columns others : List ℕ) → r ≡ Ok columns → r ≡ Ok others
     → columns ≡ others
@@ -189,15 +200,23 @@ header_same n names header one other p q = by (seen_header n names header one p)
     by (inr (inr (e, is, means))) (inr (inr (f, also, there))) =
         let same : ◌≡◌ {A = Result (List ℕ) RowRefusal} (Err e) (Err f) = sym means ∙ there in is ∙ same ∙ sym also
 
+-- a header gives one list of columns or one refusal, also where it may be open
+header_of_same : (b : Bool) (Means : Result (List ℕ) RowRefusal → Type 0)
+    → ((one other : Result (List ℕ) RowRefusal) → Means one → Means other → one ≡ other)
+    → (one other : Result (List ℕ) RowRefusal) → HeaderOf b Means one → HeaderOf b Means other → one ≡ other
+header_of_same true Means means one other p q = p ∙ sym q
+header_of_same false Means means one other p q = means one other p q
+
 -- the records of a text give one list of rows or one refusal, where a header means one list of columns
 pub table_same : (s : Schema) (Means : List (List ℕ) → Result (List ℕ) RowRefusal → Type 0)
     → ((header : List (List ℕ)) (one other : Result (List ℕ) RowRefusal) → Means header one → Means header other → one ≡ other)
-    → (records : List (List (List ℕ))) (one other : Result Relation RowRefusal) → TableOf s Means records one
-    → TableOf s Means records other → one ≡ other
-table_same s Means means [] one other p q = p ∙ sym q
-table_same s Means means (header ∷ records) one other (columns, is, p) (others, also, q) =
-    under_same s columns records one other p
-    (subst (λ (cs : Result (List ℕ) RowRefusal). RowsUnder s cs records other) (means header others columns also is) q)
+    → (unclosed : Option ℕ) (records : List (List (List ℕ))) (one other : Result Relation RowRefusal) → TableOf s Means unclosed records one
+    → TableOf s Means unclosed records other → one ≡ other
+table_same s Means means unclosed [] one other p q = p ∙ sym q
+table_same s Means means unclosed (header ∷ records) one other (columns, is, p) (others, also, q) =
+    under_same s columns unclosed records one other p
+    (subst (λ (cs : Result (List ℕ) RowRefusal). RowsUnder s cs unclosed records other)
+    (header_of_same (is_open unclosed 1) (Means header) (means header) others columns also is) q)
 
 pub whole_header_same : (s : Schema) (header : List (List ℕ)) (one other : Result (List ℕ) RowRefusal)
     → IsHeaderOf (width_of s) (names_of s) header one → IsHeaderOf (width_of s) (names_of s) header other

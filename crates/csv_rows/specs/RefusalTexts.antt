@@ -13,6 +13,8 @@ row_refusal_number (refusal.MissingColumn attribute) = 4
 row_refusal_number (refusal.UnevenRow row) = 5
 row_refusal_number refusal.TooManyRows = 6
 row_refusal_number (refusal.NotInteger row attribute) = 7
+row_refusal_number refusal.OpenHeader = 8
+row_refusal_number (refusal.OpenRow row) = 8
 
 -- a refusal in words, over the names of the attributes
 abbrev pub row_reason_text : List (List ℕ) → RowRefusal → List ℕ
@@ -25,3 +27,5 @@ row_reason_text names (refusal.UnevenRow row) = codes "row " ++ decimal row ++ c
 row_reason_text names refusal.TooManyRows = codes "too many rows"
 row_reason_text names (refusal.NotInteger row attribute) =
     codes "row " ++ decimal row ++ codes ": " ++ slice_index_or names attribute [] ++ codes " is no integer"
+row_reason_text names refusal.OpenHeader = codes "the header has an open quote"
+row_reason_text names (refusal.OpenRow row) = codes "row " ++ decimal row ++ codes " has an open quote"

@@ -3,6 +3,7 @@ ghost use Rattle.csv_rows.specs.Reading.{PartOf, HasScheme};
 ghost use Rattle.dep_model.specs.Failures.{RefusesAs};
 
 use crate::RowRefusal;
+use crate::quotes::open_record;
 use crate::reading::{read_body, read_header};
 use crate::records::open_reader;
 use attr_sets::AttrSet;
@@ -30,13 +31,14 @@ pub fn read_part(
     ensures scheme { IfOk result (λ part. HasScheme schema.now text.now part.scheme) }
     ensures err { IfErr result (RefusesAs (λ e. PartOf schema.now text.now (Err e))) }
 {
+    let unclosed = open_record(text);
     let mut reader = open_reader(alloc, text);
-    let header = match read_header(alloc, schema, &mut reader) {
+    let header = match read_header(alloc, schema, unclosed, &mut reader) {
         Ok(header) => header,
         Err(failure) => return Err(failure),
     };
     let scheme = header.scheme;
-    match read_body(alloc, schema, &header, &mut reader, text.len()) {
+    match read_body(alloc, schema, &header, unclosed, &mut reader, text.len()) {
         Ok(rows) => Ok(PartialRows { scheme, rows }),
         Err(failure) => Err(failure),
     }

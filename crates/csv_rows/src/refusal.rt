@@ -19,6 +19,10 @@ pub enum RowRefusal {
     /// 7: in the row, from 1, the value of an integer column is no integer text. The attribute is
     /// the least such one.
     NotInteger { row: u32, attribute: u8 },
+    /// 8: a quote of the header is never closed.
+    OpenHeader,
+    /// 8: a quote of the row, from 1, is never closed. It is the last row.
+    OpenRow { row: u32 },
 }
 
 impl RowRefusal {
@@ -34,6 +38,8 @@ impl RowRefusal {
             RowRefusal::UnevenRow { .. } => 5,
             RowRefusal::TooManyRows => 6,
             RowRefusal::NotInteger { .. } => 7,
+            RowRefusal::OpenHeader => 8,
+            RowRefusal::OpenRow { .. } => 8,
         }
     }
 }

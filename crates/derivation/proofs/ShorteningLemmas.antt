@@ -159,7 +159,10 @@ least_part s t whole dep u same proves is found =
     let least : IsLeast s t (dependency_of dep) r = subst (λ (v : Tree). IsLeast s v (dependency_of dep) r) same found in
     record {
       part = least.part;
-      same = λ d other. subst (λ (e : Dependency). Proves s r e) (Proves-one s t (dependency_of dep) d proves other) least.proves;
+      same = λ d. (
+        (λ other. subst (λ (e : Dependency). Proves s r e) (Proves-one s t (dependency_of dep) d proves other) least.proves),
+        (λ other. subst (λ (e : Dependency). Proves s t e) (Proves-one s r (dependency_of dep) d least.proves other) proves),
+      );
       only = rw is least.proves;
       least = λ v d inside other again. least.least v inside (subst (λ (e : Dependency). Proves s v e) (Proves-one s t d (dependency_of dep) other proves) again);
     }
@@ -176,7 +179,10 @@ shortened_step s rule whole t from result is old least =
     let r = tree_of result.deriv.value in
     let made = step rule (tree_of from.deriv.value) in
     rw is (record {
-      same = λ d proves. least.same d (proves.0, old.same proves.0 proves.1, proves.2);
+      same = λ d. (
+        (λ proves. (least.same d).0 (proves.0, (old.same proves.0).0 proves.1, proves.2)),
+        (λ proves. let short = (least.same d).1 proves in (short.0, (old.same short.0).1 short.1, short.2)),
+      );
       only = least.only;
       node_bound = omega (arith, part-nodes r made least.part, old.node_bound);
       level_bound = omega (arith, part-depth r made least.part, old.level_bound);
@@ -189,7 +195,12 @@ shortened_pair s rule whole t w first second result is left right least =
     let r = tree_of result.deriv.value in
     let made = pair rule (tree_of first.deriv.value) (tree_of second.deriv.value) in
     rw is (record {
-      same = λ d proves. least.same d (proves.0, proves.1, left.same proves.0 proves.2, right.same proves.1 proves.3, proves.4);
+      same = λ d. (
+        (λ proves. (least.same d).0 (proves.0, proves.1, (left.same proves.0).0 proves.2, (right.same proves.1).0 proves.3, proves.4)),
+        (λ proves.
+            let short = (least.same d).1 proves in
+            (short.0, short.1, (left.same short.0).1 short.2, (right.same short.1).1 short.3, short.4)),
+      );
       only = least.only;
       node_bound = omega (arith, part-nodes r made least.part, left.node_bound, right.node_bound);
       level_bound = grind (arith, part-depth r made least.part, left.level_bound, right.level_bound);

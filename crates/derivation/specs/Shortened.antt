@@ -1,5 +1,5 @@
 -- A tree made shorter: for `shorten` and the functions below it. `Desk` does not cite it.
-use Rattle.std.specs.Prelude.{◌≡◌, ◌<◌, ◌≤◌, ◌^◌, Option, None, Some}
+use Rattle.std.specs.Prelude.{◌≡◌, ◌<◌, ◌≤◌, ◌^◌, ◌↔◌, Option, None, Some}
 use Rattle.dep_model.specs.declared.dep.Dep.{Dep}
 use Rattle.dep_model.specs.declared.schema.Schema.{Schema}
 use Rattle.dep_model.specs.Dependencies.{Dependency}
@@ -38,17 +38,17 @@ abbrev pub NodesFit : Sought → Type 0
 NodesFit (Found b) = nodes (tree_of b.value) < 2 ^ 32
 NodesFit (Whole whole) = nodes (tree_of whole.deriv.value) < 2 ^ 32
 
--- the smallest part of a tree that concludes what the tree concludes
+-- the smallest part of a tree that concludes what the tree concludes, and nothing where it concludes nothing
 pub record IsLeastPart (s : Schema) (t : Tree) (result : Concluded) : Type 0 where
   pub part : IsIn (tree_of result.deriv.value) t
-  pub same : (d : Dependency) → Proves s t d → Proves s (tree_of result.deriv.value) d
+  pub same : (d : Dependency) → Proves s t d ↔ Proves s (tree_of result.deriv.value) d
   pub only : ConcludesOnly s (tree_of result.deriv.value) result.dep
   pub least : (u : Tree) (d : Dependency) → IsIn u t → Proves s t d → Proves s u d
       → nodes (tree_of result.deriv.value) ≤ nodes u
 
--- a direct tree that concludes what another does, and is no larger
+-- a direct tree that concludes exactly what another does, and is no larger
 pub record IsShortened (s : Schema) (t : Tree) (result : Concluded) : Type 0 where
-  pub same : (d : Dependency) → Proves s t d → Proves s (tree_of result.deriv.value) d
+  pub same : (d : Dependency) → Proves s t d ↔ Proves s (tree_of result.deriv.value) d
   pub only : ConcludesOnly s (tree_of result.deriv.value) result.dep
   pub node_bound : nodes (tree_of result.deriv.value) ≤ nodes t
   pub level_bound : depth (tree_of result.deriv.value) ≤ depth t

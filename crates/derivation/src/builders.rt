@@ -195,7 +195,8 @@ pub fn split_outside(
     Ok(intersect_block([rest, wider, lifted, top], schema, lhs, block, first, other))
 }
 
-// From `X ->> W` and `V ->> T`, as in `split_inside`: `X ->>` what `W` and `T` share, in the room that is given.
+// From `X ->> W` and `V ->> T`, as in `split_inside`: `X ->>` what `W` and `T` share, in the room that
+// is given.
 fn intersect_block(
     room: [Box<Deriv>; 4],
     schema: &Schema,

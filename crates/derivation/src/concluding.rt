@@ -15,7 +15,8 @@ pub fn conclude(schema: &Schema, deriv: &Deriv) -> Result<Dep, Fault>
     requires fits_u32 { nodes (tree_of deriv.now) < 2 ^ 32 }
     // It concludes what it proves, and nothing else.
     ensures proves { IfOk result (λ d. Proves schema.now (tree_of deriv.now) (dependency_of d)) }
-    ensures only { (d : Dependency) → Proves schema.now (tree_of deriv.now) d → outcome_of result ≡ Ok d }
+    ensures only { (d : Dependency) → Proves schema.now (tree_of deriv.now) d
+        → outcome_of result ≡ Ok d }
     // Whoever made the derivation.
     ensures implied { IfOk result (λ d. ImpliedBy schema.now (dependency_of d)) }
     ensures within { IfOk result (IsDepWithin (universe_of schema.now)) }

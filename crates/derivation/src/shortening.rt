@@ -6,7 +6,8 @@ ghost use Rattle.derivation.specs.Trees.{Tree, nodes, depth, leaf, step, pair};
 ghost use Rattle.derivation.specs.Derivs.{tree_of, leaf_of, step_of, pair_of};
 ghost use Rattle.derivation.specs.Conclusions.{Proves};
 ghost use Rattle.derivation.specs.Direct.{IsIn, NoneBelow, IsDirect};
-ghost use Rattle.derivation.specs.Shortened.{ConcludesOnly, IsConcluded, IsSought, NodesFit, IsLeastPart, IsShortened};
+ghost use Rattle.derivation.specs.Shortened.{ConcludesOnly, IsConcluded, IsSought, NodesFit};
+ghost use Rattle.derivation.specs.Shortened.{IsLeastPart, IsShortened};
 
 use crate::table::{leaf_conclusion, pair_conclusion, step_conclusion};
 use crate::{Deriv, LeafRule, PairRule, StepRule, conclude, nodes};
@@ -29,13 +30,14 @@ enum Sought {
     Whole(Concluded),
 }
 
-/// A derivation of the same dependency in which no node concludes what a node below it concludes: the
-/// smallest part that concludes it, in which, from the leaves on, each node gives way to the smallest
-/// one below it that concludes the same. It takes no memory.
+/// A derivation of the same dependency in which no node concludes what a node below it concludes:
+/// the smallest part that concludes it, in which, from the leaves on, each node gives way to the
+/// smallest one below it that concludes the same. Where a derivation concludes nothing, neither does
+/// what it gives. It takes no memory.
 pub fn shorten(schema: &Schema, deriv: Box<Deriv>) -> Box<Deriv>
     requires fits_u32 { nodes (tree_of deriv.value) < 2 ^ 32 }
     ensures same { (d : Dependency) → Proves schema.now (tree_of deriv.value) d
-        → Proves schema.now (tree_of result.value) d }
+        ↔ Proves schema.now (tree_of result.value) d }
     ensures node_bound { nodes (tree_of result.value) ≤ nodes (tree_of deriv.value) }
     ensures level_bound { depth (tree_of result.value) ≤ depth (tree_of deriv.value) }
     ensures direct { IsDirect schema.now (tree_of result.value) }

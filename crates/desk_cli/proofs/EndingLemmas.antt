@@ -16,7 +16,9 @@ use Rattle.desk_responses.specs.declared.status.Status.TheVariants.{Yes, CannotW
 use Rattle.desk_responses.specs.ResponseValues.{ResponseValue}
 use Rattle.desk_delivery.specs.Outcomes.{OutcomeValue, DestinationsInCall, WrittenAs, is_done, is_out_of_memory, failures_text, outcome_of_response, reported_outcome, WritesTables, ComesTo, EndsAs, NoneFails, HasTables, AllHave, HaveTables}
 use Rattle.std.specs.Io.KnownBytes.{append_known}
-use Rattle.desk_cli.specs.Desk.{Desk, Delivered, Delivers, FileSourceInCall, SinkInCall, reading_in_call, WritesWhole, WritesPart, IsNoOrStops}
+use Rattle.desk_cli.specs.FilesRead.{files_of_words}
+use Rattle.desk_inputs.specs.FilesBegun.{BeginsFront}
+use Rattle.desk_cli.specs.Desk.{IsLastBegun, Desk, Delivered, Delivers, FileSourceInCall, SinkInCall, reading_in_call, WritesWhole, WritesPart, IsNoOrStops}
 use Rattle.desk_cli.specs.Performs.{Answers}
 use Rattle.desk_inputs.specs.Readings.{known_files}
 
@@ -109,24 +111,26 @@ tables_only_with_yes destinations response ending (Some ts) written_tables other
 -- ---- the top call
 -- an answer that is allowed, delivered
 pub desk_delivered : (words : List (List ℕ)) (source : FileSourceInCall) (sink : SinkInCall) (destinations : DestinationsInCall) (response : ResponseValue) (result : Result Status MemoryError)
-    → Answers (reading_in_call source) words response
+    → ((last : Option (List ℕ)) → IsLastBegun source last → Answers (reading_in_call source last) words response)
     → ((files : Files) → source.files ≡ Some files → (ErrorCountIncreased source.before source.after → ⊥) → Answers (known_files files) words response)
-    → Delivered sink destinations response result → source.files_after ≡ source.files → source.before ≤ source.after → Desk words source sink destinations result
-desk_delivered words source sink destinations response result seen_so known_so delivered files reads = record {
-  response = λ status is. ended status (delivered.ends status is);
+    → Delivered sink destinations response result → source.files_after ≡ source.files → source.before ≤ source.after
+    → BeginsFront (files_of_words words) source.begun_before source.begun_after → Desk words source sink destinations result
+desk_delivered words source sink destinations response result seen_so known_so delivered files reads begun = record {
+  reads = begun;
+  response = λ last named status is. ended last named status (delivered.ends status is);
   complete = λ files are calm calm_sink calm_destinations status is. whole files are calm calm_sink calm_destinations status (delivered.ends status is);
   stay = λ status is other. stays status other (delivered.ends status is);
-  memory = λ e is. ((delivered.memory e is).0, inr (response, seen_so, (delivered.memory e is).1));
+  memory = λ last named e is. ((delivered.memory e is).0, inr (response, seen_so last named, (delivered.memory e is).1));
   destinations_stay = delivered.count;
   files_stay = files;
   reads_later = reads;
   writes_later = delivered.later;
 }
   where
-    ended : (status : Status) → WritesWhole sink (ComesTo destinations response) status ⊎ WritesPart sink (ComesTo destinations response) status
-        → WritesWhole sink (EndsAs destinations (Answers (reading_in_call source) words)) status ⊎ WritesPart sink (EndsAs destinations (Answers (reading_in_call source) words)) status
-    ended status (inl (ending, comes, same, written, fine)) = inl (ending, (response, seen_so, comes), same, written, fine)
-    ended status (inr (cannot, increased, (ending, comes, took))) = inr (cannot, increased, (ending, (response, seen_so, comes), took))
+    ended : (last : Option (List ℕ)) → IsLastBegun source last → (status : Status) → WritesWhole sink (ComesTo destinations response) status ⊎ WritesPart sink (ComesTo destinations response) status
+        → WritesWhole sink (EndsAs destinations (Answers (reading_in_call source last) words)) status ⊎ WritesPart sink (EndsAs destinations (Answers (reading_in_call source last) words)) status
+    ended last named status (inl (ending, comes, same, written, fine)) = inl (ending, (response, seen_so last named, comes), same, written, fine)
+    ended last named status (inr (cannot, increased, (ending, comes, took))) = inr (cannot, increased, (ending, (response, seen_so last named, comes), took))
 
     whole : (files : Files) → source.files ≡ Some files → (ErrorCountIncreased source.before source.after → ⊥) → (ErrorCountIncreased sink.before sink.after → ⊥) → NoneFails destinations
         → (status : Status) → WritesWhole sink (ComesTo destinations response) status ⊎ WritesPart sink (ComesTo destinations response) status → Delivers sink destinations (Answers (known_files files) words) status

@@ -1,28 +1,41 @@
 -- What the top call promises: the record `Desk`, for `desk`.
-use Rattle.std.specs.Prelude.{◌≡◌, ◌⊎◌, ℕ, ◌≤◌, List, length, Option, Some, Result, Ok, Err}
+use Rattle.std.specs.Prelude.{◌≡◌, ◌⊎◌, ℕ, ◌≤◌, List, length, Option, Some, IfSome, Result, Ok, Err}
 use Rattle.std.specs.Io.KnownBytes.{append_known}
 use Rattle.dep_model.specs.declared.memory.OutOfMemory.{OutOfMemory}
+use Rattle.desk_outside.specs.Begun.{Begun}
 use Rattle.desk_outside.specs.Causes.{ErrorCountIncreased, TookPart}
 use Rattle.desk_outside.specs.Files.{Files}
 use Rattle.desk_responses.specs.declared.status.Status.{Status}
 use Rattle.desk_responses.specs.declared.status.Status.TheVariants.{No, Refused, CannotRead, CannotWrite}
 use Rattle.desk_responses.specs.ResponseValues.{ResponseValue, Allowed}
 use Rattle.desk_delivery.specs.Outcomes.{OutcomeValue, Outcomes, DestinationsInCall, ComesTo, EndsAs, LeavesDestinations, Leaves, NoneFails, HaveTables}
+use Rattle.desk_cli.specs.FilesRead.{files_of_words}
 use Rattle.desk_cli.specs.Performs.{Answers}
+use Rattle.desk_inputs.specs.FilesBegun.{BeginsFront, BeginsLast}
 use Rattle.desk_inputs.specs.Readings.{Reading, observed, known_files}
 
--- a file source in a call: its files, where known, before and after, its faults before and after, and
--- the bytes taken since the last file was begun
-pub record FileSourceInCall : Type 0 where
+-- a file source in a call: its files, where known, before and after, its faults before and after, the
+-- bytes taken since the last file was begun, and the names begun, before and after
+pub record FileSourceInCall : Type 1 where
   pub files : Option Files
   pub files_after : Option Files
   pub before : ℕ
   pub after : ℕ
   pub taken : ℕ
+  pub begun_before : Begun
+  pub begun_after : Begun
 
-abbrev pub source_in_call : Option Files → Option Files → ℕ → ℕ → ℕ → FileSourceInCall
-source_in_call files files_after before after taken =
-    record { files = files; files_after = files_after; before = before; after = after; taken = taken }
+abbrev pub source_in_call : Option Files → Option Files → ℕ → ℕ → ℕ → Begun → Begun → FileSourceInCall
+source_in_call files files_after before after taken begun_before begun_after =
+    record {
+      files = files;
+      files_after = files_after;
+      before = before;
+      after = after;
+      taken = taken;
+      begun_before = begun_before;
+      begun_after = begun_after;
+    }
 
 -- a sink in a call: the bytes taken, where known, and its faults, before and after
 pub record SinkInCall : Type 0 where
@@ -34,9 +47,14 @@ pub record SinkInCall : Type 0 where
 abbrev pub sink_in_call : Option (List ℕ) → Option (List ℕ) → ℕ → ℕ → SinkInCall
 sink_in_call old new before after = record { old = old; new = new; before = before; after = after }
 
--- what the file source showed
-abbrev pub reading_in_call : FileSourceInCall → Reading
-reading_in_call source = observed source.files source.before source.after source.taken
+-- no file but this is the last that was begun, where one is named
+abbrev pub IsLastBegun : FileSourceInCall → Option (List ℕ) → Type 0
+IsLastBegun source last =
+    (name : List ℕ) → BeginsLast name source.begun_before source.begun_after → IfSome last (λ other. name ≡ other)
+
+-- what the file source showed, where the last file that was begun is this, or none is named
+abbrev pub reading_in_call : FileSourceInCall → Option (List ℕ) → Reading
+reading_in_call source last = observed source.files source.before source.after source.taken last
 
 -- the sink took just the text of an outcome with this status, and none of its calls failed
 abbrev pub WritesWhole : SinkInCall → Outcomes → Status → Type 0
@@ -71,10 +89,13 @@ pub record Delivered (sink : SinkInCall) (destinations : DestinationsInCall) (re
 
 pub record Desk (words : List (List ℕ)) (source : FileSourceInCall) (sink : SinkInCall)
     (destinations : DestinationsInCall) (result : Result Status OutOfMemory) : Type 0 where
-  -- the call ends as an answer that the words and the files allow, and the sink took the text
-  pub response : (status : Status) → result ≡ Ok status
-      → WritesWhole sink (EndsAs destinations (Answers (reading_in_call source) words)) status
-      ⊎ WritesPart sink (EndsAs destinations (Answers (reading_in_call source) words)) status
+  -- the files that were begun are the first of those that the words name, in their order, each once
+  pub reads : BeginsFront (files_of_words words) source.begun_before source.begun_after
+  -- the call ends as an answer that the words and the files allow, and the sink took the text; no file
+  -- but the last that was begun is one that cannot be read
+  pub response : (last : Option (List ℕ)) → IsLastBegun source last → (status : Status) → result ≡ Ok status
+      → WritesWhole sink (EndsAs destinations (Answers (reading_in_call source last) words)) status
+      ⊎ WritesPart sink (EndsAs destinations (Answers (reading_in_call source last) words)) status
   -- where the files are known and nothing failed, it is the answer of those files, whole, with all
   -- tables
   pub complete : (files : Files) → source.files ≡ Some files → (ErrorCountIncreased source.before source.after → ⊥)
@@ -84,8 +105,8 @@ pub record Desk (words : List (List ℕ)) (source : FileSourceInCall) (sink : Si
   pub stay : (status : Status) → result ≡ Ok status → IsNoOrStops status → destinations.new ≡ destinations.old
   -- where memory ran out nothing was written, and the destinations are as they were or have a part of
   -- the tables of an answer, since one of them ran out of memory
-  pub memory : (e : OutOfMemory) → result ≡ Err e
-      → (sink.new ≡ sink.old) × Leaves destinations (Answers (reading_in_call source) words)
+  pub memory : (last : Option (List ℕ)) → IsLastBegun source last → (e : OutOfMemory) → result ≡ Err e
+      → (sink.new ≡ sink.old) × Leaves destinations (Answers (reading_in_call source last) words)
   pub destinations_stay : length destinations.new ≡ length destinations.old
   pub files_stay : source.files_after ≡ source.files
   pub reads_later : source.before ≤ source.after

@@ -3,7 +3,7 @@ use Rattle.std.specs.Prelude.{ℕ, List, ◌++◌, codes}
 use Rattle.desk_texts.specs.Texts.{line}
 
 abbrev pub version_text : List ℕ
-version_text = line (codes "desk 0.2.0")
+version_text = line (codes "desk 0.3.0")
 
 abbrev pub help_text : List ℕ
 help_text =
@@ -12,15 +12,19 @@ help_text =
     ++ line (codes "desk check proof SCHEMA FILE GOAL     whether the certificate in FILE proves the goal")
     ++ line (codes "desk check rows SCHEMA CSV            "
     ++ codes "whether the rows in CSV are legal, and which break what")
+    ++ line (codes "desk check key SCHEMA SET             whether the set of attributes is a key, and why")
     ++ line (codes "desk check join SCHEMA PLAN           whether the plan in PLAN loses nothing")
     ++ line (codes "desk check form FORM SCHEMA PLAN      "
     ++ codes "whether each scheme of the plan is in the form: 3nf, bcnf or 4nf")
     ++ line (codes "desk check keeps SCHEMA PLAN          whether the plan keeps the functional dependencies")
     ++ line (codes "desk check same SCHEMA OTHER          "
     ++ codes "whether two schemas over the same names say the same")
+    ++ line (codes "desk check cover SCHEMA OTHER         "
+    ++ codes "whether OTHER is a minimal cover of SCHEMA, and what keeps it from being one")
     ++ line (codes "desk cover SCHEMA                     what says the same, shortened")
     ++ line (codes "desk basis SCHEMA SET                 "
     ++ codes "what the set of attributes determines, and the blocks of the others")
+    ++ line (codes "desk closure SCHEMA SET               how the closure of the set comes about, step by step")
     ++ line (codes "desk keys SCHEMA                      all keys")
     ++ line (codes "desk keys SCHEMA PLAN                 all keys of each scheme of the plan")
     ++ line (codes "desk synthesize SCHEMA                a plan in third normal form")

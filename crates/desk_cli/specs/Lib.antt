@@ -2,4 +2,5 @@
 -- promises.
 pub mod Help
 pub mod Performs
+pub mod FilesRead
 pub mod Desk

@@ -8,6 +8,8 @@ use Rattle.desk_responses.specs.declared.status.Status.TheVariants.{Yes, Refused
 use Rattle.desk_responses.specs.ResponseValues.{Allowed, Says}
 use Rattle.desk_implication.specs.Bases.{GivesBasis}
 use Rattle.desk_implication.specs.Certificates.{ChecksProof}
+use Rattle.desk_implication.specs.Closures.{GivesClosure}
+use Rattle.desk_implication.specs.CoverChecks.{ChecksCover}
 use Rattle.desk_implication.specs.Covering.{GivesCover}
 use Rattle.desk_designs.specs.Decompositions.{Splits, SplitsWide}
 use Rattle.desk_designs.specs.Designs.{WritesForm, WritesPlan}
@@ -16,21 +18,23 @@ use Rattle.desk_designs.specs.Drawings.{DrawsForm, DrawsSchemes}
 use Rattle.desk_implication.specs.Exhibits.{Exhibits}
 use Rattle.desk_words.specs.Forms as form
 use Rattle.desk_words.specs.Forms.{CommandForm, PlanQuestion, RowsQuestion, SchemaQuestion, Task, form_of}
-use Rattle.desk_inputs.specs.Headed.{WithHeaded}
+use Rattle.desk_inputs.specs.FileKinds.{WithFile}
+use Rattle.desk_inputs.specs.Headed.{headed_file}
 use Rattle.desk_cli.specs.Help.{help_text, version_text}
 use Rattle.desk_implication.specs.Implication.{DecidesGoal}
-use Rattle.desk_inputs.specs.Inputs.{WithProof, WithSchema}
+use Rattle.desk_inputs.specs.Inputs.{proof_file, schema_file}
 use Rattle.desk_designs.specs.Joins.{JudgesJoin}
 use Rattle.desk_designs.specs.Keeping.{JudgesKeeping}
+use Rattle.desk_implication.specs.KeyChecks.{ChecksKey}
 use Rattle.desk_implication.specs.Keys.{ListsKeys, ListsKeysOfPlan}
 use Rattle.desk_tables.specs.Legality.{JudgesRows}
 use Rattle.desk_tables.specs.Migrations.{Migrates, MigratesPlan, Samples}
 use Rattle.desk_designs.specs.NormalForms.{JudgesForm}
 use Rattle.desk_inputs.specs.Parts.{WithParts}
-use Rattle.desk_inputs.specs.Plans.{WithPlan}
+use Rattle.desk_inputs.specs.Plans.{plan_file}
 use Rattle.desk_inputs.specs.Readings.{Reading}
 use Rattle.desk_tables.specs.Rejoining.{JoinsTables}
-use Rattle.desk_inputs.specs.Rows.{WithRows}
+use Rattle.desk_inputs.specs.Rows.{rows_file}
 use Rattle.desk_implication.specs.Sameness.{ChecksSame}
 use Rattle.desk_designs.specs.Scripts.{ScriptsCheck, ScriptsMigration, ScriptsMigrationByPlan}
 use Rattle.desk_designs.specs.Synthesis.{Synthesizes}
@@ -41,7 +45,9 @@ unfoldable pub AnswersSchema : Schema → SchemaQuestion → Allowed
 AnswersSchema schema (form.implies goal) = DecidesGoal schema goal
 AnswersSchema schema form.cover = GivesCover schema
 AnswersSchema schema (form.basis set) = GivesBasis schema set
+AnswersSchema schema (form.closure set) = GivesClosure schema set
 AnswersSchema schema form.keys = ListsKeys schema
+AnswersSchema schema (form.check_key set) = ChecksKey schema set
 AnswersSchema schema form.synthesize = Synthesizes schema
 AnswersSchema schema (form.split normal) = Splits schema normal
 AnswersSchema schema form.split_wide = SplitsWide schema
@@ -69,19 +75,25 @@ AnswersRows schema rows (form.migrate normal) = Migrates schema normal rows
 -- what is asked of a schema: the files after its own are read in their order, and then it is answered
 unfoldable pub Does : Reading → Schema → Task → Allowed
 Does r schema (form.of_schema question) = AnswersSchema schema question
-Does r schema (form.of_plan file question) = WithPlan r schema file (λ plan. AnswersPlan schema plan question)
-Does r schema (form.of_rows file question) = WithRows r schema file (λ rows. AnswersRows schema rows question)
-Does r schema (form.migrate_plan plan_file file) =
-    WithPlan r schema plan_file (λ plan. WithRows r schema file (λ rows. MigratesPlan schema plan rows))
-Does r schema (form.check_proof file goal) = WithProof r schema file (λ tree. ChecksProof schema tree goal)
+Does r schema (form.of_plan file question) =
+    WithFile (plan_file schema) r file (λ plan. AnswersPlan schema plan question)
+Does r schema (form.of_rows file question) =
+    WithFile (rows_file schema) r file (λ rows. AnswersRows schema rows question)
+Does r schema (form.migrate_plan planned file) =
+    WithFile (plan_file schema) r planned
+    (λ plan. WithFile (rows_file schema) r file (λ rows. MigratesPlan schema plan rows))
+Does r schema (form.check_proof file goal) =
+    WithFile (proof_file schema) r file (λ tree. ChecksProof schema tree goal)
 Does r schema (form.check_same file other_file) =
-    WithSchema r other_file (λ other. ChecksSame schema other file other_file)
+    WithFile schema_file r other_file (λ other. ChecksSame schema other file other_file)
+Does r schema (form.check_cover file other_file) =
+    WithFile schema_file r other_file (λ other. ChecksCover schema other file other_file)
 Does r schema (form.rejoin files) = WithParts r schema files (λ parts. JoinsTables schema (tables_of parts))
 
 -- a command
 unfoldable pub Performs : Reading → CommandForm → Allowed
-Performs r (form.over_schema file task) = WithSchema r file (λ schema. Does r schema task)
-Performs r (form.discover file) = WithHeaded r file FindsRules
+Performs r (form.over_schema file task) = WithFile schema_file r file (λ schema. Does r schema task)
+Performs r (form.discover file) = WithFile headed_file r file FindsRules
 Performs r (form.sample persons) = Samples persons
 Performs r form.help = Says Yes help_text
 Performs r form.version = Says Yes version_text

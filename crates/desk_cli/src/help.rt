@@ -9,12 +9,15 @@ const HELP: &[u8] =
     b"desk implies SCHEMA GOAL              whether the schema implies the goal, with a proof or two rows against it
 desk check proof SCHEMA FILE GOAL     whether the certificate in FILE proves the goal
 desk check rows SCHEMA CSV            whether the rows in CSV are legal, and which break what
+desk check key SCHEMA SET             whether the set of attributes is a key, and why
 desk check join SCHEMA PLAN           whether the plan in PLAN loses nothing
 desk check form FORM SCHEMA PLAN      whether each scheme of the plan is in the form: 3nf, bcnf or 4nf
 desk check keeps SCHEMA PLAN          whether the plan keeps the functional dependencies
 desk check same SCHEMA OTHER          whether two schemas over the same names say the same
+desk check cover SCHEMA OTHER         whether OTHER is a minimal cover of SCHEMA, and what keeps it from being one
 desk cover SCHEMA                     what says the same, shortened
 desk basis SCHEMA SET                 what the set of attributes determines, and the blocks of the others
+desk closure SCHEMA SET               how the closure of the set comes about, step by step
 desk keys SCHEMA                      all keys
 desk keys SCHEMA PLAN                 all keys of each scheme of the plan
 desk synthesize SCHEMA                a plan in third normal form
@@ -54,7 +57,7 @@ pub fn help(alloc: Global) -> Result<Response, EarlyExit>
 pub fn version(alloc: Global) -> Result<Response, EarlyExit>
     ensures response { RespondsAs (Says Status.Yes version_text) result }
 {
-    match Vec::from_slice(alloc, b"desk 0.2.0\n") {
+    match Vec::from_slice(alloc, b"desk 0.3.0\n") {
         Ok(text) => Ok(Response::with_text(Status::Yes, text)),
         Err(_) => Err(EarlyExit::OutOfMemory),
     }

@@ -2,7 +2,7 @@
 
 ghost use Rattle.std.specs.Prelude.{◌≡◌};
 ghost use Rattle.attr_sets.specs.declared.set.TheConstants.{MOST_ATTRIBUTES};
-ghost use Rattle.armstrong_rel.specs.declared.refusal.TheConstants.{WIDEST_EXHIBITED};
+ghost use Rattle.armstrong_rel.specs.declared.refusal.TheConstants.{MOST_EXHIBITED_ROWS, WIDEST_EXHIBITED};
 ghost use Rattle.csv_rows.specs.declared.reading.TheConstants.{MOST_ROWS};
 ghost use Rattle.plan_reader.specs.declared.reading.TheConstants.{MOST_PLAN_BYTES};
 ghost use Rattle.dep_model.specs.declared.name.TheConstants.{MOST_BARE_NAME_BYTES, MOST_NAME_BYTES};
@@ -15,8 +15,8 @@ ghost use Rattle.desk_tables.specs.declared.rejoining.TheConstants.{MOST_JOINED_
 ghost use Rattle.desk_inputs.specs.declared.rows.TheConstants.{MOST_CSV_BYTES};
 ghost use Rattle.desk_words.specs.declared.command.TheConstants.{MOST_FILES};
 ghost use Rattle.fd_discovery.specs.declared.headed_rows.TheConstants.{MOST_HEADED_ROWS, WIDEST_HEADED};
-ghost use Rattle.normal_forms.specs.declared.forms.TheConstants.{WIDEST_TESTED};
-ghost use Rattle.key_listing.specs.declared.refusal.TheConstants.{MOST_KEYS, WIDEST_SEARCHED};
+ghost use Rattle.fd_closure.specs.declared.left_sides.TheConstants.{WIDEST_SEARCHED};
+ghost use Rattle.key_listing.specs.declared.refusal.TheConstants.{MOST_KEYS};
 ghost use Rattle.plan_grammar.specs.declared.refusal.TheConstants.{MOST_SCHEMES};
 ghost use Rattle.proof_text.specs.declared.text.TheConstants.{MOST_PROOF_BYTES};
 ghost use Rattle.sample_rows.specs.declared.rows.TheConstants.{MOST_PERSONS};
@@ -29,7 +29,7 @@ ghost use Rattle.table_scripts.specs.declared.naming.TheConstants.{MOST_PARTS, M
 pub fn limits_of_schemas()
     ensures attributes { MOST_ATTRIBUTES ≡ 128 }
     ensures dependencies { MOST_DEPENDENCIES ≡ 4096 }
-    ensures dependency_lines { MOST_DEPENDENCY_LINES ≡ 256 }
+    ensures dependency_lines { MOST_DEPENDENCY_LINES ≡ 4096 }
     ensures name { MOST_NAME_BYTES ≡ 63 }
     ensures bare_name { MOST_BARE_NAME_BYTES ≡ 31 }
 {}
@@ -41,7 +41,7 @@ pub fn limits_of_texts()
     ensures set { MOST_SET_BYTES ≡ 16384 }
     ensures plan { MOST_PLAN_BYTES ≡ 1048576 }
     ensures certificate { MOST_PROOF_BYTES ≡ 268435456 }
-    ensures csv { MOST_CSV_BYTES ≡ 16777216 }
+    ensures csv { MOST_CSV_BYTES ≡ 4000000000 }
 {}
 
 /// How much a text may hold: lines and levels of a certificate, schemes of a plan, rows, and rows and
@@ -50,8 +50,8 @@ pub fn limits_of_contents()
     ensures lines { MOST_NODES ≡ 262144 }
     ensures levels { MOST_LEVELS ≡ 2048 }
     ensures schemes { MOST_SCHEMES ≡ 256 }
-    ensures rows { MOST_ROWS ≡ 100000 }
-    ensures headed_rows { MOST_HEADED_ROWS ≡ 10000 }
+    ensures rows { MOST_ROWS ≡ 10000000 }
+    ensures headed_rows { MOST_HEADED_ROWS ≡ 10000000 }
     ensures headed_columns { WIDEST_HEADED ≡ 12 }
 {}
 
@@ -59,11 +59,11 @@ pub fn limits_of_contents()
 pub fn limits_of_searches()
     ensures keys { MOST_KEYS ≡ 1024 }
     ensures searched { WIDEST_SEARCHED ≡ 20 }
-    ensures tested { WIDEST_TESTED ≡ 20 }
     ensures exhibited { WIDEST_EXHIBITED ≡ 16 }
+    ensures exhibited_rows { MOST_EXHIBITED_ROWS ≡ 100000 }
     ensures split_schemes { MOST_SPLIT_SCHEMES ≡ 4096 }
     ensures tableau_rows { MOST_TABLEAU_ROWS ≡ 1024 }
-    ensures joined_rows { MOST_JOINED_ROWS ≡ 200000 }
+    ensures joined_rows { MOST_JOINED_ROWS ≡ 10000000 }
 {}
 
 /// What words may say: files, invented persons, and the parts of a table's name with their bytes.

@@ -16,7 +16,8 @@ use desk_designs::{
     write_plan,
 };
 use desk_implication::{
-    cover, exhibit_relation, give_basis, implies, list_keys, list_keys_of_plan,
+    check_key, cover, exhibit_relation, give_basis, give_closure, implies, list_keys,
+    list_keys_of_plan,
 };
 use desk_responses::{EarlyExit, Response};
 use desk_tables::{check_rows, migrate_in_form};
@@ -39,7 +40,9 @@ pub fn answer_schema(
         SchemaQuestion::Implies { goal } => implies(alloc, schema, goal),
         SchemaQuestion::Cover => cover(alloc, schema),
         SchemaQuestion::Basis { set } => give_basis(alloc, schema, set),
+        SchemaQuestion::Closure { set } => give_closure(alloc, schema, set),
         SchemaQuestion::Keys => list_keys(alloc, schema),
+        SchemaQuestion::CheckKey { set } => check_key(alloc, schema, set),
         SchemaQuestion::Synthesize => synthesize_plan(alloc, schema),
         SchemaQuestion::Split { form } => split_in_form(alloc, schema, form),
         SchemaQuestion::SplitWide => split_by_pairs(alloc, schema),

@@ -1,26 +1,30 @@
 //! What is asked of files: they are read one after the other, in the order of the words, and then the
 //! question is put to what was read. No other function of this crate reads a file.
 
-ghost use Rattle.std.specs.Prelude.{◌≡◌, ◌≤◌};
+ghost use Rattle.std.specs.Prelude.{◌≡◌, ◌≤◌, ◌∷◌, []};
 ghost use Rattle.desk_words.specs.Commands.{plan_question, rows_question, task_form};
 ghost use Rattle.table_join.specs.Tables.{tables_of};
 ghost use Rattle.desk_implication.specs.Certificates.{ChecksProof};
+ghost use Rattle.desk_implication.specs.CoverChecks.{ChecksCover};
 ghost use Rattle.desk_implication.specs.Discoveries.{FindsRules};
-ghost use Rattle.desk_inputs.specs.Headed.{WithHeaded};
-ghost use Rattle.desk_inputs.specs.Inputs.{WithProof, WithSchema};
+ghost use Rattle.desk_inputs.specs.FileKinds.{WithFile};
+ghost use Rattle.desk_inputs.specs.FilesBegun.{BeginsFront};
+ghost use Rattle.desk_inputs.specs.Headed.{headed_file};
+ghost use Rattle.desk_inputs.specs.Inputs.{proof_file, schema_file};
 ghost use Rattle.desk_tables.specs.Migrations.{MigratesPlan};
 ghost use Rattle.desk_inputs.specs.Parts.{WithParts};
+ghost use Rattle.desk_cli.specs.FilesRead.{files_of_task};
 ghost use Rattle.desk_cli.specs.Performs.{AnswersPlan, AnswersRows, Does};
-ghost use Rattle.desk_inputs.specs.Plans.{WithPlan};
+ghost use Rattle.desk_inputs.specs.Plans.{plan_file};
 ghost use Rattle.desk_inputs.specs.Readings.{Reading, Shows};
 ghost use Rattle.desk_tables.specs.Rejoining.{JoinsTables};
 ghost use Rattle.desk_responses.specs.Responses.{RespondsAs};
-ghost use Rattle.desk_inputs.specs.Rows.{WithRows};
+ghost use Rattle.desk_inputs.specs.Rows.{rows_file};
 ghost use Rattle.desk_implication.specs.Sameness.{ChecksSame};
 
 use crate::questions::{answer_plan, answer_rows, answer_schema};
 use dep_model::Schema;
-use desk_implication::{check_proof, check_same, discover_rules};
+use desk_implication::{check_cover, check_proof, check_same, discover_rules};
 use desk_inputs::{open_headed, open_parts, open_plan, open_proof, open_rows, open_schema};
 use desk_outside::{Argument, FileSource};
 use desk_responses::{EarlyExit, Response};
@@ -37,8 +41,10 @@ pub fn over_schema<F: FileSource>(
 ) -> Result<Response, EarlyExit>
     ensures files { F.files source.new ≡ F.files source.old }
     ensures later { F.faults source.old ≤ F.faults source.new }
-    ensures response { (r : Reading) → Shows F.files F.faults F.taken source.old source.new r
-        → RespondsAs (WithSchema r file.now (λ schema. Does r schema (task_form task.entry))) result }
+    ensures reads { BeginsFront (file.now ∷ files_of_task (task_form task.entry))
+        (F.begun source.old) (F.begun source.new) }
+    ensures response { (r : Reading) → Shows F.files F.faults F.taken F.begun source.old source.new r
+        → RespondsAs (WithFile schema_file r file.now (λ schema. Does r schema (task_form task.entry))) result }
 {
     let schema = match open_schema(alloc, source, file) {
         Ok(schema) => schema,
@@ -57,7 +63,9 @@ fn perform_task<F: FileSource>(
 ) -> Result<Response, EarlyExit>
     ensures files { F.files source.new ≡ F.files source.old }
     ensures later { F.faults source.old ≤ F.faults source.new }
-    ensures response { (r : Reading) → Shows F.files F.faults F.taken source.old source.new r
+    ensures reads { BeginsFront (files_of_task (task_form task.entry))
+        (F.begun source.old) (F.begun source.new) }
+    ensures response { (r : Reading) → Shows F.files F.faults F.taken F.begun source.old source.new r
         → RespondsAs (Does r schema.now (task_form task.entry)) result }
 {
     match task {
@@ -67,6 +75,7 @@ fn perform_task<F: FileSource>(
         Task::MigratePlan { plan, file } => of_plan_and_rows(alloc, source, schema, plan, file),
         Task::CheckProof { file, goal } => of_proof(alloc, source, schema, file, goal),
         Task::CheckSame { file, other } => of_schemas(alloc, source, schema, file, other),
+        Task::CheckCover { file, other } => of_cover(alloc, source, schema, file, other),
         Task::Rejoin { files } => of_parts(alloc, source, schema, files),
     }
 }
@@ -81,8 +90,10 @@ fn of_plan<F: FileSource>(
 ) -> Result<Response, EarlyExit>
     ensures files { F.files source.new ≡ F.files source.old }
     ensures later { F.faults source.old ≤ F.faults source.new }
-    ensures response { (r : Reading) → Shows F.files F.faults F.taken source.old source.new r
-        → RespondsAs (WithPlan r schema.now file.now
+    ensures reads { BeginsFront (file.now ∷ [])
+        (F.begun source.old) (F.begun source.new) }
+    ensures response { (r : Reading) → Shows F.files F.faults F.taken F.begun source.old source.new r
+        → RespondsAs (WithFile (plan_file schema.now) r file.now
         (λ plan. AnswersPlan schema.now plan (plan_question question.entry))) result }
 {
     let plan = match open_plan(alloc, source, schema, file) {
@@ -102,8 +113,10 @@ fn of_rows<F: FileSource>(
 ) -> Result<Response, EarlyExit>
     ensures files { F.files source.new ≡ F.files source.old }
     ensures later { F.faults source.old ≤ F.faults source.new }
-    ensures response { (r : Reading) → Shows F.files F.faults F.taken source.old source.new r
-        → RespondsAs (WithRows r schema.now file.now
+    ensures reads { BeginsFront (file.now ∷ [])
+        (F.begun source.old) (F.begun source.new) }
+    ensures response { (r : Reading) → Shows F.files F.faults F.taken F.begun source.old source.new r
+        → RespondsAs (WithFile (rows_file schema.now) r file.now
         (λ rows. AnswersRows schema.now rows (rows_question question))) result }
 {
     let rows = match open_rows(alloc, source, schema, file) {
@@ -123,9 +136,11 @@ fn of_plan_and_rows<F: FileSource>(
 ) -> Result<Response, EarlyExit>
     ensures files { F.files source.new ≡ F.files source.old }
     ensures later { F.faults source.old ≤ F.faults source.new }
-    ensures response { (r : Reading) → Shows F.files F.faults F.taken source.old source.new r
-        → RespondsAs (WithPlan r schema.now plan.now
-        (λ plan. WithRows r schema.now file.now (λ rows. MigratesPlan schema.now plan rows))) result }
+    ensures reads { BeginsFront (plan.now ∷ file.now ∷ [])
+        (F.begun source.old) (F.begun source.new) }
+    ensures response { (r : Reading) → Shows F.files F.faults F.taken F.begun source.old source.new r
+        → RespondsAs (WithFile (plan_file schema.now) r plan.now
+        (λ plan. WithFile (rows_file schema.now) r file.now (λ rows. MigratesPlan schema.now plan rows))) result }
 {
     let plan = match open_plan(alloc, source, schema, plan) {
         Ok(plan) => plan,
@@ -148,8 +163,11 @@ fn of_proof<F: FileSource>(
 ) -> Result<Response, EarlyExit>
     ensures files { F.files source.new ≡ F.files source.old }
     ensures later { F.faults source.old ≤ F.faults source.new }
-    ensures response { (r : Reading) → Shows F.files F.faults F.taken source.old source.new r
-        → RespondsAs (WithProof r schema.now file.now (λ tree. ChecksProof schema.now tree goal.now)) result }
+    ensures reads { BeginsFront (file.now ∷ [])
+        (F.begun source.old) (F.begun source.new) }
+    ensures response { (r : Reading) → Shows F.files F.faults F.taken F.begun source.old source.new r
+        → RespondsAs (WithFile (proof_file schema.now) r file.now
+        (λ tree. ChecksProof schema.now tree goal.now)) result }
 {
     let read = match open_proof(alloc, source, schema, file) {
         Ok(read) => read,
@@ -168,8 +186,10 @@ fn of_schemas<F: FileSource>(
 ) -> Result<Response, EarlyExit>
     ensures files { F.files source.new ≡ F.files source.old }
     ensures later { F.faults source.old ≤ F.faults source.new }
-    ensures response { (r : Reading) → Shows F.files F.faults F.taken source.old source.new r
-        → RespondsAs (WithSchema r other_file.now
+    ensures reads { BeginsFront (other_file.now ∷ [])
+        (F.begun source.old) (F.begun source.new) }
+    ensures response { (r : Reading) → Shows F.files F.faults F.taken F.begun source.old source.new r
+        → RespondsAs (WithFile schema_file r other_file.now
         (λ other. ChecksSame schema.now other file.now other_file.now)) result }
 {
     let other = match open_schema(alloc, source, other_file) {
@@ -177,6 +197,29 @@ fn of_schemas<F: FileSource>(
         Err(exit) => return Err(exit),
     };
     check_same(alloc, schema, &other, file, other_file)
+}
+
+// Whether the schema of a file is a minimal cover of another.
+fn of_cover<F: FileSource>(
+    alloc: Global,
+    source: &mut F,
+    schema: &Schema,
+    file: &Argument,
+    other_file: &Argument,
+) -> Result<Response, EarlyExit>
+    ensures files { F.files source.new ≡ F.files source.old }
+    ensures later { F.faults source.old ≤ F.faults source.new }
+    ensures reads { BeginsFront (other_file.now ∷ [])
+        (F.begun source.old) (F.begun source.new) }
+    ensures response { (r : Reading) → Shows F.files F.faults F.taken F.begun source.old source.new r
+        → RespondsAs (WithFile schema_file r other_file.now
+        (λ other. ChecksCover schema.now other file.now other_file.now)) result }
+{
+    let other = match open_schema(alloc, source, other_file) {
+        Ok(other) => other,
+        Err(exit) => return Err(exit),
+    };
+    check_cover(alloc, schema, &other, file, other_file)
 }
 
 // The natural join of the tables of files.
@@ -188,7 +231,9 @@ fn of_parts<F: FileSource>(
 ) -> Result<Response, EarlyExit>
     ensures files { F.files source.new ≡ F.files source.old }
     ensures later { F.faults source.old ≤ F.faults source.new }
-    ensures response { (r : Reading) → Shows F.files F.faults F.taken source.old source.new r
+    ensures reads { BeginsFront files.now
+        (F.begun source.old) (F.begun source.new) }
+    ensures response { (r : Reading) → Shows F.files F.faults F.taken F.begun source.old source.new r
         → RespondsAs (WithParts r schema.now files.now (λ parts. JoinsTables schema.now (tables_of parts))) result }
 {
     let parts = match open_parts(alloc, source, schema, files) {
@@ -210,8 +255,10 @@ pub fn of_headed<F: FileSource>(
 ) -> Result<Response, EarlyExit>
     ensures files { F.files source.new ≡ F.files source.old }
     ensures later { F.faults source.old ≤ F.faults source.new }
-    ensures response { (r : Reading) → Shows F.files F.faults F.taken source.old source.new r
-        → RespondsAs (WithHeaded r file.now FindsRules) result }
+    ensures reads { BeginsFront (file.now ∷ [])
+        (F.begun source.old) (F.begun source.new) }
+    ensures response { (r : Reading) → Shows F.files F.faults F.taken F.begun source.old source.new r
+        → RespondsAs (WithFile headed_file r file.now FindsRules) result }
 {
     let headed = match open_headed(alloc, source, file) {
         Ok(headed) => headed,

@@ -2,7 +2,9 @@ ghost use Rattle.std.specs.Prelude.{◌≡◌, ◌≤◌, IfOk};
 ghost use Rattle.desk_words.specs.Commands.{command_form};
 ghost use Rattle.desk_cli.specs.Desk.{Desk, Delivered, source_in_call, sink_in_call};
 ghost use Rattle.desk_delivery.specs.Outcomes.{destinations_in_call};
+ghost use Rattle.desk_cli.specs.FilesRead.{files_of_command, files_of_words};
 ghost use Rattle.desk_cli.specs.Performs.{Performs, Answers};
+ghost use Rattle.desk_inputs.specs.FilesBegun.{BeginsFront};
 ghost use Rattle.desk_inputs.specs.Readings.{Reading, Shows};
 ghost use Rattle.desk_responses.specs.Responses.{response_value, RespondsAs};
 
@@ -35,7 +37,9 @@ pub fn desk<F: FileSource, K: Sink>(
     ensures desk { Desk words.now
         (source_in_call (F.files source.old) (F.files source.new) (F.faults source.old)
         (F.faults source.new)
-        (F.taken source.new))
+        (F.taken source.new)
+        (F.begun source.old)
+        (F.begun source.new))
         (sink_in_call (K.contents out.old) (K.contents out.new) (K.faults out.old) (K.faults out.new))
         (destinations_in_call ⟦<Box<dyn Destination> as Destination>⟧.is_known
         ⟦<Box<dyn Destination> as Destination>⟧.finished
@@ -58,7 +62,9 @@ fn desk_over<F: FileSource, K: Sink, T: Destination>(
     ensures desk { Desk words.now
         (source_in_call (F.files source.old) (F.files source.new) (F.faults source.old)
         (F.faults source.new)
-        (F.taken source.new))
+        (F.taken source.new)
+        (F.begun source.old)
+        (F.begun source.new))
         (sink_in_call (K.contents out.old) (K.contents out.new) (K.faults out.old) (K.faults out.new))
         (destinations_in_call T.is_known T.finished T.begun T.width T.faults destinations.old.items
         destinations.new.items)
@@ -96,7 +102,8 @@ fn answer<F: FileSource>(
 ) -> Result<Response, OutOfMemory>
     ensures files { F.files source.new ≡ F.files source.old }
     ensures later { F.faults source.old ≤ F.faults source.new }
-    ensures response { (r : Reading) → Shows F.files F.faults F.taken source.old source.new r
+    ensures reads { BeginsFront (files_of_words words.now) (F.begun source.old) (F.begun source.new) }
+    ensures response { (r : Reading) → Shows F.files F.faults F.taken F.begun source.old source.new r
         → IfOk result (λ response. Answers r words.now (response_value response)) }
 {
     match parse(words) {
@@ -121,7 +128,9 @@ fn perform<F: FileSource>(
 ) -> Result<Response, EarlyExit>
     ensures files { F.files source.new ≡ F.files source.old }
     ensures later { F.faults source.old ≤ F.faults source.new }
-    ensures response { (r : Reading) → Shows F.files F.faults F.taken source.old source.new r
+    ensures reads { BeginsFront (files_of_command (command_form command.entry))
+        (F.begun source.old) (F.begun source.new) }
+    ensures response { (r : Reading) → Shows F.files F.faults F.taken F.begun source.old source.new r
         → RespondsAs (Performs r (command_form command.entry)) result }
 {
     match command {

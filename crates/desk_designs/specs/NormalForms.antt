@@ -6,7 +6,8 @@ use Rattle.dep_model.specs.Schemas.{width_of, theory_of}
 use Rattle.dep_model.specs.declared.schema.Schema.{Schema}
 use Rattle.normal_forms.specs.declared.forms.Form.{Form}
 use Rattle.normal_forms.specs.declared.forms.Form.TheVariants.{Third, Bcnf, Fourth}
-use Rattle.normal_forms.specs.Chosen.{IsInForm, IsWide, IsChosenViolation}
+use Rattle.fd_closure.specs.LeftSides.{IsWide}
+use Rattle.normal_forms.specs.Chosen.{IsInForm, IsChosenViolation}
 use Rattle.schema_printer.specs.Printing.{set_text, dependency_text}
 use Rattle.schema_printer.specs.Spelling.{printed_names_of}
 use Rattle.desk_responses.specs.declared.status.Status.TheVariants.{Yes, No, Refused}
@@ -39,14 +40,14 @@ violated_text names form scheme x y =
 -- ---- answers
 -- a scheme does not end the test of a plan: it is narrow enough to be tested, and in the form
 pub record PassesForm (schema : Schema) (form : Form) (scheme : Attributes) : Type 0 where
-  pub narrow : IsWide scheme → ⊥
+  pub narrow : IsWide (theory_of schema) scheme → ⊥
   pub in_form : IsInForm (width_of schema) (theory_of schema) form scheme
 
 -- a scheme ends the test: it is too wide, or narrow and violates the form
 abbrev pub EndsForm : Schema → Form → Attributes → Allowed
 EndsForm schema form scheme response =
-    (IsWide scheme × Says Refused (too_wide_text (printed_names_of schema) scheme) response)
-    ⊎ ((IsWide scheme → ⊥)
+    (IsWide (theory_of schema) scheme × Says Refused (too_wide_text (printed_names_of schema) scheme) response)
+    ⊎ ((IsWide (theory_of schema) scheme → ⊥)
     × ((x : Attributes) × (y : Attributes) × IsChosenViolation (width_of schema) (theory_of schema) form scheme x y
     × Says No (violated_text (printed_names_of schema) form scheme x y) response))
 

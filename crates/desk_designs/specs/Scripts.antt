@@ -8,6 +8,10 @@ use Rattle.dep_model.specs.Tuples.{Relation, IsOver}
 use Rattle.dep_model.specs.declared.schema.Schema.{Schema}
 use Rattle.ddl_text.specs.declared.table.TableDesign.{TableDesign}
 use Rattle.normal_forms.specs.declared.forms.Form.{Form}
+use Rattle.sql_evaluation.specs.Cells.{Cell}
+use Rattle.sql_evaluation.specs.Evaluation.{Engine}
+use Rattle.check_laws.specs.Holding.{Holds}
+use Rattle.check_laws.specs.Telling.{NothingShown}
 use Rattle.table_scripts.specs.Checking.{check_text, NothingBreaks}
 use Rattle.table_scripts.specs.Migrating.{migrate_text, FillsTables, ViewIsTable}
 use Rattle.table_scripts.specs.Naming.{is_table_name, quoted_table}
@@ -31,15 +35,18 @@ abbrev pub WithTableName : List ℕ → Allowed → Allowed
 WithTableName name = Unless (TableNameStops name) (IsTrue (is_table_name name))
 
 -- ---- checking
--- over a relation, the queries for the rules give nothing exactly where it is legal
-abbrev pub TellLegal : Schema → Type 0
-TellLegal schema =
-    (r : Relation) → IsOver (width_of schema) r → LegalFor schema r ↔ NothingBreaks schema r
+-- what the queries for the rules of a schema tell, in a script for a table: over a relation, their terms
+-- give nothing exactly where it is legal; and where an engine holds a relation as this table, they end
+-- without an error, and give no row exactly where it is legal
+pub record TellLegal (schema : Schema) (table : List ℕ) : Type 0 where
+  pub terms : (r : Relation) → IsOver (width_of schema) r → LegalFor schema r ↔ NothingBreaks schema r
+  pub queries : (e : Engine) (cell : ℕ → List ℕ → Cell) (r : Relation) → Holds e table schema cell r
+      → IsOver (width_of schema) r → LegalFor schema r ↔ NothingShown e schema table
 
 -- yes, with the queries for what breaks each rule
 abbrev pub AsksTable : Schema → List ℕ → Allowed
 AsksTable schema name response =
-    TellLegal schema × Says Yes (check_text schema (quoted_table name)) response
+    TellLegal schema (quoted_table name) × Says Yes (check_text schema (quoted_table name)) response
 
 abbrev pub ScriptsCheck : Schema → List ℕ → Allowed
 ScriptsCheck schema name = WithTableName name (AsksTable schema name)

@@ -1,4 +1,4 @@
-ghost use Rattle.std.specs.Prelude.{◌≡◌, ◌++◌, codes, All, IfOk, IfErr};
+ghost use Rattle.std.specs.Prelude.{◌≡◌, ◌<◌, ◌≤◌, ◌++◌, ℕ, codes, length, slice_index_or, All, IsTrue, IfOk, IfErr};
 ghost use Rattle.attr_sets.specs.Attributes.{IsSubset};
 ghost use Rattle.attr_sets.specs.Sets.{attributes};
 ghost use Rattle.dep_model.specs.Deps.{dependency_of};
@@ -34,7 +34,8 @@ pub fn check_form(
     judge_schemes(alloc, schema, form, plan.schemes())
 }
 
-// Whether each of these schemes is in a normal form. The first that is not, or is too wide, decides.
+// Whether each of these schemes is in a normal form. The first that is not, or is too wide, decides. Of
+// equal schemes the first alone is tested.
 fn judge_schemes(
     alloc: Global,
     schema: &Schema,
@@ -45,13 +46,30 @@ fn judge_schemes(
         (universe_of schema.now)) schemes.now }
     ensures response { RespondsAs (JudgesForm schema.now form (schemes_of schemes.now)) result }
 {
-    for scheme in schemes {
+    for (i, scheme) in schemes.iter().enumerate() {
+        if stands_before(schemes, i, *scheme) {
+            continue;
+        }
         match test_scheme(alloc, schema, form, *scheme) {
             Ok(()) => {}
             Err(exit) => return Err(exit),
         }
     }
     Ok(in_form_response(alloc, form)?)
+}
+
+// Whether a scheme equals one before a position of a list.
+fn stands_before(schemes: &[AttrSet], position: usize, scheme: AttrSet) -> bool
+    requires position { position ≤ length schemes.now }
+    ensures earlier { IsTrue result → (k : ℕ) × (k < position)
+        × ((d : AttrSet) → attributes (slice_index_or schemes.now k d) ≡ attributes scheme) }
+{
+    for k in 0..position {
+        if schemes[k] == scheme {
+            return true;
+        }
+    }
+    false
 }
 
 // Whether a scheme passes the test of a form.

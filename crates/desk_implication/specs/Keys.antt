@@ -8,9 +8,10 @@ use Rattle.dep_model.specs.Schemas.{width_of, theory_of, universe_of}
 use Rattle.dep_model.specs.declared.schema.Schema.{Schema}
 use Rattle.schema_printer.specs.Printing.{set_text}
 use Rattle.schema_printer.specs.Spelling.{printed_names_of}
+use Rattle.fd_closure.specs.LeftSides.{IsWide}
 use Rattle.key_listing.specs.declared.refusal.TheConstants.{MOST_KEYS}
 use Rattle.key_listing.specs.Listing.{AreAllKeys, AreManyKeys}
-use Rattle.key_listing.specs.Refusals.{IsTooWide, IsWideScheme}
+use Rattle.key_listing.specs.Refusals.{IsTooWide}
 use Rattle.desk_responses.specs.declared.status.Status.TheVariants.{Yes, Refused}
 use Rattle.desk_responses.specs.ResponseValues.{Allowed, Says, IsFirstFailing}
 use Rattle.desk_responses.specs.Lines.{too_wide_text}
@@ -55,7 +56,7 @@ keyed_text names keyed = set_line (codes "scheme ") names keyed.scheme ++ keys_t
 -- exactly all keys of a scheme, ascending; it is narrow enough to be searched, and has no more than are
 -- listed
 pub record HasKeys (schema : Schema) (keyed : KeyedScheme) : Type 0 where
-  pub narrow : IsWideScheme keyed.scheme → ⊥
+  pub narrow : IsWide (theory_of schema) keyed.scheme → ⊥
   pub keys : AreAllKeys (width_of schema) (theory_of schema) keyed.scheme keyed.keys
   pub within_limit : length keyed.keys ≤ MOST_KEYS
 
@@ -66,8 +67,8 @@ IsListed schema scheme = (keys : List AttrSet) × HasKeys schema (record { schem
 -- a scheme ends the command: it is too wide, or narrow with more keys than are listed
 abbrev pub EndsKeys : Schema → Attributes → Allowed
 EndsKeys schema scheme response =
-    (IsWideScheme scheme × Says Refused (too_wide_text (printed_names_of schema) scheme) response)
-    ⊎ ((IsWideScheme scheme → ⊥)
+    (IsWide (theory_of schema) scheme × Says Refused (too_wide_text (printed_names_of schema) scheme) response)
+    ⊎ ((IsWide (theory_of schema) scheme → ⊥)
     × ((found : List AttrSet) × AreManyKeys (width_of schema) (theory_of schema) scheme found
     × Says Refused too_many_keys_text response))
 

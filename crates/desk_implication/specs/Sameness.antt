@@ -1,5 +1,5 @@
 -- Whether two schemas say the same of the same attributes: for `check same`.
-use Rattle.std.specs.Prelude.{◌⊎◌, ℕ, List, ◌++◌, codes, slice_get}
+use Rattle.std.specs.Prelude.{◌≡◌, ◌⊎◌, ℕ, List, ◌++◌, codes, slice_get}
 use Rattle.std.specs.List.{flat_map}
 use Rattle.attr_sets.specs.Attributes.{IsFirstFrom}
 use Rattle.dep_model.specs.Schemas.{deps_of, lines_of}
@@ -72,6 +72,14 @@ pub record Differ (schema other : Schema) (of_schema of_other : List ℕ) : Type
   pub back : AreDifferences other schema of_other
   pub implied : IsImpliedBy other schema → IsImpliedBy schema other → ⊥
   pub legal : HaveSameLegalRelations schema other → ⊥
+
+-- a text has exactly the dependencies of two schemas that differ which do not follow from the other: for
+-- the functions below `check_same` and `check_cover`
+pub record IsDifferenceText (schema other : Schema) (file other_file text : List ℕ) : Type 0 where
+  pub of_schema : List ℕ
+  pub of_other : List ℕ
+  pub differ : Differ schema other of_schema of_other
+  pub reads : text ≡ different_text schema other file other_file of_schema of_other
 
 -- yes exactly where each follows from the other; else no, with the dependencies that do not
 abbrev pub Compares : Schema → Schema → List ℕ → List ℕ → Allowed

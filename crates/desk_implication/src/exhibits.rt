@@ -3,7 +3,7 @@ ghost use Rattle.dep_model.specs.Schemas.{names_of, width_of};
 ghost use Rattle.dep_model.specs.Tuples.{IsOver};
 ghost use Rattle.csv_text.specs.Rows.{rows_text};
 ghost use Rattle.desk_responses.specs.ResponseValues.{Says};
-ghost use Rattle.desk_implication.specs.Exhibits.{Exhibits, multivalued_text};
+ghost use Rattle.desk_implication.specs.Exhibits.{Exhibits, multivalued_text, too_many_rows_text};
 ghost use Rattle.desk_responses.specs.Responses.{response_value, RespondsAs, ExitsAs};
 
 use armstrong_rel::{ExhibitRefusal, exhibit};
@@ -28,6 +28,7 @@ pub fn exhibit_relation(alloc: Global, schema: &Schema) -> Result<Response, Earl
                 schema,
                 AttrSet::full(schema.width()),
             )),
+            ExhibitRefusal::TooManyRows => Err(too_many_rows_exit(alloc)),
         },
         Err(Failure::OutOfMemory) => Err(EarlyExit::OutOfMemory),
     }
@@ -61,5 +62,20 @@ fn multivalued_line(alloc: Global, schema: &Schema, dep: u16) -> Result<Vec<u8>,
     put_line(alloc, &mut text, schema, dep as usize)?;
     add(&mut text, b" is multivalued")?;
     add(&mut text, b"\n")?;
+    Ok(text)
+}
+
+// The relation would have more rows than are printed.
+fn too_many_rows_exit(alloc: Global) -> EarlyExit
+    ensures says { ExitsAs (Says Status.Refused too_many_rows_text) result }
+{
+    EarlyExit::with_text(Status::Refused, too_many_rows_line(alloc))
+}
+
+fn too_many_rows_line(alloc: Global) -> Result<Vec<u8>, OutOfMemory>
+    ensures line { IfOk result (λ text. text.items ≡ too_many_rows_text) }
+{
+    let mut text = Vec::new(alloc);
+    add(&mut text, b"refused: too many rows\n")?;
     Ok(text)
 }

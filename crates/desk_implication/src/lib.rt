@@ -6,11 +6,14 @@
 
 mod bases;
 mod certificate;
+mod closures;
+mod cover_checks;
 mod covers;
 mod discovering;
 mod exhibits;
 mod goal;
 mod implication;
+mod key_checks;
 mod keys;
 mod sameness;
 mod scheme_keys;
@@ -18,10 +21,13 @@ mod set;
 
 pub use bases::give_basis;
 pub use certificate::check_proof;
+pub use closures::give_closure;
+pub use cover_checks::check_cover;
 pub use covers::cover;
 pub use discovering::discover_rules;
 pub use exhibits::exhibit_relation;
 pub use implication::implies;
+pub use key_checks::check_key;
 pub use keys::list_keys;
 pub use sameness::check_same;
 pub use scheme_keys::list_keys_of_plan;

@@ -1,7 +1,7 @@
-ghost use Rattle.std.specs.Prelude.{◌≡◌, ◌↔◌, ◌++◌, [], IsTrue, IfOk, IfErr, OnOk};
+ghost use Rattle.std.specs.Prelude.{◌≡◌, ◌↔◌, ◌++◌, [], IsTrue, IsNone, IfSome, IfOk, IfErr, OnOk};
 ghost use Rattle.desk_responses.specs.ResponseValues.{Says};
 ghost use Rattle.desk_responses.specs.Responses.{response_value, RespondsAs, ExitsAs};
-ghost use Rattle.desk_implication.specs.Sameness.{ChecksSame, Compares, NameStops, difference_text, differences_text, not_in_text};
+ghost use Rattle.desk_implication.specs.Sameness.{ChecksSame, Compares, IsDifferenceText, NameStops, SayTheSame, difference_text, differences_text, not_in_text};
 ghost use Rattle.schema_match.specs.Columns.{SameNames, name_of_attribute};
 
 use dep_model::{OutOfMemory, Schema};
@@ -30,8 +30,8 @@ pub fn check_same(
     Ok(compare(alloc, schema, other, file, other_file)?)
 }
 
-// Whether each of two schemas declares the names of the other.
-fn test_names(
+/// Whether each of two schemas declares the names of the other.
+pub fn test_names(
     alloc: Global,
     schema: &Schema,
     other: &Schema,
@@ -91,15 +91,35 @@ fn compare(
     ensures response { IfOk result
         (λ response. Compares schema.now other.now file.now other_file.now (response_value response)) }
 {
+    let lines = difference_lines(alloc, schema, other, file, other_file)?;
+    match lines {
+        None => Ok(Response::with_text(Status::Yes, line_of(alloc, b"equivalent", b"", b"")?)),
+        Some(text) => Ok(Response::with_text(Status::No, text)),
+    }
+}
+
+/// What of two schemas over the same names does not follow from the other; none where they say the same.
+pub fn difference_lines(
+    alloc: Global,
+    schema: &Schema,
+    other: &Schema,
+    file: &Argument,
+    other_file: &Argument,
+) -> Result<Option<Vec<u8>>, OutOfMemory>
+    requires names { SameNames schema.now other.now }
+    ensures same { IfOk result (λ lines. IsNone lines → SayTheSame schema.now other.now) }
+    ensures differ { IfOk result (λ lines. IfSome lines
+        (λ text. IsDifferenceText schema.now other.now file.now other_file.now text.items)) }
+{
     let of_schema = differences(alloc, schema, other)?;
     let of_other = differences(alloc, other, schema)?;
     if are_empty(&of_schema, &of_other) {
-        return Ok(Response::with_text(Status::Yes, line_of(alloc, b"equivalent", b"", b"")?));
+        return Ok(None);
     }
     let mut text = line_of(alloc, b"different", b"", b"")?;
     put_differences(alloc, &mut text, schema, file, other_file, &of_schema)?;
     put_differences(alloc, &mut text, other, other_file, file, &of_other)?;
-    Ok(Response::with_text(Status::No, text))
+    Ok(Some(text))
 }
 
 // Whether neither schema has a difference.

@@ -1,5 +1,4 @@
-pub mod HeadedLemmas
-pub mod MeaningLemmas
+pub mod BegunLemmas
+pub mod KindLemmas
 pub mod PartLemmas
 pub mod ReadingLemmas
-pub mod RowLemmas

@@ -1,5 +1,8 @@
--- The definitions of desk_inputs, in reading order: what is known of files, and how each kind is read.
+-- The definitions of desk_inputs, in reading order: which files are begun, what is known of files, what a kind
+-- of file is, and the kinds.
+pub mod FilesBegun
 pub mod Readings
+pub mod FileKinds
 pub mod Inputs
 pub mod Plans
 pub mod Rows

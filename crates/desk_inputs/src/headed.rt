@@ -1,9 +1,12 @@
-ghost use Rattle.std.specs.Prelude.{◌≡◌, ◌≤◌, ◌<◌, length, IfOk, IfErr};
+ghost use Rattle.std.specs.Prelude.{◌≡◌, ◌≤◌, ◌<◌, ◌∷◌, [], length, OnOk, IfOk, IfErr};
 ghost use Rattle.dep_model.specs.Tuples.{IsOver};
 ghost use Rattle.fd_discovery.specs.Headers.{IsColumnHeader};
 ghost use Rattle.fd_discovery.specs.Headings.{names_under, rows_under};
 ghost use Rattle.fd_discovery.specs.declared.headed_rows.TheConstants.{MOST_HEADED_ROWS};
-ghost use Rattle.desk_inputs.specs.Headed.{HeadedStops, IsHeadedFile, headed_refusal_text};
+ghost use Rattle.desk_outside.specs.Begun.{Begins};
+ghost use Rattle.desk_inputs.specs.FilesBegun.{BeginsFront};
+ghost use Rattle.desk_inputs.specs.FileKinds.{FileStops, IsFile};
+ghost use Rattle.desk_inputs.specs.Headed.{headed_file, headed_refusal_text};
 ghost use Rattle.desk_inputs.specs.Readings.{Reading, files_in, Shows};
 ghost use Rattle.desk_responses.specs.ResponseValues.{Says};
 ghost use Rattle.desk_responses.specs.Responses.{ExitsAs};
@@ -26,15 +29,17 @@ pub fn open_headed<F: FileSource>(
 ) -> Result<Headed, EarlyExit>
     ensures files { F.files source.new ≡ F.files source.old }
     ensures later { F.faults source.old ≤ F.faults source.new }
+    ensures begins { OnOk result (Begins name.now (F.begun source.old) (F.begun source.new)) }
+    ensures reads { BeginsFront (name.now ∷ []) (F.begun source.old) (F.begun source.new) }
     ensures ok { (r : Reading) → files_in r ≡ F.files source.old
-        → IfOk result (IsHeadedFile r name.now) }
+        → IfOk result (IsFile headed_file r name.now) }
     ensures header { IfOk result (λ headed. IsColumnHeader (names_under headed)) }
     ensures any_name { IfOk result (λ headed. 0 < length (names_under headed)) }
     ensures same_width { IfOk result (λ headed. IsOver (length (names_under headed))
         (rows_under headed)) }
     ensures within_limit { IfOk result (λ headed. length (rows_under headed) ≤ MOST_HEADED_ROWS) }
-    ensures exit { (r : Reading) → Shows F.files F.faults F.taken source.old source.new r
-        → IfErr result (ExitsAs (HeadedStops r name.now)) }
+    ensures exit { (r : Reading) → Shows F.files F.faults F.taken F.begun source.old source.new r
+        → IfErr result (ExitsAs (FileStops headed_file r name.now)) }
 {
     let bytes = match open_file(alloc, source, name, MOST_CSV_BYTES) {
         Ok(bytes) => bytes,

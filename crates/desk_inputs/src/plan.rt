@@ -1,4 +1,4 @@
-ghost use Rattle.std.specs.Prelude.{◌≡◌, ◌≤◌, ◌++◌, [], length, IfOk, IfErr};
+ghost use Rattle.std.specs.Prelude.{◌≡◌, ◌≤◌, ◌++◌, ◌∷◌, [], length, OnOk, IfOk, IfErr};
 ghost use Rattle.std.specs.Fmt.{decimal};
 ghost use Rattle.dep_model.specs.Projections.{Covers};
 ghost use Rattle.dep_model.specs.Schemas.{names_of, width_of};
@@ -7,7 +7,10 @@ ghost use Rattle.plan_grammar.specs.RefusalTexts.{plan_reason_text};
 ghost use Rattle.plan_grammar.specs.declared.refusal.TheConstants.{MOST_SCHEMES};
 ghost use Rattle.plan_grammar.specs.declared.refusal.PlanRefusal.TheVariants as refusals;
 ghost use Rattle.desk_responses.specs.ResponseValues.{Says};
-ghost use Rattle.desk_inputs.specs.Plans.{PlanStops, IsPlanFile, plan_refusal_text};
+ghost use Rattle.desk_outside.specs.Begun.{Begins};
+ghost use Rattle.desk_inputs.specs.FilesBegun.{BeginsFront};
+ghost use Rattle.desk_inputs.specs.FileKinds.{FileStops, IsFile};
+ghost use Rattle.desk_inputs.specs.Plans.{plan_file, plan_refusal_text};
 ghost use Rattle.desk_inputs.specs.Readings.{Reading, files_in, Shows};
 ghost use Rattle.desk_responses.specs.Responses.{ExitsAs};
 
@@ -31,13 +34,15 @@ pub fn open_plan<F: FileSource>(
 ) -> Result<Plan, EarlyExit>
     ensures files { F.files source.new ≡ F.files source.old }
     ensures later { F.faults source.old ≤ F.faults source.new }
+    ensures begins { OnOk result (Begins name.now (F.begun source.old) (F.begun source.new)) }
+    ensures reads { BeginsFront (name.now ∷ []) (F.begun source.old) (F.begun source.new) }
     ensures ok { (r : Reading) → files_in r ≡ F.files source.old
-        → IfOk result (λ plan. IsPlanFile r schema.now name.now (plan_of plan)) }
+        → IfOk result (λ plan. IsFile (plan_file schema.now) r name.now (plan_of plan)) }
     ensures universe { IfOk result (IsPlanOver schema.now) }
     ensures within_limit { IfOk result (λ plan. length (plan_of plan) ≤ MOST_SCHEMES) }
     ensures covers { IfOk result (λ plan. Covers (width_of schema.now) (plan_of plan)) }
-    ensures exit { (r : Reading) → Shows F.files F.faults F.taken source.old source.new r
-        → IfErr result (ExitsAs (PlanStops r schema.now name.now)) }
+    ensures exit { (r : Reading) → Shows F.files F.faults F.taken F.begun source.old source.new r
+        → IfErr result (ExitsAs (FileStops (plan_file schema.now) r name.now)) }
 {
     let bytes = match open_file(alloc, source, name, MOST_PLAN_BYTES) {
         Ok(bytes) => bytes,

@@ -60,6 +60,10 @@ fn put_reason(
         RowRefusal::NotInteger { row, attribute } => {
             put_no_integer(alloc, text, row, name_of(schema, attribute))
         }
+        RowRefusal::OpenHeader => add(text, b"the header has an open quote"),
+        RowRefusal::OpenRow { row } => {
+            put_numbered(alloc, text, b"row ", row, b" has an open quote")
+        }
     }
 }
 

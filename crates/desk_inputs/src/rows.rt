@@ -1,11 +1,14 @@
-ghost use Rattle.std.specs.Prelude.{◌≡◌, ◌≤◌, length, Ok, IfOk, IfErr};
+ghost use Rattle.std.specs.Prelude.{◌≡◌, ◌≤◌, ◌∷◌, [], length, OnOk, IfOk, IfErr};
 ghost use Rattle.csv_rows.specs.declared.reading.TheConstants.{MOST_ROWS};
 ghost use Rattle.dep_model.specs.Schemas.{names_of, width_of, TypedFor};
 ghost use Rattle.dep_model.specs.Tuples.{IsOver};
 ghost use Rattle.desk_responses.specs.ResponseValues.{Says};
 ghost use Rattle.desk_inputs.specs.Readings.{Reading, files_in, Shows};
 ghost use Rattle.desk_responses.specs.Responses.{ExitsAs};
-ghost use Rattle.desk_inputs.specs.Rows.{IsRowsFile, RowStops, row_refusal_text};
+ghost use Rattle.desk_outside.specs.Begun.{Begins};
+ghost use Rattle.desk_inputs.specs.FilesBegun.{BeginsFront};
+ghost use Rattle.desk_inputs.specs.FileKinds.{FileStops, IsFile};
+ghost use Rattle.desk_inputs.specs.Rows.{rows_file, row_refusal_text};
 
 use crate::read::open_file;
 use crate::row_refusals::row_refusal_line;
@@ -17,7 +20,7 @@ use row_store::Rows;
 use std::alloc::Global;
 
 /// The most bytes of a CSV file.
-pub const MOST_CSV_BYTES: usize = 16_777_216;
+pub const MOST_CSV_BYTES: usize = 4_000_000_000;
 
 /// The rows of a CSV file in which each attribute of a schema has a column.
 pub fn open_rows<F: FileSource>(
@@ -28,13 +31,15 @@ pub fn open_rows<F: FileSource>(
 ) -> Result<Rows, EarlyExit>
     ensures files { F.files source.new ≡ F.files source.old }
     ensures later { F.faults source.old ≤ F.faults source.new }
+    ensures begins { OnOk result (Begins name.now (F.begun source.old) (F.begun source.new)) }
+    ensures reads { BeginsFront (name.now ∷ []) (F.begun source.old) (F.begun source.new) }
     ensures ok { (r : Reading) → files_in r ≡ F.files source.old
-        → IfOk result (λ rows. IsRowsFile r schema.now name.now rows) }
+        → IfOk result (λ rows. IsFile (rows_file schema.now) r name.now rows) }
     ensures over { IfOk result (λ rows. IsOver (width_of schema.now) rows) }
     ensures within_limit { IfOk result (λ rows. length rows ≤ MOST_ROWS) }
     ensures typed { IfOk result (λ rows. TypedFor schema.now rows) }
-    ensures exit { (r : Reading) → Shows F.files F.faults F.taken source.old source.new r
-        → IfErr result (ExitsAs (RowStops r schema.now name.now)) }
+    ensures exit { (r : Reading) → Shows F.files F.faults F.taken F.begun source.old source.new r
+        → IfErr result (ExitsAs (FileStops (rows_file schema.now) r name.now)) }
 {
     let bytes = match open_file(alloc, source, name, MOST_CSV_BYTES) {
         Ok(bytes) => bytes,

@@ -32,7 +32,8 @@ use Rattle.desk_responses.specs.ResponseValues.{ResponseValue}
 use Rattle.desk_implication.specs.Certificates.{Checked}
 use Rattle.desk_words.specs.Forms.{form_of, after_check, schema_and_two, form_over_schema, schema_and_word}
 use Rattle.desk_implication.specs.Implication.{Decided}
-use Rattle.desk_inputs.specs.Inputs.{WithSchema, WithProof}
+use Rattle.desk_inputs.specs.FileKinds.{WithFile}
+use Rattle.desk_inputs.specs.Inputs.{schema_file, proof_file}
 use Rattle.desk_implication.specs.Goals.{WithGoal}
 use Rattle.desk_cli.specs.Performs.{Answers, Performs, Does, AnswersSchema}
 use Rattle.desk_inputs.specs.Readings.{known_files}
@@ -59,7 +60,7 @@ record SaidYes (files : Files) (schema goal text : List ℕ) : Type 0 where
 no_says : (response : ResponseValue) → response.status ≡ Yes → response.status ≡ No → ⊥
 no_says response says_yes is = cc
 
-yes_there : (files : Files) (schema goal : List ℕ) (response : ResponseValue) → response.status ≡ Yes → WithSchema (known_files files) schema (λ s. WithGoal s goal (Decided s)) response → SaidYes files schema goal response.text
+yes_there : (files : Files) (schema goal : List ℕ) (response : ResponseValue) → response.status ≡ Yes → WithFile schema_file (known_files files) schema (λ s. WithGoal s goal (Decided s)) response → SaidYes files schema goal response.text
 yes_there files schema goal response says_yes (inl exit) = absurd (schema_says (known_files files) schema response says_yes exit)
 yes_there files schema goal response says_yes (inr (of, file, rest)) = after_goal rest
   where
@@ -69,8 +70,8 @@ yes_there files schema goal response says_yes (inr (of, file, rest)) = after_goa
       bytes = file.bytes;
       has = file.content.0;
       bytes_within_limit = file.content.1;
-      means = file.means;
-      bare = file.bare;
+      means = file.means.declares;
+      bare = file.means.bare;
       dep = dep;
       goal_within_limit = goal_within_limit;
       means_goal = means_goal;
@@ -132,29 +133,29 @@ goal_yes files schema goal text r response said alike go = after go
 -- what was printed is read from a file, as the tree that was found
 proof_yes : (files after : Files) (schema goal file text : List ℕ) (r : Schema) (response : ResponseValue) → (said : SaidYes files schema goal text) → AreAlike said.of r
     → bytes_of_file after file ≡ Some text → length text ≤ MOST_PROOF_BYTES
-    → WithProof (known_files after) r file (λ t. WithGoal r goal (Checked r t)) response → response.status ≡ Yes
+    → WithFile (proof_file r) (known_files after) file (λ t. WithGoal r goal (Checked r t)) response → response.status ≡ Yes
 proof_yes files after schema goal file text r response said alike kept within_limit (inl exit) =
     absurd (proof_goes after r file text (tree_of said.proof) response kept within_limit (printed_within files schema goal text r said alike) exit)
 proof_yes files after schema goal file text r response said alike kept within_limit (inr (t, is, go)) =
-    let spelled : SpellsWithin r text t = subst (λ (b : List ℕ). SpellsWithin r b t) (one_content after file is.bytes text is.content.0 kept) is.spells in
+    let spelled : SpellsWithin r text t = subst (λ (b : List ℕ). SpellsWithin r b t) (one_content after file is.bytes text is.content.0 kept) is.means in
     let same : t ≡ tree_of said.proof = one_tree r text t (tree_of said.proof) spelled.spells (printed_within files schema goal text r said alike).spells in
     goal_yes files schema goal text r response said alike (subst (λ (u : Tree). WithGoal r goal (Checked r u) response) same go)
 
 schema_yes : (files after : Files) (schema goal file text : List ℕ) (response : ResponseValue) → (said : SaidYes files schema goal text)
     → bytes_of_file after schema ≡ Some said.bytes → bytes_of_file after file ≡ Some text → length text ≤ MOST_PROOF_BYTES
-    → WithSchema (known_files after) schema (λ r. WithProof (known_files after) r file (λ t. WithGoal r goal (Checked r t))) response → response.status ≡ Yes
+    → WithFile schema_file (known_files after) schema (λ r. WithFile (proof_file r) (known_files after) file (λ t. WithGoal r goal (Checked r t))) response → response.status ≡ Yes
 schema_yes files after schema goal file text response said same kept within_limit (inl exit) =
     absurd (schema_goes after schema said.bytes (declarations_of said.of) response same said.bytes_within_limit said.means exit)
 schema_yes files after schema goal file text response said same kept within_limit (inr (r, is, go)) =
-    let moved : MeansSchema said.bytes (declarations_of r) = subst (λ (b : List ℕ). MeansSchema b (declarations_of r)) (one_content after schema is.bytes said.bytes is.content.0 same) is.means in
+    let moved : MeansSchema said.bytes (declarations_of r) = subst (λ (b : List ℕ). MeansSchema b (declarations_of r)) (one_content after schema is.bytes said.bytes is.content.0 same) is.means.declares in
     proof_yes files after schema goal file text r response said (one_schema said.bytes said.of r said.means moved) kept within_limit go
 
-implies_answers : (files : Files) (schema goal : List ℕ) (response : ResponseValue) → Answers (known_files files) (codes "implies" ∷ schema ∷ goal ∷ []) response → WithSchema (known_files files) schema (λ s. WithGoal s goal (Decided s)) response
+implies_answers : (files : Files) (schema goal : List ℕ) (response : ResponseValue) → Answers (known_files files) (codes "implies" ∷ schema ∷ goal ∷ []) response → WithFile schema_file (known_files files) schema (λ s. WithGoal s goal (Decided s)) response
 unfolding form_of form_over_schema schema_and_word Performs Does AnswersSchema
 implies_answers files schema goal response answered = answered
 
 check_answers : (files : Files) (schema goal file : List ℕ) (response : ResponseValue) → Answers (known_files files) (codes "check" ∷ codes "proof" ∷ schema ∷ file ∷ goal ∷ []) response
-    → WithSchema (known_files files) schema (λ r. WithProof (known_files files) r file (λ t. WithGoal r goal (Checked r t))) response
+    → WithFile schema_file (known_files files) schema (λ r. WithFile (proof_file r) (known_files files) file (λ t. WithGoal r goal (Checked r t))) response
 unfolding form_of form_over_schema after_check schema_and_two Performs Does
 check_answers files schema goal file response answered = answered
 

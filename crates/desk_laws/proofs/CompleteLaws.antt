@@ -1,5 +1,5 @@
 -- Where the inputs of a command have their meaning, it answers yes or no.
-use Rattle.std.proofs.Common.{◌≡◌, ◌<◌, ◌+◌, ℕ, false, List, [], ◌∷◌, length, Some, Result, Ok, Err, inl, inr, sym, ap, ◌∙◌, subst, arith}
+use Rattle.std.proofs.Common.{true, Bool, Option, ◌≡◌, ◌<◌, ◌+◌, ℕ, false, List, [], ◌∷◌, length, Some, Result, Ok, Err, inl, inr, sym, ap, ◌∙◌, subst, arith}
 use Rattle.std.specs.Prelude.{codes, slice_get, Any}
 use Rattle.attr_sets.specs.Attributes.{Attributes, below}
 use Rattle.attr_sets.specs.declared.set.AttrSet.{AttrSet}
@@ -20,7 +20,8 @@ use Rattle.schema_grammar.specs.Texts.{declarations_of}
 use Rattle.schema_grammar.proofs.SchemaLaws.{schema-law}
 use Rattle.proof_grammar.specs.Spelling.{SpellsWithin}
 use Rattle.csv_rows.specs.Columns.{IsHeaderOf}
-use Rattle.csv_rows.specs.Reading.{tuple_of, RowOf, TableOf, RowsOf}
+use Rattle.csv_rows.specs.Quotes.{open_record, is_open}
+use Rattle.csv_rows.specs.Reading.{tuple_of, ClosedRowOf, RowOf, HeaderOf, TableOf, RowsOf}
 use Rattle.csv_rows.specs.Records.{records_of}
 use Rattle.csv_rows.specs.declared.refusal.RowRefusal.{RowRefusal}
 use Rattle.csv_rows.proofs.UniqueRows.{table_same, whole_header_same}
@@ -29,8 +30,8 @@ use Rattle.plan_grammar.specs.Diagnostics.{RefusesPlan}
 use Rattle.plan_grammar.proofs.ExactLaws.{plan_one_meaning, plan_never_both}
 use Rattle.plan_reader.specs.declared.reading.TheConstants.{MOST_PLAN_BYTES}
 use Rattle.key_listing.specs.Listing.{AreManyKeys}
+use Rattle.fd_closure.specs.LeftSides.{IsWide}
 use Rattle.key_listing.specs.Refusals.{IsTooWide}
-use Rattle.key_listing.specs.declared.refusal.TheConstants.{WIDEST_SEARCHED}
 use Rattle.chase_laws.specs.Rounds.{RoundsExceed}
 use Rattle.desk_outside.specs.Files.{Files}
 use Rattle.desk_designs.specs.declared.join.TheConstants.{MOST_TABLEAU_ROWS}
@@ -43,15 +44,16 @@ use Rattle.desk_cli.specs.Desk.{Desk, FileSourceInCall, SinkInCall}
 use Rattle.desk_delivery.specs.Outcomes.{DestinationsInCall}
 use Rattle.desk_words.specs.Forms.{form_of, after_check, schema_alone, schema_and_two, no_more_arguments, form_over_schema, after_keys, schema_and_word, schema_and_plan, schema_and_rows}
 use Rattle.desk_implication.specs.Implication.{Decided}
-use Rattle.desk_inputs.specs.Inputs.{WithSchema, WithProof, IsSchemaFile, IsProofFile}
+use Rattle.desk_inputs.specs.FileKinds.{IsFile, WithFile}
+use Rattle.desk_inputs.specs.Inputs.{schema_file, proof_file}
 use Rattle.desk_implication.specs.Goals.{WithGoal, IsGoal}
 use Rattle.desk_designs.specs.Joins.{JudgesJoin, IsTooLarge}
 use Rattle.desk_implication.specs.Keys.{ListsKeys, HasManyKeys}
 use Rattle.desk_tables.specs.Legality.{JudgesRows}
 use Rattle.desk_cli.specs.Performs.{Answers, Performs, Does, AnswersSchema, AnswersPlan, AnswersRows}
-use Rattle.desk_inputs.specs.Plans.{WithPlan, IsPlanFile}
+use Rattle.desk_inputs.specs.Plans.{plan_file}
 use Rattle.desk_inputs.specs.Readings.{known_files}
-use Rattle.desk_inputs.specs.Rows.{WithRows, IsRowsFile}
+use Rattle.desk_inputs.specs.Rows.{rows_file}
 use Rattle.desk_designs.specs.Synthesis.{Synthesizes}
 use Rattle.desk_laws.specs.Completeness.{IsYesOrNo, IsAnswered, FailsNowhere}
 use Rattle.desk_laws.proofs.SchemaLemmas.{AreAlike, spells_alike}
@@ -80,16 +82,16 @@ AreSame-alike : (s r : Schema) → AreSame s r → AreAlike s r
 AreSame-alike s r same = record { names = names_same s r same; theory = ap (λ (d : Declarations). d.deps) same }
 
 pub after_schema : (files : Files) (name : List ℕ) (s : Schema) (rest : Schema → Allowed) (response : ResponseValue)
-    → IsSchemaFile (known_files files) name s
+    → IsFile schema_file (known_files files) name s
     → ((r : Schema) → AreSame s r → rest r response → IsYesOrNo response.status)
-    → WithSchema (known_files files) name rest response → IsYesOrNo response.status
+    → WithFile schema_file (known_files files) name rest response → IsYesOrNo response.status
 after_schema files name s rest response file go (inl exit) =
-    absurd (schema_goes files name file.bytes (declarations_of s) response file.content.0 file.content.1 file.means exit)
+    absurd (schema_goes files name file.bytes (declarations_of s) response file.content.0 file.content.1 file.means.declares exit)
 after_schema files name s rest response file go (inr (r, is, more)) =
     let moved : MeansSchema file.bytes (declarations_of r) =
-    subst (λ (b : List ℕ). MeansSchema b (declarations_of r)) (one_content files name is.bytes file.bytes is.content.0 file.content.0) is.means in
+    subst (λ (b : List ℕ). MeansSchema b (declarations_of r)) (one_content files name is.bytes file.bytes is.content.0 file.content.0) is.means.declares in
     let same = the_ok {A = Declarations} {E = SchemaRefusal} (declarations_of s) (declarations_of r)
-    (sym ((schema-law file.bytes (declarations_of s)).1 file.means) ∙ (schema-law file.bytes (declarations_of r)).1 moved) in
+    (sym ((schema-law file.bytes (declarations_of s)).1 file.means.declares) ∙ (schema-law file.bytes (declarations_of r)).1 moved) in
     go r same more
 
 -- ---- goals
@@ -107,12 +109,12 @@ Decided-yes_or_no r d response (inr (broken, found)) = inr (ap (λ (a : Response
 
 implies_asks : (files : Files) (name goal : List ℕ) (response : ResponseValue)
     → Answers (known_files files) (codes "implies" ∷ name ∷ goal ∷ []) response
-    → WithSchema (known_files files) name (λ r. WithGoal r goal (Decided r)) response
+    → WithFile schema_file (known_files files) name (λ r. WithGoal r goal (Decided r)) response
 unfolding form_of form_over_schema schema_and_word Performs Does AnswersSchema
 implies_asks files name goal response answered = answered
 
 pub implies_answered : (files : Files) (name goal : List ℕ) (schema : Schema) (dep : Dependency)
-    → IsSchemaFile (known_files files) name schema → IsGoal schema goal dep
+    → IsFile schema_file (known_files files) name schema → IsGoal schema goal dep
     → IsAnswered files (codes "implies" ∷ name ∷ goal ∷ [])
 implies_answered files name goal schema dep file is response answered =
     after_schema files name schema (λ r. WithGoal r goal (Decided r)) response file
@@ -126,11 +128,11 @@ within_alike s r text t same within =
     record { spells = moved.0; lines_fit = omega (arith, moved.1, within.lines_fit); levels_fit = within.levels_fit }
 
 after_proof : (files : Files) (s r : Schema) (name : List ℕ) (t : Tree) (rest : Tree → Allowed) (response : ResponseValue)
-    → AreSame s r → IsProofFile (known_files files) s name t
-    → ((u : Tree) → rest u response → IsYesOrNo response.status) → WithProof (known_files files) r name rest response
+    → AreSame s r → IsFile (proof_file s) (known_files files) name t
+    → ((u : Tree) → rest u response → IsYesOrNo response.status) → WithFile (proof_file r) (known_files files) name rest response
     → IsYesOrNo response.status
 after_proof files s r name t rest response same file go (inl exit) =
-    absurd (proof_goes files r name file.bytes t response file.content.0 file.content.1 (within_alike s r file.bytes t same file.spells) exit)
+    absurd (proof_goes files r name file.bytes t response file.content.0 file.content.1 (within_alike s r file.bytes t same file.means) exit)
 after_proof files s r name t rest response same file go (inr (u, is, more)) = go u more
 
 Checked-yes_or_no : (r : Schema) (t : Tree) (d : Dependency) (response : ResponseValue) → Checked r t d response → IsYesOrNo response.status
@@ -139,46 +141,56 @@ Checked-yes_or_no r t d response (inr (unproved, found)) = inr (ap (λ (a : Resp
 
 proof_asks : (files : Files) (name file goal : List ℕ) (response : ResponseValue)
     → Answers (known_files files) (codes "check" ∷ codes "proof" ∷ name ∷ file ∷ goal ∷ []) response
-    → WithSchema (known_files files) name (λ r. WithProof (known_files files) r file (λ t. WithGoal r goal (Checked r t))) response
+    → WithFile schema_file (known_files files) name (λ r. WithFile (proof_file r) (known_files files) file (λ t. WithGoal r goal (Checked r t))) response
 unfolding form_of form_over_schema after_check schema_and_two Performs Does
 proof_asks files name file goal response answered = answered
 
 pub proof_answered : (files : Files) (name file goal : List ℕ) (schema : Schema) (tree : Tree) (dep : Dependency)
-    → IsSchemaFile (known_files files) name schema → IsProofFile (known_files files) schema file tree → IsGoal schema goal dep
+    → IsFile schema_file (known_files files) name schema → IsFile (proof_file schema) (known_files files) file tree → IsGoal schema goal dep
     → IsAnswered files (codes "check" ∷ codes "proof" ∷ name ∷ file ∷ goal ∷ [])
 proof_answered files name file goal schema tree dep held_schema held_proof is response answered =
     after_schema files name schema
-    (λ r. WithProof (known_files files) r file (λ t. WithGoal r goal (Checked r t))) response held_schema
+    (λ r. WithFile (proof_file r) (known_files files) file (λ t. WithGoal r goal (Checked r t))) response held_schema
     (λ r same more. after_proof files schema r file tree (λ t. WithGoal r goal (Checked r t)) response same held_proof
     (λ t found. after_goal schema r goal dep (Checked r t) response same is (λ d said. Checked-yes_or_no r t d response said) found) more)
     (proof_asks files name file goal response answered)
 
 -- ---- rows
-row_alike : (s r : Schema) (columns : List ℕ) (row : ℕ) (fields : List (List ℕ)) (t : Tuple) → AreSame s r
-    → RowOf s columns row fields (Ok t) → RowOf r columns row fields (Ok t)
-row_alike s r columns row fields t same (fits, is, typed) = (
+closed_row_alike : (s r : Schema) (columns : List ℕ) (row : ℕ) (fields : List (List ℕ)) (t : Tuple) → AreSame s r
+    → ClosedRowOf s columns row fields (Ok t) → ClosedRowOf r columns row fields (Ok t)
+closed_row_alike s r columns row fields t same (fits, is, typed) = (
   fits,
   subst (λ (names : List (List ℕ)). t ≡ tuple_of (length names) columns fields) (names_same s r same) is,
   (λ a has. typed a (has.0, subst (λ (types : List ColumnType). slice_get types a ≡ Some Integer) (sym (types_same s r same)) has.1)),
 )
 
+row_alike : (s r : Schema) (columns : List ℕ) (b : Bool) (row : ℕ) (fields : List (List ℕ)) (t : Tuple) → AreSame s r
+    → RowOf s columns b row fields (Ok t) → RowOf r columns b row fields (Ok t)
+row_alike s r columns true row fields t same is = is
+row_alike s r columns false row fields t same is = closed_row_alike s r columns row fields t same is
+
+header_alike : (b : Bool) (Means Also : Result (List ℕ) RowRefusal → Type 0) (columns : List ℕ)
+    → (Means (Ok columns) → Also (Ok columns)) → HeaderOf b Means (Ok columns) → HeaderOf b Also (Ok columns)
+header_alike true Means Also columns moves is = is
+header_alike false Means Also columns moves is = moves is
+
 -- what the records of a text give, where a header with columns means the same of both schemas
 pub table_alike : (s r : Schema) (Means Also : List (List ℕ) → Result (List ℕ) RowRefusal → Type 0)
-    (records : List (List (List ℕ))) (rows : Relation) → AreSame s r
+    (unclosed : Option ℕ) (records : List (List (List ℕ))) (rows : Relation) → AreSame s r
     → ((header : List (List ℕ)) (columns : List ℕ) → Means header (Ok columns) → Also header (Ok columns))
-    → TableOf s Means records (Ok rows) → TableOf r Also records (Ok rows)
-table_alike s r Means Also [] rows same moves is = cc
-table_alike s r Means Also (header ∷ records) rows same moves (Err e, means, under) = cc
-table_alike s r Means Also (header ∷ records) rows same moves (Ok columns, means, under) = (
+    → TableOf s Means unclosed records (Ok rows) → TableOf r Also unclosed records (Ok rows)
+table_alike s r Means Also unclosed [] rows same moves is = cc
+table_alike s r Means Also unclosed (header ∷ records) rows same moves (Err e, means, under) = cc
+table_alike s r Means Also unclosed (header ∷ records) rows same moves (Ok columns, means, under) = (
   Ok columns,
-  moves header columns means,
-  (record { within = under.0.within; each = λ i less. row_alike s r columns (i + 1) _ _ same (under.0.each i less) }, under.1),
+  header_alike (is_open unclosed 1) (Means header) (Also header) columns (moves header columns) means,
+  (record { within = under.0.within; each = λ i less. row_alike s r columns _ (i + 1) _ _ same (under.0.each i less) }, under.1),
 )
 
 rows_alike : (s r : Schema) (text : List ℕ) (rows : Relation) → AreSame s r → RowsOf s text (Ok rows)
     → RowsOf r text (Ok rows)
 rows_alike s r text rows same is =
-    table_alike s r (IsHeaderOf (width_of s) (names_of s)) (IsHeaderOf (width_of r) (names_of r)) (records_of text) rows same
+    table_alike s r (IsHeaderOf (width_of s) (names_of s)) (IsHeaderOf (width_of r) (names_of r)) (open_record text) (records_of text) rows same
     (λ header columns means. subst (λ (names : List (List ℕ)). IsHeaderOf (length names) names header (Ok columns)) (names_same s r same) means)
     is
 
@@ -186,13 +198,13 @@ rows_or_refusal : (r : Schema) (text : List ℕ) (rows : Relation) (why : RowRef
     → RowsOf r text (Err why) → ⊥
 rows_or_refusal r text rows why are refused =
     let same : ◌≡◌ {A = Result Relation RowRefusal} (Ok rows) (Err why) =
-    table_same r (IsHeaderOf (width_of r) (names_of r)) (whole_header_same r) (records_of text) (Ok rows)
+    table_same r (IsHeaderOf (width_of r) (names_of r)) (whole_header_same r) (open_record text) (records_of text) (Ok rows)
     (Err why) are refused in cc
 
 pub after_rows : (files : Files) (s r : Schema) (name : List ℕ) (rows : Relation) (rest : Relation → Allowed)
     (response : ResponseValue)
-    → AreSame s r → IsRowsFile (known_files files) s name rows
-    → ((x : Relation) → rest x response → IsYesOrNo response.status) → WithRows (known_files files) r name rest response
+    → AreSame s r → IsFile (rows_file s) (known_files files) name rows
+    → ((x : Relation) → rest x response → IsYesOrNo response.status) → WithFile (rows_file r) (known_files files) name rest response
     → IsYesOrNo response.status
 after_rows files s r name rows rest response same file go (inl (inl exit)) =
     absurd (file_goes files name file.bytes MOST_CSV_BYTES response file.content.0 file.content.1 exit)
@@ -208,24 +220,24 @@ JudgesRows-yes_or_no r rows response (inr (legal, says)) = inl (ap (λ (a : Resp
 
 rows_asks : (files : Files) (name file : List ℕ) (response : ResponseValue)
     → Answers (known_files files) (codes "check" ∷ codes "rows" ∷ name ∷ file ∷ []) response
-    → WithSchema (known_files files) name (λ r. WithRows (known_files files) r file (JudgesRows r)) response
+    → WithFile schema_file (known_files files) name (λ r. WithFile (rows_file r) (known_files files) file (JudgesRows r)) response
 unfolding form_of form_over_schema after_check schema_and_rows Performs Does AnswersRows
 rows_asks files name file response answered = answered
 
 pub rows_answered : (files : Files) (name file : List ℕ) (schema : Schema) (rows : Relation)
-    → IsSchemaFile (known_files files) name schema → IsRowsFile (known_files files) schema file rows
+    → IsFile schema_file (known_files files) name schema → IsFile (rows_file schema) (known_files files) file rows
     → IsAnswered files (codes "check" ∷ codes "rows" ∷ name ∷ file ∷ [])
 rows_answered files name file schema rows held_schema held_rows response answered =
-    after_schema files name schema (λ r. WithRows (known_files files) r file (JudgesRows r)) response held_schema
+    after_schema files name schema (λ r. WithFile (rows_file r) (known_files files) file (JudgesRows r)) response held_schema
     (λ r same more. after_rows files schema r file rows (JudgesRows r) response same held_rows (λ x found. JudgesRows-yes_or_no r x response found) more)
     (rows_asks files name file response answered)
 
 -- ---- plans
 pub after_plan : (files : Files) (s r : Schema) (name : List ℕ) (plan : List Attributes) (rest : List Attributes → Allowed)
     (response : ResponseValue)
-    → AreSame s r → IsPlanFile (known_files files) s name plan
+    → AreSame s r → IsFile (plan_file s) (known_files files) name plan
     → ((p : List Attributes) → p ≡ plan → rest p response → IsYesOrNo response.status)
-    → WithPlan (known_files files) r name rest response → IsYesOrNo response.status
+    → WithFile (plan_file r) (known_files files) name rest response → IsYesOrNo response.status
 after_plan files s r name plan rest response same file go (inl (inl exit)) =
     absurd (file_goes files name file.bytes MOST_PLAN_BYTES response file.content.0 file.content.1 exit)
 after_plan files s r name plan rest response same file go (inl (inr (refusal, is, says))) =
@@ -255,37 +267,37 @@ small_same s r p plan same is small large =
 
 join_asks : (files : Files) (name file : List ℕ) (response : ResponseValue)
     → Answers (known_files files) (codes "check" ∷ codes "join" ∷ name ∷ file ∷ []) response
-    → WithSchema (known_files files) name (λ r. WithPlan (known_files files) r file (JudgesJoin r)) response
+    → WithFile schema_file (known_files files) name (λ r. WithFile (plan_file r) (known_files files) file (JudgesJoin r)) response
 unfolding form_of form_over_schema after_check schema_and_plan Performs Does AnswersPlan
 join_asks files name file response answered = answered
 
 pub join_answered : (files : Files) (name file : List ℕ) (schema : Schema) (plan : List Attributes)
-    → IsSchemaFile (known_files files) name schema → IsPlanFile (known_files files) schema file plan
+    → IsFile schema_file (known_files files) name schema → IsFile (plan_file schema) (known_files files) file plan
     → (IsTooLarge schema plan → ⊥) → IsAnswered files (codes "check" ∷ codes "join" ∷ name ∷ file ∷ [])
 join_answered files name file schema plan held_schema held_plan small response answered =
-    after_schema files name schema (λ r. WithPlan (known_files files) r file (JudgesJoin r)) response held_schema
+    after_schema files name schema (λ r. WithFile (plan_file r) (known_files files) file (JudgesJoin r)) response held_schema
     (λ r same more. after_plan files schema r file plan (JudgesJoin r) response same held_plan
     (λ p is found. judges_join r p response (small_same schema r p plan same is small) found) more)
     (join_asks files name file response answered)
 
 -- ---- schemas alone
 cover_asks : (files : Files) (name : List ℕ) (response : ResponseValue)
-    → Answers (known_files files) (codes "cover" ∷ name ∷ []) response → WithSchema (known_files files) name GivesCover response
+    → Answers (known_files files) (codes "cover" ∷ name ∷ []) response → WithFile schema_file (known_files files) name GivesCover response
 unfolding form_of form_over_schema schema_alone Performs Does AnswersSchema
 cover_asks files name response answered = answered
 
-pub cover_answered : (files : Files) (name : List ℕ) (schema : Schema) → IsSchemaFile (known_files files) name schema
+pub cover_answered : (files : Files) (name : List ℕ) (schema : Schema) → IsFile schema_file (known_files files) name schema
     → IsAnswered files (codes "cover" ∷ name ∷ [])
 cover_answered files name schema file response answered =
     after_schema files name schema GivesCover response file (λ r same found. inl (ap (λ (a : ResponseValue). a.status) found.4))
     (cover_asks files name response answered)
 
 synthesize_asks : (files : Files) (name : List ℕ) (response : ResponseValue)
-    → Answers (known_files files) (codes "synthesize" ∷ name ∷ []) response → WithSchema (known_files files) name Synthesizes response
+    → Answers (known_files files) (codes "synthesize" ∷ name ∷ []) response → WithFile schema_file (known_files files) name Synthesizes response
 unfolding form_of form_over_schema schema_alone Performs Does AnswersSchema
 synthesize_asks files name response answered = answered
 
-pub synthesize_answered : (files : Files) (name : List ℕ) (schema : Schema) → IsSchemaFile (known_files files) name schema
+pub synthesize_answered : (files : Files) (name : List ℕ) (schema : Schema) → IsFile schema_file (known_files files) name schema
     → IsAnswered files (codes "synthesize" ∷ name ∷ [])
 synthesize_answered files name schema file response answered =
     after_schema files name schema Synthesizes response file (λ r same found. inl (ap (λ (a : ResponseValue). a.status) found.2))
@@ -293,7 +305,7 @@ synthesize_answered files name schema file response answered =
 
 narrow_same : (s r : Schema) → AreSame s r → (IsTooWide s → ⊥) → IsTooWide r → ⊥
 narrow_same s r same narrow wide =
-    narrow (subst (λ (d : Declarations). Any (λ e. is_fd e ≡ false) d.deps × (WIDEST_SEARCHED < length d.names)) (sym same) wide)
+    narrow (subst (λ (d : Declarations). Any (λ e. is_fd e ≡ false) d.deps × IsWide d.deps (below (length d.names))) (sym same) wide)
 
 not_many_same : (s r : Schema) → AreSame s r → (HasManyKeys s → ⊥) → HasManyKeys r → ⊥
 not_many_same s r same within_limit many =
@@ -306,11 +318,11 @@ lists_keys r response narrow within_limit (inr (inl (wide, says))) = absurd (nar
 lists_keys r response narrow within_limit (inr (inr (fits, many, says))) = absurd (within_limit many)
 
 keys_asks : (files : Files) (name : List ℕ) (response : ResponseValue) → Answers (known_files files) (codes "keys" ∷ name ∷ []) response
-    → WithSchema (known_files files) name ListsKeys response
+    → WithFile schema_file (known_files files) name ListsKeys response
 unfolding form_of form_over_schema after_keys Performs Does AnswersSchema AnswersPlan
 keys_asks files name response answered = answered
 
-pub keys_answered : (files : Files) (name : List ℕ) (schema : Schema) → IsSchemaFile (known_files files) name schema
+pub keys_answered : (files : Files) (name : List ℕ) (schema : Schema) → IsFile schema_file (known_files files) name schema
     → (IsTooWide schema → ⊥) → (HasManyKeys schema → ⊥)
     → IsAnswered files (codes "keys" ∷ name ∷ [])
 keys_answered files name schema file narrow within_limit response answered =

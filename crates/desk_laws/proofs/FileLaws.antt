@@ -4,6 +4,7 @@ use Rattle.std.specs.Prelude.{codes, slice_get}
 use Rattle.attr_sets.specs.Attributes.{Attributes}
 use Rattle.attr_sets.specs.Sets.{attributes}
 use Rattle.csv_rows.specs.Columns.{with_columns, columns_of_header}
+use Rattle.csv_rows.specs.Quotes.{open_record}
 use Rattle.csv_rows.specs.Records.{records_of}
 use Rattle.csv_rows.specs.Reading.{PartOf, HasScheme}
 use Rattle.csv_rows.specs.declared.part.PartialRows.{PartialRows}
@@ -24,12 +25,13 @@ use Rattle.desk_tables.specs.declared.rejoining.TheConstants.{MOST_JOINED_ROWS}
 use Rattle.desk_inputs.specs.declared.rows.TheConstants.{MOST_CSV_BYTES}
 use Rattle.desk_responses.specs.ResponseValues.{ResponseValue, Allowed}
 use Rattle.desk_implication.specs.Discoveries.{FindsRules}
-use Rattle.desk_inputs.specs.Headed.{IsHeadedFile, WithHeaded}
+use Rattle.desk_inputs.specs.FileKinds.{FileStops, IsFile, WithFile}
+use Rattle.desk_inputs.specs.Headed.{headed_file}
 use Rattle.desk_words.specs.Forms.{form_of, form_over_schema, schema_and_several, word_alone, are_one_to_64}
-use Rattle.desk_inputs.specs.Inputs.{WithSchema, IsSchemaFile}
+use Rattle.desk_inputs.specs.Inputs.{schema_file}
 use Rattle.desk_cli.specs.Performs.{Answers, Performs, Does}
 use Rattle.desk_inputs.specs.Readings.{known_files}
-use Rattle.desk_inputs.specs.Parts.{IsPartFile, ArePartFiles, PartStops, WithParts}
+use Rattle.desk_inputs.specs.Parts.{ArePartFiles, WithParts, part_file}
 use Rattle.desk_tables.specs.Rejoining.{JoinsTables}
 use Rattle.desk_laws.specs.Completeness.{IsYesOrNo, IsAnswered}
 use Rattle.desk_laws.proofs.CompleteLaws.{AreSame, names_same, table_alike, after_schema}
@@ -37,23 +39,23 @@ use Rattle.desk_laws.proofs.StopLemmas.{one_content, file_goes}
 
 -- ---- rows under a free header
 after_headed : (files : Files) (name : List ℕ) (h : Headed) (rest : Headed → Allowed) (response : ResponseValue)
-    → IsHeadedFile (known_files files) name h → ((k : Headed) → rest k response → IsYesOrNo response.status)
-    → WithHeaded (known_files files) name rest response → IsYesOrNo response.status
+    → IsFile headed_file (known_files files) name h → ((k : Headed) → rest k response → IsYesOrNo response.status)
+    → WithFile headed_file (known_files files) name rest response → IsYesOrNo response.status
 after_headed files name h rest response file go (inl (inl exit)) =
     absurd (file_goes files name file.bytes MOST_CSV_BYTES response file.content.0 file.content.1 exit)
 after_headed files name h rest response file go (inl (inr (why, is, says))) =
-    let here : IsRefusedDiscovery (records_of file.bytes) why =
-    subst (λ (b : List ℕ). IsRefusedDiscovery (records_of b) why)
+    let here : IsRefusedDiscovery file.bytes why =
+    subst (λ (b : List ℕ). IsRefusedDiscovery b why)
     (one_content files name is.bytes file.bytes is.content.0 file.content.0) is.refused in
-    absurd (never_both (records_of file.bytes) h why file.means here)
+    absurd (never_both file.bytes h why file.means here)
 after_headed files name h rest response file go (inr (k, is, more)) = go k more
 
 discover_asks : (files : Files) (file : List ℕ) (response : ResponseValue)
-    → Answers (known_files files) (codes "discover" ∷ file ∷ []) response → WithHeaded (known_files files) file FindsRules response
+    → Answers (known_files files) (codes "discover" ∷ file ∷ []) response → WithFile headed_file (known_files files) file FindsRules response
 unfolding form_of word_alone Performs
 discover_asks files file response answered = answered
 
-pub discover_answered : (files : Files) (file : List ℕ) (headed : Headed) → IsHeadedFile (known_files files) file headed
+pub discover_answered : (files : Files) (file : List ℕ) (headed : Headed) → IsFile headed_file (known_files files) file headed
     → IsAnswered files (codes "discover" ∷ file ∷ [])
 discover_answered files file headed is response answered =
     after_headed files file headed FindsRules response is (λ k found. inl (ap (λ (a : ResponseValue). a.status) found.2))
@@ -64,7 +66,7 @@ part_alike : (s r : Schema) (text : List ℕ) (rows : Relation) → AreSame s r 
     → PartOf r text (Ok rows)
 part_alike s r text rows same is =
     table_alike s r (λ header columns. columns ≡ columns_of_header (names_of s) header)
-    (λ header columns. columns ≡ columns_of_header (names_of r) header) (records_of text) rows same
+    (λ header columns. columns ≡ columns_of_header (names_of r) header) (open_record text) (records_of text) rows same
     (λ header columns means. subst (λ (names : List (List ℕ)). Ok columns ≡ columns_of_header names header)
     (names_same s r same) means)
     is
@@ -73,17 +75,17 @@ part_reading : (s : Schema) (text : List ℕ) (one other : Result Relation RowRe
     → PartOf s text other → one ≡ other
 part_reading s text one other p q =
     table_same s (λ header columns. columns ≡ columns_of_header (names_of s) header) (part_header_same s)
-    (records_of text) one other p q
+    (open_record text) (records_of text) one other p q
 
 -- what a file means for one schema, it means for another with the same declarations
 part_means : (files : Files) (s r : Schema) (name : List ℕ) (p : PartialRows) (bytes : List ℕ) → AreSame s r
-    → (is : IsPartFile (known_files files) s name p) → is.bytes ≡ bytes → PartOf r bytes (Ok p.rows)
+    → (is : IsFile (part_file s) (known_files files) name p) → is.bytes ≡ bytes → PartOf r bytes (Ok p.rows)
 part_means files s r name p bytes same is here =
     subst (λ (b : List ℕ). PartOf r b (Ok p.rows)) here
-    (part_alike s r is.bytes p.rows same is.means)
+    (part_alike s r is.bytes p.rows same is.means.rows)
 
 part_goes : (files : Files) (s r : Schema) (name : List ℕ) (p : PartialRows) (response : ResponseValue) → AreSame s r
-    → IsPartFile (known_files files) s name p → PartStops (known_files files) r name response → ⊥
+    → IsFile (part_file s) (known_files files) name p → FileStops (part_file r) (known_files files) name response → ⊥
 part_goes files s r name p response same is (inl exit) =
     file_goes files name is.bytes MOST_CSV_BYTES response is.content.0 is.content.1 exit
 part_goes files s r name p response same is (inr (why, refused, says)) =
@@ -112,16 +114,16 @@ abbrev with_scheme : Attributes → Relation → PartialRelation
 with_scheme x rows = record { scheme = x; rows = rows }
 
 one_table : (files : Files) (s r : Schema) (name : List ℕ) (p q : PartialRows) → AreSame s r
-    → IsPartFile (known_files files) s name p → IsPartFile (known_files files) r name q → table_of_part p ≡ table_of_part q
+    → IsFile (part_file s) (known_files files) name p → IsFile (part_file r) (known_files files) name q → table_of_part p ≡ table_of_part q
 one_table files s r name p q same is also =
     let here = one_content files name is.bytes also.bytes is.content.0 also.content.0 in
     let both : ◌≡◌ {A = Result Relation RowRefusal} (Ok p.rows) (Ok q.rows) =
     part_reading r also.bytes (Ok p.rows) (Ok q.rows)
-    (part_means files s r name p also.bytes same is here) also.means in
+    (part_means files s r name p also.bytes same is here) also.means.rows in
     let rows : p.rows ≡ q.rows = cc in
     let (header, records, all, columns, means, one) =
-    subst (λ (b : List ℕ). HasScheme s b p.scheme) here is.columns in
-    let (others, rest, all_also, more, means_also, two) = also.columns in
+    subst (λ (b : List ℕ). HasScheme s b p.scheme) here is.means.columns in
+    let (others, rest, all_also, more, means_also, two) = also.means.columns in
     let scheme : attributes p.scheme ≡ attributes q.scheme =
     one_scheme s r also.bytes (attributes p.scheme) (attributes q.scheme) same header others records rest columns more all
     all_also means means_also one two in
@@ -141,12 +143,12 @@ tables_alike files s r (name ∷ names) (p ∷ ps) (q ∷ qs) same are also =
 -- the part of a file that stands among the names
 part_at : (files : Files) (s : Schema) (names : List (List ℕ)) (ps : List PartialRows) (i : ℕ) (name : List ℕ)
     → ArePartFiles (known_files files) s names ps → slice_get names i ≡ Some name
-    → (p : PartialRows) × IsPartFile (known_files files) s name p
+    → (p : PartialRows) × IsFile (part_file s) (known_files files) name p
 part_at files s [] ps i name are stands = let never : None ≡ Some name = stands in cc
 part_at files s (first ∷ names) [] i name are stands = absurd are
 part_at files s (first ∷ names) (p ∷ ps) zero name are stands =
     let here : first ≡ name = let both : Some first ≡ Some name = stands in cc in
-    (p, subst (λ (n : List ℕ). IsPartFile (known_files files) s n p) here are.0)
+    (p, subst (λ (n : List ℕ). IsFile (part_file s) (known_files files) n p) here are.0)
 part_at files s (first ∷ names) (p ∷ ps) (suc i) name are stands = part_at files s names ps i name are.1 stands
 
 after_parts : (files : Files) (s r : Schema) (names : List (List ℕ)) (ps : List PartialRows) (rest : List PartialRows → Allowed)
@@ -176,12 +178,12 @@ joins_tables n r tables response width covers small (inr (TooManyRows k, large, 
 
 rejoin_asks : (files : Files) (name : List ℕ) (names : List (List ℕ)) (response : ResponseValue) → are_one_to_64 names ≡ true
     → Answers (known_files files) (codes "rejoin" ∷ name ∷ names) response
-    → WithSchema (known_files files) name (λ r. WithParts (known_files files) r names (λ parts. JoinsTables r (tables_of parts))) response
+    → WithFile schema_file (known_files files) name (λ r. WithParts (known_files files) r names (λ parts. JoinsTables r (tables_of parts))) response
 unfolding form_of form_over_schema schema_and_several Performs Does
 rejoin_asks files name names response within_limit answered = (rw within_limit at answered)
 
 pub rejoin_answered : (files : Files) (name : List ℕ) (names : List (List ℕ)) (schema : Schema) (parts : List PartialRows)
-    → IsSchemaFile (known_files files) name schema → are_one_to_64 names ≡ true → ArePartFiles (known_files files) schema names parts
+    → IsFile schema_file (known_files files) name schema → are_one_to_64 names ≡ true → ArePartFiles (known_files files) schema names parts
     → Covers (width_of schema) (plan_of_tables (tables_of parts))
     → IsWithinLimit (width_of schema) MOST_JOINED_ROWS (tables_of parts)
     → IsAnswered files (codes "rejoin" ∷ name ∷ names)

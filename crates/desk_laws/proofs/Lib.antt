@@ -6,3 +6,8 @@ pub mod TableLaws
 pub mod FileLaws
 pub mod QuestionLaws
 pub mod ScriptLaws
+pub mod BegunLaws
+mod OneText
+mod OneFile
+mod OneInput
+mod OneWords

@@ -8,7 +8,7 @@ use Rattle.attr_sets.specs.declared.set.AttrSet.{AttrSet}
 use Rattle.dep_model.specs.Schemas.{names_of, width_of, theory_of, attribute_named}
 use Rattle.dep_model.specs.declared.schema.Schema.{Schema}
 use Rattle.key_listing.specs.Listing.{AreManyKeys}
-use Rattle.key_listing.specs.Refusals.{IsWideScheme}
+use Rattle.fd_closure.specs.LeftSides.{IsWide}
 use Rattle.schema_grammar.specs.Declarations.{Declarations}
 use Rattle.schema_grammar.specs.Sets.{MeansSet, read_set}
 use Rattle.schema_grammar.proofs.SetLaws.{set-law, set-refusal-law}
@@ -17,11 +17,15 @@ use Rattle.desk_outside.specs.Files.{Files}
 use Rattle.desk_responses.specs.ResponseValues.{ResponseValue, Allowed}
 use Rattle.desk_implication.specs.Bases.{TellsBasis}
 use Rattle.desk_words.specs.Forms.{form_of, form_over_schema, after_check, after_keys, two_schemas, schema_and_word}
-use Rattle.desk_inputs.specs.Inputs.{WithSchema, IsSchemaFile}
+use Rattle.desk_inputs.specs.FileKinds.{IsFile, WithFile}
+use Rattle.desk_inputs.specs.Inputs.{schema_file}
 use Rattle.desk_implication.specs.Goals.{WithSet, SetStops, IsSetText}
+use Rattle.desk_implication.specs.Closures.{TellsClosure}
+use Rattle.desk_implication.specs.CoverChecks.{TestsCover}
+use Rattle.desk_implication.specs.KeyChecks.{TestsKey}
 use Rattle.desk_implication.specs.Keys.{ListsKeysOfPlan}
 use Rattle.desk_cli.specs.Performs.{Answers, Performs, Does, AnswersSchema, AnswersPlan}
-use Rattle.desk_inputs.specs.Plans.{WithPlan, IsPlanFile}
+use Rattle.desk_inputs.specs.Plans.{plan_file}
 use Rattle.desk_inputs.specs.Readings.{known_files}
 use Rattle.desk_implication.specs.Sameness.{WithSameNames, Compares, LacksName}
 use Rattle.desk_laws.specs.Completeness.{IsYesOrNo, IsAnswered}
@@ -46,17 +50,49 @@ after_set s r set x rest response same is go (inr (y, found, more)) = go y more
 
 basis_asks : (files : Files) (name set : List ℕ) (response : ResponseValue)
     → Answers (known_files files) (codes "basis" ∷ name ∷ set ∷ []) response
-    → WithSchema (known_files files) name (λ r. WithSet r set (TellsBasis r)) response
+    → WithFile schema_file (known_files files) name (λ r. WithSet r set (TellsBasis r)) response
 unfolding form_of form_over_schema schema_and_word Performs Does AnswersSchema
 basis_asks files name set response answered = answered
 
 pub basis_answered : (files : Files) (name set : List ℕ) (schema : Schema) (x : Attributes)
-    → IsSchemaFile (known_files files) name schema → IsSetText schema set x
+    → IsFile schema_file (known_files files) name schema → IsSetText schema set x
     → IsAnswered files (codes "basis" ∷ name ∷ set ∷ [])
 basis_answered files name set schema x file is response answered =
     after_schema files name schema (λ r. WithSet r set (TellsBasis r)) response file
     (λ r same more. after_set schema r set x (TellsBasis r) response same is (λ y found. inl (ap (λ (a : ResponseValue). a.status) found.2)) more)
     (basis_asks files name set response answered)
+
+closure_asks : (files : Files) (name set : List ℕ) (response : ResponseValue)
+    → Answers (known_files files) (codes "closure" ∷ name ∷ set ∷ []) response
+    → WithFile schema_file (known_files files) name (λ r. WithSet r set (TellsClosure r)) response
+unfolding form_of form_over_schema schema_and_word Performs Does AnswersSchema
+closure_asks files name set response answered = answered
+
+pub closure_answered : (files : Files) (name set : List ℕ) (schema : Schema) (x : Attributes)
+    → IsFile schema_file (known_files files) name schema → IsSetText schema set x
+    → IsAnswered files (codes "closure" ∷ name ∷ set ∷ [])
+closure_answered files name set schema x file is response answered =
+    after_schema files name schema (λ r. WithSet r set (TellsClosure r)) response file
+    (λ r same more. after_set schema r set x (TellsClosure r) response same is (λ y found. inl (ap (λ (a : ResponseValue). a.status) found.2)) more)
+    (closure_asks files name set response answered)
+
+TestsKey-yes_or_no : (r : Schema) (y : Attributes) (response : ResponseValue) → TestsKey r y response → IsYesOrNo response.status
+TestsKey-yes_or_no r y response (text, inl (shown, says)) = inl (ap (λ (a : ResponseValue). a.status) says)
+TestsKey-yes_or_no r y response (text, inr (why, says)) = inr (ap (λ (a : ResponseValue). a.status) says)
+
+check_key_asks : (files : Files) (name set : List ℕ) (response : ResponseValue)
+    → Answers (known_files files) (codes "check" ∷ codes "key" ∷ name ∷ set ∷ []) response
+    → WithFile schema_file (known_files files) name (λ r. WithSet r set (TestsKey r)) response
+unfolding form_of form_over_schema after_check schema_and_word Performs Does AnswersSchema
+check_key_asks files name set response answered = answered
+
+pub check_key_answered : (files : Files) (name set : List ℕ) (schema : Schema) (x : Attributes)
+    → IsFile schema_file (known_files files) name schema → IsSetText schema set x
+    → IsAnswered files (codes "check" ∷ codes "key" ∷ name ∷ set ∷ [])
+check_key_answered files name set schema x file is response answered =
+    after_schema files name schema (λ r. WithSet r set (TestsKey r)) response file
+    (λ r same more. after_set schema r set x (TestsKey r) response same is (λ y found. TestsKey-yes_or_no r y response found) more)
+    (check_key_asks files name set response answered)
 
 -- ---- keys of a plan
 abbrev HasFewKeys : Schema → Attributes → Type 0
@@ -67,11 +103,12 @@ in_plan plan earlier later scheme list =
     subst (λ (l : List Attributes). Contains l scheme) (sym list) (Contains-append_right earlier (scheme ∷ later) scheme (0, omega arith, refl))
 
 answer_agrees : (s r : Schema) (p plan : List Attributes) (response : ResponseValue) → AreSame s r → p ≡ plan
-    → All (λ scheme. IsWideScheme scheme → ⊥) plan → All (HasFewKeys s) plan → ListsKeysOfPlan r p response → IsYesOrNo response.status
+    → All (λ scheme. IsWide (theory_of s) scheme → ⊥) plan → All (HasFewKeys s) plan → ListsKeysOfPlan r p response → IsYesOrNo response.status
 answer_agrees s r p plan response same is narrow within_limit (inl (listed, schemes, keys, says)) = inl (ap (λ (a : ResponseValue). a.status) says)
 answer_agrees s r p plan response same is narrow within_limit (inr (scheme, first, inl (wide, says))) =
     let at = in_plan plan first.earlier first.later scheme (sym is ∙ first.list) in
-    absurd (All-contains (λ (x : Attributes). IsWideScheme x → ⊥) plan scheme narrow at wide)
+    absurd (All-contains (λ (x : Attributes). IsWide (theory_of s) x → ⊥) plan scheme narrow at
+    (subst (λ (d : Declarations). IsWide d.deps scheme) (sym same) wide))
 answer_agrees s r p plan response same is narrow within_limit (inr (scheme, first, inr (fits, more))) =
     let at = in_plan plan first.earlier first.later scheme (sym is ∙ first.list) in
     absurd (All-contains (HasFewKeys s) plan scheme within_limit at more.0
@@ -79,17 +116,17 @@ answer_agrees s r p plan response same is narrow within_limit (inr (scheme, firs
 
 keys_asks : (files : Files) (name file : List ℕ) (response : ResponseValue)
     → Answers (known_files files) (codes "keys" ∷ name ∷ file ∷ []) response
-    → WithSchema (known_files files) name (λ r. WithPlan (known_files files) r file (ListsKeysOfPlan r)) response
+    → WithFile schema_file (known_files files) name (λ r. WithFile (plan_file r) (known_files files) file (ListsKeysOfPlan r)) response
 unfolding form_of form_over_schema after_keys Performs Does AnswersSchema AnswersPlan
 keys_asks files name file response answered = answered
 
 pub keys_of_plan_answered : (files : Files) (name file : List ℕ) (schema : Schema) (plan : List Attributes)
-    → IsSchemaFile (known_files files) name schema → IsPlanFile (known_files files) schema file plan
-    → All (λ scheme. IsWideScheme scheme → ⊥) plan
+    → IsFile schema_file (known_files files) name schema → IsFile (plan_file schema) (known_files files) file plan
+    → All (λ scheme. IsWide (theory_of schema) scheme → ⊥) plan
     → All (λ scheme. (found : List AttrSet) → AreManyKeys (width_of schema) (theory_of schema) scheme found → ⊥) plan
     → IsAnswered files (codes "keys" ∷ name ∷ file ∷ [])
 keys_of_plan_answered files name file schema plan held_schema held_plan narrow within_limit response answered =
-    after_schema files name schema (λ r. WithPlan (known_files files) r file (ListsKeysOfPlan r)) response held_schema
+    after_schema files name schema (λ r. WithFile (plan_file r) (known_files files) file (ListsKeysOfPlan r)) response held_schema
     (λ r same more. after_plan files schema r file plan (ListsKeysOfPlan r) response same held_plan
     (λ p is found. answer_agrees schema r p plan response same is narrow within_limit found) more)
     (keys_asks files name file response answered)
@@ -108,27 +145,51 @@ Compares-yes_or_no : (r p : Schema) (file other_file : List ℕ) (response : Res
 Compares-yes_or_no r p file other_file response (inl (alike, says)) = inl (ap (λ (a : ResponseValue). a.status) says)
 Compares-yes_or_no r p file other_file response (inr (there, back, differ, says)) = inr (ap (λ (a : ResponseValue). a.status) says)
 
-after_names : (s r o p : Schema) (file other_file : List ℕ) (response : ResponseValue) → AreSame s r → AreSame o p → SameNames s o
-    → WithSameNames r p file other_file (Compares r p file other_file) response → IsYesOrNo response.status
-after_names s r o p file other_file response same other names (inl (inl lacks)) =
+after_names : (s r o p : Schema) (file other_file : List ℕ) (rest : Allowed) (response : ResponseValue) → AreSame s r → AreSame o p → SameNames s o
+    → (rest response → IsYesOrNo response.status) → WithSameNames r p file other_file rest response → IsYesOrNo response.status
+after_names s r o p file other_file rest response same other names go (inl (inl lacks)) =
     absurd (lacks_none r p other_file response (declared_alike s r o p same other names.0) lacks)
-after_names s r o p file other_file response same other names (inl (inr (declared, lacks))) =
+after_names s r o p file other_file rest response same other names go (inl (inr (declared, lacks))) =
     absurd (lacks_none p r file response (declared_alike o p s r other same names.1) lacks)
-after_names s r o p file other_file response same other names (inr (same_names, found)) = Compares-yes_or_no r p file other_file response found
+after_names s r o p file other_file rest response same other names go (inr (same_names, found)) = go found
 
 same_asks : (files : Files) (name other_name : List ℕ) (response : ResponseValue)
     → Answers (known_files files) (codes "check" ∷ codes "same" ∷ name ∷ other_name ∷ []) response
-    → WithSchema (known_files files) name (λ r. WithSchema (known_files files) other_name (λ p. WithSameNames r p name other_name (Compares r p name other_name))) response
+    → WithFile schema_file (known_files files) name (λ r. WithFile schema_file (known_files files) other_name (λ p. WithSameNames r p name other_name (Compares r p name other_name))) response
 unfolding form_of form_over_schema after_check two_schemas Performs Does
 same_asks files name other_name response answered = answered
 
 pub same_answered : (files : Files) (name other_name : List ℕ) (schema other : Schema)
-    → IsSchemaFile (known_files files) name schema → IsSchemaFile (known_files files) other_name other
+    → IsFile schema_file (known_files files) name schema → IsFile schema_file (known_files files) other_name other
     → SameNames schema other
     → IsAnswered files (codes "check" ∷ codes "same" ∷ name ∷ other_name ∷ [])
 same_answered files name other_name schema other held_schema held_other names response answered =
     after_schema files name schema
-    (λ r. WithSchema (known_files files) other_name (λ p. WithSameNames r p name other_name (Compares r p name other_name))) response held_schema
+    (λ r. WithFile schema_file (known_files files) other_name (λ p. WithSameNames r p name other_name (Compares r p name other_name))) response held_schema
     (λ r same more. after_schema files other_name other (λ p. WithSameNames r p name other_name (Compares r p name other_name)) response held_other
-    (λ p alike found. after_names schema r other p name other_name response same alike names found) more)
+    (λ p alike found. after_names schema r other p name other_name (Compares r p name other_name) response same alike names
+    (Compares-yes_or_no r p name other_name response) found) more)
     (same_asks files name other_name response answered)
+
+TestsCover-yes_or_no : (r p : Schema) (file other_file : List ℕ) (response : ResponseValue) → TestsCover r p file other_file response → IsYesOrNo response.status
+TestsCover-yes_or_no r p file other_file response (inl (there, back, differ, says)) = inr (ap (λ (a : ResponseValue). a.status) says)
+TestsCover-yes_or_no r p file other_file response (inr (same, (found, are, inl (none, says)))) = inl (ap (λ (a : ResponseValue). a.status) says)
+TestsCover-yes_or_no r p file other_file response (inr (same, (found, are, inr (some, says)))) = inr (ap (λ (a : ResponseValue). a.status) says)
+
+cover_asks : (files : Files) (name other_name : List ℕ) (response : ResponseValue)
+    → Answers (known_files files) (codes "check" ∷ codes "cover" ∷ name ∷ other_name ∷ []) response
+    → WithFile schema_file (known_files files) name (λ r. WithFile schema_file (known_files files) other_name (λ p. WithSameNames r p name other_name (TestsCover r p name other_name))) response
+unfolding form_of form_over_schema after_check two_schemas Performs Does
+cover_asks files name other_name response answered = answered
+
+pub cover_checked : (files : Files) (name other_name : List ℕ) (schema other : Schema)
+    → IsFile schema_file (known_files files) name schema → IsFile schema_file (known_files files) other_name other
+    → SameNames schema other
+    → IsAnswered files (codes "check" ∷ codes "cover" ∷ name ∷ other_name ∷ [])
+cover_checked files name other_name schema other held_schema held_other names response answered =
+    after_schema files name schema
+    (λ r. WithFile schema_file (known_files files) other_name (λ p. WithSameNames r p name other_name (TestsCover r p name other_name))) response held_schema
+    (λ r same more. after_schema files other_name other (λ p. WithSameNames r p name other_name (TestsCover r p name other_name)) response held_other
+    (λ p alike found. after_names schema r other p name other_name (TestsCover r p name other_name) response same alike names
+    (TestsCover-yes_or_no r p name other_name response) found) more)
+    (cover_asks files name other_name response answered)

@@ -12,11 +12,12 @@ use Rattle.desk_responses.specs.ResponseValues.{ResponseValue, Allowed}
 use Rattle.desk_designs.specs.Decompositions.{WithPlanInForm}
 use Rattle.desk_designs.specs.Drawings.{DrawsTables, DrawsSchemes}
 use Rattle.desk_words.specs.Forms.{form_of, form_over_schema, after_sql, after_sql_migrate, after_draw, normal_form, schema_alone, schema_and_word, schema_and_plan, schema_and_plan_and_word}
-use Rattle.desk_inputs.specs.Inputs.{WithSchema, IsSchemaFile}
+use Rattle.desk_inputs.specs.FileKinds.{IsFile, WithFile}
+use Rattle.desk_inputs.specs.Inputs.{schema_file}
 use Rattle.desk_designs.specs.Joins.{WithoutLoss, IsTooLarge}
 use Rattle.desk_designs.specs.NormalForms.{form_word}
 use Rattle.desk_cli.specs.Performs.{Answers, Performs, Does, AnswersSchema, AnswersPlan}
-use Rattle.desk_inputs.specs.Plans.{WithPlan, IsPlanFile}
+use Rattle.desk_inputs.specs.Plans.{plan_file}
 use Rattle.desk_inputs.specs.Readings.{known_files}
 use Rattle.desk_designs.specs.Scripts.{WithTableName, AsksTable, MakesTables, MakesSchemes}
 use Rattle.desk_laws.specs.Completeness.{IsYesOrNo, IsAnswered, HasPlanInForm}
@@ -38,11 +39,11 @@ DrawsTables-yes_or_no r plan response found = inl (ap (λ (a : ResponseValue). a
 -- ---- `sql check`
 sql_check_asks : (files : Files) (name table : List ℕ) (response : ResponseValue)
     → Answers (known_files files) (codes "sql" ∷ codes "check" ∷ name ∷ table ∷ []) response
-    → WithSchema (known_files files) name (λ r. WithTableName table (AsksTable r table)) response
+    → WithFile schema_file (known_files files) name (λ r. WithTableName table (AsksTable r table)) response
 unfolding form_of form_over_schema after_sql schema_and_word Performs Does AnswersSchema
 sql_check_asks files name table response answered = answered
 
-pub sql_check_answered : (files : Files) (name table : List ℕ) (schema : Schema) → IsSchemaFile (known_files files) name schema
+pub sql_check_answered : (files : Files) (name table : List ℕ) (schema : Schema) → IsFile schema_file (known_files files) name schema
     → IsTrue (is_table_name table) → IsAnswered files (codes "sql" ∷ codes "check" ∷ name ∷ table ∷ [])
 sql_check_answered files name table schema file is response answered =
     after_schema files name schema (λ r. WithTableName table (AsksTable r table)) response file
@@ -52,14 +53,14 @@ sql_check_answered files name table schema file is response answered =
 -- ---- `sql migrate`
 sql_migrate_asks : (form : Form) (files : Files) (name table : List ℕ) (response : ResponseValue)
     → Answers (known_files files) (codes "sql" ∷ codes "migrate" ∷ form_word form ∷ name ∷ table ∷ []) response
-    → WithSchema (known_files files) name (λ r. WithTableName table (WithPlanInForm r form (MakesTables r table))) response
+    → WithFile schema_file (known_files files) name (λ r. WithTableName table (WithPlanInForm r form (MakesTables r table))) response
 unfolding form_of form_over_schema after_sql after_sql_migrate normal_form schema_and_word Performs Does AnswersSchema
 sql_migrate_asks Third files name table response answered = answered
 sql_migrate_asks Bcnf files name table response answered = answered
 sql_migrate_asks Fourth files name table response answered = answered
 
 pub sql_migrate_answered : (form : Form) (files : Files) (name table : List ℕ)
-    → (schema : Schema) → IsSchemaFile (known_files files) name schema → IsTrue (is_table_name table) → HasPlanInForm schema form
+    → (schema : Schema) → IsFile schema_file (known_files files) name schema → IsTrue (is_table_name table) → HasPlanInForm schema form
     → IsAnswered files (codes "sql" ∷ codes "migrate" ∷ form_word form ∷ name ∷ table ∷ [])
 sql_migrate_answered form files name table schema file is can response answered =
     after_schema files name schema (λ r. WithTableName table (WithPlanInForm r form (MakesTables r table))) response file
@@ -69,18 +70,18 @@ sql_migrate_answered form files name table schema file is can response answered 
 
 sql_plan_asks : (files : Files) (name file table : List ℕ) (response : ResponseValue)
     → Answers (known_files files) (codes "sql" ∷ codes "migrate" ∷ codes "plan" ∷ name ∷ file ∷ table ∷ []) response
-    → WithSchema (known_files files) name (λ r. WithPlan (known_files files) r file
+    → WithFile schema_file (known_files files) name (λ r. WithFile (plan_file r) (known_files files) file
     (λ schemes. WithTableName table (WithoutLoss r schemes (MakesSchemes r table schemes)))) response
 unfolding form_of form_over_schema after_sql after_sql_migrate schema_and_plan_and_word Performs Does AnswersPlan
 sql_plan_asks files name file table response answered = answered
 
 pub sql_plan_answered : (files : Files) (name file table : List ℕ) (schema : Schema) (plan : List Attributes)
-    → IsSchemaFile (known_files files) name schema → IsPlanFile (known_files files) schema file plan → IsTrue (is_table_name table)
+    → IsFile schema_file (known_files files) name schema → IsFile (plan_file schema) (known_files files) file plan → IsTrue (is_table_name table)
     → (IsTooLarge schema plan → ⊥)
     → IsAnswered files (codes "sql" ∷ codes "migrate" ∷ codes "plan" ∷ name ∷ file ∷ table ∷ [])
 sql_plan_answered files name file table schema plan held_schema held_plan is_name small response answered =
     after_schema files name schema
-    (λ r. WithPlan (known_files files) r file (λ schemes. WithTableName table (WithoutLoss r schemes (MakesSchemes r table schemes)))) response held_schema
+    (λ r. WithFile (plan_file r) (known_files files) file (λ schemes. WithTableName table (WithoutLoss r schemes (MakesSchemes r table schemes)))) response held_schema
     (λ r same more. after_plan files schema r file plan
     (λ schemes. WithTableName table (WithoutLoss r schemes (MakesSchemes r table schemes))) response same held_plan
     (λ p is found. after_name table (WithoutLoss r p (MakesSchemes r table p)) response is_name
@@ -91,14 +92,14 @@ sql_plan_answered files name file table schema plan held_schema held_plan is_nam
 -- ---- `draw`
 draw_asks : (form : Form) (files : Files) (name : List ℕ) (response : ResponseValue)
     → Answers (known_files files) (codes "draw" ∷ form_word form ∷ name ∷ []) response
-    → WithSchema (known_files files) name (λ r. WithPlanInForm r form (DrawsTables r)) response
+    → WithFile schema_file (known_files files) name (λ r. WithPlanInForm r form (DrawsTables r)) response
 unfolding form_of form_over_schema after_draw normal_form schema_alone Performs Does AnswersSchema
 draw_asks Third files name response answered = answered
 draw_asks Bcnf files name response answered = answered
 draw_asks Fourth files name response answered = answered
 
 pub draw_answered : (form : Form) (files : Files) (name : List ℕ)
-    → (schema : Schema) → IsSchemaFile (known_files files) name schema → HasPlanInForm schema form
+    → (schema : Schema) → IsFile schema_file (known_files files) name schema → HasPlanInForm schema form
     → IsAnswered files (codes "draw" ∷ form_word form ∷ name ∷ [])
 draw_answered form files name =
     form_answered files (codes "draw" ∷ form_word form ∷ name ∷ []) name form DrawsTables DrawsTables-yes_or_no
@@ -106,15 +107,15 @@ draw_answered form files name =
 
 draw_plan_asks : (files : Files) (name file : List ℕ) (response : ResponseValue)
     → Answers (known_files files) (codes "draw" ∷ codes "plan" ∷ name ∷ file ∷ []) response
-    → WithSchema (known_files files) name (λ r. WithPlan (known_files files) r file (DrawsSchemes r)) response
+    → WithFile schema_file (known_files files) name (λ r. WithFile (plan_file r) (known_files files) file (DrawsSchemes r)) response
 unfolding form_of form_over_schema after_draw schema_and_plan Performs Does AnswersPlan
 draw_plan_asks files name file response answered = answered
 
 pub draw_plan_answered : (files : Files) (name file : List ℕ) (schema : Schema) (plan : List Attributes)
-    → IsSchemaFile (known_files files) name schema → IsPlanFile (known_files files) schema file plan
+    → IsFile schema_file (known_files files) name schema → IsFile (plan_file schema) (known_files files) file plan
     → IsAnswered files (codes "draw" ∷ codes "plan" ∷ name ∷ file ∷ [])
 draw_plan_answered files name file schema plan held_schema held_plan response answered =
-    after_schema files name schema (λ r. WithPlan (known_files files) r file (DrawsSchemes r)) response held_schema
+    after_schema files name schema (λ r. WithFile (plan_file r) (known_files files) file (DrawsSchemes r)) response held_schema
     (λ r same more. after_plan files schema r file plan (DrawsSchemes r) response same held_plan
     (λ p is found. DrawsTables-yes_or_no r found.0 response found.2) more)
     (draw_plan_asks files name file response answered)

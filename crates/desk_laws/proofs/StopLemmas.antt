@@ -24,7 +24,8 @@ use Rattle.proof_grammar.proofs.CertificateLaws.{spelled_back}
 use Rattle.desk_responses.specs.declared.status.Status.TheVariants.{Yes, Refused, CannotRead}
 use Rattle.desk_inputs.specs.Readings.{Reading, known_files}
 use Rattle.desk_responses.specs.ResponseValues.{ResponseValue}
-use Rattle.desk_inputs.specs.Inputs.{FileStops, SchemaStops, ProofStops}
+use Rattle.desk_inputs.specs.FileKinds.{FileStops, LoadStops}
+use Rattle.desk_inputs.specs.Inputs.{schema_file, proof_file}
 use Rattle.desk_implication.specs.Goals.{GoalStops}
 
 -- ---- no way to stop says yes
@@ -37,11 +38,11 @@ unread_says response says_yes is = cc
 status_is : (response wanted : ResponseValue) → response ≡ wanted → response.status ≡ wanted.status
 status_is response wanted is = ap (λ (a : ResponseValue). a.status) is
 
-file_says : (r : Reading) (name : List ℕ) (limit : ℕ) (response : ResponseValue) → response.status ≡ Yes → FileStops r name limit response → ⊥
+file_says : (r : Reading) (name : List ℕ) (limit : ℕ) (response : ResponseValue) → response.status ≡ Yes → LoadStops r name limit response → ⊥
 file_says r name limit response says_yes (inl exit) = unread_says response says_yes (status_is response _ exit.1)
 file_says r name limit response says_yes (inr exit) = refused_says response says_yes (status_is response _ exit.1)
 
-pub schema_says : (r : Reading) (name : List ℕ) (response : ResponseValue) → response.status ≡ Yes → SchemaStops r name response → ⊥
+pub schema_says : (r : Reading) (name : List ℕ) (response : ResponseValue) → response.status ≡ Yes → FileStops schema_file r name response → ⊥
 schema_says r name response says_yes (inl exit) = file_says r name MOST_TEXT_BYTES response says_yes exit
 schema_says r name response says_yes (inr exit) = refused_says response says_yes (status_is response _ exit.2)
 
@@ -55,15 +56,15 @@ pub one_content : (files : Files) (name first second : List ℕ) → bytes_of_fi
 one_content files name first second here there = let same : Some first ≡ Some second = sym here ∙ there in cc
 
 pub file_goes : (files : Files) (name bytes : List ℕ) (limit : ℕ) (response : ResponseValue) → bytes_of_file files name ≡ Some bytes → length bytes ≤ limit
-    → FileStops (known_files files) name limit response → ⊥
-file_goes files name bytes limit response has within_limit (inl (inl fails, said)) = absurd fails
-file_goes files name bytes limit response has within_limit (inl (inr none, said)) = cc
+    → LoadStops (known_files files) name limit response → ⊥
+file_goes files name bytes limit response has within_limit (inl ((inl fails, last), said)) = absurd fails
+file_goes files name bytes limit response has within_limit (inl ((inr none, last), said)) = cc
 file_goes files name bytes limit response has within_limit (inr exit) =
     let of : Option (List ℕ) → Type 0 = λ o. IsSomeAnd o (λ bytes. limit < length bytes) in
     let long : limit < length bytes = subst of has exit.0.1 in omega (arith, within_limit, long)
 
 pub schema_goes : (files : Files) (name bytes : List ℕ) (d : Declarations) (response : ResponseValue) → bytes_of_file files name ≡ Some bytes → length bytes ≤ MOST_TEXT_BYTES → MeansSchema bytes d
-    → SchemaStops (known_files files) name response → ⊥
+    → FileStops schema_file (known_files files) name response → ⊥
 schema_goes files name bytes d response has within_limit means (inl exit) = file_goes files name bytes MOST_TEXT_BYTES response has within_limit exit
 schema_goes files name bytes d response has within_limit means (inr exit) =
     let text = exit.1.bytes in
@@ -71,7 +72,7 @@ schema_goes files name bytes d response has within_limit means (inr exit) =
     let refused : read_text text ≡ Err exit.0 = (schema-refusal-law text exit.0).1 exit.1.refused in cc
 
 pub proof_goes : (files : Files) (s : Schema) (name bytes : List ℕ) (t : Tree) (response : ResponseValue) → bytes_of_file files name ≡ Some bytes → length bytes ≤ MOST_PROOF_BYTES → SpellsWithin s bytes t
-    → ProofStops (known_files files) s name response → ⊥
+    → FileStops (proof_file s) (known_files files) name response → ⊥
 proof_goes files s name bytes t response has within_limit spells (inl exit) = file_goes files name bytes MOST_PROOF_BYTES response has within_limit exit
 proof_goes files s name bytes t response has within_limit spells (inr exit) =
     let text = exit.1.bytes in

@@ -3,18 +3,18 @@ use Rattle.std.proofs.Common.{◌≡◌, ◌<◌, ◌≤◌, ◌-◌, ◌^◌, �
 use Rattle.std.specs.Prelude.{codes, All, Contains}
 use Rattle.std.proofs.lemmas.List.Elements.{All-contains, Contains-append_right}
 use Rattle.std.proofs.Math.Nat.{pow-le-pow_right}
-use Rattle.attr_sets.proofs.AttributesLemmas.{count_below-le, count_below-low}
-use Rattle.attr_sets.specs.Attributes.{Attributes, below, IsSubset, count_below}
+use Rattle.attr_sets.proofs.AttributesLemmas.{count_below-le, count_below-low, count_below-within}
+use Rattle.attr_sets.specs.Attributes.{Attributes, below, intersection, IsSubset, count_below}
 use Rattle.attr_sets.specs.declared.set.TheConstants.{MOST_ATTRIBUTES}
 use Rattle.attr_sets.specs.declared.set.AttrSet.{AttrSet}
-use Rattle.armstrong_rel.specs.Refusals.{IsFirstMvd}
+use Rattle.armstrong_rel.specs.Refusals.{IsFirstMvd, AreTooMany, HasTooManyRows, IsTooWideToExhibit}
 use Rattle.armstrong_rel.specs.declared.refusal.TheConstants.{WIDEST_EXHIBITED}
 use Rattle.dep_model.specs.Dependencies.{Dependency}
 use Rattle.dep_model.specs.Plans.{schemes_of}
 use Rattle.dep_model.specs.Schemas.{width_of, theory_of}
 use Rattle.dep_model.specs.Tuples.{Relation}
 use Rattle.dep_model.specs.declared.schema.Schema.{Schema}
-use Rattle.normal_forms.specs.Chosen.{IsWide}
+use Rattle.fd_closure.specs.LeftSides.{left_sides, IsWide}
 use Rattle.normal_forms.specs.declared.forms.Form.{Form}
 use Rattle.normal_forms.specs.declared.forms.Form.TheVariants.{Third, Bcnf, Fourth}
 use Rattle.schema_grammar.specs.Declarations.{Declarations}
@@ -27,7 +27,8 @@ use Rattle.desk_designs.specs.Decompositions.{SplitStops, WithPlanInForm, ShowsP
 use Rattle.desk_designs.specs.Designs.{WritesTables, WritesSchemes}
 use Rattle.desk_implication.specs.Exhibits.{Exhibits}
 use Rattle.desk_words.specs.Forms.{form_of, form_over_schema, after_check, after_check_form, after_split, after_ddl, after_migrate, normal_form, schema_alone, schema_and_two, persons_alone, schema_and_plan, schema_and_rows}
-use Rattle.desk_inputs.specs.Inputs.{WithSchema, IsSchemaFile}
+use Rattle.desk_inputs.specs.FileKinds.{IsFile, WithFile}
+use Rattle.desk_inputs.specs.Inputs.{schema_file}
 use Rattle.desk_designs.specs.Joins.{WithoutLoss, IsTooLarge}
 use Rattle.desk_designs.specs.Keeping.{JudgesKeeping}
 use Rattle.desk_tables.specs.Legality.{WithLegal}
@@ -37,9 +38,9 @@ use Rattle.lexer.specs.Bytes.{number_of}
 use Rattle.sample_rows.specs.Sample.{sample_relation}
 use Rattle.desk_designs.specs.NormalForms.{JudgesForm, form_word}
 use Rattle.desk_cli.specs.Performs.{Answers, Performs, Does, AnswersSchema, AnswersPlan, AnswersRows}
-use Rattle.desk_inputs.specs.Plans.{WithPlan, IsPlanFile}
+use Rattle.desk_inputs.specs.Plans.{plan_file}
 use Rattle.desk_inputs.specs.Readings.{known_files}
-use Rattle.desk_inputs.specs.Rows.{WithRows, IsRowsFile}
+use Rattle.desk_inputs.specs.Rows.{rows_file}
 use Rattle.desk_laws.specs.Completeness.{IsYesOrNo, IsAnswered, IsSplittable, HasPlanInForm}
 use Rattle.desk_designs.proofs.SplitLemmas.{stuck_within}
 use Rattle.desk_laws.proofs.CompleteLaws.{AreSame, after_schema, after_rows, after_plan, small_same}
@@ -83,22 +84,25 @@ JudgesKeeping-yes_or_no : (r : Schema) (plan : List Attributes) (response : Resp
 JudgesKeeping-yes_or_no r plan response (inl (kept, says)) = inl (ap (λ (a : ResponseValue). a.status) says)
 JudgesKeeping-yes_or_no r plan response (inr (lost, found)) = inr (ap (λ (a : ResponseValue). a.status) found.3)
 
-JudgesForm-yes_or_no : (r : Schema) (form : Form) (p plan : List Attributes) (response : ResponseValue) → p ≡ plan → All (λ scheme. IsWide scheme → ⊥) plan
+JudgesForm-yes_or_no : (s r : Schema) (form : Form) (p plan : List Attributes) (response : ResponseValue) → AreSame s r → p ≡ plan → All (λ scheme. IsWide (theory_of s) scheme → ⊥) plan
     → JudgesForm r form p response → IsYesOrNo response.status
-JudgesForm-yes_or_no r form p plan response is narrow (inl (all, says)) = inl (ap (λ (a : ResponseValue). a.status) says)
-JudgesForm-yes_or_no r form p plan response is narrow (inr (scheme, first, inl (wide, says))) =
+JudgesForm-yes_or_no s r form p plan response same is narrow (inl (all, says)) = inl (ap (λ (a : ResponseValue). a.status) says)
+JudgesForm-yes_or_no s r form p plan response same is narrow (inr (scheme, first, inl (wide, says))) =
     let at : Contains plan scheme = subst (λ (l : List Attributes). Contains l scheme) (sym first.list ∙ is)
     (Contains-append_right first.earlier (scheme ∷ first.later) scheme (0, omega arith, refl)) in
-    absurd (All-contains (λ (x : Attributes). IsWide x → ⊥) plan scheme narrow at wide)
-JudgesForm-yes_or_no r form p plan response is narrow (inr (scheme, first, inr (narrow_one, found))) = inr (ap (λ (a : ResponseValue). a.status) found.3)
+    absurd (All-contains (λ (x : Attributes). IsWide (theory_of s) x → ⊥) plan scheme narrow at
+    (subst (λ (d : Declarations). IsWide d.deps scheme) (sym same) wide))
+JudgesForm-yes_or_no s r form p plan response same is narrow (inr (scheme, first, inr (narrow_one, found))) = inr (ap (λ (a : ResponseValue). a.status) found.3)
 
-Exhibits-yes_or_no : (s r : Schema) (response : ResponseValue) → AreSame s r → ((k : ℕ) → IsFirstMvd (theory_of s) k → ⊥) → (WIDEST_EXHIBITED < width_of s → ⊥)
+Exhibits-yes_or_no : (s r : Schema) (response : ResponseValue) → AreSame s r → ((k : ℕ) → IsFirstMvd (theory_of s) k → ⊥) → (IsTooWideToExhibit s → ⊥) → (HasTooManyRows s → ⊥)
     → Exhibits r response → IsYesOrNo response.status
-Exhibits-yes_or_no s r response same functional narrow (inl found) = inl (ap (λ (a : ResponseValue). a.status) found.2)
-Exhibits-yes_or_no s r response same functional narrow (inr (inl (k, first, says))) =
+Exhibits-yes_or_no s r response same functional narrow few (inl found) = inl (ap (λ (a : ResponseValue). a.status) found.2)
+Exhibits-yes_or_no s r response same functional narrow few (inr (inl (k, first, says))) =
     absurd (functional k (subst (λ (d : Declarations). IsFirstMvd d.deps k) (sym same) first))
-Exhibits-yes_or_no s r response same functional narrow (inr (inr (wide, says))) =
-    absurd (narrow (subst (λ (d : Declarations). WIDEST_EXHIBITED < length d.names) (sym same) wide.1))
+Exhibits-yes_or_no s r response same functional narrow few (inr (inr (inl (wide, says)))) =
+    absurd (narrow (subst (λ (d : Declarations). WIDEST_EXHIBITED < count_below (left_sides d.deps) MOST_ATTRIBUTES) (sym same) wide.1))
+Exhibits-yes_or_no s r response same functional narrow few (inr (inr (inr (many, says)))) =
+    absurd (few (subst (λ (d : Declarations). (sets : List Attributes) × AreTooMany (length d.names) d.deps sets) (sym same) many.2))
 
 -- ---- small universes
 -- over at most 13 attributes splitting meets no limit
@@ -114,7 +118,8 @@ small_narrow : (n : ℕ) (ds : List Dependency) (form : Form) (scheme : Attribut
 small_narrow n ds form scheme not_empty within_limit other wide =
     let within : IsSubset scheme (below n) = stuck_within n ds form MOST_SPLIT_SCHEMES scheme not_empty other wide in
     let low : count_below scheme MOST_ATTRIBUTES ≡ count_below scheme n = count_below-low MOST_ATTRIBUTES n scheme within (omega (arith, within_limit)) in
-    omega (arith, within_limit, low, count_below-le n scheme, wide.stuck.stuck.wide)
+    let fewer = count_below-within MOST_ATTRIBUTES (intersection scheme (left_sides ds)) scheme (λ k m. grind (arith, m)) in
+    omega (arith, within_limit, low, count_below-le n scheme, fewer, wide.stuck.stuck.wide)
 
 third_is_not : (form : Form) → (form ≡ Bcnf) ⊎ (form ≡ Fourth) → form ≡ Third → ⊥
 third_is_not form (inl is) e = cc
@@ -129,7 +134,7 @@ small_is_splittable s form within_limit which = record {
 -- ---- commands
 -- each asks what `Performs` says of its words, and then what it reads and finds is there
 check_form_asks : (form : Form) (files : Files) (name file : List ℕ) (response : ResponseValue) → Answers (known_files files) (codes "check" ∷ codes "form" ∷ form_word form ∷ name ∷ file ∷ []) response
-    → WithSchema (known_files files) name (λ r. WithPlan (known_files files) r file (JudgesForm r form)) response
+    → WithFile schema_file (known_files files) name (λ r. WithFile (plan_file r) (known_files files) file (JudgesForm r form)) response
 unfolding form_of form_over_schema after_check after_check_form normal_form schema_and_plan Performs Does AnswersPlan
 check_form_asks Third files name file response answered = answered
 check_form_asks Bcnf files name file response answered = answered
@@ -137,20 +142,20 @@ check_form_asks Fourth files name file response answered = answered
 
 pub check_answered : (form : Form) (files : Files) (name file : List ℕ)
     → (schema : Schema) (plan : List Attributes)
-    → IsSchemaFile (known_files files) name schema → IsPlanFile (known_files files) schema file plan
-    → All (λ scheme. IsWide scheme → ⊥) plan → IsAnswered files (codes "check" ∷ codes "form" ∷ form_word form ∷ name ∷ file ∷ [])
+    → IsFile schema_file (known_files files) name schema → IsFile (plan_file schema) (known_files files) file plan
+    → All (λ scheme. IsWide (theory_of schema) scheme → ⊥) plan → IsAnswered files (codes "check" ∷ codes "form" ∷ form_word form ∷ name ∷ file ∷ [])
 check_answered form files name file schema plan held_schema held_plan narrow response answered =
-    after_schema files name schema (λ r. WithPlan (known_files files) r file (JudgesForm r form)) response held_schema
+    after_schema files name schema (λ r. WithFile (plan_file r) (known_files files) file (JudgesForm r form)) response held_schema
     (λ r same more. after_plan files schema r file plan (JudgesForm r form) response same held_plan
-    (λ p is found. JudgesForm-yes_or_no r form p plan response is narrow found) more)
+    (λ p is found. JudgesForm-yes_or_no schema r form p plan response same is narrow found) more)
     (check_form_asks form files name file response answered)
 
 -- a command over a schema alone that finds a plan in a form and goes on with it
 pub form_answered : (files : Files) (words : List (List ℕ)) (name : List ℕ) (form : Form) (rest : Schema → List AttrSet → Allowed)
     → ((r : Schema) (plan : List AttrSet) (response : ResponseValue) → rest r plan response → IsYesOrNo response.status)
     → ((response : ResponseValue) → Answers (known_files files) words response
-    → WithSchema (known_files files) name (λ r. WithPlanInForm r form (rest r)) response)
-    → (schema : Schema) → IsSchemaFile (known_files files) name schema → HasPlanInForm schema form
+    → WithFile schema_file (known_files files) name (λ r. WithPlanInForm r form (rest r)) response)
+    → (schema : Schema) → IsFile schema_file (known_files files) name schema → HasPlanInForm schema form
     → IsAnswered files words
 form_answered files words name form rest says asks schema file can response answered =
     after_schema files name schema (λ r. WithPlanInForm r form (rest r)) response file
@@ -158,21 +163,21 @@ form_answered files words name form rest says asks schema file can response answ
     (asks response answered)
 
 ddl_asks : (form : Form) (files : Files) (name : List ℕ) (response : ResponseValue) → Answers (known_files files) (codes "ddl" ∷ form_word form ∷ name ∷ []) response
-    → WithSchema (known_files files) name (λ r. WithPlanInForm r form (WritesTables r)) response
+    → WithFile schema_file (known_files files) name (λ r. WithPlanInForm r form (WritesTables r)) response
 unfolding form_of form_over_schema after_ddl normal_form schema_alone Performs Does AnswersSchema
 ddl_asks Third files name response answered = answered
 ddl_asks Bcnf files name response answered = answered
 ddl_asks Fourth files name response answered = answered
 
 pub ddl_answered : (form : Form) (files : Files) (name : List ℕ)
-    → (schema : Schema) → IsSchemaFile (known_files files) name schema → HasPlanInForm schema form
+    → (schema : Schema) → IsFile schema_file (known_files files) name schema → HasPlanInForm schema form
     → IsAnswered files (codes "ddl" ∷ form_word form ∷ name ∷ [])
 ddl_answered form files name =
     form_answered files (codes "ddl" ∷ form_word form ∷ name ∷ []) name form WritesTables WritesTables-yes_or_no
     (ddl_asks form files name)
 
 migrate_asks : (form : Form) (files : Files) (name file : List ℕ) (response : ResponseValue) → Answers (known_files files) (codes "migrate" ∷ form_word form ∷ name ∷ file ∷ []) response
-    → WithSchema (known_files files) name (λ r. WithRows (known_files files) r file (λ rows. WithPlanInForm r form (λ plan. MigratesRows r (schemes_of plan) rows))) response
+    → WithFile schema_file (known_files files) name (λ r. WithFile (rows_file r) (known_files files) file (λ rows. WithPlanInForm r form (λ plan. MigratesRows r (schemes_of plan) rows))) response
 unfolding form_of form_over_schema after_migrate normal_form schema_and_rows Performs Does AnswersRows
 migrate_asks Third files name file response answered = answered
 migrate_asks Bcnf files name file response answered = answered
@@ -180,11 +185,11 @@ migrate_asks Fourth files name file response answered = answered
 
 pub migrate_answered : (form : Form) (files : Files) (name file : List ℕ)
     → (schema : Schema) (rows : Relation)
-    → IsSchemaFile (known_files files) name schema → IsRowsFile (known_files files) schema file rows → HasPlanInForm schema form
+    → IsFile schema_file (known_files files) name schema → IsFile (rows_file schema) (known_files files) file rows → HasPlanInForm schema form
     → IsAnswered files (codes "migrate" ∷ form_word form ∷ name ∷ file ∷ [])
 migrate_answered form files name file schema rows held_schema held_rows can response answered =
     after_schema files name schema
-    (λ r. WithRows (known_files files) r file (λ x. WithPlanInForm r form (λ plan. MigratesRows r (schemes_of plan) x)))
+    (λ r. WithFile (rows_file r) (known_files files) file (λ x. WithPlanInForm r form (λ plan. MigratesRows r (schemes_of plan) x)))
     response held_schema
     (λ r same more. after_rows files schema r file rows
     (λ x. WithPlanInForm r form (λ plan. MigratesRows r (schemes_of plan) x)) response same held_rows
@@ -194,83 +199,83 @@ migrate_answered form files name file schema rows held_schema held_rows can resp
 
 pub split_answered : (files : Files) (words : List (List ℕ)) (name : List ℕ) (form : Form)
     → ((response : ResponseValue) → Answers (known_files files) words response
-    → WithSchema (known_files files) name (λ r. WithPlanInForm r form (ShowsPlan r)) response)
-    → (schema : Schema) → IsSchemaFile (known_files files) name schema → HasPlanInForm schema form
+    → WithFile schema_file (known_files files) name (λ r. WithPlanInForm r form (ShowsPlan r)) response)
+    → (schema : Schema) → IsFile schema_file (known_files files) name schema → HasPlanInForm schema form
     → IsAnswered files words
 split_answered files words name form asks =
     form_answered files words name form ShowsPlan (λ r plan response says. inl (ap (λ (a : ResponseValue). a.status) says)) asks
 
 pub split_bcnf_asks : (files : Files) (name : List ℕ) (response : ResponseValue) → Answers (known_files files) (codes "split" ∷ codes "bcnf" ∷ name ∷ []) response
-    → WithSchema (known_files files) name (λ r. WithPlanInForm r Bcnf (ShowsPlan r)) response
+    → WithFile schema_file (known_files files) name (λ r. WithPlanInForm r Bcnf (ShowsPlan r)) response
 unfolding form_of form_over_schema after_split schema_alone Performs Does AnswersSchema
 split_bcnf_asks files name response answered = answered
 
 pub split_fourth_asks : (files : Files) (name : List ℕ) (response : ResponseValue) → Answers (known_files files) (codes "split" ∷ codes "4nf" ∷ name ∷ []) response
-    → WithSchema (known_files files) name (λ r. WithPlanInForm r Fourth (ShowsPlan r)) response
+    → WithFile schema_file (known_files files) name (λ r. WithPlanInForm r Fourth (ShowsPlan r)) response
 unfolding form_of form_over_schema after_split schema_alone Performs Does AnswersSchema
 split_fourth_asks files name response answered = answered
 
 split_wide_asks : (files : Files) (name : List ℕ) (response : ResponseValue) → Answers (known_files files) (codes "split" ∷ codes "wide-bcnf" ∷ name ∷ []) response
-    → WithSchema (known_files files) name SplitsWide response
+    → WithFile schema_file (known_files files) name SplitsWide response
 unfolding form_of form_over_schema after_split schema_alone Performs Does AnswersSchema
 split_wide_asks files name response answered = answered
 
-pub split_wide_answered : (files : Files) (name : List ℕ) (schema : Schema) → IsSchemaFile (known_files files) name schema
+pub split_wide_answered : (files : Files) (name : List ℕ) (schema : Schema) → IsFile schema_file (known_files files) name schema
     → IsAnswered files (codes "split" ∷ codes "wide-bcnf" ∷ name ∷ [])
 split_wide_answered files name schema file response answered =
     after_schema files name schema SplitsWide response file (λ r same found. inl (ap (λ (a : ResponseValue). a.status) found.2)) (split_wide_asks files name response answered)
 
 exhibit_asks : (files : Files) (name : List ℕ) (response : ResponseValue) → Answers (known_files files) (codes "exhibit" ∷ name ∷ []) response
-    → WithSchema (known_files files) name Exhibits response
+    → WithFile schema_file (known_files files) name Exhibits response
 unfolding form_of form_over_schema schema_alone Performs Does AnswersSchema
 exhibit_asks files name response answered = answered
 
-pub exhibit_answered : (files : Files) (name : List ℕ) (schema : Schema) → IsSchemaFile (known_files files) name schema
-    → ((k : ℕ) → IsFirstMvd (theory_of schema) k → ⊥) → (WIDEST_EXHIBITED < width_of schema → ⊥) → IsAnswered files (codes "exhibit" ∷ name ∷ [])
-exhibit_answered files name schema file functional narrow response answered =
-    after_schema files name schema Exhibits response file (λ r same found. Exhibits-yes_or_no schema r response same functional narrow found) (exhibit_asks files name response answered)
+pub exhibit_answered : (files : Files) (name : List ℕ) (schema : Schema) → IsFile schema_file (known_files files) name schema
+    → ((k : ℕ) → IsFirstMvd (theory_of schema) k → ⊥) → (IsTooWideToExhibit schema → ⊥) → (HasTooManyRows schema → ⊥) → IsAnswered files (codes "exhibit" ∷ name ∷ [])
+exhibit_answered files name schema file functional narrow few response answered =
+    after_schema files name schema Exhibits response file (λ r same found. Exhibits-yes_or_no schema r response same functional narrow few found) (exhibit_asks files name response answered)
 
 check_keeps_asks : (files : Files) (name file : List ℕ) (response : ResponseValue) → Answers (known_files files) (codes "check" ∷ codes "keeps" ∷ name ∷ file ∷ []) response
-    → WithSchema (known_files files) name (λ r. WithPlan (known_files files) r file (JudgesKeeping r)) response
+    → WithFile schema_file (known_files files) name (λ r. WithFile (plan_file r) (known_files files) file (JudgesKeeping r)) response
 unfolding form_of form_over_schema after_check schema_and_plan Performs Does AnswersPlan
 check_keeps_asks files name file response answered = answered
 
 pub check_keeps_answered : (files : Files) (name file : List ℕ) (schema : Schema) (plan : List Attributes)
-    → IsSchemaFile (known_files files) name schema → IsPlanFile (known_files files) schema file plan
+    → IsFile schema_file (known_files files) name schema → IsFile (plan_file schema) (known_files files) file plan
     → IsAnswered files (codes "check" ∷ codes "keeps" ∷ name ∷ file ∷ [])
 check_keeps_answered files name file schema plan held_schema held_plan response answered =
-    after_schema files name schema (λ r. WithPlan (known_files files) r file (JudgesKeeping r)) response held_schema
+    after_schema files name schema (λ r. WithFile (plan_file r) (known_files files) file (JudgesKeeping r)) response held_schema
     (λ r same more. after_plan files schema r file plan (JudgesKeeping r) response same held_plan (λ p is found. JudgesKeeping-yes_or_no r p response found) more)
     (check_keeps_asks files name file response answered)
 
 ddl_plan_asks : (files : Files) (name file : List ℕ) (response : ResponseValue) → Answers (known_files files) (codes "ddl" ∷ codes "plan" ∷ name ∷ file ∷ []) response
-    → WithSchema (known_files files) name (λ r. WithPlan (known_files files) r file (λ schemes. WithoutLoss r schemes (WritesSchemes r schemes))) response
+    → WithFile schema_file (known_files files) name (λ r. WithFile (plan_file r) (known_files files) file (λ schemes. WithoutLoss r schemes (WritesSchemes r schemes))) response
 unfolding form_of form_over_schema after_ddl schema_and_plan Performs Does AnswersPlan
 ddl_plan_asks files name file response answered = answered
 
 pub ddl_plan_answered : (files : Files) (name file : List ℕ) (schema : Schema) (plan : List Attributes)
-    → IsSchemaFile (known_files files) name schema → IsPlanFile (known_files files) schema file plan → (IsTooLarge schema plan → ⊥)
+    → IsFile schema_file (known_files files) name schema → IsFile (plan_file schema) (known_files files) file plan → (IsTooLarge schema plan → ⊥)
     → IsAnswered files (codes "ddl" ∷ codes "plan" ∷ name ∷ file ∷ [])
 ddl_plan_answered files name file schema plan held_schema held_plan small response answered =
-    after_schema files name schema (λ r. WithPlan (known_files files) r file (λ schemes. WithoutLoss r schemes (WritesSchemes r schemes))) response held_schema
+    after_schema files name schema (λ r. WithFile (plan_file r) (known_files files) file (λ schemes. WithoutLoss r schemes (WritesSchemes r schemes))) response held_schema
     (λ r same more. after_plan files schema r file plan (λ schemes. WithoutLoss r schemes (WritesSchemes r schemes)) response same held_plan
     (λ p is found. after_loss schema r p plan (WritesSchemes r p) response same is small (λ writes. WritesTables-yes_or_no r writes.0 response writes.2) found) more)
     (ddl_plan_asks files name file response answered)
 
-migrate_plan_asks : (files : Files) (name plan_file file : List ℕ) (response : ResponseValue) → Answers (known_files files) (codes "migrate" ∷ codes "plan" ∷ name ∷ plan_file ∷ file ∷ []) response
-    → WithSchema (known_files files) name (λ r. WithPlan (known_files files) r plan_file (λ plan. WithRows (known_files files) r file (λ rows. WithoutLoss r plan (MigratesRows r plan rows)))) response
+migrate_plan_asks : (files : Files) (name planned file : List ℕ) (response : ResponseValue) → Answers (known_files files) (codes "migrate" ∷ codes "plan" ∷ name ∷ planned ∷ file ∷ []) response
+    → WithFile schema_file (known_files files) name (λ r. WithFile (plan_file r) (known_files files) planned (λ plan. WithFile (rows_file r) (known_files files) file (λ rows. WithoutLoss r plan (MigratesRows r plan rows)))) response
 unfolding form_of form_over_schema after_migrate schema_and_two Performs Does
-migrate_plan_asks files name plan_file file response answered = answered
+migrate_plan_asks files name planned file response answered = answered
 
-pub migrate_plan_answered : (files : Files) (name plan_file file : List ℕ) (schema : Schema) (plan : List Attributes) (rows : Relation)
-    → IsSchemaFile (known_files files) name schema → IsPlanFile (known_files files) schema plan_file plan → IsRowsFile (known_files files) schema file rows
-    → (IsTooLarge schema plan → ⊥) → IsAnswered files (codes "migrate" ∷ codes "plan" ∷ name ∷ plan_file ∷ file ∷ [])
-migrate_plan_answered files name plan_file file schema plan rows held_schema held_plan held_rows small response answered =
-    after_schema files name schema (λ r. WithPlan (known_files files) r plan_file (λ p. WithRows (known_files files) r file (λ x. WithoutLoss r p (MigratesRows r p x)))) response held_schema
-    (λ r same more. after_plan files schema r plan_file plan (λ p. WithRows (known_files files) r file (λ x. WithoutLoss r p (MigratesRows r p x))) response same held_plan
+pub migrate_plan_answered : (files : Files) (name planned file : List ℕ) (schema : Schema) (plan : List Attributes) (rows : Relation)
+    → IsFile schema_file (known_files files) name schema → IsFile (plan_file schema) (known_files files) planned plan → IsFile (rows_file schema) (known_files files) file rows
+    → (IsTooLarge schema plan → ⊥) → IsAnswered files (codes "migrate" ∷ codes "plan" ∷ name ∷ planned ∷ file ∷ [])
+migrate_plan_answered files name planned file schema plan rows held_schema held_plan held_rows small response answered =
+    after_schema files name schema (λ r. WithFile (plan_file r) (known_files files) planned (λ p. WithFile (rows_file r) (known_files files) file (λ x. WithoutLoss r p (MigratesRows r p x)))) response held_schema
+    (λ r same more. after_plan files schema r planned plan (λ p. WithFile (rows_file r) (known_files files) file (λ x. WithoutLoss r p (MigratesRows r p x))) response same held_plan
     (λ p is found. after_rows files schema r file rows (λ x. WithoutLoss r p (MigratesRows r p x)) response same held_rows
     (λ x kept. after_loss schema r p plan (MigratesRows r p x) response same is small (λ gives. MigratesRows-yes_or_no r p x response gives) kept) found) more)
-    (migrate_plan_asks files name plan_file file response answered)
+    (migrate_plan_asks files name planned file response answered)
 
 sample_asks : (files : Files) (word : List ℕ) (response : ResponseValue) → is_count word ≡ true → Answers (known_files files) (codes "sample" ∷ word ∷ []) response → Samples (number_of word) response
 unfolding form_of persons_alone Performs

@@ -12,28 +12,34 @@ ghost use Rattle.derivation.specs.Trees.{Tree};
 ghost use Rattle.key_listing.specs.Refusals.{IsTooWide};
 ghost use Rattle.desk_outside.specs.Files.{Files};
 ghost use Rattle.desk_responses.specs.declared.status.Status.{Status};
-ghost use Rattle.desk_cli.specs.Desk.{Desk, FileSourceInCall, SinkInCall};
+ghost use Rattle.desk_cli.specs.Desk.{Desk, SinkInCall, source_in_call};
 ghost use Rattle.desk_delivery.specs.Outcomes.{destinations_in_call};
-ghost use Rattle.desk_inputs.specs.Inputs.{IsSchemaFile, IsProofFile};
+ghost use Rattle.desk_inputs.specs.FileKinds.{IsFile};
+ghost use Rattle.desk_inputs.specs.Inputs.{schema_file, proof_file};
 ghost use Rattle.desk_implication.specs.Goals.{IsGoal};
 ghost use Rattle.desk_designs.specs.Joins.{IsTooLarge};
 ghost use Rattle.desk_implication.specs.Keys.{HasManyKeys};
-ghost use Rattle.desk_inputs.specs.Plans.{IsPlanFile};
+ghost use Rattle.desk_inputs.specs.Plans.{plan_file};
 ghost use Rattle.desk_inputs.specs.Readings.{known_files};
-ghost use Rattle.desk_inputs.specs.Rows.{IsRowsFile};
+ghost use Rattle.desk_inputs.specs.Rows.{rows_file};
 ghost use Rattle.desk_laws.specs.Completeness.{IsYesOrNo, IsAnswered, FailsNowhere};
 
+use desk_outside::FileSource;
 use destinations::Destination;
 
 /// Where nothing fails, a call whose words are answered over the files ends with yes or no, or runs
 /// out of memory.
-pub fn answered_calls_end<T: Destination>()
-    ensures law { (words : List (List ℕ)) (files : Files) (source : FileSourceInCall)
-        (sink : SinkInCall)
-        (old new : List T)
+pub fn answered_calls_end<F: FileSource, T: Destination>()
+    ensures law { (words : List (List ℕ)) (files : Files) (source after : F) (sink : SinkInCall) (old new : List T)
         (result : Result Status OutOfMemory)
-        → Desk words source sink (destinations_in_call T.is_known T.finished T.begun T.width T.faults old new) result
-        → FailsNowhere files source sink (destinations_in_call T.is_known T.finished T.begun T.width T.faults old new)
+        → Desk words
+        (source_in_call (F.files source) (F.files after) (F.faults source) (F.faults after) (F.taken after)
+        (F.begun source) (F.begun after))
+        sink (destinations_in_call T.is_known T.finished T.begun T.width T.faults old new) result
+        → FailsNowhere files
+        (source_in_call (F.files source) (F.files after) (F.faults source) (F.faults after) (F.taken after)
+        (F.begun source) (F.begun after))
+        sink (destinations_in_call T.is_known T.finished T.begun T.width T.faults old new)
         → IsAnswered files words
         → (status : Status) → result ≡ Ok status → IsYesOrNo status }
 {}
@@ -41,14 +47,14 @@ pub fn answered_calls_end<T: Destination>()
 /// `implies` is answered where the schema file means a schema and the goal a dependency.
 pub fn implies_is_answered()
     ensures law { (files : Files) (name goal : List ℕ) (schema : Schema) (dep : Dependency)
-        → IsSchemaFile (known_files files) name schema → IsGoal schema goal dep
+        → IsFile schema_file (known_files files) name schema → IsGoal schema goal dep
         → IsAnswered files (codes "implies" ∷ name ∷ goal ∷ []) }
 {}
 
 /// `check proof` is answered where also the certificate file spells a tree.
 pub fn check_proof_is_answered()
     ensures law { (files : Files) (name file goal : List ℕ) (schema : Schema) (tree : Tree) (dep : Dependency)
-        → IsSchemaFile (known_files files) name schema → IsProofFile (known_files files) schema file tree
+        → IsFile schema_file (known_files files) name schema → IsFile (proof_file schema) (known_files files) file tree
         → IsGoal schema goal dep
         → IsAnswered files (codes "check" ∷ codes "proof" ∷ name ∷ file ∷ goal ∷ []) }
 {}
@@ -56,7 +62,7 @@ pub fn check_proof_is_answered()
 /// `check rows` is answered where the schema file means a schema and the CSV file rows.
 pub fn check_rows_is_answered()
     ensures law { (files : Files) (name file : List ℕ) (schema : Schema) (rows : Relation)
-        → IsSchemaFile (known_files files) name schema → IsRowsFile (known_files files) schema file rows
+        → IsFile schema_file (known_files files) name schema → IsFile (rows_file schema) (known_files files) file rows
         → IsAnswered files (codes "check" ∷ codes "rows" ∷ name ∷ file ∷ []) }
 {}
 
@@ -64,27 +70,27 @@ pub fn check_rows_is_answered()
 /// comes to no tableau of too many rows.
 pub fn check_join_is_answered()
     ensures law { (files : Files) (name file : List ℕ) (schema : Schema) (plan : List Attributes)
-        → IsSchemaFile (known_files files) name schema → IsPlanFile (known_files files) schema file plan
+        → IsFile schema_file (known_files files) name schema → IsFile (plan_file schema) (known_files files) file plan
         → (IsTooLarge schema plan → ⊥)
         → IsAnswered files (codes "check" ∷ codes "join" ∷ name ∷ file ∷ []) }
 {}
 
 /// `cover` is answered where the schema file means a schema.
 pub fn cover_is_answered()
-    ensures law { (files : Files) (name : List ℕ) (schema : Schema) → IsSchemaFile (known_files files) name schema
+    ensures law { (files : Files) (name : List ℕ) (schema : Schema) → IsFile schema_file (known_files files) name schema
         → IsAnswered files (codes "cover" ∷ name ∷ []) }
 {}
 
 /// `keys` is answered where also the universe is not too wide, and has no more keys than are listed.
 pub fn keys_is_answered()
-    ensures law { (files : Files) (name : List ℕ) (schema : Schema) → IsSchemaFile (known_files files) name schema
+    ensures law { (files : Files) (name : List ℕ) (schema : Schema) → IsFile schema_file (known_files files) name schema
         → (IsTooWide schema → ⊥) → (HasManyKeys schema → ⊥)
         → IsAnswered files (codes "keys" ∷ name ∷ []) }
 {}
 
 /// `synthesize` is answered where the schema file means a schema.
 pub fn synthesize_is_answered()
-    ensures law { (files : Files) (name : List ℕ) (schema : Schema) → IsSchemaFile (known_files files) name schema
+    ensures law { (files : Files) (name : List ℕ) (schema : Schema) → IsFile schema_file (known_files files) name schema
         → IsAnswered files (codes "synthesize" ∷ name ∷ []) }
 {}
 

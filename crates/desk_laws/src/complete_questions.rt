@@ -8,28 +8,43 @@ ghost use Rattle.attr_sets.specs.declared.set.AttrSet.{AttrSet};
 ghost use Rattle.dep_model.specs.Schemas.{width_of, theory_of};
 ghost use Rattle.dep_model.specs.declared.schema.Schema.{Schema};
 ghost use Rattle.key_listing.specs.Listing.{AreManyKeys};
-ghost use Rattle.key_listing.specs.Refusals.{IsWideScheme};
+ghost use Rattle.fd_closure.specs.LeftSides.{IsWide};
 ghost use Rattle.schema_match.specs.Columns.{SameNames};
 ghost use Rattle.desk_outside.specs.Files.{Files};
-ghost use Rattle.desk_inputs.specs.Inputs.{IsSchemaFile};
+ghost use Rattle.desk_inputs.specs.FileKinds.{IsFile};
+ghost use Rattle.desk_inputs.specs.Inputs.{schema_file};
 ghost use Rattle.desk_implication.specs.Goals.{IsSetText};
-ghost use Rattle.desk_inputs.specs.Plans.{IsPlanFile};
+ghost use Rattle.desk_inputs.specs.Plans.{plan_file};
 ghost use Rattle.desk_inputs.specs.Readings.{known_files};
 ghost use Rattle.desk_laws.specs.Completeness.{IsAnswered};
 
 /// `basis` is answered where the schema file means a schema and the text a set.
 pub fn basis_is_answered()
     ensures law { (files : Files) (name set : List ℕ) (schema : Schema) (x : Attributes)
-        → IsSchemaFile (known_files files) name schema → IsSetText schema set x
+        → IsFile schema_file (known_files files) name schema → IsSetText schema set x
         → IsAnswered files (codes "basis" ∷ name ∷ set ∷ []) }
+{}
+
+/// `closure` is answered where the schema file means a schema and the text a set.
+pub fn closure_is_answered()
+    ensures law { (files : Files) (name set : List ℕ) (schema : Schema) (x : Attributes)
+        → IsFile schema_file (known_files files) name schema → IsSetText schema set x
+        → IsAnswered files (codes "closure" ∷ name ∷ set ∷ []) }
+{}
+
+/// `check key` is answered where the schema file means a schema and the text a set.
+pub fn check_key_is_answered()
+    ensures law { (files : Files) (name set : List ℕ) (schema : Schema) (x : Attributes)
+        → IsFile schema_file (known_files files) name schema → IsSetText schema set x
+        → IsAnswered files (codes "check" ∷ codes "key" ∷ name ∷ set ∷ []) }
 {}
 
 /// `keys` of a plan is answered where the schema file means a schema, the plan file a plan, and each scheme
 /// of the plan is not too wide and has no more keys than are listed.
 pub fn keys_of_plan_is_answered()
     ensures law { (files : Files) (name file : List ℕ) (schema : Schema) (plan : List Attributes)
-        → IsSchemaFile (known_files files) name schema → IsPlanFile (known_files files) schema file plan
-        → All (λ scheme. IsWideScheme scheme → ⊥) plan
+        → IsFile schema_file (known_files files) name schema → IsFile (plan_file schema) (known_files files) file plan
+        → All (λ scheme. IsWide (theory_of schema) scheme → ⊥) plan
         → All (λ scheme. (found : List AttrSet)
         → AreManyKeys (width_of schema) (theory_of schema) scheme found → ⊥) plan
         → IsAnswered files (codes "keys" ∷ name ∷ file ∷ []) }
@@ -38,7 +53,15 @@ pub fn keys_of_plan_is_answered()
 /// `check same` is answered where the two schema files mean schemas over the same names.
 pub fn check_same_is_answered()
     ensures law { (files : Files) (name other_name : List ℕ) (schema other : Schema)
-        → IsSchemaFile (known_files files) name schema → IsSchemaFile (known_files files) other_name other
+        → IsFile schema_file (known_files files) name schema → IsFile schema_file (known_files files) other_name other
         → SameNames schema other
         → IsAnswered files (codes "check" ∷ codes "same" ∷ name ∷ other_name ∷ []) }
+{}
+
+/// `check cover` is answered where the two schema files mean schemas over the same names.
+pub fn check_cover_is_answered()
+    ensures law { (files : Files) (name other_name : List ℕ) (schema other : Schema)
+        → IsFile schema_file (known_files files) name schema → IsFile schema_file (known_files files) other_name other
+        → SameNames schema other
+        → IsAnswered files (codes "check" ∷ codes "cover" ∷ name ∷ other_name ∷ []) }
 {}

@@ -8,17 +8,18 @@ ghost use Rattle.dep_model.specs.declared.schema.Schema.{Schema};
 ghost use Rattle.normal_forms.specs.declared.forms.Form.{Form};
 ghost use Rattle.desk_outside.specs.Files.{Files};
 ghost use Rattle.table_scripts.specs.Naming.{is_table_name};
-ghost use Rattle.desk_inputs.specs.Inputs.{IsSchemaFile};
+ghost use Rattle.desk_inputs.specs.FileKinds.{IsFile};
+ghost use Rattle.desk_inputs.specs.Inputs.{schema_file};
 ghost use Rattle.desk_designs.specs.Joins.{IsTooLarge};
 ghost use Rattle.desk_designs.specs.NormalForms.{form_word};
-ghost use Rattle.desk_inputs.specs.Plans.{IsPlanFile};
+ghost use Rattle.desk_inputs.specs.Plans.{plan_file};
 ghost use Rattle.desk_inputs.specs.Readings.{known_files};
 ghost use Rattle.desk_laws.specs.Completeness.{IsAnswered, HasPlanInForm};
 
 /// `sql check` is answered where the schema file means a schema and the word names a table.
 pub fn sql_check_is_answered()
     ensures law { (files : Files) (name table : List ℕ) (schema : Schema)
-        → IsSchemaFile (known_files files) name schema
+        → IsFile schema_file (known_files files) name schema
         → IsTrue (is_table_name table)
         → IsAnswered files (codes "sql" ∷ codes "check" ∷ name ∷ table ∷ []) }
 {}
@@ -28,11 +29,11 @@ pub fn sql_check_is_answered()
 /// within its limit.
 pub fn sql_migrate_is_answered()
     ensures in_form { (form : Form) (files : Files) (name table : List ℕ) (schema : Schema)
-        → IsSchemaFile (known_files files) name schema → IsTrue (is_table_name table)
+        → IsFile schema_file (known_files files) name schema → IsTrue (is_table_name table)
         → HasPlanInForm schema form
         → IsAnswered files (codes "sql" ∷ codes "migrate" ∷ form_word form ∷ name ∷ table ∷ []) }
     ensures plan { (files : Files) (name file table : List ℕ) (schema : Schema) (plan : List Attributes)
-        → IsSchemaFile (known_files files) name schema → IsPlanFile (known_files files) schema file plan
+        → IsFile schema_file (known_files files) name schema → IsFile (plan_file schema) (known_files files) file plan
         → IsTrue (is_table_name table) → (IsTooLarge schema plan → ⊥)
         → IsAnswered files (codes "sql" ∷ codes "migrate" ∷ codes "plan" ∷ name ∷ file ∷ table ∷ []) }
 {}
@@ -41,9 +42,9 @@ pub fn sql_migrate_is_answered()
 /// limits, or the plan file means a plan.
 pub fn draw_is_answered()
     ensures in_form { (form : Form) (files : Files) (name : List ℕ) (schema : Schema)
-        → IsSchemaFile (known_files files) name schema → HasPlanInForm schema form
+        → IsFile schema_file (known_files files) name schema → HasPlanInForm schema form
         → IsAnswered files (codes "draw" ∷ form_word form ∷ name ∷ []) }
     ensures plan { (files : Files) (name file : List ℕ) (schema : Schema) (plan : List Attributes)
-        → IsSchemaFile (known_files files) name schema → IsPlanFile (known_files files) schema file plan
+        → IsFile schema_file (known_files files) name schema → IsFile (plan_file schema) (known_files files) file plan
         → IsAnswered files (codes "draw" ∷ codes "plan" ∷ name ∷ file ∷ []) }
 {}

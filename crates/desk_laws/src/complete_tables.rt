@@ -4,46 +4,46 @@
 
 ghost use Rattle.std.specs.Prelude.{◌≡◌, ◌<◌, ◌≤◌, ℕ, true, List, [], ◌∷◌, codes, All};
 ghost use Rattle.attr_sets.specs.Attributes.{Attributes};
-ghost use Rattle.armstrong_rel.specs.Refusals.{IsFirstMvd};
-ghost use Rattle.armstrong_rel.specs.declared.refusal.TheConstants.{WIDEST_EXHIBITED};
+ghost use Rattle.armstrong_rel.specs.Refusals.{IsFirstMvd, HasTooManyRows, IsTooWideToExhibit};
 ghost use Rattle.csv_rows.specs.declared.part.PartialRows.{PartialRows};
 ghost use Rattle.dep_model.specs.Projections.{Covers};
 ghost use Rattle.dep_model.specs.Schemas.{width_of, theory_of};
 ghost use Rattle.dep_model.specs.Tuples.{Relation};
 ghost use Rattle.dep_model.specs.declared.schema.Schema.{Schema};
 ghost use Rattle.fd_discovery.specs.declared.headed_rows.Headed.{Headed};
-ghost use Rattle.normal_forms.specs.Chosen.{IsWide};
+ghost use Rattle.fd_closure.specs.LeftSides.{IsWide};
 ghost use Rattle.normal_forms.specs.declared.forms.Form.{Form};
 ghost use Rattle.normal_forms.specs.declared.forms.Form.TheVariants as forms;
 ghost use Rattle.table_join.specs.Answers.{IsWithinLimit};
 ghost use Rattle.table_join.specs.Tables.{tables_of, plan_of_tables};
 ghost use Rattle.desk_outside.specs.Files.{Files};
 ghost use Rattle.desk_tables.specs.declared.rejoining.TheConstants.{MOST_JOINED_ROWS};
-ghost use Rattle.desk_inputs.specs.Headed.{IsHeadedFile};
+ghost use Rattle.desk_inputs.specs.FileKinds.{IsFile};
+ghost use Rattle.desk_inputs.specs.Headed.{headed_file};
 ghost use Rattle.desk_words.specs.Forms.{are_one_to_64};
-ghost use Rattle.desk_inputs.specs.Inputs.{IsSchemaFile};
+ghost use Rattle.desk_inputs.specs.Inputs.{schema_file};
 ghost use Rattle.desk_designs.specs.Joins.{IsTooLarge};
 ghost use Rattle.desk_words.specs.Numbers.{is_count};
 ghost use Rattle.desk_designs.specs.NormalForms.{form_word};
-ghost use Rattle.desk_inputs.specs.Plans.{IsPlanFile};
+ghost use Rattle.desk_inputs.specs.Plans.{plan_file};
 ghost use Rattle.desk_inputs.specs.Readings.{known_files};
 ghost use Rattle.desk_inputs.specs.Parts.{ArePartFiles};
-ghost use Rattle.desk_inputs.specs.Rows.{IsRowsFile};
+ghost use Rattle.desk_inputs.specs.Rows.{rows_file};
 ghost use Rattle.desk_laws.specs.Completeness.{IsAnswered, HasPlanInForm};
 
 /// `check form` is answered where the schema file means a schema, the plan file a plan, and no scheme of
 /// the plan has more attributes than are tested.
 pub fn check_form_is_answered()
     ensures in_form { (form : Form) (files : Files) (name file : List ℕ) (schema : Schema) (plan : List Attributes)
-        → IsSchemaFile (known_files files) name schema → IsPlanFile (known_files files) schema file plan
-        → All (λ scheme. IsWide scheme → ⊥) plan
+        → IsFile schema_file (known_files files) name schema → IsFile (plan_file schema) (known_files files) file plan
+        → All (λ scheme. IsWide (theory_of schema) scheme → ⊥) plan
         → IsAnswered files (codes "check" ∷ codes "form" ∷ form_word form ∷ name ∷ file ∷ []) }
 {}
 
 /// `check keeps` is answered where the schema file means a schema and the plan file a plan.
 pub fn check_keeps_is_answered()
     ensures law { (files : Files) (name file : List ℕ) (schema : Schema) (plan : List Attributes)
-        → IsSchemaFile (known_files files) name schema → IsPlanFile (known_files files) schema file plan
+        → IsFile schema_file (known_files files) name schema → IsFile (plan_file schema) (known_files files) file plan
         → IsAnswered files (codes "check" ∷ codes "keeps" ∷ name ∷ file ∷ []) }
 {}
 
@@ -51,22 +51,23 @@ pub fn check_keeps_is_answered()
 /// it meets none.
 pub fn split_is_answered()
     ensures bcnf { (files : Files) (name : List ℕ) (schema : Schema)
-        → IsSchemaFile (known_files files) name schema → HasPlanInForm schema forms.Bcnf
+        → IsFile schema_file (known_files files) name schema → HasPlanInForm schema forms.Bcnf
         → IsAnswered files (codes "split" ∷ codes "bcnf" ∷ name ∷ []) }
     ensures fourth { (files : Files) (name : List ℕ) (schema : Schema)
-        → IsSchemaFile (known_files files) name schema → HasPlanInForm schema forms.Fourth
+        → IsFile schema_file (known_files files) name schema → HasPlanInForm schema forms.Fourth
         → IsAnswered files (codes "split" ∷ codes "4nf" ∷ name ∷ []) }
     ensures wide { (files : Files) (name : List ℕ) (schema : Schema)
-        → IsSchemaFile (known_files files) name schema
+        → IsFile schema_file (known_files files) name schema
         → IsAnswered files (codes "split" ∷ codes "wide-bcnf" ∷ name ∷ []) }
 {}
 
 /// `exhibit` is answered where the schema file means a schema without a multivalued dependency that is not
-/// too wide.
+/// too wide, and whose relation has not too many rows.
 pub fn exhibit_is_answered()
     ensures law { (files : Files) (name : List ℕ) (schema : Schema)
-        → IsSchemaFile (known_files files) name schema
-        → ((k : ℕ) → IsFirstMvd (theory_of schema) k → ⊥) → (WIDEST_EXHIBITED < width_of schema → ⊥)
+        → IsFile schema_file (known_files files) name schema
+        → ((k : ℕ) → IsFirstMvd (theory_of schema) k → ⊥) → (IsTooWideToExhibit schema → ⊥)
+        → (HasTooManyRows schema → ⊥)
         → IsAnswered files (codes "exhibit" ∷ name ∷ []) }
 {}
 
@@ -74,10 +75,10 @@ pub fn exhibit_is_answered()
 /// limits, or the plan file means a plan whose chase keeps within its limit.
 pub fn ddl_is_answered()
     ensures in_form { (form : Form) (files : Files) (name : List ℕ) (schema : Schema)
-        → IsSchemaFile (known_files files) name schema → HasPlanInForm schema form
+        → IsFile schema_file (known_files files) name schema → HasPlanInForm schema form
         → IsAnswered files (codes "ddl" ∷ form_word form ∷ name ∷ []) }
     ensures plan { (files : Files) (name file : List ℕ) (schema : Schema) (plan : List Attributes)
-        → IsSchemaFile (known_files files) name schema → IsPlanFile (known_files files) schema file plan
+        → IsFile schema_file (known_files files) name schema → IsFile (plan_file schema) (known_files files) file plan
         → (IsTooLarge schema plan → ⊥)
         → IsAnswered files (codes "ddl" ∷ codes "plan" ∷ name ∷ file ∷ []) }
 {}
@@ -85,15 +86,15 @@ pub fn ddl_is_answered()
 /// `migrate` is answered where also the CSV file has rows.
 pub fn migrate_is_answered()
     ensures in_form { (form : Form) (files : Files) (name file : List ℕ) (schema : Schema) (rows : Relation)
-        → IsSchemaFile (known_files files) name schema → IsRowsFile (known_files files) schema file rows
+        → IsFile schema_file (known_files files) name schema → IsFile (rows_file schema) (known_files files) file rows
         → HasPlanInForm schema form
         → IsAnswered files (codes "migrate" ∷ form_word form ∷ name ∷ file ∷ []) }
-    ensures plan { (files : Files) (name plan_file file : List ℕ) (schema : Schema)
+    ensures plan { (files : Files) (name planned file : List ℕ) (schema : Schema)
         (plan : List Attributes)
         (rows : Relation)
-        → IsSchemaFile (known_files files) name schema → IsPlanFile (known_files files) schema plan_file plan
-        → IsRowsFile (known_files files) schema file rows → (IsTooLarge schema plan → ⊥)
-        → IsAnswered files (codes "migrate" ∷ codes "plan" ∷ name ∷ plan_file ∷ file ∷ []) }
+        → IsFile schema_file (known_files files) name schema → IsFile (plan_file schema) (known_files files) planned plan
+        → IsFile (rows_file schema) (known_files files) file rows → (IsTooLarge schema plan → ⊥)
+        → IsAnswered files (codes "migrate" ∷ codes "plan" ∷ name ∷ planned ∷ file ∷ []) }
 {}
 
 /// Splitting a universe of at most 13 attributes meets no limit.
@@ -110,7 +111,7 @@ pub fn sample_is_answered()
 
 /// `discover` is answered where the CSV file has a header that names its columns, and rows under it.
 pub fn discover_is_answered()
-    ensures law { (files : Files) (file : List ℕ) (headed : Headed) → IsHeadedFile (known_files files) file headed
+    ensures law { (files : Files) (file : List ℕ) (headed : Headed) → IsFile headed_file (known_files files) file headed
         → IsAnswered files (codes "discover" ∷ file ∷ []) }
 {}
 
@@ -119,7 +120,7 @@ pub fn discover_is_answered()
 pub fn rejoin_is_answered()
     ensures law { (files : Files) (name : List ℕ) (names : List (List ℕ)) (schema : Schema)
         (parts : List PartialRows)
-        → IsSchemaFile (known_files files) name schema → are_one_to_64 names ≡ true
+        → IsFile schema_file (known_files files) name schema → are_one_to_64 names ≡ true
         → ArePartFiles (known_files files) schema names parts
         → Covers (width_of schema) (plan_of_tables (tables_of parts))
         → IsWithinLimit (width_of schema) MOST_JOINED_ROWS (tables_of parts)

@@ -4,10 +4,12 @@
 //! Each law is a function that does nothing, whose clause is the law; so the gate asks for its proof.
 #![tactic(auto)]
 
+mod begun;
 mod complete;
 mod complete_questions;
 mod complete_scripts;
 mod complete_tables;
+mod one_answer;
 
 ghost use Rattle.std.specs.Prelude.{◌≡◌, ◌≤◌, ℕ, List, [], ◌∷◌, length, Some, codes};
 ghost use Rattle.desk_responses.specs.declared.status.Status.TheVariants.{Yes};
@@ -17,17 +19,24 @@ ghost use Rattle.desk_inputs.specs.Readings.{known_files};
 ghost use Rattle.desk_outside.specs.Files.{Files, bytes_of_file};
 ghost use Rattle.proof_text.specs.declared.text.TheConstants.{MOST_PROOF_BYTES};
 
+pub use begun::last_of_the_names_is_taken;
 pub use complete::{
     answered_calls_end, check_join_is_answered, check_proof_is_answered, check_rows_is_answered,
     cover_is_answered, help_is_answered, implies_is_answered, keys_is_answered,
     synthesize_is_answered,
 };
-pub use complete_questions::{basis_is_answered, check_same_is_answered, keys_of_plan_is_answered};
+pub use complete_questions::{
+    basis_is_answered, check_cover_is_answered, check_key_is_answered, check_same_is_answered,
+    closure_is_answered, keys_of_plan_is_answered,
+};
 pub use complete_scripts::{draw_is_answered, sql_check_is_answered, sql_migrate_is_answered};
 pub use complete_tables::{
     check_form_is_answered, check_keeps_is_answered, ddl_is_answered, discover_is_answered,
     exhibit_is_answered, migrate_is_answered, rejoin_is_answered, sample_is_answered,
     small_universes_are_split, split_is_answered,
+};
+pub use one_answer::{
+    tasks_have_one_answer, texts_of_files_have_one_reading, words_have_one_answer,
 };
 
 /// What `implies` prints after yes, kept in a file, is accepted by `check proof` for the same schema and

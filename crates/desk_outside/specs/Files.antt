@@ -1,4 +1,4 @@
--- Files as names with bytes: for what a command reads (`desk_cli/Readings`), and for the files that
+-- Files as names with bytes: for what a command reads (`desk_inputs/Readings`), and for the files that
 -- a folder keeps.
 use Rattle.std.specs.Prelude.{◌≡◌, ℕ, ◌<◌, not, if◌then◌else◌, List, [], ◌∷◌, length, map, filter, Option, Some, None, unwrap_or, IfSome, IsSomeAnd}
 use Rattle.std.specs.Option.{option_map}

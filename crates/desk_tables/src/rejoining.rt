@@ -20,7 +20,7 @@ use std::alloc::Global;
 use table_join::{JoinRefusal, join};
 
 /// The most rows of a join.
-pub const MOST_JOINED_ROWS: u32 = 200_000;
+pub const MOST_JOINED_ROWS: u32 = 10_000_000;
 
 /// The natural join of tables.
 pub fn rejoin(alloc: Global, schema: &Schema, parts: &[PartialRows]) -> Result<Response, EarlyExit>

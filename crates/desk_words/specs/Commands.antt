@@ -15,7 +15,9 @@ abbrev pub schema_question : SchemaQuestion → form.SchemaQuestion
 schema_question (schema.Implies goal) = form.implies goal.now
 schema_question schema.Cover = form.cover
 schema_question (schema.Basis set) = form.basis set.now
+schema_question (schema.Closure set) = form.closure set.now
 schema_question schema.Keys = form.keys
+schema_question (schema.CheckKey set) = form.check_key set.now
 schema_question schema.Synthesize = form.synthesize
 schema_question (schema.Split normal) = form.split normal
 schema_question schema.SplitWide = form.split_wide
@@ -45,6 +47,7 @@ task_form (task.OfRows file question) = form.of_rows file.now (rows_question que
 task_form (task.MigratePlan plan file) = form.migrate_plan plan.now file.now
 task_form (task.CheckProof file goal) = form.check_proof file.now goal.now
 task_form (task.CheckSame file other) = form.check_same file.now other.now
+task_form (task.CheckCover file other) = form.check_cover file.now other.now
 task_form (task.Rejoin files) = form.rejoin files.now
 
 abbrev pub command_form : Command → form.CommandForm

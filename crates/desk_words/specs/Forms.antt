@@ -17,8 +17,12 @@ pub data SchemaQuestion : Type 0 where
   cover : SchemaQuestion
   -- what a set of attributes determines, and its blocks
   basis : List ℕ → SchemaQuestion
+  -- how the closure of a set of attributes comes about
+  closure : List ℕ → SchemaQuestion
   -- its keys
   keys : SchemaQuestion
+  -- whether a set of attributes is a key
+  check_key : List ℕ → SchemaQuestion
   -- a plan in third normal form
   synthesize : SchemaQuestion
   -- a plan in Boyce-Codd or fourth normal form
@@ -74,6 +78,8 @@ pub data Task : Type 0 where
   check_proof : List ℕ → List ℕ → Task
   -- whether it, in the first file, says the same as the schema of a second file
   check_same : List ℕ → List ℕ → Task
+  -- whether the schema of a second file is a minimal cover of it, in the first file
+  check_cover : List ℕ → List ℕ → Task
   -- the natural join of the tables of files
   rejoin : List (List ℕ) → Task
 
@@ -173,10 +179,12 @@ after_check [] = None
 after_check (what ∷ rest) =
     if bytes_eq what (codes "proof") then schema_and_two check_proof rest
     else if bytes_eq what (codes "rows") then schema_and_rows check_rows rest
+    else if bytes_eq what (codes "key") then schema_and_word check_key rest
     else if bytes_eq what (codes "join") then schema_and_plan check_join rest
     else if bytes_eq what (codes "form") then after_check_form rest
     else if bytes_eq what (codes "keeps") then schema_and_plan check_keeps rest
     else if bytes_eq what (codes "same") then two_schemas check_same rest
+    else if bytes_eq what (codes "cover") then two_schemas check_cover rest
     else None
 
 -- after `keys`
@@ -237,6 +245,7 @@ form_over_schema verb rest =
     else if bytes_eq verb (codes "check") then after_check rest
     else if bytes_eq verb (codes "cover") then schema_alone cover rest
     else if bytes_eq verb (codes "basis") then schema_and_word basis rest
+    else if bytes_eq verb (codes "closure") then schema_and_word closure rest
     else if bytes_eq verb (codes "keys") then after_keys rest
     else if bytes_eq verb (codes "synthesize") then schema_alone synthesize rest
     else if bytes_eq verb (codes "split") then after_split rest

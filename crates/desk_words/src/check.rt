@@ -5,7 +5,7 @@ ghost use Rattle.desk_words.specs.Commands.{command_form};
 ghost use Rattle.desk_words.specs.Forms as forms;
 
 use crate::command::Command;
-use crate::questions::{PlanQuestion, RowsQuestion, Task};
+use crate::questions::{PlanQuestion, RowsQuestion, SchemaQuestion, Task};
 use crate::shapes::{normal_form, over, schema_and_plan, schema_and_rows};
 use desk_outside::Argument;
 
@@ -23,6 +23,9 @@ pub fn after_check(words: &[Argument]) -> Option<Command<'_>>
     if what.bytes() == b"rows".as_slice() {
         return schema_and_rows(RowsQuestion::CheckRows, rest);
     }
+    if what.bytes() == b"key".as_slice() {
+        return after_check_key(rest);
+    }
     if what.bytes() == b"join".as_slice() {
         return schema_and_plan(PlanQuestion::CheckJoin, rest);
     }
@@ -35,6 +38,9 @@ pub fn after_check(words: &[Argument]) -> Option<Command<'_>>
     if what.bytes() == b"same".as_slice() {
         return after_check_same(rest);
     }
+    if what.bytes() == b"cover".as_slice() {
+        return after_check_cover(rest);
+    }
     None
 }
 
@@ -45,6 +51,22 @@ fn after_check_proof(words: &[Argument]) -> Option<Command<'_>>
 {
     match words {
         [schema, file, goal] => over(schema, Task::CheckProof { file, goal }),
+        _ => None,
+    }
+}
+
+// A schema and a set.
+#[tactic(auto, unfolding(crate::specs::Forms::schema_and_word))]
+fn after_check_key(words: &[Argument]) -> Option<Command<'_>>
+    ensures form { option_map command_form result ≡ forms.schema_and_word forms.check_key words.now }
+{
+    match words {
+        [schema, set] => over(
+            schema,
+            Task::OfSchema {
+                question: SchemaQuestion::CheckKey { set },
+            },
+        ),
         _ => None,
     }
 }
@@ -72,6 +94,23 @@ fn after_check_same(words: &[Argument]) -> Option<Command<'_>>
         [schema, other] => over(
             schema,
             Task::CheckSame {
+                file: schema,
+                other,
+            },
+        ),
+        _ => None,
+    }
+}
+
+// Two schemas.
+#[tactic(auto, unfolding(crate::specs::Forms::two_schemas))]
+fn after_check_cover(words: &[Argument]) -> Option<Command<'_>>
+    ensures form { option_map command_form result ≡ forms.two_schemas forms.check_cover words.now }
+{
+    match words {
+        [schema, other] => over(
+            schema,
+            Task::CheckCover {
                 file: schema,
                 other,
             },

@@ -110,6 +110,17 @@ fn over_schema<'a>(verb: &Argument, rest: &'a [Argument]) -> Option<Command<'a>>
             },
         );
     }
+    if verb.bytes() == b"closure".as_slice() {
+        let [schema, set] = rest else {
+            return None;
+        };
+        return over(
+            schema,
+            Task::OfSchema {
+                question: SchemaQuestion::Closure { set },
+            },
+        );
+    }
     if verb.bytes() == b"keys".as_slice() {
         return after_keys(rest);
     }

@@ -10,8 +10,12 @@ pub enum SchemaQuestion<'a> {
     Cover,
     /// What a set of attributes determines, and its blocks.
     Basis { set: &'a Argument },
+    /// How the closure of a set of attributes comes about.
+    Closure { set: &'a Argument },
     /// All its keys.
     Keys,
+    /// Whether a set of attributes is a key.
+    CheckKey { set: &'a Argument },
     /// A plan in third normal form.
     Synthesize,
     /// A plan in Boyce-Codd or fourth normal form.
@@ -87,6 +91,11 @@ pub enum Task<'a> {
     },
     /// Whether it, in the first file, says the same as the schema of a second file.
     CheckSame {
+        file: &'a Argument,
+        other: &'a Argument,
+    },
+    /// Whether the schema of a second file is a minimal cover of it, in the first file.
+    CheckCover {
         file: &'a Argument,
         other: &'a Argument,
     },

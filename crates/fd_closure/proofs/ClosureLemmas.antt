@@ -1,7 +1,6 @@
 -- Closures by functional dependencies: a functionally closed set that holds the left side has just the
--- attributes that follow from it, and so decides what is implied.
-use Rattle.std.proofs.Common.{◌≡◌, ℕ, ◌↔◌, true, List, get_or, arith}
-use Rattle.std.proofs.lemmas.Bool.{ltb-true}
+-- attributes that follow from it.
+use Rattle.std.proofs.Common.{◌≡◌, ℕ, true, List, get_or, arith}
 use Rattle.std.proofs.lemmas.Bool.Decides.{nat_tests}
 use Rattle.std.specs.Prelude.{All}
 use Rattle.attr_sets.specs.Attributes.{Attributes, below, only, union, IsSubset}
@@ -12,7 +11,6 @@ use Rattle.dep_model.specs.Tuples.{Relation}
 use Rattle.dep_model.specs.Dependencies.{Dependency, fd, ObeysFd, functional_part, left_of, right_of}
 use Rattle.dep_model.specs.Implication.{IsLegal, Implies}
 use Rattle.dep_model.specs.Deps.{IfFd, dependencies_of, IsDepWithin}
-use Rattle.dep_model.specs.Keys.{InClosure}
 use Rattle.dep_model.specs.TwoTuples.{two_tuples}
 use Rattle.dep_model.proofs.RuleLemmas.{reflexivity_obeyed, fd_weaker_obeyed, fd_union_obeyed}
 use Rattle.dep_model.proofs.DepLemmas.{functional_legal-from, functional_all-to}
@@ -45,15 +43,6 @@ pub functionally_closed_holds : (n : ℕ) (ds : List Dep) (x y c : Attributes) �
     → IsFunctionallyClosed (functional_part (dependencies_of ds)) c → IsSubset x c → Implies n (functional_part (dependencies_of ds)) (fd x y) → IsSubset y c
 functionally_closed_holds n ds x y c within x_in y_in is_closed grows implied =
     two_tuples_fd-to n c x y x_in y_in (implied (two_tuples n c) (functionally_closed_legal n ds c within is_closed)) grows
-
--- ---- what a closure decides
--- a set of implied attributes, and implication by it
-pub closure_decides : (n : ℕ) (ds : List Dependency) (x y c : Attributes) → IsSubset y (below n)
-    → ((a : ℕ) → (c a ≡ true) ↔ InClosure n ds x a) → IsSubset y c ↔ Implies n ds (fd x y)
-closure_decides n ds x y c y_in closure = (
-  (λ inside. fd_each-from n ds x y (λ (a : ℕ) m. ((closure a).0 (inside a m)).1)),
-  (λ implied (k : ℕ) m. (closure k).1 (ltb-true k n (y_in k m), fd_each-to n ds x y implied k m)),
-)
 
 -- ---- how a closure grows
 -- the right side of a dependency is added to a set that holds its left side

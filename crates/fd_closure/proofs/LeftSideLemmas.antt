@@ -1,25 +1,32 @@
 -- The attributes of left sides, one dependency of a list after the other, and what they give of each.
 use Rattle.std.proofs.Common.{◌≡◌, ℕ, ◌↔◌, ◌⊎◌, true, List, [], ◌∷◌, ◌++◌, sym, ap, subst, ◌∙◌, inl, inr, arith}
-use Rattle.std.proofs.lemmas.Bool.{or_cases}
+use mathlib.Core.Path.{fun_ext}
+use Rattle.std.proofs.lemmas.Bool.{false≢true, or_cases}
 use Rattle.std.proofs.lemmas.List.Elements.{Contains-get_or, Contains-append_left, Contains-append_right, Contains-append_cases, Contains-push, Contains-push_cases, filter-append}
 use Rattle.std.specs.Prelude.{All}
 use Rattle.attr_sets.specs.Attributes.{Attributes, union, IsSubset}
 use Rattle.attr_sets.proofs.AttributesLemmas.{same_at}
 use Rattle.dep_model.specs.Dependencies.{Dependency, fd, is_fd, functional_part, left_of}
-use Rattle.fd_closure.specs.LeftSides.{InLeftSide, InLeftSideWithin}
+use Rattle.dep_model.proofs.ListLemmas.{Contains-head, Contains-later, Contains-cases}
+use Rattle.fd_closure.specs.LeftSides.{left_sides, InLeftSide, InLeftSideWithin}
 
 -- ---- all left sides
 -- one dependency more
-pub left_sides_push : (ds : List Dependency) (e : Dependency) (before lhs after : Attributes) → ((a : ℕ) → (before a ≡ true) ↔ InLeftSide ds a) → lhs ≡ left_of e → after ≡ union before lhs
-    → (a : ℕ) → (after a ≡ true) ↔ InLeftSide (ds ++ e ∷ []) a
-left_sides_push ds e before lhs after are left is a = (
-  (λ m. elim (or_cases (before a) (lhs a) (sym (same_at is a) ∙ m)) [
-    | inl old ↦ let h = (are a).0 old in (h.0, Contains-append_left ds (e ∷ []) h.0 h.1, h.2)
-    | inr new ↦ (e, Contains-push ds e, sym (same_at left a) ∙ new)
+pub left_sides_push : (ds : List Dependency) (e : Dependency) → left_sides (ds ++ e ∷ []) ≡ union (left_sides ds) (left_of e)
+left_sides_push [] e = fun_ext (λ k. grind arith)
+left_sides_push (d ∷ ds) e = ap (union (left_of d)) (left_sides_push ds e) ∙ fun_ext (λ k. grind arith)
+
+-- their union has the attributes that stand in one of them
+pub left_sides_in : (ds : List Dependency) (a : ℕ) → (left_sides ds a ≡ true) ↔ InLeftSide ds a
+left_sides_in [] a = ((λ m. absurd (false≢true m)), (λ h. absurd (omega (arith, h.1.1))))
+left_sides_in (d ∷ ds) a = (
+  (λ m. elim (or_cases (left_of d a) (left_sides ds a) m) [
+    | inl here ↦ (d, Contains-head d ds, here)
+    | inr later ↦ let h = (left_sides_in ds a).0 later in (h.0, Contains-later d ds h.0 h.1, h.2)
   ]),
-  (λ h. elim (Contains-push_cases ds e h.0 h.1) [
-    | inl old ↦ let m = (are a).1 (h.0, old, h.2) in grind (arith, same_at is a, m)
-    | inr here ↦ let m : lhs a ≡ true = same_at left a ∙ ap (λ (d : Dependency). left_of d a) here ∙ h.2 in grind (arith, same_at is a, m)
+  (λ h. elim (Contains-cases d ds h.0 h.1) [
+    | inl first ↦ let m : left_of d a ≡ true = ap (λ (e : Dependency). left_of e a) (sym first) ∙ h.2 in grind (arith, m)
+    | inr later ↦ let m = (left_sides_in ds a).1 (h.0, later, h.2) in grind (arith, m)
   ]),
 )
 

@@ -5,3 +5,4 @@ pub mod GreedyKeyLemmas
 pub mod LeftSideLemmas
 pub mod SchemaLemmas
 pub mod SwitchLemmas
+pub mod WidthLemmas

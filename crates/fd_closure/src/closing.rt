@@ -1,4 +1,4 @@
-ghost use Rattle.std.specs.Prelude.{◌≡◌, ℕ, ◌↔◌, true, IsTrue, All};
+ghost use Rattle.std.specs.Prelude.{◌≡◌, ℕ, ◌↔◌, ◌⊎◌, true, IsTrue, All};
 ghost use Rattle.attr_sets.specs.Attributes.{Attributes, below, IsSubset};
 ghost use Rattle.attr_sets.specs.Sets.{attributes};
 ghost use Rattle.dep_model.specs.Tuples.{Relation};
@@ -7,6 +7,7 @@ ghost use Rattle.dep_model.specs.Deps.{IfFd, dependencies_of, IsDepWithin};
 ghost use Rattle.dep_model.specs.Implication.{Implies};
 ghost use Rattle.dep_model.specs.Keys.{InClosure};
 ghost use Rattle.fd_closure.specs.FunctionallyClosed.{IsFunctionallyClosed};
+ghost use Rattle.fd_closure.specs.Switches.{Grows};
 
 use attr_sets::AttrSet;
 use dep_model::Dep;
@@ -29,7 +30,8 @@ pub fn closure(deps: &[Dep], from: AttrSet) -> AttrSet
     }
 }
 
-/// Whether `lhs -> rhs` is implied by the functional dependencies of a list.
+/// Whether `lhs -> rhs` is implied by the functional dependencies of a list. The search ends as soon as
+/// the right side is found.
 pub fn follows(deps: &[Dep], lhs: AttrSet, rhs: AttrSet) -> bool
     ensures implied { (n : ℕ) → All (IsDepWithin (below n)) deps.now
         → IsSubset (attributes lhs) (below n) → IsSubset (attributes rhs) (below n)
@@ -37,7 +39,26 @@ pub fn follows(deps: &[Dep], lhs: AttrSet, rhs: AttrSet) -> bool
         ↔ Implies n (functional_part (dependencies_of deps.now)) (fd (attributes lhs)
         (attributes rhs)) }
 {
-    rhs.is_subset(closure(deps, lhs))
+    rhs.is_subset(closed_until(deps, lhs, rhs))
+}
+
+// What follows from a set: all of it, unless what is wanted is found before.
+fn closed_until(deps: &[Dep], from: AttrSet, wanted: AttrSet) -> AttrSet
+    ensures grows { Grows deps.now (attributes from) (attributes result) }
+    ensures found { IsSubset (attributes wanted) (attributes result)
+        ⊎ IsFunctionallyClosed (functional_part (dependencies_of deps.now)) (attributes result) }
+{
+    let mut found = from;
+    loop {
+        if wanted.is_subset(found) {
+            return found;
+        }
+        let more = with_right_sides(deps, found);
+        if more == found {
+            return found;
+        }
+        found = more;
+    }
 }
 
 // The set with the right side of each functional dependency whose left side it comes to hold, where

@@ -1,12 +1,16 @@
-//! Laws of closed sets and of keys, where all dependencies are functional.
+//! Laws of closed sets and of keys, most of them where all dependencies are functional, and of schemes
+//! that are too wide to be searched.
 
-ghost use Rattle.std.specs.Prelude.{◌≡◌, ℕ, ◌<◌, ◌↔◌, true, false, List, length, All, Any, Contains};
-ghost use Rattle.attr_sets.specs.Attributes.{Attributes, below, IsSubset};
+ghost use Rattle.std.specs.Prelude.{◌≡◌, ℕ, ◌<◌, ◌≤◌, ◌↔◌, true, false, List, length, All, Any, Contains};
+ghost use Rattle.attr_sets.specs.Attributes.{Attributes, below, union, IsSubset, count_below};
+ghost use Rattle.attr_sets.specs.declared.set.TheConstants.{MOST_ATTRIBUTES};
 ghost use Rattle.dep_model.specs.Dependencies.{Dependency, fd, functional_part, IsWithin, LeadsOut};
 ghost use Rattle.dep_model.specs.Implication.{Implies};
 ghost use Rattle.dep_model.specs.Keys.{InClosure, IsKey};
 ghost use Rattle.fd_closure.specs.FunctionallyClosed.{IsFunctionallyClosed};
 ghost use Rattle.fd_closure.specs.KeyLists.{IsExchanged};
+ghost use Rattle.fd_closure.specs.LeftSides.{left_sides, IsWide};
+ghost use Rattle.fd_closure.specs.declared.left_sides.TheConstants.{WIDEST_SEARCHED};
 
 /// A set is closed under the functional dependencies exactly where it holds its closure.
 pub fn functionally_closed_sets_are_closed()
@@ -30,4 +34,23 @@ pub fn all_keys_by_exchange()
         → functional_part ds ≡ ds
         → 0 < length keys → All (IsKey n ds (below n)) keys → IsExchanged ds keys
         → (key : Attributes) → IsKey n ds (below n) key → Any (λ k. k ≡ key) keys }
+{}
+
+/// The closure of a set with more attributes is that of its closure with them, by all dependencies of
+/// a list; so the closure of a larger set can begin with that of its part.
+pub fn closures_begin_with_closures_of_parts()
+    ensures law { (n : ℕ) (ds : List Dependency) (x more c : Attributes) → IsSubset x (below n)
+        → ((a : ℕ) → (c a ≡ true) ↔ InClosure n ds x a)
+        → (a : ℕ) → InClosure n ds (union c more) a ↔ InClosure n ds (union x more) a }
+{}
+
+/// A part of a scheme that is not too wide to be searched is not too wide.
+pub fn parts_are_no_wider()
+    ensures law { (ds : List Dependency) (x y : Attributes) → IsSubset x y → IsWide ds x → IsWide ds y }
+{}
+
+/// Where few attributes stand in left sides, no scheme is too wide to be searched.
+pub fn few_left_sides_are_never_wide()
+    ensures law { (ds : List Dependency) (scheme : Attributes)
+        → count_below (left_sides ds) MOST_ATTRIBUTES ≤ WIDEST_SEARCHED → IsWide ds scheme → ⊥ }
 {}

@@ -1,15 +1,26 @@
-ghost use Rattle.std.specs.Prelude.{◌≡◌, ℕ, ◌↔◌, ◌⊎◌, true, [], ◌∷◌};
+ghost use Rattle.std.specs.Prelude.{◌≡◌, ℕ, ◌↔◌, ◌⊎◌, true, [], ◌∷◌, IsTrue};
 ghost use Rattle.attr_sets.specs.Sets.{attributes};
 ghost use Rattle.dep_model.specs.Dependencies.{functional_part};
 ghost use Rattle.dep_model.specs.Deps.{dependency_of, dependencies_of};
-ghost use Rattle.fd_closure.specs.LeftSides.{InLeftSide, InLeftSideWithin};
+ghost use Rattle.fd_closure.specs.LeftSides.{left_sides, InLeftSide, InLeftSideWithin, IsWide};
 
 use attr_sets::AttrSet;
 use dep_model::{Dep, sides};
 
+/// The most attributes of a scheme in left sides over whose subsets is searched.
+pub const WIDEST_SEARCHED: u8 = 20;
+
+/// Whether more attributes of a scheme than are tried stand in the left sides of a list.
+pub fn is_wide(deps: &[Dep], scheme: AttrSet) -> bool
+    ensures wide { IsTrue result ↔ IsWide (dependencies_of deps.now) (attributes scheme) }
+{
+    scheme.intersection(left_attributes(deps)).len() > WIDEST_SEARCHED
+}
+
 /// The attributes that stand in the left sides of a list, of functional and of multivalued
 /// dependencies.
 pub fn left_attributes(deps: &[Dep]) -> AttrSet
+    ensures all_sides { attributes result ≡ left_sides (dependencies_of deps.now) }
     ensures members { (a : ℕ) → (attributes result a ≡ true)
         ↔ InLeftSide (dependencies_of deps.now) a }
 {

@@ -1,16 +1,20 @@
 -- What a header and the rows below it give, record by record.
-use Rattle.std.proofs.Common.{inl, inr, ◌≡◌, ◌≢◌, ◌+◌, ◌<◌, ◌≤◌, ℕ, Bool, true, false, List, [], ◌∷◌, ◌++◌, length, Result, Ok, Err, IfOk, IfErr, refl, sym, ap, subst, ◌∙◌, arith}
+use Rattle.std.proofs.Common.{inl, inr, ◌≡◌, ◌≢◌, ◌+◌, ◌<◌, ◌≤◌, ◌-◌, ℕ, Bool, true, false, if◌then◌else◌, Option, Some, None, List, [], ◌∷◌, ◌++◌, length, Result, Ok, Err, IfOk, IfErr, refl, sym, ap, subst, ◌∙◌, arith}
 use Rattle.std.specs.Borrow.{Bor}
 use Rattle.std.proofs.Math.Seq.{get_or-append_seam}
 use Rattle.std.proofs.lemmas.List.{append-nil, length-append, append_assoc, get_or_append_left}
 use Rattle.std.proofs.lemmas.Bool.{cases_lt}
+use Rattle.std.proofs.lemmas.Bool.Decides.{nat_tests}
+use Rattle.csv_rows.proofs.NumberingLemmas.{same_default}
 use Rattle.std.proofs.lemmas.List.Elements.{All-push}
 use Rattle.csv.specs.declared.reader.Reader.{Reader}
 use Rattle.csv_rows.specs.Records.{HasLeft, TakesRecord}
 use Rattle.row_store.specs.Rows.{row_at}
 use Rattle.dep_model.specs.Tuples.{Tuple, Relation, IsOver}
 use Rattle.fd_discovery.specs.Headers.{IsColumnHeader, RefusesColumnHeader}
-use Rattle.fd_discovery.specs.Headings.{HaveWidth, RefusesRows, ReadsNames, RefusesNames, IsHeaded, IsRefusedDiscovery, names_under, rows_under}
+use Rattle.csv_rows.specs.Quotes.{ends_within_quotes, open_record, is_open}
+use Rattle.csv_rows.specs.Records.{records_of}
+use Rattle.fd_discovery.specs.Headings.{is_open_at, FitsRow, RefusesRow, AreRows, RefusesRows, RefusesHeader, RefusesRecords, ReadsNames, RefusesNames, IsHeaded, IsRefusedDiscovery, names_under, rows_under}
 use Rattle.fd_discovery.specs.declared.headed_rows.Headed.{Headed}
 use Rattle.fd_discovery.specs.declared.headed_rows.TheConstants.{MOST_HEADED_ROWS}
 use Rattle.dep_model.specs.Failures.{RefusesAs}
@@ -33,33 +37,49 @@ TakesRows-none old new fields b rs is takes left =
     takes rs left
 
 -- the first record is the header
-pub names_read : {T : Type 0} (names : T → List (List ℕ)) (old new : Reader (Bor (List ℕ))) (fields : List (List ℕ))
+pub names_read : {T : Type 0} (names : T → List (List ℕ)) (unclosed : Option ℕ) (old new : Reader (Bor (List ℕ))) (fields : List (List ℕ))
     (b : Bool) (r : Result T (Failure DiscoverRefusal)) (rs : List (List (List ℕ)))
-    → b ≡ true → TakesRecord b old new fields → HasLeft old rs
-    → IfOk r (λ v. names v ≡ fields) → IfOk r (λ _. IsColumnHeader fields) → IfOk r (λ v. ReadsNames rs new (names v))
-names_read names old new fields b (Err e) rs is takes left all header = tt
-names_read names old new fields b (Ok v) rs is takes left all header =
+    → is_open unclosed 1 ≡ false → b ≡ true → TakesRecord b old new fields → HasLeft old rs
+    → IfOk r (λ v. names v ≡ fields) → IfOk r (λ _. IsColumnHeader fields) → IfOk r (λ v. ReadsNames unclosed rs new (names v))
+names_read names unclosed old new fields b (Err e) rs closed is takes left all header = tt
+names_read names unclosed old new fields b (Ok v) rs closed is takes left all header =
     let (more, whole, rest) = TakesRows-one old new fields b rs is takes left in
     record {
       records = more;
       all = whole ∙ ap (λ (f : List (List ℕ)). f ∷ more) (sym all);
+      closed = closed;
       header = subst IsColumnHeader (sym all) header;
       left = rest;
     }
 
-pub names_refused : {T : Type 0} (old new : Reader (Bor (List ℕ))) (fields : List (List ℕ)) (b : Bool)
-    (r : Result T (Failure DiscoverRefusal)) (rs : List (List (List ℕ)))
-    → b ≡ true → TakesRecord b old new fields → HasLeft old rs
-    → IfErr r (RefusesAs (RefusesColumnHeader fields)) → IfErr r (RefusesAs (RefusesNames rs))
-names_refused old new fields b (Ok v) rs is takes left refused = tt
-names_refused old new fields b (Err e) rs is takes left refused =
-    let (more, whole, rest) = TakesRows-one old new fields b rs is takes left in
-    subst (λ (l : List (List (List ℕ))). RefusesAs (RefusesNames l) e) (sym whole) refused
+-- a header without an open quote that is refused
+closed_refused : (b : Bool) (header : List (List ℕ)) (e : Failure DiscoverRefusal) → b ≡ false → RefusesAs (RefusesColumnHeader header) e
+    → RefusesAs (RefusesHeader b header) e
+closed_refused b header e closed refused =
+    subst (λ (t : Bool). RefusesAs (RefusesHeader t header) e) (sym closed) refused
 
-pub no_names : (old new : Reader (Bor (List ℕ))) (fields : List (List ℕ)) (b : Bool) (rs : List (List (List ℕ)))
-    → b ≡ false → TakesRecord b old new fields → HasLeft old rs → RefusesNames rs refusal.NoHeader
-no_names old new fields b rs is takes left =
-    subst (λ (l : List (List (List ℕ))). RefusesNames l refusal.NoHeader)
+pub names_refused : {T : Type 0} (unclosed : Option ℕ) (old new : Reader (Bor (List ℕ))) (fields : List (List ℕ)) (b : Bool)
+    (r : Result T (Failure DiscoverRefusal)) (rs : List (List (List ℕ)))
+    → is_open unclosed 1 ≡ false → b ≡ true → TakesRecord b old new fields → HasLeft old rs
+    → IfErr r (RefusesAs (RefusesColumnHeader fields)) → IfErr r (RefusesAs (RefusesNames unclosed rs))
+names_refused unclosed old new fields b (Ok v) rs closed is takes left refused = tt
+names_refused unclosed old new fields b (Err e) rs closed is takes left refused =
+    let (more, whole, rest) = TakesRows-one old new fields b rs is takes left in
+    subst (λ (l : List (List (List ℕ))). RefusesAs (RefusesNames unclosed l) e) (sym whole)
+    (closed_refused (is_open unclosed 1) fields e closed refused)
+
+pub open_names : (unclosed : Option ℕ) (old new : Reader (Bor (List ℕ))) (fields : List (List ℕ)) (b : Bool) (rs : List (List (List ℕ)))
+    → is_open unclosed 1 ≡ true → b ≡ true → TakesRecord b old new fields → HasLeft old rs
+    → RefusesNames unclosed rs refusal.OpenHeader
+open_names unclosed old new fields b rs opens is takes left =
+    let (more, whole, rest) = TakesRows-one old new fields b rs is takes left in
+    subst (λ (l : List (List (List ℕ))). RefusesNames unclosed l refusal.OpenHeader) (sym whole)
+    (subst (λ (t : Bool). RefusesHeader t fields refusal.OpenHeader) (sym opens) refl)
+
+pub no_names : (unclosed : Option ℕ) (old new : Reader (Bor (List ℕ))) (fields : List (List ℕ)) (b : Bool) (rs : List (List (List ℕ)))
+    → b ≡ false → TakesRecord b old new fields → HasLeft old rs → RefusesNames unclosed rs refusal.NoHeader
+no_names unclosed old new fields b rs is takes left =
+    subst (λ (l : List (List (List ℕ))). RefusesNames unclosed l refusal.NoHeader)
     (sym (TakesRows-none old new fields b rs is takes left)) refl
 
 -- records of which the first were taken as rows
@@ -88,9 +108,9 @@ takes_all_rows rs old new b fields rows p is takes =
     (sym (TakesRows-none old new fields b p.rest is takes p.left)) ∙ sym p.all
 
 -- the record at hand stands after the rows
-module _ (n : ℕ) (rs : List (List (List ℕ))) (old new : Reader (Bor (List ℕ))) (b : Bool) (fields : List (List ℕ))
-    (rows : Relation) (p : TakesRows rs old rows)
-    (is : b ≡ true) (takes : TakesRecord b old new fields) (even : IsOver n rows) where
+module _ (unclosed : Option ℕ) (n : ℕ) (rs : List (List (List ℕ))) (old new : Reader (Bor (List ℕ))) (b : Bool)
+    (fields : List (List ℕ)) (rows : Relation) (p : TakesRows rs old rows)
+    (is : b ≡ true) (takes : TakesRecord b old new fields) (fit : AreRows unclosed n rows (length rows)) where
   at_hand : (more : List (List (List ℕ))) × (rs ≡ rows ++ fields ∷ more)
   at_hand =
       let (more, whole, rest) = TakesRows-one old new fields b p.rest is takes p.left in
@@ -103,59 +123,96 @@ module _ (n : ℕ) (rs : List (List (List ℕ))) (old new : Reader (Bor (List �
   within : length rows < length rs
   within = omega (arith, ap length at_hand.1 ∙ length-append rows (fields ∷ at_hand.0))
 
-  even_before : HaveWidth n rs (length rows)
-  even_before i l =
-      ap (λ (m : List (List (List ℕ))). length (row_at m i)) at_hand.1
-      ∙ ap length (get_or_append_left rows (fields ∷ at_hand.0) [] i l)
-      ∙ even i [] l
+  fit_before : AreRows unclosed n rs (length rows)
+  fit_before i l =
+      subst (λ (f : List (List ℕ)). FitsRow unclosed n i f)
+      (sym (ap (λ (m : List (List (List ℕ))). row_at m i) at_hand.1
+      ∙ get_or_append_left rows (fields ∷ at_hand.0) [] i l)) (fit i l)
 
-  pub uneven_row : (count : ℕ) → count ≡ length rows → length rows ≤ MOST_HEADED_ROWS → length fields ≢ n
-      → RefusesRows n rs (refusal.UnevenRow (count + 1))
-  uneven_row count same in_limit other = record {
+  pub row_refused : (count : ℕ) (e : DiscoverRefusal) → count ≡ length rows → RefusesRow unclosed n count fields e
+      → RefusesRows unclosed n rs e
+  row_refused count e same refused = record {
     at = length rows;
-    number = ap (λ (m : ℕ). m + 1) same;
     within = within;
-    within_limit = in_limit;
-    before = even_before;
-    other = λ e. other (ap length (sym here) ∙ e);
+    before = fit_before;
+    refused = subst (λ (f : List (List ℕ)). RefusesRow unclosed n (length rows) f e) (sym here)
+        (subst (λ (i : ℕ). RefusesRow unclosed n i fields e) same refused);
   }
 
-  pub one_too_many : length rows ≤ MOST_HEADED_ROWS → MOST_HEADED_ROWS ≤ length rows → length fields ≡ n
-      → RefusesRows n rs refusal.TooManyRows
-  one_too_many in_limit many fits =
-      let last : length rows ≡ MOST_HEADED_ROWS = omega (arith, in_limit, many) in
-      record {
-        many = omega (arith, within, many);
-        even = λ i l. elim (cases_lt i (length rows)) [
-          | inl front ↦ even_before i front
-          | inr end ↦
-              let at : length rows ≡ i = omega (arith, l, end, last) in
-              subst (λ (j : ℕ). length (row_at rs j) ≡ n) at (ap length here ∙ fits)
-        ];
-      }
+-- one row more
+pub fit_more : (unclosed : Option ℕ) (n : ℕ) (rows : Relation) (t : Tuple) → AreRows unclosed n rows (length rows)
+    → FitsRow unclosed n (length rows) t → AreRows unclosed n (rows ++ t ∷ []) (length (rows ++ t ∷ []))
+fit_more unclosed n rows t fit next i l = elim (cases_lt i (length rows)) [
+  | inl front ↦
+      subst (λ (f : List (List ℕ)). FitsRow unclosed n i f) (sym (get_or_append_left rows (t ∷ []) [] i front)) (fit i front)
+  | inr end ↦
+      let at : length rows ≡ i = omega (arith, l, end, length-append rows (t ∷ [])) in
+      subst (λ (j : ℕ). FitsRow unclosed n j (row_at (rows ++ t ∷ []) j)) at
+      (subst (λ (f : List (List ℕ)). FitsRow unclosed n (length rows) f) (sym (get_or-append_seam rows t [] [])) next)
+]
+
+pub none_fit : (unclosed : Option ℕ) (n : ℕ) (rows : Relation) → rows ≡ [] → AreRows unclosed n rows (length rows)
+none_fit unclosed n rows none i l = absurd (omega (arith, l, ap length none))
+
+-- rows that fit have n values each, and are no more than there may be
+pub fit_over : (unclosed : Option ℕ) (n : ℕ) (rows : Relation) → AreRows unclosed n rows (length rows) → IsOver n rows
+fit_over unclosed n rows fit i d l = ap length (same_default rows i d [] l) ∙ (fit i l).1
+
+pub fit_within : (unclosed : Option ℕ) (n : ℕ) (rows : Relation) → AreRows unclosed n rows (length rows)
+    → length rows ≤ MOST_HEADED_ROWS
+fit_within unclosed n [] fit = omega arith
+fit_within unclosed n (row ∷ rows) fit = let last = (fit (length rows) (omega arith)).2 in omega (arith, last)
 
 pub over_more : (n : ℕ) (rows : Relation) (t : Tuple) → IsOver n rows → length t ≡ n → IsOver n (rows ++ t ∷ [])
 over_more n rows t even fits = All-push (λ (u : Tuple). length u ≡ n) rows t even fits
 
--- the whole text
-pub header_refused : (rs : List (List (List ℕ))) (e : DiscoverRefusal) → RefusesNames rs e → IsRefusedDiscovery rs e
-header_refused [] e h = h
-header_refused (header ∷ records) e h = inl h
+-- the whole text, where the open record was found
+pub header_refused : (unclosed : Option ℕ) (rs : List (List (List ℕ))) (e : DiscoverRefusal) → RefusesNames unclosed rs e
+    → RefusesRecords unclosed rs e
+header_refused unclosed [] e h = h
+header_refused unclosed (header ∷ records) e h = inl h
 
-pub rows_refused : (rs : List (List (List ℕ))) (reader : Reader (Bor (List ℕ))) (names : List (List ℕ)) (n : ℕ)
+pub rows_refused : (unclosed : Option ℕ) (rs : List (List (List ℕ))) (reader : Reader (Bor (List ℕ))) (names : List (List ℕ)) (n : ℕ)
     (e : DiscoverRefusal)
-    → (read : ReadsNames rs reader names) → n ≡ length names → RefusesRows n read.records e → IsRefusedDiscovery rs e
-rows_refused rs reader names n e read count refused =
-    subst (λ (l : List (List (List ℕ))). IsRefusedDiscovery l e) (sym read.all)
-    (inr (read.header, subst (λ (m : ℕ). RefusesRows m read.records e) count refused))
+    → (read : ReadsNames unclosed rs reader names) → n ≡ length names → RefusesRows unclosed n read.records e → RefusesRecords unclosed rs e
+rows_refused unclosed rs reader names n e read count refused =
+    subst (λ (l : List (List (List ℕ))). RefusesRecords unclosed l e) (sym read.all)
+    (inr (read.closed, read.header, subst (λ (m : ℕ). RefusesRows unclosed m read.records e) count refused))
 
-pub headed_of : (rs : List (List (List ℕ))) (reader : Reader (Bor (List ℕ))) (h : Headed) (n : ℕ)
-    → (read : ReadsNames rs reader (names_under h))
-    → n ≡ length (names_under h) → rows_under h ≡ read.records → IsOver n (rows_under h)
-    → length (rows_under h) ≤ MOST_HEADED_ROWS → IsHeaded rs h
-headed_of rs reader h n read count rows even in_limit = record {
-  all = read.all ∙ ap (λ (l : List (List (List ℕ))). names_under h ∷ l) (sym rows);
-  header = read.header;
-  even = subst (λ (m : ℕ). IsOver m (rows_under h)) count even;
-  within_limit = in_limit;
-}
+pub refused_text : (text : List ℕ) (unclosed : Option ℕ) (e : DiscoverRefusal) → unclosed ≡ open_record text
+    → RefusesRecords unclosed (records_of text) e → IsRefusedDiscovery text e
+refused_text text unclosed e same refused =
+    subst (λ (o : Option ℕ). RefusesRecords o (records_of text) e) same refused
+
+-- where neither the header nor a row is open, the text ends outside of quotes
+ends_outside : (text : List ℕ) (names : List (List ℕ)) (rows : Relation) → records_of text ≡ names ∷ rows
+    → is_open (open_record text) 1 ≡ false → ((i : ℕ) → i < length rows → is_open_at (open_record text) i ≡ false)
+    → ends_within_quotes text ≡ false
+ends_outside text names rows all header closed = by (ends_within_quotes text) header closed
+  where
+    by : (b : Bool) → is_open (if b then Some (length (records_of text)) else None) 1 ≡ false
+        → ((i : ℕ) → i < length rows → is_open_at (if b then Some (length (records_of text)) else None) i ≡ false) → b ≡ false
+    by false h c = refl
+    by true h c =
+        let count : length (records_of text) ≡ length rows + 1 = ap length all ∙ omega arith in
+        elim (cases_lt 0 (length rows)) [
+          | inl some ↦
+              let last : is_open_at (Some (length (records_of text))) (length rows - 1) ≡ false = c (length rows - 1) (omega (arith, some)) in
+              absurd (grind (arith, nat_tests, last, count, some))
+          | inr none ↦ absurd (grind (arith, nat_tests, h, count, none))
+        ]
+
+pub headed_of : (text : List ℕ) (unclosed : Option ℕ) (reader : Reader (Bor (List ℕ))) (h : Headed) (n : ℕ) → unclosed ≡ open_record text
+    → (read : ReadsNames unclosed (records_of text) reader (names_under h))
+    → n ≡ length (names_under h) → rows_under h ≡ read.records → ((i : ℕ) → i < length (rows_under h) → is_open_at unclosed i ≡ false)
+    → IsOver n (rows_under h) → length (rows_under h) ≤ MOST_HEADED_ROWS → IsHeaded text h
+headed_of text unclosed reader h n same read count rows closed even in_limit =
+    let all : records_of text ≡ names_under h ∷ rows_under h = read.all ∙ ap (λ (l : List (List (List ℕ))). names_under h ∷ l) (sym rows) in
+    record {
+      all = all;
+      closed = ends_outside text (names_under h) (rows_under h) all (ap (λ (o : Option ℕ). is_open o 1) (sym same) ∙ read.closed)
+          (λ i l. ap (λ (o : Option ℕ). is_open_at o i) (sym same) ∙ closed i l);
+      header = read.header;
+      even = subst (λ (m : ℕ). IsOver m (rows_under h)) count even;
+      within_limit = in_limit;
+    }

@@ -1,10 +1,13 @@
 -- The records of a text have one header with its rows, or one refusal.
-use Rattle.std.proofs.Common.{inl, inr, ◌≡◌, ◌≢◌, ◌+◌, ◌<◌, ◌≤◌, ◌⊎◌, ℕ, true, false, List, [], ◌∷◌, length, take, refl, sym, ap, subst, ◌∙◌, arith, None}
+use Rattle.std.proofs.Common.{inl, inr, ◌≡◌, ◌≢◌, ◌+◌, ◌<◌, ◌≤◌, ◌⊎◌, ℕ, Bool, true, false, if◌then◌else◌, Option, Some, List, [], ◌∷◌, length, take, refl, sym, ap, subst, ◌∙◌, arith, None}
 use Rattle.std.proofs.lemmas.Bool.{cases_lt, true≢false}
 use Rattle.dep_model.specs.Schemas.{attribute_named}
 use Rattle.dep_model.specs.Tuples.{Relation, IsOver}
 use Rattle.fd_discovery.specs.Headers.{is_column_name, NamesColumn, RefusesColumn, field_at, IsColumnHeader, RefusesField, RefusesColumnHeader}
-use Rattle.fd_discovery.specs.Headings.{IsHeaded, IsRefusedDiscovery, RefusesRows, HasRowOfOtherWidth, HasTooManyRows, names_under, rows_under}
+use Rattle.csv_rows.specs.Quotes.{open_record, is_open}
+use Rattle.csv_rows.specs.Records.{records_of}
+use Rattle.row_store.specs.Rows.{row_at}
+use Rattle.fd_discovery.specs.Headings.{is_open_at, FitsRow, RefusesRow, RefusesRows, RefusesHeader, RefusesRecords, IsHeaded, IsRefusedDiscovery, names_under, rows_under}
 use Rattle.fd_discovery.specs.declared.headed_rows.Headed.{Headed}
 use Rattle.fd_discovery.specs.declared.headed_rows.TheConstants.{MOST_HEADED_ROWS, WIDEST_HEADED}
 use Rattle.fd_discovery.specs.declared.refusal.DiscoverRefusal.{DiscoverRefusal}
@@ -28,6 +31,8 @@ seen_column before field column refusal.NoHeader p = absurd p
 seen_column before field column refusal.TooManyColumns p = absurd p
 seen_column before field column (refusal.UnevenRow r) p = absurd p
 seen_column before field column refusal.TooManyRows p = absurd p
+seen_column before field column refusal.OpenHeader p = absurd p
+seen_column before field column (refusal.OpenRow r) p = absurd p
 
 named_not_refused : (before : List (List ℕ)) (field : List ℕ) (column : ℕ) (e : DiscoverRefusal)
     → NamesColumn before field → RefusesColumn before field column e → ⊥
@@ -75,76 +80,106 @@ header_not_refused header e is (inr p) =
     named_not_refused (take p.at header) (field_at header p.at) (p.at + 1) e (is.named p.at p.within) p.refused
 
 -- ---- rows
--- the refusal of rows is that of an uneven one, or that there are too many
-abbrev SeenRows : ℕ → Relation → DiscoverRefusal → Type 0
-SeenRows n rows e =
-    ((row : ℕ) × (e ≡ refusal.UnevenRow row) × HasRowOfOtherWidth n rows row)
-    ⊎ ((e ≡ refusal.TooManyRows) × HasTooManyRows n rows)
+-- the refusal of a record is that of an open quote, of its length, or that there are too many
+abbrev SeenRow : Option ℕ → ℕ → ℕ → List (List ℕ) → DiscoverRefusal → Type 0
+SeenRow unclosed n i fields e =
+    ((e ≡ refusal.OpenRow (i + 1)) × (is_open_at unclosed i ≡ true))
+    ⊎ ((e ≡ refusal.UnevenRow (i + 1)) × (is_open_at unclosed i ≡ false) × (length fields ≢ n))
+    ⊎ ((e ≡ refusal.TooManyRows) × (is_open_at unclosed i ≡ false) × (length fields ≡ n) × (MOST_HEADED_ROWS ≤ i))
 
-seen_rows : (n : ℕ) (rows : Relation) (e : DiscoverRefusal) → RefusesRows n rows e → SeenRows n rows e
-seen_rows n rows (refusal.UnevenRow row) p = inl (row, refl, p)
-seen_rows n rows refusal.TooManyRows p = inr (refl, p)
-seen_rows n rows refusal.NoHeader p = absurd p
-seen_rows n rows refusal.TooManyColumns p = absurd p
-seen_rows n rows (refusal.BadColumn c) p = absurd p
-seen_rows n rows (refusal.DoubleColumn c) p = absurd p
+seen_row : (unclosed : Option ℕ) (n i : ℕ) (fields : List (List ℕ)) (e : DiscoverRefusal)
+    → RefusesRow unclosed n i fields e → SeenRow unclosed n i fields e
+seen_row unclosed n i fields (refusal.OpenRow row) p = inl (ap refusal.OpenRow p.0, p.1)
+seen_row unclosed n i fields (refusal.UnevenRow row) p = inr (inl (ap refusal.UnevenRow p.0, p.1, p.2))
+seen_row unclosed n i fields refusal.TooManyRows p = inr (inr (refl, p.0, p.1, p.2))
+seen_row unclosed n i fields refusal.NoHeader p = absurd p
+seen_row unclosed n i fields refusal.OpenHeader p = absurd p
+seen_row unclosed n i fields refusal.TooManyColumns p = absurd p
+seen_row unclosed n i fields (refusal.BadColumn c) p = absurd p
+seen_row unclosed n i fields (refusal.DoubleColumn c) p = absurd p
 
-uneven_same : (n : ℕ) (rows : Relation) (one other : ℕ) → HasRowOfOtherWidth n rows one → HasRowOfOtherWidth n rows other → one ≡ other
-uneven_same n rows one other p q = elim (cases_lt p.at q.at) [
-  | inl before ↦ absurd (p.other (q.before p.at before))
+row_same : (unclosed : Option ℕ) (n i : ℕ) (fields : List (List ℕ)) (e f : DiscoverRefusal)
+    → RefusesRow unclosed n i fields e → RefusesRow unclosed n i fields f → e ≡ f
+row_same unclosed n i fields e f p q = by (seen_row unclosed n i fields e p) (seen_row unclosed n i fields f q)
+  where
+    by : SeenRow unclosed n i fields e → SeenRow unclosed n i fields f → e ≡ f
+    by (inl (is, opens)) (inl (also, open_too)) = is ∙ sym also
+    by (inl (is, opens)) (inr (inl (also, closed, other))) = absurd (true≢false (sym opens ∙ closed))
+    by (inl (is, opens)) (inr (inr (also, closed, even, many))) = absurd (true≢false (sym opens ∙ closed))
+    by (inr (inl (is, closed, other))) (inl (also, opens)) = absurd (true≢false (sym opens ∙ closed))
+    by (inr (inl (is, closed, other))) (inr (inl (also, shut, uneven))) = is ∙ sym also
+    by (inr (inl (is, closed, other))) (inr (inr (also, shut, even, many))) = absurd (other even)
+    by (inr (inr (is, closed, even, many))) (inl (also, opens)) = absurd (true≢false (sym opens ∙ closed))
+    by (inr (inr (is, closed, even, many))) (inr (inl (also, shut, other))) = absurd (other even)
+    by (inr (inr (is, closed, even, many))) (inr (inr (also, shut, same, more))) = is ∙ sym also
+
+fits_not_refused : (unclosed : Option ℕ) (n i : ℕ) (fields : List (List ℕ)) (e : DiscoverRefusal)
+    → FitsRow unclosed n i fields → RefusesRow unclosed n i fields e → ⊥
+fits_not_refused unclosed n i fields e fits p = by (seen_row unclosed n i fields e p)
+  where
+    by : SeenRow unclosed n i fields e → ⊥
+    by (inl (is, opens)) = true≢false (sym opens ∙ fits.0)
+    by (inr (inl (is, closed, other))) = other fits.1
+    by (inr (inr (is, closed, even, many))) = at_most_not_beyond MOST_HEADED_ROWS i many fits.2
+
+under_same : (unclosed : Option ℕ) (n : ℕ) (rows : Relation) (e f : DiscoverRefusal) → RefusesRows unclosed n rows e
+    → RefusesRows unclosed n rows f → e ≡ f
+under_same unclosed n rows e f p q = elim (cases_lt p.at q.at) [
+  | inl before ↦ absurd (fits_not_refused unclosed n p.at (row_at rows p.at) e (q.before p.at before) p.refused)
   | inr on ↦ elim (cases_lt q.at p.at) [
-    | inl before ↦ absurd (q.other (p.before q.at before))
-    | inr here ↦ omega (arith, on, here, p.number, q.number)
+    | inl before ↦ absurd (fits_not_refused unclosed n q.at (row_at rows q.at) f (p.before q.at before) q.refused)
+    | inr here ↦
+        let one : q.at ≡ p.at = omega (arith, on, here) in
+        row_same unclosed n p.at (row_at rows p.at) e f p.refused
+        (subst (λ (i : ℕ). RefusesRow unclosed n i (row_at rows i) f) one q.refused)
   ]
 ]
 
-uneven_or_many : (n : ℕ) (rows : Relation) (row : ℕ) → HasRowOfOtherWidth n rows row → HasTooManyRows n rows → ⊥
-uneven_or_many n rows row p q = p.other (q.even p.at (omega (arith, p.within_limit)))
-
-under_same : (n : ℕ) (rows : Relation) (e f : DiscoverRefusal) → RefusesRows n rows e → RefusesRows n rows f → e ≡ f
-under_same n rows e f p q = by (seen_rows n rows e p) (seen_rows n rows f q)
-  where
-    by : SeenRows n rows e → SeenRows n rows f → e ≡ f
-    by (inl (one, is, uneven)) (inl (other, also, odd)) =
-        is ∙ ap refusal.UnevenRow (uneven_same n rows one other uneven odd) ∙ sym also
-    by (inl (one, is, uneven)) (inr (also, many)) = absurd (uneven_or_many n rows one uneven many)
-    by (inr (is, many)) (inl (other, also, odd)) = absurd (uneven_or_many n rows other odd many)
-    by (inr (is, many)) (inr (also, more)) = is ∙ sym also
-
 rows_not_refused : (n : ℕ) (rows : Relation) (e : DiscoverRefusal) → IsOver n rows → length rows ≤ MOST_HEADED_ROWS
-    → RefusesRows n rows e → ⊥
-rows_not_refused n rows e over in_limit p = by (seen_rows n rows e p)
-  where
-    by : SeenRows n rows e → ⊥
-    by (inl (row, is, uneven)) = uneven.other (over uneven.at [] uneven.within)
-    by (inr (is, many)) = at_most_not_beyond (length rows) MOST_HEADED_ROWS in_limit many.many
+    → RefusesRows None n rows e → ⊥
+rows_not_refused n rows e over in_limit p =
+    fits_not_refused None n p.at (row_at rows p.at) e (refl, over p.at [] p.within, omega (arith, p.within, in_limit)) p.refused
+
+-- ---- headers that may have an open quote
+header_of_same : (b : Bool) (header : List (List ℕ)) (e f : DiscoverRefusal) → RefusesHeader b header e → RefusesHeader b header f → e ≡ f
+header_of_same true header e f p q = p ∙ sym q
+header_of_same false header e f p q = header_same header e f p q
+
+closed_header_not_refused : (b : Bool) (header : List (List ℕ)) (e : DiscoverRefusal) → b ≡ false → IsColumnHeader header
+    → RefusesHeader b header e → ⊥
+closed_header_not_refused b header e closed is p =
+    header_not_refused header e is (subst (λ (t : Bool). RefusesHeader t header e) closed p)
 
 -- ---- records
-pub refused_same : (records : List (List (List ℕ))) (e f : DiscoverRefusal) → IsRefusedDiscovery records e
-    → IsRefusedDiscovery records f → e ≡ f
-refused_same [] e f p q = p ∙ sym q
-refused_same (header ∷ rows) e f (inl p) (inl q) = header_same header e f p q
-refused_same (header ∷ rows) e f (inl p) (inr q) = absurd (header_not_refused header e q.0 p)
-refused_same (header ∷ rows) e f (inr p) (inl q) = absurd (header_not_refused header f p.0 q)
-refused_same (header ∷ rows) e f (inr p) (inr q) = under_same (length header) rows e f p.1 q.1
+records_same : (unclosed : Option ℕ) (records : List (List (List ℕ))) (e f : DiscoverRefusal) → RefusesRecords unclosed records e
+    → RefusesRecords unclosed records f → e ≡ f
+records_same unclosed [] e f p q = p ∙ sym q
+records_same unclosed (header ∷ rows) e f (inl p) (inl q) = header_of_same (is_open unclosed 1) header e f p q
+records_same unclosed (header ∷ rows) e f (inl p) (inr q) = absurd (closed_header_not_refused (is_open unclosed 1) header e q.0 q.1 p)
+records_same unclosed (header ∷ rows) e f (inr p) (inl q) = absurd (closed_header_not_refused (is_open unclosed 1) header f p.0 p.1 q)
+records_same unclosed (header ∷ rows) e f (inr p) (inr q) = under_same unclosed (length header) rows e f p.2 q.2
+
+pub refused_same : (text : List ℕ) (e f : DiscoverRefusal) → IsRefusedDiscovery text e → IsRefusedDiscovery text f → e ≡ f
+refused_same text e f p q = records_same (open_record text) (records_of text) e f p q
 
 not_refused : (names : List (List ℕ)) (rows : Relation) (e : DiscoverRefusal) → IsColumnHeader names
-    → IsOver (length names) rows → length rows ≤ MOST_HEADED_ROWS → IsRefusedDiscovery (names ∷ rows) e → ⊥
+    → IsOver (length names) rows → length rows ≤ MOST_HEADED_ROWS → RefusesRecords None (names ∷ rows) e → ⊥
 not_refused names rows e header even in_limit (inl p) = header_not_refused names e header p
-not_refused names rows e header even in_limit (inr p) = rows_not_refused (length names) rows e even in_limit p.1
+not_refused names rows e header even in_limit (inr p) = rows_not_refused (length names) rows e even in_limit p.2
 
-pub never_both : (records : List (List (List ℕ))) (h : Headed) (e : DiscoverRefusal) → IsHeaded records h
-    → IsRefusedDiscovery records e → ⊥
-never_both records h e is p =
+pub never_both : (text : List ℕ) (h : Headed) (e : DiscoverRefusal) → IsHeaded text h → IsRefusedDiscovery text e → ⊥
+never_both text h e is p =
+    let none : open_record text ≡ None = ap (λ (b : Bool). if b then Some (length (records_of text)) else None) is.closed in
     not_refused (names_under h) (rows_under h) e is.header is.even is.within_limit
-    (subst (λ (rs : List (List (List ℕ))). IsRefusedDiscovery rs e) is.all p)
+    (subst (λ (rs : List (List (List ℕ))). RefusesRecords None rs e) is.all
+    (subst (λ (o : Option ℕ). RefusesRecords o (records_of text) e) none p))
 
-pub names_same : (records : List (List (List ℕ))) (one other : Headed) → IsHeaded records one → IsHeaded records other
+pub names_same : (text : List ℕ) (one other : Headed) → IsHeaded text one → IsHeaded text other
     → names_under one ≡ names_under other
-names_same records one other p q =
+names_same text one other p q =
     let same : names_under one ∷ rows_under one ≡ names_under other ∷ rows_under other = sym p.all ∙ q.all in cc
 
-pub rows_same : (records : List (List (List ℕ))) (one other : Headed) → IsHeaded records one → IsHeaded records other
+pub rows_same : (text : List ℕ) (one other : Headed) → IsHeaded text one → IsHeaded text other
     → rows_under one ≡ rows_under other
-rows_same records one other p q =
+rows_same text one other p q =
     let same : names_under one ∷ rows_under one ≡ names_under other ∷ rows_under other = sym p.all ∙ q.all in cc

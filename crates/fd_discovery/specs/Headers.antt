@@ -26,6 +26,8 @@ RefusesColumn before field column refusal.NoHeader = ⊥
 RefusesColumn before field column refusal.TooManyColumns = ⊥
 RefusesColumn before field column (refusal.UnevenRow r) = ⊥
 RefusesColumn before field column refusal.TooManyRows = ⊥
+RefusesColumn before field column refusal.OpenHeader = ⊥
+RefusesColumn before field column (refusal.OpenRow r) = ⊥
 
 -- the field at a position
 abbrev pub field_at : List (List ℕ) → ℕ → List ℕ

@@ -1,9 +1,10 @@
 -- What a CSV text means whose header is free, or its first refusal: for `read_headed` and
--- `discover` (`desk_cli/Discoveries`).
-use Rattle.std.specs.Prelude.{◌≡◌, ◌≢◌, ◌+◌, ◌<◌, ◌≤◌, ◌⊎◌, ℕ, List, [], ◌∷◌, length}
+-- `discover` (`desk_inputs/Headed`).
+use Rattle.std.specs.Prelude.{◌≡◌, ◌≢◌, ◌+◌, ◌<◌, ◌≤◌, ◌⊎◌, ℕ, Bool, true, false, Option, List, [], ◌∷◌, length}
 use Rattle.std.specs.Borrow.{Bor}
 use Rattle.csv.specs.declared.reader.Reader.{Reader}
-use Rattle.csv_rows.specs.Records.{HasLeft}
+use Rattle.csv_rows.specs.Quotes.{ends_within_quotes, open_record, is_open}
+use Rattle.csv_rows.specs.Records.{records_of, HasLeft}
 use Rattle.row_store.specs.Rows.{row_at}
 use Rattle.dep_model.specs.Tuples.{Relation, IsOver}
 use Rattle.fd_discovery.specs.Headers.{IsColumnHeader, RefusesColumnHeader}
@@ -21,54 +22,73 @@ abbrev pub rows_under : Headed → Relation
 rows_under h = h.rows
 
 -- the records of a text are a header, which names the columns, and below it the rows
-pub record IsHeaded (records : List (List (List ℕ))) (h : Headed) : Type 0 where
-  pub all : records ≡ names_under h ∷ rows_under h
+pub record IsHeaded (text : List ℕ) (h : Headed) : Type 0 where
+  pub all : records_of text ≡ names_under h ∷ rows_under h
+  pub closed : ends_within_quotes text ≡ false
   pub header : IsColumnHeader (names_under h)
   pub even : IsOver (length (names_under h)) (rows_under h)
   pub within_limit : length (rows_under h) ≤ MOST_HEADED_ROWS
 
--- the first m rows have n values each
-abbrev pub HaveWidth : ℕ → Relation → ℕ → Type 0
-HaveWidth n rows m = (i : ℕ) → i < m → length (row_at rows i) ≡ n
+-- whether the row at a position is the record that has an open quote; the header is record 1
+abbrev pub is_open_at : Option ℕ → ℕ → Bool
+is_open_at unclosed i = is_open unclosed (i + 2)
 
--- the first row that is not as long as the header stands among the most rows and the one after them
-pub record HasRowOfOtherWidth (n : ℕ) (rows : Relation) (row : ℕ) : Type 0 where
+-- the record at a position below a header of n fields is a row
+abbrev pub FitsRow : Option ℕ → ℕ → ℕ → List (List ℕ) → Type 0
+FitsRow unclosed n i fields =
+    (is_open_at unclosed i ≡ false) × (length fields ≡ n) × (i < MOST_HEADED_ROWS)
+
+-- why it is none: an open quote comes before all else
+abbrev pub RefusesRow : Option ℕ → ℕ → ℕ → List (List ℕ) → DiscoverRefusal → Type 0
+RefusesRow unclosed n i fields (refusal.OpenRow row) = (row ≡ i + 1) × (is_open_at unclosed i ≡ true)
+RefusesRow unclosed n i fields (refusal.UnevenRow row) =
+    (row ≡ i + 1) × (is_open_at unclosed i ≡ false) × (length fields ≢ n)
+RefusesRow unclosed n i fields refusal.TooManyRows =
+    (is_open_at unclosed i ≡ false) × (length fields ≡ n) × (MOST_HEADED_ROWS ≤ i)
+RefusesRow unclosed n i fields refusal.NoHeader = ⊥
+RefusesRow unclosed n i fields refusal.OpenHeader = ⊥
+RefusesRow unclosed n i fields refusal.TooManyColumns = ⊥
+RefusesRow unclosed n i fields (refusal.BadColumn c) = ⊥
+RefusesRow unclosed n i fields (refusal.DoubleColumn c) = ⊥
+
+-- the first m records are rows
+abbrev pub AreRows : Option ℕ → ℕ → Relation → ℕ → Type 0
+AreRows unclosed n records m = (i : ℕ) → i < m → FitsRow unclosed n i (row_at records i)
+
+-- the first record below a header of n fields that is no row is refused so
+pub record RefusesRows (unclosed : Option ℕ) (n : ℕ) (records : Relation) (e : DiscoverRefusal)
+    : Type 0 where
   pub at : ℕ
-  pub number : row ≡ at + 1
-  pub within : at < length rows
-  pub within_limit : at ≤ MOST_HEADED_ROWS
-  pub before : HaveWidth n rows at
-  pub other : length (row_at rows at) ≢ n
+  pub within : at < length records
+  pub before : AreRows unclosed n records at
+  pub refused : RefusesRow unclosed n at (row_at records at) e
 
--- there are more than the most rows, and they and the one after them are as long as the header
-pub record HasTooManyRows (n : ℕ) (rows : Relation) : Type 0 where
-  pub many : MOST_HEADED_ROWS < length rows
-  pub even : HaveWidth n rows (MOST_HEADED_ROWS + 1)
+-- why a header that may have an open quote is none
+abbrev pub RefusesHeader : Bool → List (List ℕ) → DiscoverRefusal → Type 0
+RefusesHeader true header e = e ≡ refusal.OpenHeader
+RefusesHeader false header e = RefusesColumnHeader header e
 
--- why the records below a header of n fields are no rows
-abbrev pub RefusesRows : ℕ → Relation → DiscoverRefusal → Type 0
-RefusesRows n rows (refusal.UnevenRow row) = HasRowOfOtherWidth n rows row
-RefusesRows n rows refusal.TooManyRows = HasTooManyRows n rows
-RefusesRows n rows refusal.NoHeader = ⊥
-RefusesRows n rows refusal.TooManyColumns = ⊥
-RefusesRows n rows (refusal.BadColumn c) = ⊥
-RefusesRows n rows (refusal.DoubleColumn c) = ⊥
+-- why records, of which one may have an open quote, are no rows under a header
+abbrev pub RefusesRecords : Option ℕ → List (List (List ℕ)) → DiscoverRefusal → Type 0
+RefusesRecords unclosed [] e = e ≡ refusal.NoHeader
+RefusesRecords unclosed (header ∷ rows) e =
+    RefusesHeader (is_open unclosed 1) header e
+    ⊎ ((is_open unclosed 1 ≡ false) × IsColumnHeader header × RefusesRows unclosed (length header) rows e)
 
--- why the records of a text are no rows under a header
-abbrev pub IsRefusedDiscovery : List (List (List ℕ)) → DiscoverRefusal → Type 0
-IsRefusedDiscovery [] e = e ≡ refusal.NoHeader
-IsRefusedDiscovery (header ∷ rows) e =
-    RefusesColumnHeader header e ⊎ (IsColumnHeader header × RefusesRows (length header) rows e)
+-- why a text has no rows under a header
+abbrev pub IsRefusedDiscovery : List ℕ → DiscoverRefusal → Type 0
+IsRefusedDiscovery text e = RefusesRecords (open_record text) (records_of text) e
 
 -- the header of a text was read, and the records below it are still to come
-pub record ReadsNames (rs : List (List (List ℕ))) (reader : Reader (Bor (List ℕ)))
-    (names : List (List ℕ)) : Type 0 where
+pub record ReadsNames (unclosed : Option ℕ) (rs : List (List (List ℕ)))
+    (reader : Reader (Bor (List ℕ))) (names : List (List ℕ)) : Type 0 where
   pub records : List (List (List ℕ))
   pub all : rs ≡ names ∷ records
+  pub closed : is_open unclosed 1 ≡ false
   pub header : IsColumnHeader names
   pub left : HasLeft reader records
 
 -- there is no header, or it is refused
-abbrev pub RefusesNames : List (List (List ℕ)) → DiscoverRefusal → Type 0
-RefusesNames [] e = e ≡ refusal.NoHeader
-RefusesNames (header ∷ records) e = RefusesColumnHeader header e
+abbrev pub RefusesNames : Option ℕ → List (List (List ℕ)) → DiscoverRefusal → Type 0
+RefusesNames unclosed [] e = e ≡ refusal.NoHeader
+RefusesNames unclosed (header ∷ records) e = RefusesHeader (is_open unclosed 1) header e

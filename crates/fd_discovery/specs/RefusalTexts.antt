@@ -13,6 +13,8 @@ headed_refusal_number (refusal.BadColumn column) = 3
 headed_refusal_number (refusal.DoubleColumn column) = 4
 headed_refusal_number (refusal.UnevenRow row) = 5
 headed_refusal_number refusal.TooManyRows = 6
+headed_refusal_number refusal.OpenHeader = 8
+headed_refusal_number (refusal.OpenRow row) = 8
 
 -- a refusal in words
 abbrev pub headed_reason_text : DiscoverRefusal → List ℕ
@@ -22,3 +24,5 @@ headed_reason_text (refusal.BadColumn column) = codes "bad column " ++ decimal c
 headed_reason_text (refusal.DoubleColumn column) = codes "column " ++ decimal column ++ codes " repeated"
 headed_reason_text (refusal.UnevenRow row) = codes "row " ++ decimal row ++ codes " has the wrong length"
 headed_reason_text refusal.TooManyRows = codes "too many rows"
+headed_reason_text refusal.OpenHeader = codes "the header has an open quote"
+headed_reason_text (refusal.OpenRow row) = codes "row " ++ decimal row ++ codes " has an open quote"

@@ -1,14 +1,14 @@
-ghost use Rattle.std.specs.Prelude.{◌≡◌, ◌<◌, ◌≤◌, ℕ, List, length, IfOk, IfErr, OnOk};
+ghost use Rattle.std.specs.Prelude.{◌≡◌, ◌<◌, ◌≤◌, ℕ, false, List, length, IfOk, IfErr, IfSome, OnOk, None};
 ghost use Rattle.csv.specs.Records.{fields_of};
-ghost use Rattle.csv_rows.specs.Records.{records_of, HasLeft};
+ghost use Rattle.csv_rows.specs.Records.{HasLeft};
 ghost use Rattle.dep_model.specs.Failures.{RefusesAs};
 ghost use Rattle.dep_model.specs.Tuples.{IsOver};
-ghost use Rattle.fd_discovery.specs.Headings.{IsHeaded, IsRefusedDiscovery, names_under, RefusesRows, ReadsNames, RefusesNames};
+ghost use Rattle.fd_discovery.specs.Headings.{IsHeaded, IsRefusedDiscovery, is_open_at, names_under, FitsRow, RefusesRow, RefusesRows, ReadsNames, RefusesNames};
 
 use crate::DiscoverRefusal;
 use crate::columns::column_names;
 use csv::{ByteRecord, Reader};
-use csv_rows::{field, open_reader, take_record};
+use csv_rows::{field, is_open, open_reader, open_record, take_record};
 use dep_model::{Failure, Name, OutOfMemory};
 use row_store::{FlatValues, Rows};
 use std::alloc::Global;
@@ -17,7 +17,7 @@ use std::alloc::Global;
 pub const WIDEST_HEADED: u8 = 12;
 
 /// The most rows of such a text.
-pub const MOST_HEADED_ROWS: u32 = 10_000;
+pub const MOST_HEADED_ROWS: u32 = 10_000_000;
 
 /// The rows of a CSV text and the names that its header gives the columns.
 #[derive(Debug, Drop)]
@@ -31,18 +31,20 @@ pub struct Headed {
 /// The rows of a CSV text under a header of different names, of which none is reserved. The records
 /// are those that `csv_rows` reads, after one byte-order mark. Of more than one refusal the first in
 /// the order of `DiscoverRefusal` decides, of the header's fields the first from the left, of the rows
-/// the first from the top; of one row `UnevenRow` comes before `TooManyRows`.
+/// the first from the top; of one row `UnevenRow` comes before `TooManyRows`. But an open quote comes
+/// right after `NoHeader`, and in a row before all else.
 pub fn read_headed(alloc: Global, text: &[u8]) -> Result<Headed, Failure<DiscoverRefusal>>
-    ensures ok { IfOk result (λ headed. IsHeaded (records_of text.now) headed) }
+    ensures ok { IfOk result (λ headed. IsHeaded text.now headed) }
     ensures any_name { IfOk result (λ headed. 0 < length (names_under headed)) }
-    ensures err { IfErr result (RefusesAs (IsRefusedDiscovery (records_of text.now))) }
+    ensures err { IfErr result (RefusesAs (IsRefusedDiscovery text.now)) }
 {
+    let unclosed = open_record(text);
     let mut reader = open_reader(alloc, text);
-    let names = match read_names(alloc, &mut reader) {
+    let names = match read_names(alloc, unclosed, &mut reader) {
         Ok(names) => names,
         Err(failure) => return Err(failure),
     };
-    match read_body(alloc, names.len(), &mut reader, text.len()) {
+    match read_body(alloc, names.len(), unclosed, &mut reader, text.len()) {
         Ok(rows) => Ok(Headed { names, rows }),
         Err(failure) => Err(failure),
     }
@@ -51,15 +53,17 @@ pub fn read_headed(alloc: Global, text: &[u8]) -> Result<Headed, Failure<Discove
 // The names of the columns.
 fn read_names(
     alloc: Global,
+    unclosed: Option<usize>,
     reader: &mut Reader<&[u8]>,
 ) -> Result<Vec<Name>, Failure<DiscoverRefusal>>
     ensures ok { (rs : List (List (List ℕ))) → HasLeft reader.old rs
-        → IfOk result (λ names. ReadsNames rs reader.new names.items) }
+        → IfOk result (λ names. ReadsNames unclosed rs reader.new names.items) }
     ensures err { (rs : List (List (List ℕ))) → HasLeft reader.old rs
-        → IfErr result (RefusesAs (RefusesNames rs)) }
+        → IfErr result (RefusesAs (RefusesNames unclosed rs)) }
 {
     let mut fields = ByteRecord::new(alloc);
     match take_record(reader, &mut fields) {
+        Ok(true) if is_open(unclosed, 1) => Err(Failure::Refused(DiscoverRefusal::OpenHeader)),
         Ok(true) => column_names(alloc, &fields),
         Ok(false) => Err(Failure::Refused(DiscoverRefusal::NoHeader)),
         Err(_) => Err(Failure::OutOfMemory),
@@ -70,15 +74,17 @@ fn read_names(
 fn read_body(
     alloc: Global,
     columns: usize,
+    unclosed: Option<usize>,
     reader: &mut Reader<&[u8]>,
     room: usize,
 ) -> Result<Rows, Failure<DiscoverRefusal>>
     ensures records { (rs : List (List (List ℕ))) → HasLeft reader.old rs
         → IfOk result (λ rows. rows ≡ rs) }
+    ensures closed { IfOk result (λ rows. (i : ℕ) → i < length rows → is_open_at unclosed i ≡ false) }
     ensures same_width { IfOk result (λ rows. IsOver columns rows) }
     ensures within_limit { IfOk result (λ rows. length rows ≤ MOST_HEADED_ROWS) }
     ensures err { (rs : List (List (List ℕ))) → HasLeft reader.old rs
-        → IfErr result (RefusesAs (RefusesRows columns rs)) }
+        → IfErr result (RefusesAs (RefusesRows unclosed columns rs)) }
 {
     let mut fields = ByteRecord::new(alloc);
     let mut row = FlatValues::new(alloc);
@@ -89,16 +95,35 @@ fn read_body(
             Ok(false) => return Ok(rows),
             Err(_) => return Err(Failure::OutOfMemory),
         }
-        if fields.len() != columns {
-            return Err(Failure::Refused(DiscoverRefusal::UnevenRow {
-                row: rows.len() as u32 + 1,
-            }));
-        }
-        if rows.len() >= MOST_HEADED_ROWS as usize {
-            return Err(Failure::Refused(DiscoverRefusal::TooManyRows));
+        let count = rows.len();
+        match row_refusal(columns, unclosed, count as u32, &fields) {
+            Some(refusal) => return Err(Failure::Refused(refusal)),
+            None => {}
         }
         take_row(&fields, &mut row)?;
         rows.push(&row)?;
+    }
+}
+
+// Why the record after so many rows is no row, if it is none.
+fn row_refusal(
+    columns: usize,
+    unclosed: Option<usize>,
+    count: u32,
+    fields: &ByteRecord,
+) -> Option<DiscoverRefusal>
+    requires count { count ≤ MOST_HEADED_ROWS }
+    ensures refusal { IfSome result (RefusesRow unclosed columns count (fields_of fields.now)) }
+    ensures none { result ≡ None → FitsRow unclosed columns count (fields_of fields.now) }
+{
+    if is_open(unclosed, count as usize + 2) {
+        Some(DiscoverRefusal::OpenRow { row: count + 1 })
+    } else if fields.len() != columns {
+        Some(DiscoverRefusal::UnevenRow { row: count + 1 })
+    } else if count >= MOST_HEADED_ROWS {
+        Some(DiscoverRefusal::TooManyRows)
+    } else {
+        None
     }
 }
 

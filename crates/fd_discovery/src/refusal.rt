@@ -19,6 +19,10 @@ pub enum DiscoverRefusal {
     UnevenRow { row: u32 },
     /// 6: one row more than a file may have.
     TooManyRows,
+    /// 8: a quote of the header is never closed.
+    OpenHeader,
+    /// 8: a quote of the row, from 1, is never closed. It is the last row.
+    OpenRow { row: u32 },
 }
 
 impl DiscoverRefusal {
@@ -33,6 +37,8 @@ impl DiscoverRefusal {
             DiscoverRefusal::DoubleColumn { .. } => 4,
             DiscoverRefusal::UnevenRow { .. } => 5,
             DiscoverRefusal::TooManyRows => 6,
+            DiscoverRefusal::OpenHeader => 8,
+            DiscoverRefusal::OpenRow { .. } => 8,
         }
     }
 }
@@ -48,6 +54,8 @@ impl fmt::Display for DiscoverRefusal {
             DiscoverRefusal::DoubleColumn { column } => write!(f, "column {column} repeated"),
             DiscoverRefusal::UnevenRow { row } => write!(f, "row {row} has the wrong length"),
             DiscoverRefusal::TooManyRows => f.write_str("too many rows"),
+            DiscoverRefusal::OpenHeader => f.write_str("the header has an open quote"),
+            DiscoverRefusal::OpenRow { row } => write!(f, "row {row} has an open quote"),
         }
     }
 }

@@ -23,19 +23,24 @@ none_lacking schema other file response declared (a, first, says) = true≢false
 
 pub names_go : (schema other : Schema) (file other_file : List ℕ) (response : ResponseValue) → SameNames schema other
     → NameStops schema other file other_file response → ⊥
-names_go schema other file other_file response names (inl lacks) = none_lacking schema other other_file response names.0 lacks
-names_go schema other file other_file response names (inr (declared, lacks)) = none_lacking other schema file response names.1 lacks
+names_go schema other file other_file response names (inl lacks) =
+    none_lacking schema other other_file response names.0 lacks
+names_go schema other file other_file response names (inr (declared, lacks)) =
+    none_lacking other schema file response names.1 lacks
 
 -- ---- `check same`
 compares-yes : (schema other : Schema) (file other_file : List ℕ) (response : ResponseValue) → SayTheSame schema other
     → Compares schema other file other_file response → response.status ≡ Yes
 compares-yes schema other file other_file response same (inl (also, says)) = says-status Yes _ response says
-compares-yes schema other file other_file response same (inr (of_schema, of_other, differ, says)) = absurd (differ.legal same.legal)
+compares-yes schema other file other_file response same (inr (of_schema, of_other, differ, says)) =
+    absurd (differ.legal same.legal)
 
 compared-yes : (schema other : Schema) (file other_file : List ℕ) (response : ResponseValue) → SameNames schema other
     → SayTheSame schema other → ChecksSame schema other file other_file response → response.status ≡ Yes
-compared-yes schema other file other_file response names same (inl stops) = absurd (names_go schema other file other_file response names stops)
-compared-yes schema other file other_file response names same (inr (passed, rest)) = compares-yes schema other file other_file response same rest
+compared-yes schema other file other_file response names same (inl stops) =
+    absurd (names_go schema other file other_file response names stops)
+compared-yes schema other file other_file response names same (inr (passed, rest)) =
+    compares-yes schema other file other_file response same rest
 
 -- ---- answered alike
 -- what is legal over as many attributes
@@ -55,9 +60,13 @@ alike schema other names same =
       there = first;
       back = second;
       compared = λ file other_file response. compared-yes schema other file other_file response by_names first;
-      compared_back = λ file other_file response. compared-yes other schema file other_file response (by_names.1, by_names.0) second;
+      compared_back =
+          λ file other_file response. compared-yes other schema file other_file response
+          (by_names.1, by_names.0) second;
       decided = λ goal one two. goals-status schema other goal one two names
-          (λ d. implied_by_other schema other d names (λ r. (moved (width_of schema) (width_of other) (theory_of other) (theory_of schema) width same r).0))
+          (λ d. implied_by_other schema other d names (λ r.
+          (moved (width_of schema) (width_of other) (theory_of other) (theory_of schema) width same
+          r).0))
           (λ d. implied_by_other other schema d (sym names) (λ r. (same r).1));
     }
 
@@ -70,6 +79,9 @@ reordered schema other same =
     ))
 
 -- dependencies for which the same relations are legal
-pub alike_with : (schema : Schema) (ds : List Dependency) → HaveSameLegal (width_of schema) ds (theory_of schema) → AnswersAlikeWith schema ds
+pub alike_with : (schema : Schema) (ds : List Dependency)
+    → HaveSameLegal (width_of schema) ds (theory_of schema) → AnswersAlikeWith schema ds
 alike_with schema ds same other is =
-    alike schema other is.names (subst (λ (es : List Dependency). HaveSameLegal (width_of schema) es (theory_of schema)) (sym is.theory) same)
+    alike schema other is.names (subst
+    (λ (es : List Dependency). HaveSameLegal (width_of schema) es (theory_of schema))
+    (sym is.theory) same)

@@ -11,4 +11,5 @@ use Rattle.implication_laws.proofs.AlikeLaws.{alike_with}
 
 pub cover_alike : (schema : Schema) (printed : ResponseValue) → GivesCover schema printed
     → (whole : List Dependency) × Says Yes (schema_text schema whole) printed × AnswersAlikeWith schema whole
-cover_alike schema printed (whole, fixed, minimal, covers, says) = (whole, says, alike_with schema whole covers.same_legal)
+cover_alike schema printed (whole, fixed, minimal, covers, says) =
+    (whole, says, alike_with schema whole covers.same_legal)

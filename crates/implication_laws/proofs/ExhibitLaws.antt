@@ -35,17 +35,23 @@ use Rattle.implication_laws.proofs.ImplyingLaws.{refused_not_yes, no_not_yes}
 shown_example : (schema : Schema) (shown : ResponseValue) → Exhibits schema shown → shown.status ≡ Yes
     → (rows : Relation) × IsExample schema rows × Says Yes (rows_text (names_of schema) rows) shown
 shown_example schema shown (inl found) says_yes = found
-shown_example schema shown (inr (inl (dep, refused, says))) says_yes = absurd (refused_not_yes shown says_yes (says-status Refused _ shown says))
-shown_example schema shown (inr (inr (refused, says))) says_yes = absurd (refused_not_yes shown says_yes (says-status Refused _ shown says))
+shown_example schema shown (inr (inl (dep, refused, says))) says_yes =
+    absurd (refused_not_yes shown says_yes (says-status Refused _ shown says))
+shown_example schema shown (inr (inr (inl (refused, says)))) says_yes =
+    absurd (refused_not_yes shown says_yes (says-status Refused _ shown says))
+shown_example schema shown (inr (inr (inr (refused, says)))) says_yes =
+    absurd (refused_not_yes shown says_yes (says-status Refused _ shown says))
 
 example_legal : (schema : Schema) (rows : Relation) → IsExample schema rows → LegalFor schema rows
 example_legal schema rows example =
     armstrong_legal (width_of schema) (theory_of schema) rows (theory_within schema) example.functional
-    (subst (λ (r : Relation). IsOver (width_of schema) r) (sym example.exhibit.tuples) (tuples_over (width_of schema) example.exhibit.sets))
+    (subst (λ (r : Relation). IsOver (width_of schema) r) (sym example.exhibit.tuples)
+    (tuples_over (width_of schema) example.exhibit.sets))
     example.exact
 
 -- legal rows are called so
-legal_judged : (schema : Schema) (rows : Relation) (judged : ResponseValue) → LegalFor schema rows → JudgesRows schema rows judged
+legal_judged : (schema : Schema) (rows : Relation) (judged : ResponseValue) → LegalFor schema rows
+    → JudgesRows schema rows judged
     → judged.status ≡ Yes
 legal_judged schema rows judged legal (inl (broken, found)) = absurd (broken legal)
 legal_judged schema rows judged legal (inr (passed, says)) = says-status Yes _ judged says
@@ -59,22 +65,29 @@ exhibit_legal schema shown exhibits says_yes =
     (rows, says, legal, λ judged. legal_judged schema rows judged legal)
 
 -- ---- functional goals
-obeyed_implied : (schema : Schema) (rows : Relation) (d : Dependency) → IsExample schema rows → IsWithin (universe_of schema) d
+obeyed_implied : (schema : Schema) (rows : Relation) (d : Dependency) → IsExample schema rows
+    → IsWithin (universe_of schema) d
     → is_fd d ≡ true → Obeys (width_of schema) d rows → ImpliedBy schema d
 obeyed_implied schema rows d example within is obeys r legal =
     fd-obeys (width_of schema) d r is
     ((example.exact (left_of d) (right_of d) within.0 within.1).0 (fd-obeyed (width_of schema) d rows is obeys) r legal)
 
-goal_decides : (schema : Schema) (rows : Relation) (goal : List ℕ) (d : Dependency) (decided : ResponseValue) → IsExample schema rows
+goal_decides : (schema : Schema) (rows : Relation) (goal : List ℕ) (d : Dependency)
+    (decided : ResponseValue) → IsExample schema rows
     → IsGoal schema goal d → IsWithin (universe_of schema) d → is_fd d ≡ true → DecidesGoal schema goal decided
     → (decided.status ≡ Yes) ↔ Obeys (width_of schema) d rows
-goal_decides schema rows goal d decided example is within functional (inl stops) = absurd (goal_goes schema goal d decided is stops)
+goal_decides schema rows goal d decided example is within functional (inl stops) =
+    absurd (goal_goes schema goal d decided is stops)
 goal_decides schema rows goal d decided example is within functional (inr (e, also, rest)) =
     let same : e ≡ d = one_goal (names_of schema) goal e d also.means is.means in
     by (subst (λ (f : Dependency). Decided schema f decided) same rest)
   where
     by : Decided schema d decided → (decided.status ≡ Yes) ↔ Obeys (width_of schema) d rows
-    by (inl (implied, found)) = (λ says_yes. implied rows (example_legal schema rows example), λ obeys. says-status Yes _ decided found.4)
+    by (inl (implied, found)) = (
+      λ says_yes. implied rows (example_legal schema rows example),
+      λ obeys.
+          says-status Yes _ decided found.4,
+    )
     by (inr (broken, found)) = (
       λ says_yes. absurd (no_not_yes decided says_yes (says-status No _ decided found.2)),
       λ obeys. absurd (broken (obeyed_implied schema rows d example within functional obeys)),
@@ -99,7 +112,9 @@ theory_implied schema rows ds example rules k d l r legal =
     let e = get_or (theory_of schema) k d in
     let is : is_fd e ≡ true = all_functional (theory_of schema) example.functional k d l in
     let within = theory_within schema k d l in
-    let obeyed = (example.exact (left_of e) (right_of e) within.0 within.1).1 (λ s given. fd-obeyed n e s is (given.obeys k d l)) in
+    let obeyed =
+    (example.exact (left_of e) (right_of e) within.0 within.1).1
+    (λ s given. fd-obeyed n e s is (given.obeys k d l)) in
     fd-obeys n e r is ((rules.implied (left_of e) (right_of e) within.0 within.1).1 obeyed r legal)
 
 rules_implied : (schema : Schema) (rows : Relation) (ds : List Dependency) → IsExample schema rows
@@ -108,7 +123,8 @@ rules_implied schema rows ds example rules k d l =
     let n = width_of schema in
     let (x, a, is, minimal) = rules.minimal.each k d l in
     let right : IsSubset (only a) (below n) = λ (j : ℕ) member. grind (arith, nat_tests, member, minimal.right) in
-    subst (Implies n (theory_of schema)) (sym is) ((example.exact x (only a) minimal.left right).0 minimal.minimal.obeys)
+    subst (Implies n (theory_of schema)) (sym is)
+    ((example.exact x (only a) minimal.left right).0 minimal.minimal.obeys)
 
 rules_same : (schema : Schema) (rows : Relation) (ds : List Dependency) → IsExample schema rows
     → AreRulesOf (width_of schema) rows ds → HaveSameLegal (width_of schema) ds (theory_of schema)

@@ -27,7 +27,8 @@ use Rattle.desk_implication.specs.Goals.{IsGoal, GoalStops}
 pub says-status : (s : Status) (text : List ℕ) (response : ResponseValue) → Says s text response → response.status ≡ s
 says-status s text response says = ap (λ (a : ResponseValue). a.status) says
 
-pub same_status : (s : Status) (text other : List ℕ) (first second : ResponseValue) → Says s text first → Says s other second
+pub same_status : (s : Status) (text other : List ℕ) (first second : ResponseValue)
+    → Says s text first → Says s other second
     → first.status ≡ second.status
 same_status s text other first second one two = says-status s text first one ∙ sym (says-status s other second two)
 
@@ -38,9 +39,11 @@ goal_stops-status schema goal response (inl (long, says)) = says-status Refused 
 goal_stops-status schema goal response (inr (refusal, is, says)) = says-status Refused _ response says
 
 -- a goal means one dependency at most
-pub one_goal : (names : List (List ℕ)) (goal : List ℕ) (d e : Dependency) → MeansGoal names goal d → MeansGoal names goal e → d ≡ e
+pub one_goal : (names : List (List ℕ)) (goal : List ℕ) (d e : Dependency) → MeansGoal names goal d
+    → MeansGoal names goal e → d ≡ e
 one_goal names goal d e first second =
-    the_ok {A = Dependency} {E = SchemaRefusal} d e (sym ((goal-law names goal d).1 first) ∙ (goal-law names goal e).1 second)
+    the_ok {A = Dependency} {E = SchemaRefusal} d e
+    (sym ((goal-law names goal d).1 first) ∙ (goal-law names goal e).1 second)
 
 -- a goal that is read does not stop
 pub goal_goes : (schema : Schema) (goal : List ℕ) (d : Dependency) (response : ResponseValue) → IsGoal schema goal d
@@ -48,10 +51,12 @@ pub goal_goes : (schema : Schema) (goal : List ℕ) (d : Dependency) (response :
 goal_goes schema goal d response is (inl (long, says)) = let within = is.within_limit in omega (arith, within, long)
 goal_goes schema goal d response is (inr (refusal, refused, says)) =
     let read : read_goal (names_of schema) goal ≡ Ok d = (goal-law (names_of schema) goal d).1 is.means in
-    let not_read : read_goal (names_of schema) goal ≡ Err refusal = (goal-refusal-law (names_of schema) goal refusal).1 refused.refused in cc
+    let not_read : read_goal (names_of schema) goal ≡ Err refusal =
+    (goal-refusal-law (names_of schema) goal refusal).1 refused.refused in cc
 
 -- a schema with the same names reads a goal as the same
-pub goal_moved : (schema other : Schema) (goal : List ℕ) (d : Dependency) → names_of schema ≡ names_of other → IsGoal schema goal d
+pub goal_moved : (schema other : Schema) (goal : List ℕ) (d : Dependency)
+    → names_of schema ≡ names_of other → IsGoal schema goal d
     → IsGoal other goal d
 goal_moved schema other goal d names is = record {
   within_limit = is.within_limit;
@@ -59,17 +64,25 @@ goal_moved schema other goal d names is = record {
 }
 
 -- ---- what a goal means lies within the universe
-side_within : (f : Format) (names : List (List ℕ)) (ms : List Mark) (x : Attributes) → IsSide f names ms x → IsSubset x (below (length names))
-side_within f names ms x (inl empty) = subst (λ (z : Attributes). IsSubset z (below (length names))) (sym empty.nothing) (λ k member. absurd (true≢false (sym member)))
-side_within f names ms x (inr words) = subst (λ (z : Attributes). IsSubset z (below (length names))) (sym words.members) (named_within names ms)
+side_within : (f : Format) (names : List (List ℕ)) (ms : List Mark) (x : Attributes)
+    → IsSide f names ms x → IsSubset x (below (length names))
+side_within f names ms x (inl empty) =
+    subst (λ (z : Attributes). IsSubset z (below (length names))) (sym empty.nothing)
+    (λ k member. absurd (true≢false (sym member)))
+side_within f names ms x (inr words) =
+    subst (λ (z : Attributes). IsSubset z (below (length names))) (sym words.members)
+    (named_within names ms)
 
-stated_within : (u : Attributes) (s : Sign) (x y : Attributes) → IsSubset x u → IsSubset y u → IsWithin u (dependency_of_sign s x y)
+stated_within : (u : Attributes) (s : Sign) (x y : Attributes) → IsSubset x u → IsSubset y u
+    → IsWithin u (dependency_of_sign s x y)
 stated_within u sign.Functional x y left right = (left, right)
 stated_within u sign.Multivalued x y left right = (left, right)
 
-pub goal_within : (schema : Schema) (goal : List ℕ) (d : Dependency) → IsGoal schema goal d → IsWithin (universe_of schema) d
+pub goal_within : (schema : Schema) (goal : List ℕ) (d : Dependency) → IsGoal schema goal d
+    → IsWithin (universe_of schema) d
 goal_within schema goal d is =
     let read = is.means.dependency in
     subst (λ (e : Dependency). IsWithin (universe_of schema) e) (sym read.states)
-    (stated_within (universe_of schema) read.sign read.x read.y (side_within format.Plain (names_of schema) read.lhs read.x read.left_side)
+    (stated_within (universe_of schema) read.sign read.x read.y
+    (side_within format.Plain (names_of schema) read.lhs read.x read.left_side)
     (side_within format.Plain (names_of schema) read.rhs read.y read.right_side))

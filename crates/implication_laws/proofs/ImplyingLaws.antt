@@ -18,7 +18,8 @@ use Rattle.implication_laws.proofs.GoalLemmas.{says-status, same_status, goal_st
 
 -- ---- the same dependencies
 -- what is legal for a list is legal for one whose members it has
-pub legal_for_members : (n : ℕ) (ds es : List Dependency) (r : Relation) → ((d : Dependency) → Contains es d → Contains ds d)
+pub legal_for_members : (n : ℕ) (ds es : List Dependency) (r : Relation)
+    → ((d : Dependency) → Contains es d → Contains ds d)
     → IsLegal n ds r → IsLegal n es r
 legal_for_members n ds es r held legal = record {
   over = legal.over;
@@ -37,21 +38,30 @@ pub implied_alike : (schema other : Schema) (d : Dependency) → HaveSameDepende
     → ImpliedBy other d
 implied_alike schema other d same =
     implied_by_other schema other d same.names
-    (λ r legal. legal_for_members (width_of other) (theory_of other) (theory_of schema) r (λ e has. (same.each e).0 has) legal)
+    (λ r legal. legal_for_members (width_of other) (theory_of other) (theory_of schema) r (λ e has.
+    (same.each e).0 has) legal)
 
 turned : (schema other : Schema) → HaveSameDependencies schema other → HaveSameDependencies other schema
 turned schema other same = record { names = sym same.names; each = λ d. ((same.each d).1, (same.each d).0) }
 
 -- ---- the answers
-decided-status : (schema other : Schema) (d : Dependency) (first second : ResponseValue) → (ImpliedBy schema d → ImpliedBy other d)
-    → (ImpliedBy other d → ImpliedBy schema d) → Decided schema d first → Decided other d second → first.status ≡ second.status
-decided-status schema other d first second there back (inl (implied, found)) (inl (also, printed)) = same_status Yes _ _ first second found.4 printed.4
-decided-status schema other d first second there back (inl (implied, found)) (inr (broken, printed)) = absurd (broken (there implied))
-decided-status schema other d first second there back (inr (broken, found)) (inl (implied, printed)) = absurd (broken (back implied))
-decided-status schema other d first second there back (inr (broken, found)) (inr (also, printed)) = same_status No _ _ first second found.2 printed.2
+decided-status : (schema other : Schema) (d : Dependency) (first second : ResponseValue)
+    → (ImpliedBy schema d → ImpliedBy other d)
+    → (ImpliedBy other d → ImpliedBy schema d) → Decided schema d first → Decided other d second
+    → first.status ≡ second.status
+decided-status schema other d first second there back (inl (implied, found)) (inl (also, printed)) =
+    same_status Yes _ _ first second found.4 printed.4
+decided-status schema other d first second there back (inl (implied, found)) (inr (broken, printed)) =
+    absurd (broken (there implied))
+decided-status schema other d first second there back (inr (broken, found)) (inl (implied, printed)) =
+    absurd (broken (back implied))
+decided-status schema other d first second there back (inr (broken, found)) (inr (also, printed)) =
+    same_status No _ _ first second found.2 printed.2
 
-pub goals-status : (schema other : Schema) (goal : List ℕ) (first second : ResponseValue) → names_of schema ≡ names_of other
-    → ((d : Dependency) → ImpliedBy schema d → ImpliedBy other d) → ((d : Dependency) → ImpliedBy other d → ImpliedBy schema d)
+pub goals-status : (schema other : Schema) (goal : List ℕ) (first second : ResponseValue)
+    → names_of schema ≡ names_of other
+    → ((d : Dependency) → ImpliedBy schema d → ImpliedBy other d)
+    → ((d : Dependency) → ImpliedBy other d → ImpliedBy schema d)
     → DecidesGoal schema goal first → DecidesGoal other goal second → first.status ≡ second.status
 goals-status schema other goal first second names there back (inl stops) (inl halts) =
     goal_stops-status schema goal first stops ∙ sym (goal_stops-status other goal second halts)
@@ -61,15 +71,18 @@ goals-status schema other goal first second names there back (inr (d, is, rest))
     absurd (goal_goes other goal d second (goal_moved schema other goal d names is) halts)
 goals-status schema other goal first second names there back (inr (d, is, rest)) (inr (e, also, more)) =
     let same : e ≡ d = one_goal (names_of other) goal e d also.means (goal_moved schema other goal d names is).means in
-    decided-status schema other d first second (there d) (back d) rest (subst (λ (f : Dependency). Decided other f second) same more)
+    decided-status schema other d first second (there d) (back d) rest
+    (subst (λ (f : Dependency). Decided other f second) same more)
 
-pub lines-status : (schema other : Schema) (goal : List ℕ) (first second : ResponseValue) → HaveSameDependencies schema other
+pub lines-status : (schema other : Schema) (goal : List ℕ) (first second : ResponseValue)
+    → HaveSameDependencies schema other
     → DecidesGoal schema goal first → DecidesGoal other goal second → first.status ≡ second.status
 lines-status schema other goal first second same =
     goals-status schema other goal first second same.names (λ d. implied_alike schema other d same)
     (λ d. implied_alike other schema d (turned schema other same))
 
-pub not_yes_and_no : (first second : ResponseValue) → first.status ≡ second.status → first.status ≡ Yes → second.status ≡ No → ⊥
+pub not_yes_and_no : (first second : ResponseValue) → first.status ≡ second.status
+    → first.status ≡ Yes → second.status ≡ No → ⊥
 not_yes_and_no first second same says_yes says_no = cc
 
 -- ---- certificates
@@ -82,28 +95,37 @@ no_not_yes response says_yes says_no = cc
 checked_implied : (schema : Schema) (tree : Tree) (d : Dependency) (response : ResponseValue) → response.status ≡ Yes
     → Checked schema tree d response → ImpliedBy schema d
 checked_implied schema tree d response says_yes (inl (proved, implied, says)) = implied
-checked_implied schema tree d response says_yes (inr (unproved, (concluded, proved, says))) = absurd (no_not_yes response says_yes (says-status No _ response says))
+checked_implied schema tree d response says_yes (inr (unproved, (concluded, proved, says))) =
+    absurd (no_not_yes response says_yes (says-status No _ response says))
 
-pub decided_yes : (schema : Schema) (d : Dependency) (response : ResponseValue) → ImpliedBy schema d → Decided schema d response → response.status ≡ Yes
+pub decided_yes : (schema : Schema) (d : Dependency) (response : ResponseValue) → ImpliedBy schema d
+    → Decided schema d response → response.status ≡ Yes
 decided_yes schema d response implied (inl (also, found)) = says-status Yes _ response found.4
 decided_yes schema d response implied (inr (broken, found)) = absurd (broken implied)
 
-pub accepted_yes : (schema other : Schema) (tree : Tree) (goal : List ℕ) (accepted decided : ResponseValue) → HaveSameDependencies schema other
-    → ChecksProof schema tree goal accepted → accepted.status ≡ Yes → DecidesGoal other goal decided → decided.status ≡ Yes
+pub accepted_yes : (schema other : Schema) (tree : Tree) (goal : List ℕ)
+    (accepted decided : ResponseValue) → HaveSameDependencies schema other
+    → ChecksProof schema tree goal accepted → accepted.status ≡ Yes → DecidesGoal other goal decided
+    → decided.status ≡ Yes
 accepted_yes schema other tree goal accepted decided same (inl stops) says_yes decides =
     absurd (refused_not_yes accepted says_yes (goal_stops-status schema goal accepted stops))
 accepted_yes schema other tree goal accepted decided same (inr (d, is, checked)) says_yes (inl stops) =
     absurd (goal_goes other goal d decided (goal_moved schema other goal d same.names is) stops)
 accepted_yes schema other tree goal accepted decided same (inr (d, is, checked)) says_yes (inr (e, also, rest)) =
-    let alike : d ≡ e = one_goal (names_of other) goal d e (goal_moved schema other goal d same.names is).means also.means in
+    let alike : d ≡ e =
+    one_goal (names_of other) goal d e (goal_moved schema other goal d same.names is).means
+    also.means in
     decided_yes other e decided
-    (subst (λ (f : Dependency). ImpliedBy other f) alike (implied_alike schema other d same (checked_implied schema tree d accepted says_yes checked))) rest
+    (subst (λ (f : Dependency). ImpliedBy other f) alike
+    (implied_alike schema other d same (checked_implied schema tree d accepted says_yes checked)))
+    rest
 
 -- ---- rows
 pub implied_obeyed : (schema : Schema) (goal : Dependency) (rows : Relation) (decided judged : ResponseValue)
     → Decided schema goal decided → decided.status ≡ Yes → JudgesRows schema rows judged → judged.status ≡ Yes
     → Obeys (width_of schema) goal rows
-implied_obeyed schema goal rows decided judged (inl (implied, found)) says_yes (inr (legal, says)) also_yes = implied rows legal
+implied_obeyed schema goal rows decided judged (inl (implied, found)) says_yes (inr (legal, says)) also_yes =
+    implied rows legal
 implied_obeyed schema goal rows decided judged (inl (implied, found)) says_yes (inl (broken, shown)) also_yes =
     absurd (no_not_yes judged also_yes (says-status No _ judged shown.2))
 implied_obeyed schema goal rows decided judged (inr (broken, found)) says_yes judges also_yes =

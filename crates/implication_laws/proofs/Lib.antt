@@ -1,15 +1,16 @@
-mod OrderedLists
+pub mod OrderedLists
 pub mod OneKey
 pub mod OneCover
 mod OneBasis
 mod OneList
 mod SameNamesLemmas
-mod GoalLemmas
-mod ImplyingLaws
+pub mod GoalLemmas
+pub mod ImplyingLaws
 mod AlikeLaws
 mod CoverLaws
 mod ExhibitLaws
-mod StepLaws
-mod OneAnswer
-mod OneDecision
-mod OnePlanAnswer
+pub mod StepLaws
+pub mod OneAnswer
+pub mod OneStepsAnswer
+pub mod OneDecision
+pub mod OnePlanAnswer

@@ -1,6 +1,6 @@
 -- The commands on implication have one answer each, but for the derivation of a goal.
-use Rattle.std.proofs.Common.{◌≡◌, ◌<◌, ◌≤◌, ℕ, true, false, List, ◌++◌, length, take, get_or, sym, ap, ◌∙◌, inl, inr, Ok, Err, Result, arith}
-use Rattle.std.specs.Prelude.{codes}
+use Rattle.std.proofs.Common.{◌≡◌, ◌+◌, ◌<◌, ◌≤◌, ℕ, true, false, List, ◌++◌, length, take, get_or, sym, ap, subst, ◌∙◌, inl, inr, Ok, Err, Result, arith}
+use Rattle.std.specs.Prelude.{codes, Contains}
 use Rattle.std.proofs.lemmas.Bool.{true≢false, cases_lt}
 use Rattle.std.proofs.lemmas.List.{length-map, length-take-le, get_or-take}
 use Rattle.std.proofs.lemmas.List.Elements.{All-contains}
@@ -8,8 +8,11 @@ use Rattle.std.proofs.lemmas.Option.{slice_get_within, get_or_from_slice_get}
 use Rattle.attr_sets.specs.Attributes.{Attributes, IsBefore}
 use Rattle.attr_sets.specs.Sets.{attributes}
 use Rattle.attr_sets.specs.declared.set.AttrSet.{AttrSet}
-use Rattle.armstrong_rel.specs.Refusals.{IsFirstMvd}
+use Rattle.armstrong_rel.specs.ClosedSets.{IsIrreducible}
+use Rattle.armstrong_rel.specs.Refusals.{IsFirstMvd, AreTooMany}
+use Rattle.armstrong_rel.specs.declared.refusal.TheConstants.{MOST_EXHIBITED_ROWS}
 use Rattle.armstrong_rel.proofs.OneExhibit.{exhibit_same}
+use Rattle.armstrong_rel.proofs.TupleLemmas.{length-tuples_for}
 use Rattle.csv_text.specs.Rows.{rows_text}
 use Rattle.dep_basis.proofs.DecidingLemmas.{least_same}
 use Rattle.dep_basis.specs.Traces.{blocks_of}
@@ -17,6 +20,7 @@ use Rattle.dep_model.specs.Dependencies.{Dependency, mvd, is_fd, functional_part
 use Rattle.dep_model.specs.Keys.{IsKey}
 use Rattle.dep_model.specs.Plans.{schemes_of}
 use Rattle.dep_model.specs.Schemas.{names_of, width_of, theory_of, universe_of}
+use Rattle.dep_model.specs.Tuples.{Relation}
 use Rattle.dep_model.specs.declared.schema.Schema.{Schema}
 use Rattle.derivation.specs.Trees.{Tree}
 use Rattle.derivation.proofs.ConclusionLemmas.{Proves-one}
@@ -41,7 +45,7 @@ use Rattle.desk_implication.specs.Bases.{TellsBasis, GivesBasis, blocks_text}
 use Rattle.desk_implication.specs.Certificates.{Checked, ChecksProof}
 use Rattle.desk_implication.specs.Covering.{GivesCover}
 use Rattle.desk_implication.specs.Discoveries.{FindsRules, found_text}
-use Rattle.desk_implication.specs.Exhibits.{Exhibits, multivalued_text}
+use Rattle.desk_implication.specs.Exhibits.{Exhibits, IsExample, multivalued_text}
 use Rattle.desk_implication.specs.Goals.{GoalStops, IsGoal, SetStops, IsSetText, WithGoal}
 use Rattle.desk_implication.specs.Keys.{ListsKeys}
 use Rattle.desk_implication.specs.Sameness.{LacksName, NameStops, Compares, ChecksSame, different_text, not_in_text}
@@ -59,48 +63,68 @@ use Rattle.implication_laws.proofs.StepLaws.{same_says, With-one, Unless-one, sa
 one_refusal : {A E : Type 0} (e f : E) → ◌≡◌ {A = Result A E} (Err e) (Err f) → e ≡ f
 one_refusal e f same = cc
 
-one_goal_stop : (schema : Schema) (goal : List ℕ) → AllowsOne (GoalStops schema goal)
+pub one_goal_stop : (schema : Schema) (goal : List ℕ) → AllowsOne (GoalStops schema goal)
 one_goal_stop schema goal one other (inl (long, says)) (inl (also, said)) = says ∙ sym said
-one_goal_stop schema goal one other (inl (long, says)) (inr (refusal, is, said)) = let within = is.within_limit in absurd (omega (arith, within, long))
-one_goal_stop schema goal one other (inr (refusal, is, says)) (inl (long, said)) = let within = is.within_limit in absurd (omega (arith, within, long))
+one_goal_stop schema goal one other (inl (long, says)) (inr (refusal, is, said)) =
+    let within = is.within_limit in absurd (omega (arith, within, long))
+one_goal_stop schema goal one other (inr (refusal, is, says)) (inl (long, said)) =
+    let within = is.within_limit in absurd (omega (arith, within, long))
 one_goal_stop schema goal one other (inr (e, is, says)) (inr (f, also, said)) =
-    let same : e ≡ f = one_refusal {A = Dependency} e f (sym ((goal-refusal-law (names_of schema) goal e).1 is.refused) ∙ (goal-refusal-law (names_of schema) goal f).1 also.refused) in
+    let same : e ≡ f =
+    one_refusal {A = Dependency} e f
+    (sym ((goal-refusal-law (names_of schema) goal e).1 is.refused)
+    ∙ (goal-refusal-law (names_of schema) goal f).1 also.refused) in
     same_says Refused _ _ one other says said (ap goal_refusal_text same)
 
-one_after_goal : (schema : Schema) (goal : List ℕ) (rest : Dependency → Allowed) → ((d : Dependency) → AllowsOne (rest d)) → AllowsOne (WithGoal schema goal rest)
+one_after_goal : (schema : Schema) (goal : List ℕ) (rest : Dependency → Allowed)
+    → ((d : Dependency) → AllowsOne (rest d)) → AllowsOne (WithGoal schema goal rest)
 one_after_goal schema goal rest each =
-    With-one (GoalStops schema goal) (IsGoal schema goal) rest (one_goal_stop schema goal) (λ d response is stops. goal_goes schema goal d response is stops)
+    With-one (GoalStops schema goal) (IsGoal schema goal) rest (one_goal_stop schema goal)
+    (λ d response is stops. goal_goes schema goal d response is stops)
     (λ d e is also. one_goal (names_of schema) goal d e is.means also.means) (λ d is. each d)
 
-one_set_stop : (schema : Schema) (set : List ℕ) → AllowsOne (SetStops schema set)
+pub one_set_stop : (schema : Schema) (set : List ℕ) → AllowsOne (SetStops schema set)
 one_set_stop schema set one other (inl (long, says)) (inl (also, said)) = says ∙ sym said
-one_set_stop schema set one other (inl (long, says)) (inr (refusal, is, said)) = let within = is.within_limit in absurd (omega (arith, within, long))
-one_set_stop schema set one other (inr (refusal, is, says)) (inl (long, said)) = let within = is.within_limit in absurd (omega (arith, within, long))
+one_set_stop schema set one other (inl (long, says)) (inr (refusal, is, said)) =
+    let within = is.within_limit in absurd (omega (arith, within, long))
+one_set_stop schema set one other (inr (refusal, is, says)) (inl (long, said)) =
+    let within = is.within_limit in absurd (omega (arith, within, long))
 one_set_stop schema set one other (inr (e, is, says)) (inr (f, also, said)) =
-    let same : e ≡ f = one_refusal {A = Attributes} e f (sym ((set-refusal-law (names_of schema) set e).1 is.refused) ∙ (set-refusal-law (names_of schema) set f).1 also.refused) in
+    let same : e ≡ f =
+    one_refusal {A = Attributes} e f
+    (sym ((set-refusal-law (names_of schema) set e).1 is.refused)
+    ∙ (set-refusal-law (names_of schema) set f).1 also.refused) in
     same_says Refused _ _ one other says said (ap set_refusal_text same)
 
-set_goes : (schema : Schema) (set : List ℕ) (x : Attributes) (response : ResponseValue) → IsSetText schema set x → SetStops schema set response → ⊥
+pub set_goes : (schema : Schema) (set : List ℕ) (x : Attributes) (response : ResponseValue)
+    → IsSetText schema set x → SetStops schema set response → ⊥
 set_goes schema set x response is (inl (long, says)) = let within = is.within_limit in omega (arith, within, long)
 set_goes schema set x response is (inr (refusal, refused, says)) =
     let read : read_set (names_of schema) set ≡ Ok x = (set-law (names_of schema) set x).1 is.means in
-    let not_read : read_set (names_of schema) set ≡ Err refusal = (set-refusal-law (names_of schema) set refusal).1 refused.refused in cc
+    let not_read : read_set (names_of schema) set ≡ Err refusal =
+    (set-refusal-law (names_of schema) set refusal).1 refused.refused in cc
 
-one_set : (names : List (List ℕ)) (set : List ℕ) (x y : Attributes) → MeansSet names set x → MeansSet names set y → x ≡ y
+pub one_set : (names : List (List ℕ)) (set : List ℕ) (x y : Attributes) → MeansSet names set x
+    → MeansSet names set y → x ≡ y
 one_set names set x y first second =
-    the_ok {A = Attributes} {E = SchemaRefusal} x y (sym ((set-law names set x).1 first) ∙ (set-law names set y).1 second)
+    the_ok {A = Attributes} {E = SchemaRefusal} x y
+    (sym ((set-law names set x).1 first) ∙ (set-law names set y).1 second)
 
 -- ---- certificates
 one_checked : (schema : Schema) (tree : Tree) (goal : Dependency) → AllowsOne (Checked schema tree goal)
 one_checked schema tree goal one other (inl (proved, implied, says)) (inl (also, again, said)) = says ∙ sym said
-one_checked schema tree goal one other (inl (proved, implied, says)) (inr (unproved, (d, concluded, said))) = absurd (unproved proved)
-one_checked schema tree goal one other (inr (unproved, (d, concluded, says))) (inl (proved, implied, said)) = absurd (unproved proved)
+one_checked schema tree goal one other (inl (proved, implied, says)) (inr (unproved, (d, concluded, said))) =
+    absurd (unproved proved)
+one_checked schema tree goal one other (inr (unproved, (d, concluded, says))) (inl (proved, implied, said)) =
+    absurd (unproved proved)
 one_checked schema tree goal one other (inr (unproved, (d, concluded, says))) (inr (also, (e, again, said))) =
     same_says No _ _ one other says said
-    (ap (λ (f : Dependency). concludes_text (printed_names_of schema) f goal) (Proves-one schema tree d e concluded again))
+    (ap (λ (f : Dependency). concludes_text (printed_names_of schema) f goal)
+    (Proves-one schema tree d e concluded again))
 
 pub one_certificate_answer : (schema : Schema) (tree : Tree) (goal : List ℕ) → AllowsOne (ChecksProof schema tree goal)
-one_certificate_answer schema tree goal = one_after_goal schema goal (Checked schema tree) (λ d. one_checked schema tree d)
+one_certificate_answer schema tree goal =
+    one_after_goal schema goal (Checked schema tree) (λ d. one_checked schema tree d)
 
 -- ---- covers
 pub one_cover_answer : (schema : Schema) → AllowsOne (GivesCover schema)
@@ -115,18 +139,22 @@ one_told schema x one other (found, is, says) (blocks, also, said) =
     let ds = theory_of schema in
     let names = printed_names_of schema in
     same_says Yes _ _ one other says said
-    (ap (λ (closed : Attributes). set_line (codes "closure ") names closed ++ blocks_text names (blocks_of found)) (one_closed n ds x found blocks is also)
+    (ap (λ (closed : Attributes). set_line (codes "closure ") names closed ++ blocks_text names
+    (blocks_of found)) (one_closed n ds x found blocks is also)
     ∙ ap (λ (text : List ℕ). set_line (codes "closure ") names (attributes blocks.closed) ++ text)
-    (same_texts (set_line (codes "block ") names) (blocks_of found) (blocks_of blocks) (one_blocks n ds x found blocks is also)))
+    (same_texts (set_line (codes "block ") names) (blocks_of found) (blocks_of blocks)
+    (one_blocks n ds x found blocks is also)))
 
 pub one_basis_answer : (schema : Schema) (set : List ℕ) → AllowsOne (GivesBasis schema set)
 one_basis_answer schema set =
-    With-one (SetStops schema set) (IsSetText schema set) (TellsBasis schema) (one_set_stop schema set) (λ x response is stops. set_goes schema set x response is stops)
+    With-one (SetStops schema set) (IsSetText schema set) (TellsBasis schema)
+    (one_set_stop schema set) (λ x response is stops. set_goes schema set x response is stops)
     (λ x y is also. one_set (names_of schema) set x y is.means also.means) (λ x is. one_told schema x)
 
 -- ---- keys
 -- a scheme has no more keys than are listed
-pub all_or_many : (n : ℕ) (ds : List Dependency) (scheme : Attributes) (keys found : List AttrSet) → AreAllKeys n ds scheme keys
+pub all_or_many : (n : ℕ) (ds : List Dependency) (scheme : Attributes) (keys found : List AttrSet)
+    → AreAllKeys n ds scheme keys
     → length keys ≤ MOST_KEYS → AreManyKeys n ds scheme found → ⊥
 all_or_many n ds scheme keys found all within many =
     let P = IsKey n ds scheme in
@@ -181,49 +209,86 @@ not_functional ds k is functional =
     let d = mvd is.lhs is.rhs in
     true≢false (sym (all_functional ds functional k d (slice_get_within ds k d is.given)) ∙ mvd_at ds k d is)
 
+-- a relation of all irreducible closed sets has no more rows than are printed, or there are too many
+exhibit_or_many : (schema : Schema) (rows : Relation) (sets : List Attributes) → IsExample schema rows
+    → AreTooMany (width_of schema) (theory_of schema) sets → ⊥
+exhibit_or_many schema rows sets example many =
+    let P = IsIrreducible (width_of schema) (theory_of schema) in
+    let irreducible = example.exhibit.irreducible in
+    let own = example.exhibit.sets in
+    let fewer : length sets ≤ length own =
+    no_longer P IsBefore sets own (before_one_way P) many.each irreducible.each many.ascending irreducible.ascending
+    (λ c has.
+    let found = irreducible.all c (All-contains P sets c many.each has) in
+    subst (λ (x : Attributes). Contains own x) found.4 (found.0, found.2, found.3)) in
+    let short : length rows ≡ length own + 1 = ap length example.exhibit.tuples ∙ length-tuples_for (width_of schema) own in
+    let within_limit = example.within_limit in
+    let count = many.count in
+    omega (arith, fewer, short, within_limit, count)
+
 pub one_exhibit_answer : (schema : Schema) → AllowsOne (Exhibits schema)
 one_exhibit_answer schema one other (inl (rows, example, says)) (inl (tuples, also, said)) =
     same_says Yes _ _ one other says said
     (ap (rows_text (names_of schema)) (exhibit_same (width_of schema) (theory_of schema) rows tuples example.exhibit also.exhibit))
 one_exhibit_answer schema one other (inl (rows, example, says)) (inr (inl (dep, is, said))) = absurd (not_functional (theory_of schema) dep is example.functional)
-one_exhibit_answer schema one other (inl (rows, example, says)) (inr (inr (wide, said))) = let narrow = example.narrow in absurd (omega (arith, narrow, wide.1))
+one_exhibit_answer schema one other (inl (rows, example, says)) (inr (inr (inl (wide, said)))) = absurd (example.narrow wide.1)
+one_exhibit_answer schema one other (inl (rows, example, says)) (inr (inr (inr (many, said)))) = absurd (exhibit_or_many schema rows many.2.0 example many.2.1)
 one_exhibit_answer schema one other (inr (inl (dep, is, says))) (inl (rows, example, said)) = absurd (not_functional (theory_of schema) dep is example.functional)
 one_exhibit_answer schema one other (inr (inl (dep, is, says))) (inr (inl (number, also, said))) =
     same_says Refused _ _ one other says said (ap (multivalued_text schema) (one_mvd (theory_of schema) dep number is also))
-one_exhibit_answer schema one other (inr (inl (dep, is, says))) (inr (inr (wide, said))) = absurd (not_functional (theory_of schema) dep is wide.0)
-one_exhibit_answer schema one other (inr (inr (wide, says))) (inl (rows, example, said)) = let narrow = example.narrow in absurd (omega (arith, narrow, wide.1))
-one_exhibit_answer schema one other (inr (inr (wide, says))) (inr (inl (dep, is, said))) = absurd (not_functional (theory_of schema) dep is wide.0)
-one_exhibit_answer schema one other (inr (inr (wide, says))) (inr (inr (also, said))) = says ∙ sym said
+one_exhibit_answer schema one other (inr (inl (dep, is, says))) (inr (inr (inl (wide, said)))) = absurd (not_functional (theory_of schema) dep is wide.0)
+one_exhibit_answer schema one other (inr (inl (dep, is, says))) (inr (inr (inr (many, said)))) = absurd (not_functional (theory_of schema) dep is many.0)
+one_exhibit_answer schema one other (inr (inr (inl (wide, says)))) (inl (rows, example, said)) = absurd (example.narrow wide.1)
+one_exhibit_answer schema one other (inr (inr (inl (wide, says)))) (inr (inl (dep, is, said))) = absurd (not_functional (theory_of schema) dep is wide.0)
+one_exhibit_answer schema one other (inr (inr (inl (wide, says)))) (inr (inr (inl (also, said)))) = says ∙ sym said
+one_exhibit_answer schema one other (inr (inr (inl (wide, says)))) (inr (inr (inr (many, said)))) = absurd (many.1 wide.1)
+one_exhibit_answer schema one other (inr (inr (inr (many, says)))) (inl (rows, example, said)) = absurd (exhibit_or_many schema rows many.2.0 example many.2.1)
+one_exhibit_answer schema one other (inr (inr (inr (many, says)))) (inr (inl (dep, is, said))) = absurd (not_functional (theory_of schema) dep is many.0)
+one_exhibit_answer schema one other (inr (inr (inr (many, says)))) (inr (inr (inl (wide, said)))) = absurd (many.1 wide.1)
+one_exhibit_answer schema one other (inr (inr (inr (many, says)))) (inr (inr (inr (more, said)))) = says ∙ sym said
 
 -- ---- two schemas
 one_lacking : (schema other : Schema) (file : List ℕ) → AllowsOne (LacksName schema other file)
 one_lacking schema other file one two (a, first, says) (b, also, said) =
     same_says Refused _ _ one two says said
-    (ap (λ (c : ℕ). not_in_text (name_of_attribute schema c) file) (least_same (undeclared_attributes schema other) a b first also))
+    (ap (λ (c : ℕ). not_in_text (name_of_attribute schema c) file)
+    (least_same (undeclared_attributes schema other) a b first also))
 
-one_name_stop : (schema other : Schema) (file other_file : List ℕ) → AllowsOne (NameStops schema other file other_file)
-one_name_stop schema other file other_file one two (inl lacks) (inl also) = one_lacking schema other other_file one two lacks also
-one_name_stop schema other file other_file one two (inl lacks) (inr (declared, also)) = absurd (none_lacking schema other other_file one declared lacks)
-one_name_stop schema other file other_file one two (inr (declared, lacks)) (inl also) = absurd (none_lacking schema other other_file two declared also)
-one_name_stop schema other file other_file one two (inr (declared, lacks)) (inr (again, also)) = one_lacking other schema file one two lacks also
+pub one_name_stop : (schema other : Schema) (file other_file : List ℕ) → AllowsOne (NameStops schema other file other_file)
+one_name_stop schema other file other_file one two (inl lacks) (inl also) =
+    one_lacking schema other other_file one two lacks also
+one_name_stop schema other file other_file one two (inl lacks) (inr (declared, also)) =
+    absurd (none_lacking schema other other_file one declared lacks)
+one_name_stop schema other file other_file one two (inr (declared, lacks)) (inl also) =
+    absurd (none_lacking schema other other_file two declared also)
+one_name_stop schema other file other_file one two (inr (declared, lacks)) (inr (again, also)) =
+    one_lacking other schema file one two lacks also
 
 one_compared : (schema other : Schema) (file other_file : List ℕ) → AllowsOne (Compares schema other file other_file)
 one_compared schema other file other_file one two (inl (same, says)) (inl (also, said)) = says ∙ sym said
-one_compared schema other file other_file one two (inl (same, says)) (inr (there, back, differ, said)) = absurd (differ.legal same.legal)
-one_compared schema other file other_file one two (inr (there, back, differ, says)) (inl (same, said)) = absurd (differ.legal same.legal)
-one_compared schema other file other_file one two (inr (there, back, differ, says)) (inr (of_schema, of_other, also, said)) =
+one_compared schema other file other_file one two (inl (same, says)) (inr (there, back, differ, said)) =
+    absurd (differ.legal same.legal)
+one_compared schema other file other_file one two (inr (there, back, differ, says)) (inl (same, said)) =
+    absurd (differ.legal same.legal)
+one_compared schema other file other_file one two (inr (there, back, differ, says))
+    (inr (of_schema, of_other, also, said)) =
     same_says No _ _ one two says said
-    (ap (λ (ks : List ℕ). different_text schema other file other_file ks back) (one_differences schema other there of_schema differ.there also.there)
-    ∙ ap (different_text schema other file other_file of_schema) (one_differences other schema back of_other differ.back also.back))
+    (ap (λ (ks : List ℕ). different_text schema other file other_file ks back)
+    (one_differences schema other there of_schema differ.there also.there)
+    ∙ ap (different_text schema other file other_file of_schema)
+    (one_differences other schema back of_other differ.back also.back))
 
-pub one_same_answer : (schema other : Schema) (file other_file : List ℕ) → AllowsOne (ChecksSame schema other file other_file)
+pub one_same_answer : (schema other : Schema) (file other_file : List ℕ)
+    → AllowsOne (ChecksSame schema other file other_file)
 one_same_answer schema other file other_file =
     Unless-one (NameStops schema other file other_file) (SameNames schema other) (Compares schema other file other_file)
-    (one_name_stop schema other file other_file) (λ response names. names_go schema other file other_file response names)
+    (one_name_stop schema other file other_file)
+    (λ response names. names_go schema other file other_file response names)
     (λ names. one_compared schema other file other_file)
 
 -- ---- discovered rules
 pub one_rules_answer : (headed : Headed) → AllowsOne (FindsRules headed)
 one_rules_answer headed one other (ds, rules, says) (es, also, said) =
     same_says Yes _ _ one other says said
-    (ap (found_text (names_under headed)) (one_rules (length (names_under headed)) (rows_under headed) ds es rules.minimal also.minimal))
+    (ap (found_text (names_under headed))
+    (one_rules (length (names_under headed)) (rows_under headed) ds es rules.minimal also.minimal))

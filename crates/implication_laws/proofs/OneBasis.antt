@@ -32,31 +32,39 @@ blocks_one_way n ds x p q p_is q_is there back =
     let after : j < i = back j i q_first p_first in
     omega (arith, before, after)
 
-pub one_closed : (n : ℕ) (ds : List Dependency) (x : Attributes) (one other : Blocks) → IsBasis n ds x one → IsBasis n ds x other
+pub one_closed : (n : ℕ) (ds : List Dependency) (x : Attributes) (one other : Blocks)
+    → IsBasis n ds x one → IsBasis n ds x other
     → attributes one.closed ≡ attributes other.closed
 one_closed n ds x one other first second =
     same_from_within (attributes one.closed) (attributes other.closed)
     (λ a member. (second.closed a).1 ((first.closed a).0 member))
     (λ a member. (first.closed a).1 ((second.closed a).0 member))
 
-blocks_held : (n : ℕ) (ds : List Dependency) (x : Attributes) (one other : Blocks) → IsBasis n ds x one → IsBasis n ds x other
+blocks_held : (n : ℕ) (ds : List Dependency) (x : Attributes) (one other : Blocks)
+    → IsBasis n ds x one → IsBasis n ds x other
     → HoldsAll (schemes_of (blocks_of one)) (schemes_of (blocks_of other))
 blocks_held n ds x one other first second p has =
     Any-image attributes (blocks_of other) p
-    (second.all p (All-contains (IsBlock n ds x) (schemes_of (blocks_of one)) p (All-map (IsBlock n ds x) attributes (blocks_of one) first.each) has))
+    (second.all p (All-contains (IsBlock n ds x) (schemes_of (blocks_of one)) p
+    (All-map (IsBlock n ds x) attributes (blocks_of one) first.each) has))
 
-pub one_blocks : (n : ℕ) (ds : List Dependency) (x : Attributes) (one other : Blocks) → IsBasis n ds x one → IsBasis n ds x other
+pub one_blocks : (n : ℕ) (ds : List Dependency) (x : Attributes) (one other : Blocks)
+    → IsBasis n ds x one → IsBasis n ds x other
     → schemes_of (blocks_of one) ≡ schemes_of (blocks_of other)
 one_blocks n ds x one other first second =
-    one_ordered_list (IsBlock n ds x) BeginsBefore (schemes_of (blocks_of one)) (schemes_of (blocks_of other)) (blocks_one_way n ds x)
-    (All-map (IsBlock n ds x) attributes (blocks_of one) first.each) (All-map (IsBlock n ds x) attributes (blocks_of other) second.each)
+    one_ordered_list (IsBlock n ds x) BeginsBefore (schemes_of (blocks_of one))
+    (schemes_of (blocks_of other)) (blocks_one_way n ds x)
+    (All-map (IsBlock n ds x) attributes (blocks_of one) first.each)
+    (All-map (IsBlock n ds x) attributes (blocks_of other) second.each)
     (AllPairs-map BeginsBefore attributes (blocks_of one) first.listed.in_order)
     (AllPairs-map BeginsBefore attributes (blocks_of other) second.listed.in_order)
     (blocks_held n ds x one other first second) (blocks_held n ds x other one second first)
 
 -- ---- refutations
-same_member : (n : ℕ) (ds : List Dependency) (x y p q : Attributes) (a b : ℕ) → IsBlock n ds x p → IsBlock n ds x q → p a ≡ true → q b ≡ true
-    → y a ≡ true → y b ≡ true → ((c : ℕ) → c < a → y c ≡ true → InClosure n ds x c) → ((c : ℕ) → c < b → y c ≡ true → InClosure n ds x c) → a ≡ b
+same_member : (n : ℕ) (ds : List Dependency) (x y p q : Attributes) (a b : ℕ) → IsBlock n ds x p
+    → IsBlock n ds x q → p a ≡ true → q b ≡ true
+    → y a ≡ true → y b ≡ true → ((c : ℕ) → c < a → y c ≡ true → InClosure n ds x c)
+    → ((c : ℕ) → c < b → y c ≡ true → InClosure n ds x c) → a ≡ b
 same_member n ds x y p q a b p_is q_is in_p in_q a_in b_in a_first b_first = elim (cases_lt a b) [
   | inl before ↦ absurd (p_is.outside a in_p (b_first a before a_in))
   | inr from_on ↦ elim (cases_lt b a) [
@@ -65,7 +73,8 @@ same_member n ds x y p q a b p_is q_is in_p in_q a_in b_in a_first b_first = eli
   ]
 ]
 
-one_breaking : (n : ℕ) (ds : List Dependency) (d : Dependency) (p q : Attributes) → IsBreakingBlock n ds d p → IsBreakingBlock n ds d q → p ≡ q
+one_breaking : (n : ℕ) (ds : List Dependency) (d : Dependency) (p q : Attributes)
+    → IsBreakingBlock n ds d p → IsBreakingBlock n ds d q → p ≡ q
 one_breaking n ds (fd x y) p q (p_is, (a, in_p, a_in, a_first)) (q_is, (b, in_q, b_in, b_first)) =
     let same : a ≡ b = same_member n ds x y p q a b p_is q_is in_p in_q a_in b_in a_first b_first in
     blocks_same n ds x p q p_is q_is (a, in_p, subst (λ (c : ℕ). q c ≡ true) (sym same) in_q)
@@ -77,7 +86,9 @@ one_breaking n ds (mvd x y) p q (p_is, p_split, p_first) (q_is, q_split, q_first
     let same : i ≡ j = omega (arith, there, back) in
     blocks_same n ds x p q p_is q_is (i, p_begins.member, subst (λ (c : ℕ). q c ≡ true) (sym same) q_begins.member)
 
-pub one_refuted : (n : ℕ) (ds : List Dependency) (d : Dependency) (one other : Attributes) → IsBrokenBy n ds d one → IsBrokenBy n ds d other
+pub one_refuted : (n : ℕ) (ds : List Dependency) (d : Dependency) (one other : Attributes)
+    → IsBrokenBy n ds d one → IsBrokenBy n ds d other
     → one ≡ other
 one_refuted n ds d one other first second =
-    first.outside ∙ ap (difference (below n)) (one_breaking n ds d first.block second.block first.is_breaking second.is_breaking) ∙ sym second.outside
+    first.outside ∙ ap (difference (below n)) (one_breaking n ds d first.block second.block
+    first.is_breaking second.is_breaking) ∙ sym second.outside

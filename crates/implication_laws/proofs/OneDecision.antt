@@ -25,9 +25,11 @@ one_tree : (schema : Schema) (d : Dependency) (t u : Tree) → HasFixedProof sch
 one_tree schema (fd x y) t u fixed first second direct also = chain_one schema x y t u (first fixed) (second fixed)
 one_tree schema (mvd x y) t u (k, is) first second direct also = direct.1 k is ∙ sym (also.1 k is)
 
-one_decided : (schema : Schema) (d : Dependency) (one other : ResponseValue) → (one.status ≡ Yes → HasFixedProof schema d)
+one_decided : (schema : Schema) (d : Dependency) (one other : ResponseValue)
+    → (one.status ≡ Yes → HasFixedProof schema d)
     → Decided schema d one → Decided schema d other → one ≡ other
-one_decided schema d one other fixed (inl (implied, (proof, proves, chain, direct, says))) (inl (also, (deriv, derives, run, short, said))) =
+one_decided schema d one other fixed (inl (implied, (proof, proves, chain, direct, says)))
+    (inl (also, (deriv, derives, run, short, said))) =
     same_says Yes _ _ one other says said
     (ap (λ (t : Tree). yes_text ++ canonical_certificate schema t)
     (one_tree schema d (tree_of proof) (tree_of deriv) (fixed (says-status Yes _ one says)) chain run direct short))
@@ -39,9 +41,11 @@ one_decided schema d one other fixed (inr (broken, (agreement, is, says))) (inr 
     (one_refuted (width_of schema) (theory_of schema) d agreement outside is shows))
 
 pub one_decision : (schema : Schema) (goal : List ℕ) (d : Dependency) (one other : ResponseValue) → IsGoal schema goal d
-    → (one.status ≡ Yes → HasFixedProof schema d) → DecidesGoal schema goal one → DecidesGoal schema goal other → one ≡ other
+    → (one.status ≡ Yes → HasFixedProof schema d) → DecidesGoal schema goal one
+    → DecidesGoal schema goal other → one ≡ other
 one_decision schema goal d one other is fixed (inl stops) second = absurd (goal_goes schema goal d one is stops)
-one_decision schema goal d one other is fixed (inr (e, read, rest)) (inl stops) = absurd (goal_goes schema goal d other is stops)
+one_decision schema goal d one other is fixed (inr (e, read, rest)) (inl stops) =
+    absurd (goal_goes schema goal d other is stops)
 one_decision schema goal d one other is fixed (inr (e, read, rest)) (inr (f, reads, remains)) =
     let first : e ≡ d = one_goal (names_of schema) goal e d read.means is.means in
     let second : f ≡ d = one_goal (names_of schema) goal f d reads.means is.means in

@@ -15,13 +15,15 @@ use Rattle.implication_laws.proofs.OrderedLists.{HoldsAll, IsOneWay, one_ordered
 numbers_one_way : (P : ℕ → Type 0) → IsOneWay P (λ (j k : ℕ). j < k)
 numbers_one_way P j k j_is k_is there back = omega (arith, there, back)
 
-differences_held : (schema other : Schema) (first second : List ℕ) → AreDifferences schema other first → AreDifferences schema other second
+differences_held : (schema other : Schema) (first second : List ℕ)
+    → AreDifferences schema other first → AreDifferences schema other second
     → HoldsAll first second
 differences_held schema other first second one two k has =
     let (d, at, differs) = one.each k has in
     ⊎_elim (λ there. there) (λ follows. absurd (differs follows)) (two.all k d at)
 
-pub one_differences : (schema other : Schema) (first second : List ℕ) → AreDifferences schema other first → AreDifferences schema other second
+pub one_differences : (schema other : Schema) (first second : List ℕ)
+    → AreDifferences schema other first → AreDifferences schema other second
     → first ≡ second
 one_differences schema other first second one two =
     one_ordered_list (λ (k : ℕ). Unit {0}) (λ (j k : ℕ). j < k) first second (numbers_one_way (λ (k : ℕ). Unit {0}))
@@ -39,12 +41,16 @@ precedes_one_way P d e d_is e_is (inr (same, right)) (inl back) =
 precedes_one_way P d e d_is e_is (inr (same, there)) (inr (also, back)) =
     IsBefore-irrefl (right_of d) (IsBefore-trans (right_of d) (right_of e) (right_of d) there back)
 
-rules_held : (n : ℕ) (rows : Relation) (one other : List Dependency) → AreAllMinimal n rows one → AreAllMinimal n rows other → HoldsAll one other
+rules_held : (n : ℕ) (rows : Relation) (one other : List Dependency) → AreAllMinimal n rows one
+    → AreAllMinimal n rows other → HoldsAll one other
 rules_held n rows one other first second d has =
     let (x, a, is, minimal) = All-contains (IsMinimalFd n rows) one d first.each has in
     subst (λ (e : Dependency). Contains other e) (sym is) (second.all x a minimal)
 
-pub one_rules : (n : ℕ) (rows : Relation) (one other : List Dependency) → AreAllMinimal n rows one → AreAllMinimal n rows other → one ≡ other
+pub one_rules : (n : ℕ) (rows : Relation) (one other : List Dependency) → AreAllMinimal n rows one
+    → AreAllMinimal n rows other → one ≡ other
 one_rules n rows one other first second =
-    one_ordered_list (IsMinimalFd n rows) Precedes one other (precedes_one_way (IsMinimalFd n rows)) first.each second.each
-    first.ascending second.ascending (rules_held n rows one other first second) (rules_held n rows other one second first)
+    one_ordered_list (IsMinimalFd n rows) Precedes one other (precedes_one_way (IsMinimalFd n rows))
+    first.each second.each
+    first.ascending second.ascending (rules_held n rows one other first second)
+    (rules_held n rows other one second first)

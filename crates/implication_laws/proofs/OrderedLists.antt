@@ -19,7 +19,8 @@ Contains-nil {X} z has = All-contains (λ (x : X). ⊥) [] z (All-nil (λ (x : X
 later_ordered : {X : Type 0} (R : X → X → Type 0) (x : X) (xs : List X) → AllPairs R (x ∷ xs) → AllPairs R xs
 later_ordered R x xs ordered i j d before l = ordered (suc i) (suc j) d (omega (arith, before)) (omega (arith, l))
 
-first_before : {X : Type 0} (R : X → X → Type 0) (x : X) (xs : List X) (z : X) → AllPairs R (x ∷ xs) → Contains xs z → R x z
+first_before : {X : Type 0} (R : X → X → Type 0) (x : X) (xs : List X) (z : X) → AllPairs R (x ∷ xs)
+    → Contains xs z → R x z
 first_before {X} R x xs z ordered has =
     subst (λ (y : X). R x y) has.2 (ordered 0 (suc has.0) z (omega arith) (omega (arith, has.1)))
 
@@ -33,7 +34,8 @@ first_has P x xs each = All-contains P (x ∷ xs) x each (Contains-head x xs)
 later_held : {X : Type 0} (P : X → Type 0) (R : X → X → Type 0) (x : X) (xs ys : List X) → IsOneWay P R → P x
     → AllPairs R (x ∷ xs) → HoldsAll (x ∷ xs) (x ∷ ys) → HoldsAll xs ys
 later_held {X} P R x xs ys one_way is ordered held z has = ⊎_elim
-    (λ same. let twice : R x x = subst (λ (y : X). R x y) same (first_before R x xs z ordered has) in absurd (one_way x x is is twice twice))
+    (λ same. let twice : R x x = subst (λ (y : X). R x y) same (first_before R x xs z ordered
+    has) in absurd (one_way x x is is twice twice))
     (λ later. later)
     (Contains-cases x ys z (held z (Contains-later x xs z has)))
 
@@ -44,24 +46,32 @@ first_same P R x y xs ys one_way x_is y_is x_first y_first there back = ⊎_elim
     (λ same. same)
     (λ x_later. ⊎_elim
     (λ same. sym same)
-    (λ y_later. absurd (one_way x y x_is y_is (first_before R x xs y x_first y_later) (first_before R y ys x y_first x_later)))
+    (λ y_later. absurd (one_way x y x_is y_is (first_before R x xs y x_first y_later)
+    (first_before R y ys x y_first x_later)))
     (Contains-cases x xs y (back y (Contains-head y ys))))
     (Contains-cases y ys x (there x (Contains-head x xs)))
 
-pub one_ordered_list : {X : Type 0} (P : X → Type 0) (R : X → X → Type 0) (xs ys : List X) → IsOneWay P R → All P xs → All P ys
+pub one_ordered_list : {X : Type 0} (P : X → Type 0) (R : X → X → Type 0) (xs ys : List X)
+    → IsOneWay P R → All P xs → All P ys
     → AllPairs R xs → AllPairs R ys → HoldsAll xs ys → HoldsAll ys xs → xs ≡ ys
 one_ordered_list P R [] [] one_way first second one other there back = refl
-one_ordered_list P R [] (y ∷ ys) one_way first second one other there back = absurd (Contains-nil y (back y (Contains-head y ys)))
-one_ordered_list P R (x ∷ xs) [] one_way first second one other there back = absurd (Contains-nil x (there x (Contains-head x xs)))
+one_ordered_list P R [] (y ∷ ys) one_way first second one other there back =
+    absurd (Contains-nil y (back y (Contains-head y ys)))
+one_ordered_list P R (x ∷ xs) [] one_way first second one other there back =
+    absurd (Contains-nil x (there x (Contains-head x xs)))
 one_ordered_list {X} P R (x ∷ xs) (y ∷ ys) one_way first second one other there back =
-    let same : x ≡ y = first_same P R x y xs ys one_way (first_has P x xs first) (first_has P y ys second) one other there back in
+    let same : x ≡ y =
+    first_same P R x y xs ys one_way (first_has P x xs first) (first_has P y ys second) one other
+    there back in
     let to_x : y ∷ ys ≡ x ∷ ys = ap (λ (z : X). z ∷ ys) (sym same) in
     let other_x : AllPairs R (x ∷ ys) = subst (λ (zs : List X). AllPairs R zs) to_x other in
     let there_x : HoldsAll (x ∷ xs) (x ∷ ys) = subst (λ (zs : List X). HoldsAll (x ∷ xs) zs) to_x there in
     let back_x : HoldsAll (x ∷ ys) (x ∷ xs) = subst (λ (zs : List X). HoldsAll zs (x ∷ xs)) to_x back in
     ap (λ (zs : List X). x ∷ zs)
-    (one_ordered_list P R xs ys one_way (all_later P x xs first) (all_later P y ys second) (later_ordered R x xs one) (later_ordered R x ys other_x)
-    (later_held P R x xs ys one_way (first_has P x xs first) one there_x) (later_held P R x ys xs one_way (first_has P x xs first) other_x back_x))
+    (one_ordered_list P R xs ys one_way (all_later P x xs first) (all_later P y ys second)
+    (later_ordered R x xs one) (later_ordered R x ys other_x)
+    (later_held P R x xs ys one_way (first_has P x xs first) one there_x)
+    (later_held P R x ys xs one_way (first_has P x xs first) other_x back_x))
     ∙ sym to_x
 
 -- ---- lengths
@@ -71,7 +81,9 @@ later_there : {X : Type 0} (P : X → Type 0) (R : X → X → Type 0) (x y : X)
 later_there {X} P R x y xs ys one_way x_is y_is x_first y_first has held z at = ⊎_elim
     (λ same. subst (λ (w : X). Contains ys w) (sym same) has)
     (λ later. ⊎_elim
-    (λ same. absurd (one_way x y x_is y_is (subst (λ (w : X). R x w) same (first_before R x xs z x_first later)) (first_before R y ys x y_first has)))
+    (λ same. absurd (one_way x y x_is y_is
+    (subst (λ (w : X). R x w) same (first_before R x xs z x_first later))
+    (first_before R y ys x y_first has)))
     (λ there. there)
     (Contains-cases y ys z (held z at)))
     (Contains-cases x xs z at)
@@ -84,21 +96,29 @@ no_longer {X} P R (x ∷ xs) (y ∷ ys) one_way first second one other held = �
     (λ same.
     let from_x : y ∷ ys ≡ x ∷ ys = ap (λ (z : X). z ∷ ys) (sym same) in
     let held_x : HoldsAll (x ∷ xs) (x ∷ ys) = subst (λ (zs : List X). HoldsAll (x ∷ xs) zs) from_x held in
-    let rest = no_longer P R xs ys one_way (all_later P x xs first) (all_later P y ys second) (later_ordered R x xs one) (later_ordered R y ys other)
+    let rest =
+    no_longer P R xs ys one_way (all_later P x xs first) (all_later P y ys second)
+    (later_ordered R x xs one) (later_ordered R y ys other)
     (later_held P R x xs ys one_way (first_has P x xs first) one held_x) in omega (arith, rest))
     (λ later.
     let rest = no_longer P R (x ∷ xs) ys one_way first (all_later P y ys second) one (later_ordered R y ys other)
-    (later_there P R x y xs ys one_way (first_has P x xs first) (first_has P y ys second) one other later held) in omega (arith, rest))
+    (later_there P R x y xs ys one_way (first_has P x xs first) (first_has P y ys second) one other
+    later held) in omega (arith, rest))
     (Contains-cases y ys x (held x (Contains-head x xs)))
 
 -- ---- lists of images
-pub AllPairs-map : {X Y : Type 0} (R : Y → Y → Type 0) (f : X → Y) (xs : List X) → AllPairs (λ a b. R (f a) (f b)) xs → AllPairs R (map f xs)
+pub AllPairs-map : {X Y : Type 0} (R : Y → Y → Type 0) (f : X → Y) (xs : List X)
+    → AllPairs (λ a b. R (f a) (f b)) xs → AllPairs R (map f xs)
 AllPairs-map R f [] ordered i j d before l = absurd (omega (arith, l))
 AllPairs-map {X} {Y} R f (x ∷ xs) ordered i j d before l =
     let within : j < length (x ∷ xs) = omega (arith, l, length-map (x ∷ xs) f) in
-    subst (λ (a : Y). R a (slice_index_or (map f (x ∷ xs)) j d)) (sym (get_or-map f (x ∷ xs) i x d (omega (arith, before, within))))
-    (subst (λ (b : Y). R (f (slice_index_or (x ∷ xs) i x)) b) (sym (get_or-map f (x ∷ xs) j x d within)) (ordered i j x before within))
+    subst (λ (a : Y). R a (slice_index_or (map f (x ∷ xs)) j d))
+    (sym (get_or-map f (x ∷ xs) i x d (omega (arith, before, within))))
+    (subst (λ (b : Y). R (f (slice_index_or (x ∷ xs) i x)) b)
+    (sym (get_or-map f (x ∷ xs) j x d within)) (ordered i j x before within))
 
 -- some element of a list has this image
 pub Any-image : {X Y : Type 0} (f : X → Y) (xs : List X) (y : Y) → Any (λ x. f x ≡ y) xs → Contains (map f xs) y
-Any-image {X} {Y} f xs y found = subst (λ (z : Y). Contains (map f xs) z) found.4 (Contains-map f xs found.1 (found.0, found.2, found.3))
+Any-image {X} {Y} f xs y found =
+    subst (λ (z : Y). Contains (map f xs) z) found.4
+    (Contains-map f xs found.1 (found.0, found.2, found.3))

@@ -53,7 +53,8 @@ pub same_names : (schema other : Schema) → names_of schema ≡ names_of other 
 same_names schema other names = (all_declared schema other names, all_declared other schema (sym names))
 
 -- ---- what is carried over
-carried_set : (schema other : Schema) (x : Attributes) → names_of schema ≡ names_of other → IsSubset x (universe_of schema)
+carried_set : (schema other : Schema) (x : Attributes) → names_of schema ≡ names_of other
+    → IsSubset x (universe_of schema)
     → carry_attributes schema other x ≡ x
 carried_set schema other x names within = fun_ext (λ (k : ℕ). elim (cases_lt k (width_of other)) [
   | inl inside ↦ carry_attributes-at schema other x k k inside (namesake_itself other schema k (sym names) inside)
@@ -64,7 +65,8 @@ carried_set schema other x names within = fun_ext (λ (k : ℕ). elim (cases_lt 
       none ∙ sym outside
 ])
 
-pub carried_itself : (schema other : Schema) (d : Dependency) → names_of schema ≡ names_of other → IsWithin (universe_of schema) d
+pub carried_itself : (schema other : Schema) (d : Dependency) → names_of schema ≡ names_of other
+    → IsWithin (universe_of schema) d
     → carry_dependency schema other d ≡ d
 carried_itself schema other (fd x y) names within =
     ap (λ (z : Attributes). fd z (carry_attributes schema other y)) (carried_set schema other x names within.0)
@@ -79,14 +81,16 @@ follows_same : (schema other : Schema) → names_of schema ≡ names_of other
     → IsImpliedBy other schema
 follows_same schema other names legal k d l =
     let e = get_or (theory_of schema) k d in
-    subst (λ (f : Dependency). ImpliedBy other f) (sym (carried_itself schema other e names (theory_within schema k d l)))
+    subst (λ (f : Dependency). ImpliedBy other f)
+    (sym (carried_itself schema other e names (theory_within schema k d l)))
     (λ r is. (legal r is).obeys k d l)
 
 pub implied_there : (schema other : Schema) → names_of schema ≡ names_of other
     → HaveSameLegal (width_of schema) (theory_of other) (theory_of schema) → IsImpliedBy other schema
 implied_there schema other names same =
     follows_same schema other names
-    (λ r. subst (λ (n : ℕ). IsLegal n (theory_of other) r → IsLegal n (theory_of schema) r) (ap length names) (same r).0)
+    (λ r. subst (λ (n : ℕ). IsLegal n (theory_of other) r → IsLegal n (theory_of schema) r) (ap
+    length names) (same r).0)
 
 pub implied_back : (schema other : Schema) → names_of schema ≡ names_of other
     → HaveSameLegal (width_of schema) (theory_of other) (theory_of schema) → IsImpliedBy schema other

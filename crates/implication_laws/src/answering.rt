@@ -8,11 +8,14 @@ ghost use Rattle.dep_model.specs.declared.schema.Schema.{Schema};
 ghost use Rattle.fd_discovery.specs.declared.headed_rows.Headed.{Headed};
 ghost use Rattle.desk_implication.specs.Bases.{GivesBasis};
 ghost use Rattle.desk_implication.specs.Certificates.{ChecksProof};
+ghost use Rattle.desk_implication.specs.Closures.{GivesClosure};
+ghost use Rattle.desk_implication.specs.CoverChecks.{ChecksCover};
 ghost use Rattle.desk_implication.specs.Covering.{GivesCover};
 ghost use Rattle.desk_implication.specs.Discoveries.{FindsRules};
 ghost use Rattle.desk_implication.specs.Exhibits.{Exhibits};
 ghost use Rattle.desk_implication.specs.Goals.{IsGoal};
 ghost use Rattle.desk_implication.specs.Implication.{DecidesGoal};
+ghost use Rattle.desk_implication.specs.KeyChecks.{ChecksKey};
 ghost use Rattle.desk_implication.specs.Keys.{ListsKeys, ListsKeysOfPlan};
 ghost use Rattle.desk_implication.specs.Sameness.{ChecksSame};
 ghost use Rattle.desk_responses.specs.ResponseValues.{ResponseValue};
@@ -46,6 +49,22 @@ pub fn basis_has_one_answer()
 pub fn keys_has_one_answer()
     ensures universe { (schema : Schema) → AllowsOne (ListsKeys schema) }
     ensures plan { (schema : Schema) (plan : List Attributes) → AllowsOne (ListsKeysOfPlan schema plan) }
+{}
+
+/// `closure` has one answer to a set.
+pub fn closure_has_one_answer()
+    ensures law { (schema : Schema) (set : List ℕ) → AllowsOne (GivesClosure schema set) }
+{}
+
+/// `check key` has one answer to a set.
+pub fn check_key_has_one_answer()
+    ensures law { (schema : Schema) (set : List ℕ) → AllowsOne (ChecksKey schema set) }
+{}
+
+/// `check cover` has one answer.
+pub fn check_cover_has_one_answer()
+    ensures law { (schema other : Schema) (file other_file : List ℕ)
+        → AllowsOne (ChecksCover schema other file other_file) }
 {}
 
 /// `exhibit` has one answer.

@@ -2,3 +2,4 @@ pub mod ListLemmas
 pub mod SearchLemmas
 pub mod NarrowingLemmas
 pub mod FoundLemmas
+pub mod LeftSideKeys

@@ -1,23 +1,22 @@
 -- Why the keys of a schema or of a scheme are not listed: for `keys`, `keys_of_scheme` and the
--- command `keys` (`desk_cli/Keys`).
-use Rattle.std.specs.Prelude.{◌≡◌, ◌<◌, false, Any}
-use Rattle.attr_sets.specs.Attributes.{Attributes, count_below}
-use Rattle.attr_sets.specs.declared.set.TheConstants.{MOST_ATTRIBUTES}
+-- command `keys` (`desk_implication/Keys`).
+use Rattle.std.specs.Prelude.{◌≡◌, false, Any}
+use Rattle.attr_sets.specs.Attributes.{Attributes}
 use Rattle.dep_model.specs.Dependencies.{is_fd}
 use Rattle.dep_model.specs.declared.failure.Failure.{Failure}
 use Rattle.dep_model.specs.declared.failure.Failure.TheVariants.{Refused, OutOfMemory}
 use Rattle.dep_model.specs.declared.schema.Schema.{Schema}
 use Rattle.dep_model.specs.Schemas.{width_of, universe_of, theory_of}
+use Rattle.fd_closure.specs.LeftSides.{IsWide}
 use Rattle.key_listing.specs.declared.refusal.KeyRefusal.{KeyRefusal}
 use Rattle.key_listing.specs.declared.refusal.KeyRefusal.TheVariants.{TooManyKeys, TooWide}
 use Rattle.key_listing.specs.declared.refusal.SchemeKeyRefusal.{SchemeKeyRefusal}
 use Rattle.key_listing.specs.declared.refusal.SchemeKeyRefusal.TheVariants as of_scheme
-use Rattle.key_listing.specs.declared.refusal.TheConstants.{WIDEST_SEARCHED}
 use Rattle.key_listing.specs.Listing.{AreManyKeys}
 
--- a multivalued dependency is given, and the universe has more attributes than are searched
+-- a multivalued dependency is given, and the universe is too wide to be searched
 abbrev pub IsTooWide : Schema → Type 0
-IsTooWide s = Any (λ d. is_fd d ≡ false) (theory_of s) × (WIDEST_SEARCHED < width_of s)
+IsTooWide s = Any (λ d. is_fd d ≡ false) (theory_of s) × IsWide (theory_of s) (universe_of s)
 
 -- why the keys of a schema are not listed; memory runs out only where they are searched
 abbrev pub IsRefusedListing : Schema → Failure KeyRefusal → Type 0
@@ -26,13 +25,9 @@ IsRefusedListing s (Refused (TooManyKeys found)) =
 IsRefusedListing s (Refused TooWide) = IsTooWide s
 IsRefusedListing s OutOfMemory = IsTooWide s → ⊥
 
--- a scheme has more attributes than are searched
-abbrev pub IsWideScheme : Attributes → Type 0
-IsWideScheme scheme = WIDEST_SEARCHED < count_below scheme MOST_ATTRIBUTES
-
 -- why the keys of a scheme are not listed
 abbrev pub IsRefusedFor : Schema → Attributes → Failure SchemeKeyRefusal → Type 0
 IsRefusedFor s scheme (Refused (of_scheme.TooManyKeys found)) =
-    (IsWideScheme scheme → ⊥) × AreManyKeys (width_of s) (theory_of s) scheme found.items
-IsRefusedFor s scheme (Refused of_scheme.TooWide) = IsWideScheme scheme
-IsRefusedFor s scheme OutOfMemory = IsWideScheme scheme → ⊥
+    (IsWide (theory_of s) scheme → ⊥) × AreManyKeys (width_of s) (theory_of s) scheme found.items
+IsRefusedFor s scheme (Refused of_scheme.TooWide) = IsWide (theory_of s) scheme
+IsRefusedFor s scheme OutOfMemory = IsWide (theory_of s) scheme → ⊥

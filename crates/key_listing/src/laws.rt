@@ -2,13 +2,18 @@
 //! whose clause is the law; so the gate asks for its proof.
 
 ghost use Rattle.std.specs.Prelude.{◌≡◌, ℕ, ◌≤◌, ◌↔◌, true, false, List, All};
-ghost use Rattle.attr_sets.specs.Attributes.{Attributes, below, IsSubset};
+ghost use Rattle.attr_sets.specs.Attributes.{Attributes, below, union, intersection, IsSubset, IsBefore, Disjoint, count_below};
 ghost use Rattle.attr_sets.specs.declared.set.TheConstants.{MOST_ATTRIBUTES};
 ghost use Rattle.dep_model.specs.declared.dep.Dep.{Dep};
 ghost use Rattle.dep_model.specs.Dependencies.{Dependency};
 ghost use Rattle.dep_model.specs.Deps.{dependencies_of, IsDepWithin};
 ghost use Rattle.dep_model.specs.Keys.{IsSuperkey, IsKey};
-ghost use Rattle.key_listing.specs.Narrowing.{IsInEveryKey, IsInNoKey, DropsAttributesInNoKey};
+ghost use Rattle.dep_model.specs.Schemas.{theory_of};
+ghost use Rattle.dep_model.specs.declared.schema.Schema.{Schema};
+ghost use Rattle.fd_closure.specs.LeftSides.{left_sides};
+ghost use Rattle.fd_closure.specs.declared.left_sides.TheConstants.{WIDEST_SEARCHED};
+ghost use Rattle.key_listing.specs.Refusals.{IsTooWide};
+ghost use Rattle.key_listing.specs.Narrowing.{AreUndetermined, IsInEveryKey, IsInNoKey, DropsAttributesInNoKey};
 
 /// An attribute that the scheme's others do not determine is in every key of the scheme.
 pub fn attribute_in_every_key()
@@ -38,4 +43,25 @@ pub fn scheme_without_attributes_in_no_key()
         → All (IsDepWithin (below n)) ds
         → IsSubset scheme (below n) → DropsAttributesInNoKey n (dependencies_of ds) scheme rest
         → IsKey n (dependencies_of ds) scheme k ↔ IsKey n (dependencies_of ds) rest k }
+{}
+
+/// The keys of a scheme are exactly the keys of its attributes in left sides, each with those others that
+/// the former do not determine; and they ascend as those do.
+pub fn keys_lie_in_left_sides()
+    ensures keys { (n : ℕ) (ds : List Dep) (scheme rest k : Attributes) → n ≤ MOST_ATTRIBUTES
+        → All (IsDepWithin (below n)) ds
+        → IsSubset scheme (below n) → AreUndetermined n (dependencies_of ds) scheme rest
+        → IsKey n (dependencies_of ds) scheme k
+        ↔ ((j : Attributes)
+        × IsKey n (dependencies_of ds) (intersection scheme (left_sides (dependencies_of ds))) j
+        × (k ≡ union rest j)) }
+    ensures order { (rest x y : Attributes) → Disjoint x rest → Disjoint y rest
+        → IsBefore x y ↔ IsBefore (union rest x) (union rest y) }
+{}
+
+/// Where few attributes stand in left sides, no schema is refused for its width.
+pub fn few_left_sides_are_never_refused()
+    ensures law { (schema : Schema)
+        → count_below (left_sides (theory_of schema)) MOST_ATTRIBUTES ≤ WIDEST_SEARCHED
+        → IsTooWide schema → ⊥ }
 {}

@@ -3,8 +3,9 @@
 //! `keys` gives exactly all keys of the universe, ascending. By functional dependencies alone they
 //! are found one from another, at any width (Lucchesi and Osborn 1978; `fd_closure::laws` has the
 //! theorem). Where a multivalued dependency is given, they are searched between what is in every
-//! key and what is in some, up to `WIDEST_SEARCHED` attributes. `keys_of_scheme` searches so for
-//! exactly all keys of a scheme of at most as many attributes, ascending. `laws` says which
+//! key and what is in some, where at most `fd_closure::WIDEST_SEARCHED` attributes stand in left
+//! sides. `keys_of_scheme` searches so for exactly all keys of a scheme with at most as many,
+//! ascending. `laws` says which
 //! attributes are in every key, and which in none. `one_key` takes no memory.
 #![tactic(auto)]
 
@@ -19,6 +20,6 @@ mod searching;
 mod superkeys;
 
 pub use listing::keys;
-pub use refusal::{KeyRefusal, MOST_KEYS, SchemeKeyRefusal, WIDEST_SEARCHED};
+pub use refusal::{KeyRefusal, MOST_KEYS, SchemeKeyRefusal};
 pub use schemes::keys_of_scheme;
 pub use superkeys::one_key;

@@ -4,19 +4,20 @@ ghost use Rattle.key_listing.specs.Listing.{AreAllKeys, AreFoundKeys};
 ghost use Rattle.key_listing.specs.Refusals.{IsTooWide, IsRefusedListing};
 
 use crate::exchanging::exchanged_keys;
-use crate::refusal::{KeyRefusal, MOST_KEYS, WIDEST_SEARCHED};
+use crate::refusal::{KeyRefusal, MOST_KEYS};
 use crate::searching::searched_keys;
 use attr_sets::AttrSet;
 use dep_model::{Failure, OutOfMemory, Schema};
-use fd_closure::is_functional;
+use fd_closure::{is_functional, is_wide};
 use std::alloc::Global;
 
 /// All keys of the universe by all dependencies, ascending: of two keys the greatest attribute that is
 /// in one alone decides. There are at most `MOST_KEYS`; where there are more, or where a multivalued
-/// dependency is given over more than `WIDEST_SEARCHED` attributes, the keys are refused.
+/// dependency is given and more than `fd_closure::WIDEST_SEARCHED` attributes stand in left sides, the
+/// keys are refused.
 ///
 /// By functional dependencies alone the time grows with the number of keys. Where a multivalued one is
-/// given, it is exponential in the attributes at worst, as for `keys_of_scheme`.
+/// given, it is exponential in the attributes of left sides at worst, as for `keys_of_scheme`.
 pub fn keys(alloc: Global, schema: &Schema) -> Result<Vec<AttrSet>, Failure<KeyRefusal>>
     ensures keys { IfOk result (λ keys.
         AreAllKeys (width_of schema.now) (theory_of schema.now) (universe_of schema.now) keys.items) }
@@ -36,14 +37,14 @@ pub fn keys(alloc: Global, schema: &Schema) -> Result<Vec<AttrSet>, Failure<KeyR
     }
 }
 
-// Whether a multivalued dependency is given, and there are more attributes than are searched.
+// Whether a multivalued dependency is given, and more attributes than are searched stand in left sides.
 fn is_too_wide(schema: &Schema) -> bool
     ensures too_wide { IsTrue result ↔ IsTooWide schema.now }
 {
     if is_functional(schema.deps()) {
         return false;
     }
-    schema.width() > WIDEST_SEARCHED
+    is_wide(schema.deps(), AttrSet::full(schema.width()))
 }
 
 // The keys of the universe, one more than are listed at most.

@@ -3,16 +3,14 @@ use attr_sets::AttrSet;
 /// The most keys that are listed.
 pub const MOST_KEYS: usize = 1_024;
 
-/// The most attributes over whose subsets keys are searched.
-pub const WIDEST_SEARCHED: u8 = 20;
-
 /// Why the keys of a schema are not listed. It has no `Display`: a universe that is too wide is printed by
 /// the names of the schema.
 #[derive(Debug, Drop)]
 pub enum KeyRefusal {
     /// There are more than `MOST_KEYS`. One more than that are given, ascending.
     TooManyKeys { found: Vec<AttrSet> },
-    /// A multivalued dependency is given, and there are more than `WIDEST_SEARCHED` attributes.
+    /// A multivalued dependency is given, and more than `fd_closure::WIDEST_SEARCHED` attributes stand
+    /// in left sides.
     TooWide,
 }
 
@@ -21,6 +19,6 @@ pub enum KeyRefusal {
 pub enum SchemeKeyRefusal {
     /// There are more than `MOST_KEYS`. One more than that are given, ascending.
     TooManyKeys { found: Vec<AttrSet> },
-    /// The scheme has more than `WIDEST_SEARCHED` attributes.
+    /// More than `fd_closure::WIDEST_SEARCHED` attributes of the scheme stand in left sides.
     TooWide,
 }

@@ -1,5 +1,5 @@
 -- The offences of rows: for each dependency that they break, the least pair of rows that breaks it.
--- For `offences` and `check rows` (`desk_cli/Legality`).
+-- For `offences` and `check rows` (`desk_tables/Legality`).
 use Rattle.std.specs.Prelude.{◌≡◌, ◌+◌, ◌<◌, ◌≤◌, ◌⊎◌, ℕ, List, [], ◌∷◌, length, Contains}
 use Rattle.attr_sets.specs.Attributes.{below, union, difference}
 use Rattle.dep_model.specs.Tuples.{Tuple, Relation, AgreeOn}

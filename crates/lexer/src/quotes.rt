@@ -38,6 +38,7 @@ impl<'a> QuotedName<'a> {
 
 /// What begins with a quote: a quoted name, or a flaw.
 #[tactic(auto, unfolding(crate::specs::Pieces::quoted_piece))]
+#[inline(never)]
 pub fn quoted_piece(text: &[u8]) -> Piece
     requires { 0 < length text.now }
     ensures exact { result ≡ quoted_piece text.now }

@@ -1,5 +1,5 @@
 -- Tables as values: for what makes tables, for what takes them, and for the answers that have some
--- (`desk_cli/ResponseValues`).
+-- (`desk_responses/ResponseValues`).
 use Rattle.std.specs.Prelude.{ℕ, List, [], ◌∷◌, ◌++◌, map}
 use Rattle.dep_model.specs.Tuples.{Tuple, Relation}
 use Rattle.named_tables.specs.declared.table.HeldTable.{HeldTable}

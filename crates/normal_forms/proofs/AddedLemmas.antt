@@ -3,8 +3,8 @@ use Rattle.std.proofs.Common.{◌≡◌, ℕ, ◌≤◌, true, false, List, [], 
 use mathlib.Core.Path.{fun_ext}
 use Rattle.std.proofs.lemmas.Bool.{true≢false, ltb-true, lt-ltb, or_cases}
 use Rattle.std.proofs.lemmas.Bool.Decides.{nat_tests}
-use Rattle.std.proofs.lemmas.List.Elements.{All-filter}
-use Rattle.std.specs.Prelude.{All}
+use Rattle.std.proofs.lemmas.List.Elements.{All-filter, All-contains, All-contains_itself}
+use Rattle.std.specs.Prelude.{All, Contains}
 use Rattle.attr_sets.specs.Attributes.{Attributes, below, only, union, intersection, IsSubset}
 use Rattle.dep_model.specs.declared.dep.Dep.{Dep}
 use Rattle.dep_model.specs.Dependencies.{Dependency, fd, mvd, is_fd, functional_part, left_of, IsWithin}
@@ -14,6 +14,8 @@ use Rattle.dep_model.proofs.RuleLemmas.{reflexivity_obeyed, fd_weaker_obeyed}
 use Rattle.dep_model.proofs.DepLemmas.{dependencies_all-from}
 use Rattle.fd_closure.specs.FunctionallyClosed.{IsFunctionallyClosed}
 use Rattle.fd_closure.proofs.ClosedSets.{IsClosure, closure_set, closed-to, closed-from}
+use Rattle.fd_closure.specs.LeftSides.{left_sides, InLeftSideWithin}
+use Rattle.fd_closure.proofs.LeftSideLemmas.{left_sides_in}
 use Rattle.dep_basis.proofs.RestLemmas.{closure_rest}
 use Rattle.normal_forms.specs.Adding.{AddOnlyThemselves}
 use Rattle.attr_sets.proofs.AttributesLemmas.{same_at}
@@ -28,6 +30,10 @@ functional_twice (mvd x y ∷ ds) = functional_twice ds
 -- and its members lie where those of the list do
 pub functional_within : (n : ℕ) (ds : List Dep) → All (IsDepWithin (below n)) ds → All (IsWithin (below n)) (functional_part (dependencies_of ds))
 functional_within n ds within = All-filter is_fd (IsWithin (below n)) (dependencies_of ds) (dependencies_all-from (IsWithin (below n)) ds within)
+
+-- and a left side among them is one of the list
+pub functional_side : (ds : List Dependency) (reach : Attributes) (a : ℕ) → InLeftSideWithin reach (functional_part ds) a → left_sides ds a ≡ true
+functional_side ds reach a h = (left_sides_in ds a).1 (h.0, All-contains (Contains ds) (functional_part ds) h.0 (All-filter is_fd (Contains ds) ds (All-contains_itself ds)) h.1, h.3)
 
 -- ---- closures
 -- a set determines its members

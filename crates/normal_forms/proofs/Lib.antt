@@ -6,3 +6,4 @@ pub mod BreakLemmas
 pub mod SearchLemmas
 pub mod PrimeLemmas
 pub mod FormLemmas
+pub mod PassLemmas

@@ -1,13 +1,11 @@
 -- Which violation of a form is named of a scheme: for `violation`, `visible_violation`, `check form`
--- (`desk_cli/NormalForms`) and split_forms.
-use Rattle.std.specs.Prelude.{◌≡◌, ℕ, ◌<◌, List, Some, All, take, slice_get}
-use Rattle.attr_sets.specs.Attributes.{Attributes, IsSubset, IsBefore, count_below}
-use Rattle.attr_sets.specs.declared.set.TheConstants.{MOST_ATTRIBUTES}
+-- (`desk_designs/NormalForms`) and split_forms.
+use Rattle.std.specs.Prelude.{◌≡◌, ℕ, List, Some, All, take, slice_get}
+use Rattle.attr_sets.specs.Attributes.{Attributes, IsSubset, IsBefore}
 use Rattle.dep_model.specs.Dependencies.{Dependency, left_of}
 use Rattle.dep_model.specs.Forms.{IsThird, IsBcnf, IsFourth}
 use Rattle.normal_forms.specs.declared.forms.Form.{Form}
 use Rattle.normal_forms.specs.declared.forms.Form.TheVariants.{Third, Bcnf, Fourth}
-use Rattle.normal_forms.specs.declared.forms.TheConstants.{WIDEST_TESTED}
 use Rattle.normal_forms.specs.Violations.{Violates}
 
 -- a scheme is in a normal form
@@ -15,10 +13,6 @@ abbrev pub IsInForm : ℕ → List Dependency → Form → Attributes → Type 0
 IsInForm n ds Third scheme = IsThird n ds scheme
 IsInForm n ds Bcnf scheme = IsBcnf n ds scheme
 IsInForm n ds Fourth scheme = IsFourth n ds scheme
-
--- a scheme has more attributes than are tested
-abbrev pub IsWide : Attributes → Type 0
-IsWide scheme = WIDEST_TESTED < count_below scheme MOST_ATTRIBUTES
 
 -- x is the first subset of the scheme that violates the form, in the order of sets, with the
 -- right side y

@@ -1,8 +1,9 @@
 -- The definitions of normal_forms, in reading order: what violates a form, the violation that is
--- chosen, and the parts of the test.
+-- chosen, the parts of the test, and what its searches pass over.
 pub mod Violations
 pub mod Chosen
 pub mod Cuts
 pub mod Breaking
 pub mod Adding
 pub mod Primes
+pub mod Passing

@@ -1,13 +1,16 @@
 ghost use Rattle.std.specs.Prelude.{◌≡◌, ℕ, ◌↔◌, true, List, IsTrue, IsNone, IfSome};
-ghost use Rattle.attr_sets.specs.Attributes.{below, difference, IsSubset, IsEmpty, IsFirstFrom};
+ghost use Rattle.attr_sets.specs.Attributes.{Attributes, below, difference, IsSubset, IsEmpty, IsFirstFrom};
 ghost use Rattle.attr_sets.specs.Sets.{attributes};
 ghost use Rattle.dep_model.specs.Dependencies.{Dependency, functional_part};
 ghost use Rattle.dep_model.specs.Keys.{InClosure, IsBlockOn};
 ghost use Rattle.dep_model.specs.Schemas.{width_of, universe_of, theory_of};
 ghost use Rattle.normal_forms.specs.Breaking.{Breaks, IsFirstBreaking, NoneBreaks};
+ghost use Rattle.normal_forms.specs.Passing.{LiesBetween, PassesOver};
 ghost use Rattle.normal_forms.specs.Violations.{Violates};
 
 use crate::forms::Form;
+use crate::parting::parts_none;
+use crate::passing::{FEWEST_PASSED, determines_none, filled};
 use attr_sets::AttrSet;
 use dep_basis::{block, closure_of, has_two_parts};
 use dep_model::Schema;
@@ -74,9 +77,68 @@ pub fn first_breaking(
         if breaks(schema, scheme, form, functional, set) {
             return Some(set);
         }
-        next = set.next_subset(whole);
+        next = passed(schema, scheme, form, functional, whole, set).next_subset(whole);
     }
     None
+}
+
+// The last of the subsets of a set that are passed over after one: with it all that comes of it by
+// adding attributes before its first, where it is seen at once that nothing of that violates the form.
+fn passed(
+    schema: &Schema,
+    scheme: AttrSet,
+    form: Form,
+    functional: bool,
+    whole: AttrSet,
+    set: AttrSet,
+) -> AttrSet
+    requires scheme { IsSubset (attributes scheme) (universe_of schema.now) }
+    requires within_scheme { IsSubset (attributes whole) (attributes scheme) }
+    requires form { form ≡ Form.Third → ⊥ }
+    requires functional { IsTrue functional
+        → functional_part (theory_of schema.now) ≡ theory_of schema.now }
+    requires set { IsSubset (attributes set) (attributes whole) }
+    ensures holds { IsSubset (attributes set) (attributes result) }
+    ensures within { IsSubset (attributes result) (attributes whole) }
+    ensures passed { PassesOver
+        (Breaks (width_of schema.now) (theory_of schema.now) form (attributes scheme))
+        (attributes whole) (attributes set) (attributes result) }
+{
+    let most = filled(set, whole);
+    let few = most.difference(set).len() < FEWEST_PASSED;
+    if few {
+        return set;
+    }
+    let passes = breaks_none(schema, scheme, form, functional, set, most);
+    if passes { most } else { set }
+}
+
+// Whether it is seen at once that no set between two violates Boyce-Codd or fourth form.
+fn breaks_none(
+    schema: &Schema,
+    scheme: AttrSet,
+    form: Form,
+    functional: bool,
+    least: AttrSet,
+    most: AttrSet,
+) -> bool
+    requires scheme { IsSubset (attributes scheme) (universe_of schema.now) }
+    requires most { IsSubset (attributes most) (attributes scheme) }
+    requires least { IsSubset (attributes least) (attributes most) }
+    requires form { form ≡ Form.Third → ⊥ }
+    requires functional { IsTrue functional
+        → functional_part (theory_of schema.now) ≡ theory_of schema.now }
+    ensures none { IsTrue result → (x : Attributes)
+        → LiesBetween (attributes least) (attributes most) x
+        → Breaks (width_of schema.now) (theory_of schema.now) form (attributes scheme) x → ⊥ }
+{
+    if functional {
+        return determines_none(schema, scheme, true, least, most);
+    }
+    match form {
+        Form::Fourth => parts_none(schema, scheme, least, most),
+        Form::Third | Form::Bcnf => determines_none(schema, scheme, false, least, most),
+    }
 }
 
 // The right side of a left side that violates Boyce-Codd or fourth form: for the one all that it

@@ -1,8 +1,5 @@
 use attr_sets::AttrSet;
 
-/// The most attributes of a scheme that is tested.
-pub const WIDEST_TESTED: u8 = 20;
-
 /// A normal form (Codd 1972, 1974; Fagin 1977).
 #[derive(Clone, Copy, Debug, PartialEq, Eq)]
 pub enum Form {
@@ -23,7 +20,7 @@ pub struct Breach {
     pub rhs: AttrSet,
 }
 
-/// A scheme has more than `WIDEST_TESTED` attributes.
+/// More attributes of a scheme than are searched stand in left sides.
 #[derive(Clone, Copy, Debug, PartialEq, Eq)]
 pub struct TooWide {
     pub scheme: AttrSet,

@@ -31,6 +31,14 @@ pub fn one_visible_violation()
         → (x ≡ v) × (y ≡ w) }
 {}
 
+/// No proper part of the left side of the chosen violation violates the form.
+pub fn chosen_violation_is_minimal()
+    ensures law { (n : ℕ) (ds : List Dependency) (form : Form) (scheme x y v w : Attributes)
+        → IsSubset scheme (below n)
+        → IsChosenViolation n ds form scheme x y → IsSubset v x → (IsSubset x v → ⊥)
+        → Violates n ds form scheme v w → ⊥ }
+{}
+
 /// The sides of a violation of Boyce-Codd or fourth form part the scheme; so it can be replaced
 /// by two smaller schemes without loss (`dep_model::laws_of_joins::split_is_lossless`).
 pub fn violation_parts_the_scheme()

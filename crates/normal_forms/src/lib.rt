@@ -1,9 +1,10 @@
 //! Tests of normal forms: whether a scheme is in third, Boyce-Codd or fourth normal form, and the
 //! violation that shows where it is not.
 //!
-//! `violation` ranges over every left side within a scheme of at most `WIDEST_TESTED` attributes:
-//! it answers none exactly where the scheme is in the form, and else the first left side that
-//! violates it, in the order of sets, with its right side. `visible_violation` looks at the given
+//! `violation` ranges over every left side within a scheme, of which at most
+//! `fd_closure::WIDEST_SEARCHED` attributes stand in given left sides: it answers none exactly where
+//! the scheme is in the form, and else the first left side that violates it, in the order of sets,
+//! with its right side. `visible_violation` looks at the given
 //! left sides alone, at any width. `laws` has what holds of violations. No call takes memory.
 #![tactic(auto)]
 
@@ -11,9 +12,11 @@ mod breaking;
 mod forms;
 pub mod laws;
 mod narrowing;
+mod parting;
+mod passing;
 mod primes;
 mod testing;
 mod third;
 
-pub use forms::{Breach, Form, TooWide, WIDEST_TESTED};
+pub use forms::{Breach, Form, TooWide};
 pub use testing::{violation, visible_violation};

@@ -3,6 +3,7 @@ ghost use Rattle.attr_sets.specs.Attributes.{IsSubset};
 ghost use Rattle.attr_sets.specs.Sets.{attributes};
 ghost use Rattle.dep_model.specs.Dependencies.{functional_part};
 ghost use Rattle.dep_model.specs.Schemas.{width_of, universe_of, theory_of};
+ghost use Rattle.fd_closure.specs.LeftSides.{left_sides};
 ghost use Rattle.normal_forms.specs.Adding.{AddOnlyThemselves};
 ghost use Rattle.normal_forms.specs.Breaking.{IsEnough};
 
@@ -25,6 +26,7 @@ pub fn searched_attributes(
     requires functional { IsTrue functional
         → functional_part (theory_of schema.now) ≡ theory_of schema.now }
     ensures within { IsSubset (attributes result) (attributes scheme) }
+    ensures sides { IsSubset (attributes result) (left_sides (theory_of schema.now)) }
     ensures enough { IsEnough (width_of schema.now) (theory_of schema.now) form (attributes scheme)
         (attributes result) }
 {
@@ -39,6 +41,7 @@ pub fn searched_attributes(
 pub fn functionally_searched_attributes(schema: &Schema, scheme: AttrSet) -> AttrSet
     requires scheme { IsSubset (attributes scheme) (universe_of schema.now) }
     ensures within { IsSubset (attributes result) (attributes scheme) }
+    ensures sides { IsSubset (attributes result) (left_sides (theory_of schema.now)) }
     ensures added { AddOnlyThemselves (width_of schema.now) (functional_part (theory_of schema.now))
         (attributes scheme) (attributes result) }
 {

@@ -1,12 +1,14 @@
 ghost use Rattle.std.specs.Prelude.{◌≡◌, ◌↔◌, true, IsTrue, IsNone, IfSome};
-ghost use Rattle.attr_sets.specs.Attributes.{IsSubset};
+ghost use Rattle.attr_sets.specs.Attributes.{union, IsSubset};
 ghost use Rattle.attr_sets.specs.Sets.{attributes};
 ghost use Rattle.dep_model.specs.Dependencies.{functional_part};
 ghost use Rattle.dep_model.specs.Keys.{IsSuperkey, IsKey, IsPrime};
 ghost use Rattle.dep_model.specs.Schemas.{width_of, universe_of, theory_of};
 ghost use Rattle.normal_forms.specs.Adding.{AddOnlyThemselves};
+ghost use Rattle.normal_forms.specs.Passing.{PassesOver};
 ghost use Rattle.normal_forms.specs.Primes.{BecomesSuperkeyBy, ArePrime, IsPrimeOrNot};
 
+use crate::passing::{FEWEST_PASSED, filled};
 use attr_sets::AttrSet;
 use dep_model::Schema;
 use fd_closure::{follows, functional_key};
@@ -74,9 +76,49 @@ fn key_with(schema: &Schema, scheme: AttrSet, whole: AttrSet, attribute: u8) -> 
         if becomes_superkey_by(schema, scheme, before, attribute) {
             return Some(functional_key(schema.deps(), before.with(attribute)));
         }
-        next = set.next_subset(others);
+        next = passed_keys(schema, scheme, rest, attribute, others, set).next_subset(others);
     }
     None
+}
+
+// The last of the subsets of a set that are passed over after one: with it all that comes of it by
+// adding attributes before its first, where with the rest it is a superkey, or where all of that with
+// the rest and the attribute is none.
+fn passed_keys(
+    schema: &Schema,
+    scheme: AttrSet,
+    rest: AttrSet,
+    attribute: u8,
+    whole: AttrSet,
+    set: AttrSet,
+) -> AttrSet
+    requires scheme { IsSubset (attributes scheme) (universe_of schema.now) }
+    requires whole { IsSubset (attributes whole) (attributes scheme) }
+    requires rest { IsSubset (attributes rest) (attributes scheme) }
+    requires attribute { attributes scheme attribute ≡ true }
+    requires set { IsSubset (attributes set) (attributes whole) }
+    ensures holds { IsSubset (attributes set) (attributes result) }
+    ensures within { IsSubset (attributes result) (attributes whole) }
+    ensures passed { PassesOver
+        (λ y. BecomesSuperkeyBy (width_of schema.now) (functional_part (theory_of schema.now))
+        (attributes scheme) (union y (attributes rest)) attribute)
+        (attributes whole) (attributes set) (attributes result) }
+{
+    let most = filled(set, whole);
+    let few = most.difference(set).len() < FEWEST_PASSED;
+    if few {
+        return set;
+    }
+    let with_rest = set.union(rest);
+    if is_superkey(schema, scheme, with_rest) {
+        return most;
+    }
+    let with_most = most.union(rest).with(attribute);
+    if is_superkey(schema, scheme, with_most) {
+        set
+    } else {
+        most
+    }
 }
 
 // Whether a set is no superkey of a scheme and becomes one with an attribute.

@@ -2,37 +2,41 @@ ghost use Rattle.std.specs.Prelude.{◌≡◌, ◌↔◌, IsErr, IsNone, IfOk, I
 ghost use Rattle.attr_sets.specs.Attributes.{IsSubset};
 ghost use Rattle.attr_sets.specs.Sets.{attributes};
 ghost use Rattle.dep_model.specs.Schemas.{width_of, universe_of, theory_of};
-ghost use Rattle.normal_forms.specs.Chosen.{IsInForm, IsWide, IsChosenViolation};
+ghost use Rattle.fd_closure.specs.LeftSides.{left_sides, IsWide};
+ghost use Rattle.normal_forms.specs.Chosen.{IsInForm, IsChosenViolation};
 ghost use Rattle.normal_forms.specs.Chosen.{IsVisibleViolation, HasNoVisibleViolation};
 
 use crate::breaking::{breaks, first_breaking, right_side};
-use crate::forms::{Breach, Form, TooWide, WIDEST_TESTED};
+use crate::forms::{Breach, Form, TooWide};
 use crate::narrowing::searched_attributes;
 use crate::third::third_violation;
 use attr_sets::AttrSet;
 use dep_model::{Schema, sides};
-use fd_closure::is_functional;
+use fd_closure::{is_functional, is_wide};
 
 /// The violation of a form on a scheme, where the scheme is not in the form: of its subsets, in
 /// the order of sets, the first that violates the form, with its right side. For third form that
 /// is the first attribute beyond the left side that it determines and that is not prime, for
 /// Boyce-Codd form all that it determines beyond itself, for fourth form the part with the first
-/// attribute beyond it. A scheme of more than `WIDEST_TESTED` attributes is not tested.
+/// attribute beyond it. A scheme is not tested where more than `fd_closure::WIDEST_SEARCHED` of its
+/// attributes stand in given left sides.
 ///
 /// The time is exponential at worst: with k attributes of given left sides in the scheme, 2 to the
-/// power k subsets are tried. For third form they are tried again for each attribute of which it is
-/// asked whether it is prime.
+/// power k subsets are tried, less those of which it is seen together that they violate nothing. For
+/// third form they are tried again for each attribute of which it is asked whether it is prime.
 pub fn violation(schema: &Schema, scheme: AttrSet, form: Form) -> Result<Option<Breach>, TooWide>
     requires scheme { IsSubset (attributes scheme) (universe_of schema.now) }
-    ensures too_wide { IsErr result ↔ IsWide (attributes scheme) }
+    ensures too_wide { IsErr result ↔ IsWide (theory_of schema.now) (attributes scheme) }
     ensures scheme { IfErr result (λ refusal. refusal.scheme ≡ scheme) }
     ensures none { IfOk result (λ found. IsNone found
         ↔ IsInForm (width_of schema.now) (theory_of schema.now) form (attributes scheme)) }
     ensures chosen { IfOk result (λ found. IfSome found (λ breach.
         IsChosenViolation (width_of schema.now) (theory_of schema.now) form (attributes scheme)
         (attributes breach.lhs) (attributes breach.rhs))) }
+    ensures in_left_sides { IfOk result (λ found. IfSome found (λ breach.
+        IsSubset (attributes breach.lhs) (left_sides (theory_of schema.now)))) }
 {
-    if scheme.len() > WIDEST_TESTED {
+    if is_wide(schema.deps(), scheme) {
         return Err(TooWide { scheme });
     }
     match form {
@@ -50,6 +54,8 @@ fn first_violation(schema: &Schema, scheme: AttrSet, form: Form) -> Option<Breac
     ensures chosen { IfSome result (λ breach.
         IsChosenViolation (width_of schema.now) (theory_of schema.now) form (attributes scheme)
         (attributes breach.lhs) (attributes breach.rhs)) }
+    ensures in_left_sides { IfSome result (λ breach.
+        IsSubset (attributes breach.lhs) (left_sides (theory_of schema.now))) }
 {
     let functional = is_functional(schema.deps());
     let whole = searched_attributes(schema, scheme, form, functional);

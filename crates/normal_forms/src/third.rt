@@ -5,11 +5,15 @@ ghost use Rattle.dep_model.specs.Dependencies.{functional_part};
 ghost use Rattle.dep_model.specs.Forms.{IsThird};
 ghost use Rattle.dep_model.specs.Keys.{IsSuperkey};
 ghost use Rattle.dep_model.specs.Schemas.{width_of, universe_of, theory_of};
+ghost use Rattle.fd_closure.specs.LeftSides.{left_sides};
+ghost use Rattle.normal_forms.specs.Breaking.{Breaks};
+ghost use Rattle.normal_forms.specs.Passing.{PassesOver};
 ghost use Rattle.normal_forms.specs.Violations.{DeterminesBeyond};
 ghost use Rattle.normal_forms.specs.Chosen.{IsChosenViolation};
 
 use crate::forms::{Breach, Form};
 use crate::narrowing::functionally_searched_attributes;
+use crate::passing::{FEWEST_PASSED, determines_none, filled};
 use crate::primes::{Sifted, prime_or_not};
 use attr_sets::AttrSet;
 use dep_model::Schema;
@@ -24,6 +28,8 @@ pub fn third_violation(schema: &Schema, scheme: AttrSet) -> Option<Breach>
     ensures chosen { IfSome result (λ breach.
         IsChosenViolation (width_of schema.now) (theory_of schema.now) Form.Third (attributes scheme)
         (attributes breach.lhs) (attributes breach.rhs)) }
+    ensures in_left_sides { IfSome result (λ breach.
+        IsSubset (attributes breach.lhs) (left_sides (theory_of schema.now))) }
 {
     let whole = functionally_searched_attributes(schema, scheme);
     let mut primes = AttrSet::empty();
@@ -37,9 +43,32 @@ pub fn third_violation(schema: &Schema, scheme: AttrSet) -> Option<Breach>
                 return Some(Breach { lhs, rhs });
             }
         }
-        next = lhs.next_subset(whole);
+        next = passed_third(schema, scheme, whole, lhs).next_subset(whole);
     }
     None
+}
+
+// The last of the subsets of a set that are passed over after one: with it all that comes of it by
+// adding attributes before its first, where it is seen at once that nothing of that determines some of
+// the scheme and not all.
+fn passed_third(schema: &Schema, scheme: AttrSet, whole: AttrSet, set: AttrSet) -> AttrSet
+    requires scheme { IsSubset (attributes scheme) (universe_of schema.now) }
+    requires within_scheme { IsSubset (attributes whole) (attributes scheme) }
+    requires set { IsSubset (attributes set) (attributes whole) }
+    ensures holds { IsSubset (attributes set) (attributes result) }
+    ensures within { IsSubset (attributes result) (attributes whole) }
+    ensures passed { PassesOver
+        (Breaks (width_of schema.now) (functional_part (theory_of schema.now)) Form.Bcnf
+        (attributes scheme))
+        (attributes whole) (attributes set) (attributes result) }
+{
+    let most = filled(set, whole);
+    let few = most.difference(set).len() < FEWEST_PASSED;
+    if few {
+        return set;
+    }
+    let passes = determines_none(schema, scheme, true, set, most);
+    if passes { most } else { set }
 }
 
 // What a left side determines of a scheme beyond itself by the functional dependencies; nothing

@@ -29,14 +29,16 @@ pub tables_length : (s : Schema) (rows : Relation) (number : ℕ) (plan : List A
 tables_length s rows number [] = refl
 tables_length s rows number (x ∷ plan) = ap (λ (k : ℕ). suc k) (tables_length s rows (number + 1) plan)
 
-pub table_at : (s : Schema) (rows : Relation) (number : ℕ) (plan : List Attributes) (k : ℕ) (x : Attributes) (d : TableValue)
+pub table_at : (s : Schema) (rows : Relation) (number : ℕ) (plan : List Attributes) (k : ℕ)
+    (x : Attributes) (d : TableValue)
     → k < length plan → get_or (tables_from s rows number plan) k d ≡ table_of s rows (number + k) (get_or plan k x)
 table_at s rows number [] k x d lt = absurd (omega (arith, lt))
 table_at s rows number (y ∷ plan) zero x d lt =
     let same : number ≡ number + 0 = omega arith in ap (λ (m : ℕ). table_of s rows m y) same
 table_at s rows number (y ∷ plan) (suc k) x d lt =
     let same : (number + 1) + k ≡ number + suc k = omega arith in
-    table_at s rows (number + 1) plan k x d (omega (arith, lt)) ∙ ap (λ (m : ℕ). table_of s rows m (get_or plan k x)) same
+    table_at s rows (number + 1) plan k x d (omega (arith, lt))
+    ∙ ap (λ (m : ℕ). table_of s rows m (get_or plan k x)) same
 
 module _ (s : Schema) (plan : List AttrSet) (designs : List TableDesign) (rows : Relation) (tables : List TableValue)
     (sound : IsSoundDesign s plan designs) (are : AreTablesOf s (schemes_of plan) rows tables) where
@@ -44,7 +46,8 @@ module _ (s : Schema) (plan : List AttrSet) (designs : List TableDesign) (rows :
   same_tables =
       are.projections
       ∙ ap (λ (ordered : List Attributes). tables_from s rows 1 ordered)
-      (one_order (width_of s) (theory_of s) (schemes_of plan) are.ordered (schemes_of sound.ordered) are.order sound.order)
+      (one_order (width_of s) (theory_of s) (schemes_of plan) are.ordered (schemes_of sound.ordered)
+      are.order sound.order)
 
   same_length : length tables ≡ length designs
   same_length =
@@ -57,7 +60,9 @@ module _ (s : Schema) (plan : List AttrSet) (designs : List TableDesign) (rows :
   design_at k design at =
       subst (λ (t : TableDesign). IsTableOf s (take k designs) (get_or sound.ordered k design.scheme) t)
       (get_or_from_slice_get designs k design design at)
-      (sound.design.each k (omega (arith, slice_get_within designs k design at, sound.design.one_each)) design.scheme design)
+      (sound.design.each k
+      (omega (arith, slice_get_within designs k design at, sound.design.one_each)) design.scheme
+      design)
 
   -- and the table there
   value_at : (k : ℕ) (design : TableDesign) (table : TableValue) → slice_get designs k ≡ Some design
@@ -103,8 +108,11 @@ module _ (s : Schema) (plan : List AttrSet) (designs : List TableDesign) (rows :
 
   pub references_hold : LegalFor s rows → ReferencesHoldIn designs tables
   references_hold legal k j design other table other_table at here refers other_at other_here =
-      subst (λ (r : Relation). ReferenceHolds (attributes design.scheme) r (attributes other.scheme) other_table.rows (attributes other.key))
+      subst (λ (r : Relation). ReferenceHolds (attributes design.scheme) r (attributes other.scheme)
+      other_table.rows (attributes other.key))
       (sym (rows_are k design table at here))
-      (subst (λ (r : Relation). ReferenceHolds (attributes design.scheme) (ordered_projection (attributes design.scheme) rows) (attributes other.scheme) r (attributes other.key))
+      (subst (λ (r : Relation). ReferenceHolds (attributes design.scheme)
+      (ordered_projection (attributes design.scheme) rows) (attributes other.scheme) r
+      (attributes other.key))
       (sym (rows_are j other other_table other_at other_here))
       (sound.references_hold rows legal design other j (contained k design at) refers other_at))

@@ -35,7 +35,8 @@ one_synthesis s one other (plan, third, says) (also, third', says') =
     (grouped_same (width_of s) (theory_of s) plan also third.grouped third'.grouped)
     ∙ sym says'
 
-pub form_designed : (s : Schema) (form : Form) (plan other : List AttrSet) (designs : List TableDesign) (rows : Relation)
+pub form_designed : (s : Schema) (form : Form) (plan other : List AttrSet)
+    (designs : List TableDesign) (rows : Relation)
     (tables : List TableValue) → IsPlanInForm s form plan → IsPlanInForm s form other
     → IsSoundDesign s plan designs → AreTablesOf s (schemes_of other) rows tables → AreDesignedAs s designs tables
 form_designed s form plan other designs rows tables one two sound are =

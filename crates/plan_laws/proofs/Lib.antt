@@ -1,6 +1,12 @@
 mod PassingLaws
 mod DesignedLaws
 mod RejoinedLaws
-mod UniqueLaws
-mod FormTables
+pub mod UniqueLaws
+pub mod FormTables
 mod NameLaws
+pub mod OneDesign
+mod DesignTexts
+pub mod SplitAnswers
+pub mod DesignAnswers
+pub mod RowAnswers
+pub mod SampleAnswers

@@ -14,7 +14,8 @@ use Rattle.dep_model.specs.Schemas.{width_of, theory_of}
 use Rattle.dep_model.specs.declared.schema.Schema.{Schema}
 use Rattle.dep_model.proofs.FormLemmas.{fourth_bcnf}
 use Rattle.dep_model.proofs.ListLemmas.{Any-from, Contains-head}
-use Rattle.normal_forms.specs.Chosen.{IsInForm, IsWide}
+use Rattle.fd_closure.specs.LeftSides.{IsWide}
+use Rattle.normal_forms.specs.Chosen.{IsInForm}
 use Rattle.normal_forms.specs.Violations.{Violates}
 use Rattle.normal_forms.specs.declared.forms.Form.{Form}
 use Rattle.normal_forms.specs.declared.forms.Form.TheVariants.{Third, Bcnf, Fourth}
@@ -58,7 +59,7 @@ form_passes : (s : Schema) (form : Form) (plan : List Attributes)
 form_passes s form plan low formed response (inl passed) = inl passed.1
 form_passes s form plan low formed response (inr (scheme, first, inl (wide, says))) =
     inr (
-      Any-from IsWide plan scheme (failing_in (PassesForm s form) plan scheme first) wide,
+      Any-from (IsWide (theory_of s)) plan scheme (failing_in (PassesForm s form) plan scheme first) wide,
       ap (λ (r : ResponseValue). r.status) says,
     )
 form_passes s form plan low formed response (inr (scheme, first, inr (narrow, found))) =
@@ -90,10 +91,11 @@ plan_all : (P : Attributes → Type 0) (all plan : List AttrSet) → plan ≡ wi
 plan_all P all plan kept each = subst (λ (l : List AttrSet). All P (schemes_of l)) (sym kept) (all_kept P [] all each)
 
 pub split_narrow : (s : Schema) (form : Form) (plan : List AttrSet) → IsSplitInForm s form plan
-    → All (λ scheme. IsWide scheme → ⊥) (schemes_of plan)
+    → All (λ scheme. IsWide (theory_of s) scheme → ⊥) (schemes_of plan)
 split_narrow s form plan is =
-    plan_all (λ (x : Attributes). IsWide x → ⊥) is.split.all plan is.split.kept
-    (All-weaker (StaysWhole (width_of s) (theory_of s) form) (λ (x : Attributes). IsWide x → ⊥) (λ x whole. whole.narrow)
+    plan_all (λ (x : Attributes). IsWide (theory_of s) x → ⊥) is.split.all plan is.split.kept
+    (All-weaker (StaysWhole (width_of s) (theory_of s) form) (λ (x : Attributes). IsWide (theory_of s) x → ⊥)
+    (λ x whole. whole.narrow)
     (schemes_of is.split.all) is.split.finished.whole)
 
 split_low : (s : Schema) (form : Form) (plan : List AttrSet) → IsSplitInForm s form plan → (form ≡ Third → ⊥)

@@ -33,11 +33,12 @@ use Rattle.split_forms.proofs.SplitLemmas.{one_finished}
 use Rattle.wide_bcnf.proofs.OneSplit.{one_split}
 use Rattle.implication_laws.proofs.OneCover.{one_cover}
 use Rattle.implication_laws.proofs.OneKey.{one_key}
-use Rattle.desk_responses.specs.declared.status.Status.TheVariants.{No}
-use Rattle.desk_responses.specs.ResponseValues.{ResponseValue, text_only, IsFirstFailing}
+use Rattle.implication_laws.proofs.StepLaws.{Unless-one}
+use Rattle.desk_responses.specs.declared.status.Status.TheVariants.{Yes, No}
+use Rattle.desk_responses.specs.ResponseValues.{ResponseValue, Says, text_only, IsFirstFailing}
 use Rattle.desk_designs.specs.declared.join.TheConstants.{MOST_TABLEAU_ROWS}
 use Rattle.desk_designs.specs.Decompositions.{IsSplitInForm, IsWideSplit}
-use Rattle.desk_designs.specs.Joins.{JudgesJoin, lossy_text}
+use Rattle.desk_designs.specs.Joins.{IsShownLossless, JudgesJoin, LossStops, lossless_text, lossy_text}
 use Rattle.desk_texts.specs.Texts.{line}
 use Rattle.desk_designs.specs.NormalForms.{JudgesForm, EndsForm, PassesForm, violated_text}
 use Rattle.desk_designs.specs.Keeping.{JudgesKeeping, loss_text, two_tuples_text}
@@ -58,7 +59,8 @@ unfolding contained
 contained_is earlier later x =
     let near = any_map attributes (λ y. is_subset (attributes x) y) earlier in
     let far = any_map attributes (λ y. is_subset (attributes x) y && not (is_subset y (attributes x))) later in
-    ap (λ (b : Bool). b || list_any (λ y. is_subset (attributes x) (attributes y) && not (is_subset (attributes y) (attributes x))) later) near
+    ap (λ (b : Bool). b || list_any (λ y. is_subset (attributes x) (attributes y) && not
+    (is_subset (attributes y) (attributes x))) later) near
     ∙ ap (λ (b : Bool). list_any (λ y. is_subset (attributes x) y) (schemes_of earlier) || b) far
 
 kept_after : List Attributes → List Attributes → List Attributes
@@ -80,8 +82,12 @@ kept_is earlier (x ∷ later) =
     let tests = contained_is earlier later x in
     ap (λ (b : Bool). schemes_of (if b then rest else (x ∷ rest))) tests
     ∙ (elim (cases_Bool (contained (schemes_of earlier) (attributes x) (schemes_of later))) [
-      | inl spare ↦ subst (λ (b : Bool). schemes_of (if b then rest else (x ∷ rest)) ≡ (if b then those else (attributes x ∷ those))) (sym spare) same
-      | inr kept ↦ subst (λ (b : Bool). schemes_of (if b then rest else (x ∷ rest)) ≡ (if b then those else (attributes x ∷ those))) (sym kept)
+      | inl spare ↦
+          subst (λ (b : Bool). schemes_of (if b then rest else (x ∷ rest)) ≡ (if b then those else
+          (attributes x ∷ those))) (sym spare) same
+      | inr kept ↦
+          subst (λ (b : Bool). schemes_of (if b then rest else (x ∷ rest)) ≡ (if b then those else
+          (attributes x ∷ those))) (sym kept)
           (ap (λ (l : List Attributes). attributes x ∷ l) same)
     ])
 
@@ -123,24 +129,31 @@ grouped_same n ds plan other one two =
     let covers : one.cover ≡ two.cover = one_cover n ds one.cover two.cover one.fixed two.fixed in
     kept_same one.all two.all plan other one.kept two.kept
     (with_key_same n ds (schemes_of_groups two.cover) (schemes_of one.all) (schemes_of two.all)
-    (subst (λ (cover : List Dependency). IsWithKey n ds (schemes_of_groups cover) (schemes_of one.all)) covers one.completed)
+    (subst (λ (cover : List Dependency). IsWithKey n ds (schemes_of_groups cover)
+    (schemes_of one.all)) covers one.completed)
     two.completed)
 
 -- ---- `check join`
-pub one_join : (s : Schema) (plan : List Attributes) (one other : ResponseValue) → JudgesJoin s plan one
-    → JudgesJoin s plan other → one ≡ other
-one_join s plan one other (inl (inl (fits, lossy, found))) (inl (inl (fits', lossy', found'))) =
+pub one_loss_stop : (s : Schema) (plan : List Attributes) (one other : ResponseValue) → LossStops s plan one
+    → LossStops s plan other → one ≡ other
+one_loss_stop s plan one other (inl (fits, lossy, found)) (inl (fits', lossy', found')) =
     let same =
     closed_unique (width_of s) (theory_of s) plan MOST_TABLEAU_ROWS found.0 found'.0 found.1.closed found'.1.closed in
     found.2 ∙ ap (λ (rows : Relation). text_only No (lossy_text (names_of s) rows)) same ∙ sym found'.2
-one_join s plan one other (inl (inl (fits, lossy, found))) (inl (inr (large, says))) = absurd (fits large)
-one_join s plan one other (inl (inl (fits, lossy, found))) (inr (shown, says)) = absurd (lossy shown.lossless)
-one_join s plan one other (inl (inr (large, says))) (inl (inl (fits, lossy, found))) = absurd (fits large)
-one_join s plan one other (inl (inr (large, says))) (inl (inr (large', says'))) = says ∙ sym says'
-one_join s plan one other (inl (inr (large, says))) (inr (shown, says')) = absurd (shown.within_limit large)
-one_join s plan one other (inr (shown, says)) (inl (inl (fits, lossy, found))) = absurd (lossy shown.lossless)
-one_join s plan one other (inr (shown, says)) (inl (inr (large, says'))) = absurd (shown.within_limit large)
-one_join s plan one other (inr (shown, says)) (inr (shown', says')) = says ∙ sym says'
+one_loss_stop s plan one other (inl (fits, lossy, found)) (inr (large, says)) = absurd (fits large)
+one_loss_stop s plan one other (inr (large, says)) (inl (fits, lossy, found)) = absurd (fits large)
+one_loss_stop s plan one other (inr (large, says)) (inr (large', says')) = says ∙ sym says'
+
+pub loss_goes : (s : Schema) (plan : List Attributes) (response : ResponseValue) → IsShownLossless s plan
+    → LossStops s plan response → ⊥
+loss_goes s plan response shown (inl (fits, lossy, found)) = lossy shown.lossless
+loss_goes s plan response shown (inr (large, says)) = shown.within_limit large
+
+pub one_join : (s : Schema) (plan : List Attributes) (one other : ResponseValue) → JudgesJoin s plan one
+    → JudgesJoin s plan other → one ≡ other
+one_join s plan =
+    Unless-one (LossStops s plan) (IsShownLossless s plan) (Says Yes lossless_text) (one_loss_stop s plan)
+    (λ response shown stops. loss_goes s plan response shown stops) (λ shown one other says said. says ∙ sym said)
 
 -- ---- losses
 same_truth : (a b : Bool) → (a ≡ true → b ≡ true) → (b ≡ true → a ≡ true) → a ≡ b
@@ -151,7 +164,8 @@ same_truth false false there back = refl
 one_agreement : (n : ℕ) (ds : List Dependency) (plan : List Attributes) (d : Dependency) (a b : Attributes)
     → IsLostOn n ds plan d a → IsLostOn n ds plan d b → a ≡ b
 one_agreement n ds plan (fd x y) a b one other = fun_ext (λ k.
-    same_truth (a k) (b k) (λ m. (other.closure k).1 ((one.closure k).0 m)) (λ m. (one.closure k).1 ((other.closure k).0 m)))
+    same_truth (a k) (b k) (λ m. (other.closure k).1 ((one.closure k).0 m))
+    (λ m. (one.closure k).1 ((other.closure k).0 m)))
 one_agreement n ds plan (mvd x y) a b one other = absurd one
 
 kept_not_lost : (n : ℕ) (ds : List Dependency) (plan : List Attributes) (d : Dependency) (a : Attributes)
@@ -168,18 +182,25 @@ one_list : (n : ℕ) (ds : List Dependency) (plan : List Attributes) (k : ℕ) (
     → LossesFrom n ds plan k rest ls → LossesFrom n ds plan k rest ms → AllZip SameLoss ls ms
 unfolding LossesFrom
 one_list n ds plan k [] ls ms one other =
-    subst (λ (l : List Loss). AllZip SameLoss l ms) (sym one) (subst (λ (m : List Loss). AllZip SameLoss [] m) (sym other) tt)
+    subst (λ (l : List Loss). AllZip SameLoss l ms) (sym one)
+    (subst (λ (m : List Loss). AllZip SameLoss [] m) (sym other) tt)
 one_list n ds plan k (d ∷ rest) ls ms (inl one) (inl other) = one_list n ds plan (k + 1) rest ls ms one.1 other.1
 one_list n ds plan k (d ∷ rest) ls ms (inl one) (inr (m, more, at, number, is, later)) =
     absurd (kept_not_lost n ds plan d (attributes m.agreement) one.0 is)
 one_list n ds plan k (d ∷ rest) ls ms (inr (l, more, at, number, is, later)) (inl other) =
     absurd (kept_not_lost n ds plan d (attributes l.agreement) other.0 is)
-one_list n ds plan k (d ∷ rest) ls ms (inr (l, more, at, number, is, later)) (inr (m, more', at', number', is', later')) =
+one_list n ds plan k (d ∷ rest) ls ms (inr (l, more, at, number, is, later))
+    (inr (m, more', at', number', is', later')) =
     let zipped : AllZip SameLoss (l ∷ more) (m ∷ more') = (
-      record { dep = number ∙ sym number'; agreement = one_agreement n ds plan d (attributes l.agreement) (attributes m.agreement) is is' },
+      record {
+        dep = number ∙ sym number';
+        agreement = one_agreement n ds plan d (attributes
+            l.agreement) (attributes m.agreement) is is';
+      },
       one_list n ds plan (k + 1) rest more more' later later',
     ) in
-    subst (λ (x : List Loss). AllZip SameLoss x ms) (sym at) (subst (λ (x : List Loss). AllZip SameLoss (l ∷ more) x) (sym at') zipped)
+    subst (λ (x : List Loss). AllZip SameLoss x ms) (sym at)
+    (subst (λ (x : List Loss). AllZip SameLoss (l ∷ more) x) (sym at') zipped)
 
 same_text : (s : Schema) (ls ms : List Loss) → AllZip SameLoss ls ms
     → flat_map (loss_text s) ls ≡ flat_map (loss_text s) ms
@@ -203,9 +224,11 @@ one_keeping s plan one other (inr (lost, found)) (inr (lost', found')) =
     one_list (width_of s) (theory_of s) plan 0 (theory_of s) (found.0 ∷ found.1) (found'.0 ∷ found'.1) found.2
     found'.2 in
     let tuples : two_tuples_text s found.0 ≡ two_tuples_text s found'.0 =
-    ap (λ (x : Attributes). line (codes "shown by") ++ rows_text (names_of s) (two_tuples (width_of s) x)) same.0.agreement in
+    ap (λ (x : Attributes). line (codes "shown by") ++ rows_text (names_of s) (two_tuples
+    (width_of s) x)) same.0.agreement in
     found.3
-    ∙ ap (λ (text : List ℕ). text_only No (text ++ two_tuples_text s found.0)) (same_text s (found.0 ∷ found.1) (found'.0 ∷ found'.1) same)
+    ∙ ap (λ (text : List ℕ). text_only No (text ++ two_tuples_text s found.0))
+    (same_text s (found.0 ∷ found.1) (found'.0 ∷ found'.1) same)
     ∙ ap (λ (text : List ℕ). text_only No (flat_map (loss_text s) (found'.0 ∷ found'.1) ++ text)) tuples
     ∙ sym found'.3
 

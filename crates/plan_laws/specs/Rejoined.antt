@@ -1,5 +1,5 @@
 -- The tables of a migration joined again: for the laws of `rejoined`. `Desk` does not cite it.
-use Rattle.std.specs.Prelude.{◌≡◌, ◌⊎◌, ℕ, List}
+use Rattle.std.specs.Prelude.{◌≡◌, ◌⊎◌, ◌↔◌, ℕ, List, Contains}
 use Rattle.attr_sets.specs.Attributes.{Attributes}
 use Rattle.csv_migrate.specs.Migration.{relations_of}
 use Rattle.csv_text.specs.Rows.{rows_text}
@@ -20,6 +20,13 @@ pub record HaveRowsOf (schema : Schema) (plan : List Attributes) (tables : List 
     (parts : List PartialRelation) : Type 0 where
   pub order : IsInDesignOrder (width_of schema) (theory_of schema) plan (plan_of_tables parts)
   pub rows : rows_of_tables parts ≡ relations_of tables
+
+-- parts are those of the tables of a migration in any order, each once or more often
+pub record HaveRowsInAnyOrder (schema : Schema) (plan : List Attributes) (tables : List TableValue)
+    (parts : List PartialRelation) : Type 0 where
+  pub in_order : List PartialRelation
+  pub are : HaveRowsOf schema plan tables in_order
+  pub same : (part : PartialRelation) → Contains parts part ↔ Contains in_order part
 
 -- `rejoin` of parts gives a relation, each of its tuples once, or refuses a join of too many tuples
 abbrev pub GivesTheRows : Schema → List PartialRelation → Relation → Type 0

@@ -3,11 +3,17 @@
 //! Each law is a function that does nothing, whose clause is the law; so the gate asks for its proof.
 #![tactic(auto)]
 
+mod answering;
 mod designed;
 mod passing;
 mod rejoined;
 mod unique;
 
+pub use answering::{
+    one_answer_of_check_rows, one_answer_of_ddl, one_answer_of_draw, one_answer_of_migrate,
+    one_answer_of_rejoin, one_answer_of_sample, one_answer_of_split, one_answer_of_sql_check,
+    one_answer_of_sql_migrate,
+};
 pub use designed::{
     migrated_tables_are_designed, migrated_tables_have_different_names,
     migrated_tables_obey_the_design, tables_of_a_form_are_designed,
@@ -16,8 +22,8 @@ pub use passing::{
     functional_plans_are_small, plans_in_form_pass, split_plans_are_narrow, synthesized_plans_keep,
     wide_splits_pass,
 };
-pub use rejoined::migrated_tables_are_rejoined;
+pub use rejoined::{migrated_tables_are_rejoined, tables_are_rejoined_in_any_order};
 pub use unique::{
     one_answer_of_check_form, one_answer_of_check_join, one_answer_of_check_keeps,
-    one_answer_of_synthesize, one_plan_in_form, one_split_plan,
+    one_answer_of_synthesize, one_design_of_a_plan, one_plan_in_form, one_split_plan,
 };

@@ -1,4 +1,4 @@
-//! The tables that `migrate` makes of rows, `rejoin` joins to the rows.
+//! The tables that `migrate` makes of rows, `rejoin` joins to the rows, in whatever order.
 
 ghost use Rattle.std.specs.Prelude.{List};
 ghost use Rattle.attr_sets.specs.Attributes.{Attributes};
@@ -9,7 +9,7 @@ ghost use Rattle.named_tables.specs.Tables.{TableValue};
 ghost use Rattle.table_join.specs.Tables.{PartialRelation};
 ghost use Rattle.desk_designs.specs.Joins.{LosesNothing};
 ghost use Rattle.desk_tables.specs.Migrations.{AreTablesOf};
-ghost use Rattle.plan_laws.specs.Rejoined.{HaveRowsOf, GivesTheRows};
+ghost use Rattle.plan_laws.specs.Rejoined.{GivesTheRows, HaveRowsOf, HaveRowsInAnyOrder};
 
 /// Of the tables that `migrate` makes of legal rows by a plan that loses nothing, `rejoin` gives the rows, each
 /// once, or refuses a join of too many.
@@ -17,5 +17,13 @@ pub fn migrated_tables_are_rejoined()
     ensures law { (schema : Schema) (plan : List Attributes) (rows : Relation) (tables : List TableValue)
         (parts : List PartialRelation) → LosesNothing schema plan → LegalFor schema rows
         → AreTablesOf schema plan rows tables → HaveRowsOf schema plan tables parts
+        → GivesTheRows schema parts rows }
+{}
+
+/// The same holds of those tables in any other order, and where some of them are given more than once.
+pub fn tables_are_rejoined_in_any_order()
+    ensures law { (schema : Schema) (plan : List Attributes) (rows : Relation) (tables : List TableValue)
+        (parts : List PartialRelation) → LosesNothing schema plan → LegalFor schema rows
+        → AreTablesOf schema plan rows tables → HaveRowsInAnyOrder schema plan tables parts
         → GivesTheRows schema parts rows }
 {}

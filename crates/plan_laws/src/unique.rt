@@ -1,5 +1,5 @@
-//! What a schema and a plan determine is one: the plan in a form, and the answers of `synthesize`,
-//! `check form`, `check join` and `check keeps`.
+//! What a schema and a plan determine is one: the plan in a form, its design, and the answers of
+//! `synthesize`, `check form`, `check join` and `check keeps`.
 
 ghost use Rattle.std.specs.Prelude.{◌≡◌, List};
 ghost use Rattle.attr_sets.specs.Attributes.{Attributes};
@@ -7,14 +7,17 @@ ghost use Rattle.attr_sets.specs.declared.set.AttrSet.{AttrSet};
 ghost use Rattle.dep_model.specs.Plans.{IsPlan, schemes_of};
 ghost use Rattle.dep_model.specs.Schemas.{width_of};
 ghost use Rattle.dep_model.specs.declared.schema.Schema.{Schema};
+ghost use Rattle.ddl_text.specs.declared.table.TableDesign.{TableDesign};
 ghost use Rattle.normal_forms.specs.declared.forms.Form.{Form};
 ghost use Rattle.normal_forms.specs.declared.forms.Form.TheVariants as forms;
 ghost use Rattle.desk_designs.specs.Decompositions.{IsPlanInForm, IsSplitInForm, IsWideSplit};
+ghost use Rattle.desk_designs.specs.Designs.{IsSoundDesign};
 ghost use Rattle.desk_designs.specs.Joins.{JudgesJoin};
 ghost use Rattle.desk_designs.specs.Keeping.{JudgesKeeping};
 ghost use Rattle.desk_designs.specs.NormalForms.{JudgesForm};
 ghost use Rattle.desk_designs.specs.Synthesis.{Synthesizes};
 ghost use Rattle.desk_responses.specs.ResponseValues.{ResponseValue};
+ghost use Rattle.plan_laws.specs.SameDesigns.{AreSameTables};
 
 /// A schema has one plan of `split` in a form, and one of `split wide-bcnf`.
 pub fn one_split_plan()
@@ -28,6 +31,13 @@ pub fn one_split_plan()
 pub fn one_plan_in_form()
     ensures law { (schema : Schema) (form : Form) (plan other : List AttrSet) → IsPlanInForm schema form plan
         → IsPlanInForm schema form other → schemes_of plan ≡ schemes_of other }
+{}
+
+/// A plan has one design: any two have the same names, columns, keys and references, table by table.
+pub fn one_design_of_a_plan()
+    ensures law { (schema : Schema) (plan others : List AttrSet) (one other : List TableDesign)
+        → schemes_of plan ≡ schemes_of others → IsSoundDesign schema plan one
+        → IsSoundDesign schema others other → AreSameTables one other }
 {}
 
 /// `synthesize` has one answer to a schema.

@@ -1,5 +1,5 @@
 -- The sample: persons, each in a city, with any of two skills beside any of two tongues. For
--- `sample` (`desk_cli/Migrations`).
+-- `sample` (`desk_tables/Migrations`).
 use Rattle.std.specs.Prelude.{ℕ, ◌+◌, ◌*◌, ◌%◌, List, [], ◌∷◌, ◌++◌, map, codes}
 use Rattle.std.specs.List.{flat_map, range_with_len}
 use Rattle.std.specs.Fmt.{decimal}

@@ -7,7 +7,7 @@ pub enum Format {
 }
 
 /// The most dependency lines of a schema text.
-pub const MOST_DEPENDENCY_LINES: usize = 256;
+pub const MOST_DEPENDENCY_LINES: usize = 4096;
 
 /// The version of the texts that begin with a version line.
 pub const VERSION: u32 = 2;

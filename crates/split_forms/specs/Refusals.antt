@@ -1,5 +1,5 @@
 -- Why a universe is not split, and when no limit is met: for `split` and the command of that name
--- (`desk_cli/Decompositions`).
+-- (`desk_designs/Decompositions`).
 use Rattle.std.specs.Prelude.{ℕ, List}
 use Rattle.attr_sets.specs.Attributes.{Attributes}
 use Rattle.attr_sets.specs.Sets.{attributes}

@@ -1,5 +1,5 @@
 -- The decomposition by violations, step by step: for `split`, the laws of split_forms and the
--- command `split` (`desk_cli/Decompositions`).
+-- command `split` (`desk_designs/Decompositions`).
 use Rattle.std.specs.Prelude.{◌≡◌, ℕ, ◌+◌, ◌≤◌, ◌⊎◌, List, ◌∷◌, ◌++◌, length, All}
 use Rattle.attr_sets.specs.Attributes.{Attributes}
 use Rattle.attr_sets.specs.declared.set.AttrSet.{AttrSet}
@@ -7,23 +7,24 @@ use Rattle.dep_model.specs.Dependencies.{Dependency}
 use Rattle.dep_model.specs.Plans.{schemes_of}
 use Rattle.plans.specs.Containing.{without_contained}
 use Rattle.normal_forms.specs.declared.forms.Form.{Form}
-use Rattle.normal_forms.specs.Chosen.{IsInForm, IsWide, IsChosenViolation, HasNoVisibleViolation, IsVisibleViolation}
+use Rattle.fd_closure.specs.LeftSides.{IsWide}
+use Rattle.normal_forms.specs.Chosen.{IsInForm, IsChosenViolation, HasNoVisibleViolation, IsVisibleViolation}
 use Rattle.split_forms.specs.Lists.{IsSplitStep, ReachedIn}
 
--- a scheme stays whole: it has no more attributes than are tested, and is in the form
+-- a scheme stays whole: it is not too wide to be searched, and is in the form
 pub record StaysWhole (n : ℕ) (ds : List Dependency) (form : Form) (scheme : Attributes) : Type 0 where
-  pub narrow : IsWide scheme → ⊥
+  pub narrow : IsWide ds scheme → ⊥
   pub in_form : IsInForm n ds form scheme
 
 -- x and y are what a scheme is cut by: its chosen violation, or the visible one of a wide scheme
 abbrev pub IsCutBy : ℕ → List Dependency → Form → Attributes → Attributes → Attributes → Type 0
 IsCutBy n ds form scheme x y =
-    ((IsWide scheme → ⊥) × IsChosenViolation n ds form scheme x y)
-    ⊎ (IsWide scheme × IsVisibleViolation n ds form scheme x y)
+    ((IsWide ds scheme → ⊥) × IsChosenViolation n ds form scheme x y)
+    ⊎ (IsWide ds scheme × IsVisibleViolation n ds form scheme x y)
 
 -- a scheme can neither be tested nor cut: it is wide, and no given left side violates the form
 pub record IsStuckScheme (n : ℕ) (ds : List Dependency) (form : Form) (scheme : Attributes) : Type 0 where
-  pub wide : IsWide scheme
+  pub wide : IsWide ds scheme
   pub none : HasNoVisibleViolation n ds form scheme
 
 -- the list after another: its first scheme that does not stay whole is cut in its place

@@ -2,9 +2,12 @@
 //! the law.
 
 ghost use Rattle.std.specs.Prelude.{◌≡◌, ◌-◌, ◌^◌, ◌<◌, ◌≤◌, ℕ, List, length};
-ghost use Rattle.attr_sets.specs.Attributes.{Attributes};
+ghost use Rattle.attr_sets.specs.Attributes.{Attributes, count_below};
+ghost use Rattle.attr_sets.specs.declared.set.TheConstants.{MOST_ATTRIBUTES};
 ghost use Rattle.dep_model.specs.Dependencies.{Dependency};
 ghost use Rattle.dep_model.specs.Projections.{IsLossless};
+ghost use Rattle.fd_closure.specs.LeftSides.{left_sides};
+ghost use Rattle.fd_closure.specs.declared.left_sides.TheConstants.{WIDEST_SEARCHED};
 ghost use Rattle.normal_forms.specs.declared.forms.Form.{Form};
 ghost use Rattle.split_forms.specs.Splitting.{IsNextList, ReachedList, FinishedList};
 ghost use Rattle.split_forms.specs.Splitting.{IsTooWideAt, HasTooManySchemes};
@@ -29,6 +32,13 @@ pub fn one_stuck_scheme()
     ensures law { (n : ℕ) (ds : List Dependency) (form : Form) (limit : ℕ) (scheme other : Attributes)
         → 0 < n → (form ≡ Form.Third → ⊥)
         → IsTooWideAt n ds form limit scheme → IsTooWideAt n ds form limit other → scheme ≡ other }
+{}
+
+/// Where few attributes stand in left sides, no reached list is stuck.
+pub fn few_left_sides_are_never_stuck()
+    ensures law { (n : ℕ) (ds : List Dependency) (form : Form) (limit : ℕ) (scheme : Attributes)
+        → count_below (left_sides ds) MOST_ATTRIBUTES ≤ WIDEST_SEARCHED
+        → IsTooWideAt n ds form limit scheme → ⊥ }
 {}
 
 /// Where there is a finished list, no reached list is stuck.

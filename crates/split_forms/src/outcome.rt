@@ -15,7 +15,7 @@ pub enum Outcome {
     Whole,
     // It is cut at a violation.
     Cut(Breach),
-    // It has more attributes than are tested, and no given left side violates the form.
+    // It is too wide to be searched, and no given left side violates the form.
     Stuck,
 }
 

@@ -21,8 +21,8 @@ use std::alloc::Global;
 /// A lossless plan of schemes in Boyce-Codd or fourth normal form (Codd 1974; Fagin 1977). The
 /// universe is cut at violations: in a list of schemes, the first that is not in the form is
 /// replaced, in its place, by both sides of its chosen violation and then by itself without the
-/// right side. A scheme of more attributes than are tested is cut at its visible violation. Of the
-/// list in which all are in the form, contained schemes are dropped. Functional dependencies may be
+/// right side. A scheme that is too wide to be searched is cut at its visible violation. Of the list
+/// in which all are in the form, contained schemes are dropped. Functional dependencies may be
 /// lost.
 ///
 /// Where a list has more than `limit` schemes, the universe is not split. Over n attributes no list

@@ -1,5 +1,5 @@
 -- The decomposition in third normal form that is made of a cover: for `synthesize` and the command
--- of that name (`desk_cli/Synthesis`).
+-- of that name (`desk_designs/Synthesis`).
 use Rattle.std.specs.Prelude.{◌≡◌, ℕ, ◌⊎◌, List, [], ◌∷◌, ◌++◌, Any}
 use Rattle.attr_sets.specs.Attributes.{Attributes, below}
 use Rattle.attr_sets.specs.declared.set.AttrSet.{AttrSet}

@@ -11,10 +11,12 @@ use Rattle.attr_sets.specs.Attributes.{count_below, Attributes, below, IsSubset}
 use Rattle.attr_sets.specs.Sets.{attributes}
 use Rattle.attr_sets.specs.declared.set.AttrSet.{AttrSet}
 use Rattle.csv_rows.specs.Columns.{with_columns, column_of, columns_of_header, columns_from, ◌>>=◌}
-use Rattle.csv_rows.specs.Reading.{PartOf, HasScheme, TableOf, RowsUnder, value_of}
+use Rattle.csv_rows.specs.Quotes.{open_record, is_open}
+use Rattle.csv_rows.specs.Reading.{PartOf, HasScheme, HeaderOf, TableOf, RowsUnder, value_of}
 use Rattle.csv_rows.specs.declared.refusal.RowRefusal.{RowRefusal}
 use Rattle.csv_rows.specs.declared.refusal.RowRefusal.TheVariants as refusal
 use Rattle.csv_rows.proofs.NumberingLemmas.{same_default}
+use Rattle.csv_rows.proofs.ReadingLemmas.{closed_row}
 use Rattle.dep_model.specs.Names.{same_name}
 use Rattle.dep_model.specs.Projections.{members_below}
 use Rattle.dep_model.specs.Schemas.{names_of, width_of, attribute_named}
@@ -65,6 +67,17 @@ named_within n columns low a has =
     found.1 found.2 low) in
     grind (arith, nat_tests, is, there)
 
+-- rows below a header that means columns
+under_columns : (s : Schema) (unclosed : Option ℕ) (records : List (List (List ℕ))) (rows : Relation) (columns : List ℕ)
+    (means found : Result (List ℕ) RowRefusal) (b : Bool)
+    → HeaderOf b (λ r. r ≡ means) found → RowsUnder s found unclosed records (Ok rows) → means ≡ Ok columns
+    → RowsUnder s (Ok columns) unclosed records (Ok rows)
+under_columns s unclosed records rows columns means found true is under same =
+    let none : ◌≡◌ {A = Result Relation RowRefusal} (Ok rows) (Err refusal.OpenHeader) =
+    subst (λ (r : Result (List ℕ) RowRefusal). RowsUnder s r unclosed records (Ok rows)) is under in cc
+under_columns s unclosed records rows columns means found false is under same =
+    subst (λ (r : Result (List ℕ) RowRefusal). RowsUnder s r unclosed records (Ok rows)) (is ∙ same) under
+
 -- the part that a text holds is a table over the attributes of a schema
 pub part_is_table : (s : Schema) (text : List ℕ) (rows : Relation) (scheme : AttrSet) → PartOf s text (Ok rows)
     → HasScheme s text scheme
@@ -73,15 +86,16 @@ part_is_table s text rows scheme part has =
     let names : List (List ℕ) = names_of s in
     let n : ℕ = width_of s in
     let columns : List ℕ = has.3 in
-    let w = subst (λ (rs : List (List (List ℕ))). TableOf s (λ header found. found ≡ columns_of_header names header) rs
-    (Ok rows)) has.2 part in
-    let under : RowsUnder s (Ok columns) has.1 (Ok rows) = subst (λ (r : Result (List ℕ) RowRefusal). RowsUnder s r
-    has.1 (Ok rows)) (w.1 ∙ has.4) w.2 in
+    let unclosed = open_record text in
+    let w = subst (λ (rs : List (List (List ℕ))). TableOf s (λ header found. found ≡ columns_of_header names header)
+    unclosed rs (Ok rows)) has.2 part in
+    let under : RowsUnder s (Ok columns) unclosed has.1 (Ok rows) =
+    under_columns s unclosed has.1 rows columns (columns_of_header names has.0) w.0 (is_open unclosed 1) w.1 w.2 has.4 in
     let low = columns_low names [] has.0 columns has.4 (All-nil (λ (a : ℕ). a < length names)) in
     record {
       within = λ k h. named_within n columns low k (sym (same_at has.5 k) ∙ h);
       over = λ k d l.
-          let each = under.0.each k l in
+          let each = closed_row s columns _ (k + 1) _ _ (under.0.each k l) in
           ap length (same_default rows k d [] l)
           ∙ ap length each.1
           ∙ length-map (members_below n (with_columns columns)) (value_of columns (slice_index_or has.1 k []))

@@ -1,5 +1,5 @@
 -- A text of rows over some attributes of a schema: the columns of its header, and its rows.
-use Rattle.std.proofs.Common.{◌≡◌, ◌+◌, ◌<◌, ◌≤◌, ◌==◌, ◌&&◌, ◌||◌, inl, inr, ℕ, zero, suc, Bool, true, false, nat_lt, nat_eq, List, [], ◌∷◌, ◌++◌, length, map, Some, Ok, Result, IsTrue, slice_index_or, get_or, refl, sym, ap, subst, ◌∙◌, arith}
+use Rattle.std.proofs.Common.{◌≡◌, ◌+◌, ◌<◌, ◌≤◌, ◌==◌, ◌&&◌, ◌||◌, inl, inr, ℕ, zero, suc, Bool, true, false, nat_lt, nat_eq, List, [], ◌∷◌, ◌++◌, length, map, Option, Some, None, Ok, Result, IsTrue, slice_index_or, get_or, refl, sym, ap, subst, ◌∙◌, arith}
 use Rattle.std.specs.Prelude.{◌⊎◌, if◌then◌else◌, All, AllPairs}
 use Rattle.std.specs.List.{slice_get, position_or_len}
 use Rattle.std.proofs.Math.ListN.{get_or-map}
@@ -12,13 +12,14 @@ use Rattle.attr_sets.specs.Attributes.{Attributes, count_below}
 use Rattle.attr_sets.proofs.AttributesLemmas.{count_below-before_member, same_at}
 use Rattle.csv_migrate.proofs.ProjectionLemmas.{column_count}
 use Rattle.csv_rows.specs.Columns.{with_columns, column_of, columns_of_header, columns_from, ◌>>=◌}
-use Rattle.csv_rows.specs.Reading.{value_of, tuple_of, RowOf, AreFirstRows, PartOf, TableOf}
+use Rattle.csv_rows.specs.Reading.{value_of, tuple_of, ClosedRowOf, AreFirstRows, PartOf, TableOf}
+use Rattle.csv_rows.specs.Quotes.{open_record}
 use Rattle.csv_rows.specs.Records.{records_of}
 use Rattle.csv_rows.specs.declared.reading.TheConstants.{MOST_ROWS}
 use Rattle.csv_rows.specs.declared.refusal.RowRefusal.{RowRefusal}
 use Rattle.csv_rows.proofs.HeaderLemmas.{named_after}
 use Rattle.csv_rows.proofs.NumberingLemmas.{same_default}
-use Rattle.csv_rows.proofs.PrintedRows.{own_column, other_name, printed_records}
+use Rattle.csv_rows.proofs.PrintedRows.{own_column, other_name, printed_closed, printed_records}
 use Rattle.csv_rows.proofs.ReadingLemmas.{member_at}
 use Rattle.csv_text.specs.Rows.{rows_text}
 use Rattle.dep_model.specs.Integers.{IsIntegerText}
@@ -197,7 +198,7 @@ abbrev pub Fits : Schema → Attributes → Tuple → Type 0
 Fits s x t = (k : ℕ) → x k ≡ true → slice_get (types_of s) k ≡ Some Integer → IsIntegerText (value_in x t k)
 
 row_is : (s : Schema) (x : Attributes) (row : ℕ) (t : Tuple) → length t ≡ count_below x (width_of s) → row ≤ MOST_ROWS
-    → Fits s x t → RowOf s (members_below (width_of s) x) row t (Ok t)
+    → Fits s x t → ClosedRowOf s (members_below (width_of s) x) row t (Ok t)
 row_is s x row t size within_limit typed =
     let n = width_of s in
     let ms = members_below n x in (
@@ -238,10 +239,14 @@ part_back s x rows proper not_empty over typed within_limit =
     let records : records_of (rows_text header rows) ≡ header ∷ rows =
     printed_records header rows long (members_all (λ name. IsTrue (is_bare_name name)) x 0 names proper) wide in
     let means : columns_of_header names header ≡ Ok columns = part_columns names x s.valid.names_differ in
-    let first : AreFirstRows s columns rows rows = record {
+    let closed : open_record (rows_text header rows) ≡ None =
+    printed_closed header rows long (members_all (λ name. IsTrue (is_bare_name name)) x 0 names proper) in
+    let first : AreFirstRows s columns None rows rows = record {
       within = omega arith;
       each =
           λ i less. row_is s x (i + 1) (slice_index_or rows i []) (over i [] less) (omega (arith, less, within_limit)) (typed i [] less);
     } in
-    subst (λ (rs : List (List (List ℕ))). TableOf s (λ fields found. found ≡ columns_of_header names fields) rs (Ok rows))
-    (sym records) (Ok columns, sym means, (first, refl))
+    subst (λ (rs : List (List (List ℕ))). TableOf s (λ fields found. found ≡ columns_of_header names fields)
+    (open_record (rows_text header rows)) rs (Ok rows)) (sym records)
+    (subst (λ (o : Option ℕ). TableOf s (λ fields found. found ≡ columns_of_header names fields) o (header ∷ rows) (Ok rows))
+    (sym closed) (Ok columns, sym means, (first, refl)))

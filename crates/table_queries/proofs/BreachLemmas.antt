@@ -16,12 +16,11 @@ use Rattle.dep_model.specs.Tuples.{Tuple, Relation, value_at, AgreeOn, IsOver, s
 use Rattle.dep_model.specs.Dependencies.{Dependency, fd, mvd, ObeysFd, ObeysMvd, Obeys, IsWithin}
 use Rattle.dep_model.specs.Projections.{project_tuple}
 use Rattle.dep_model.proofs.DistinctLemmas.{same_tuple-decides}
-use Rattle.dep_model.proofs.JoinLemmas.{projected_tuple_agrees, projected-from}
 use Rattle.dep_model.proofs.ListLemmas.{Contains-head, Contains-later, Contains-cases}
 use Rattle.dep_model.proofs.RuleLemmas.{reflexivity_obeyed, mreflexivity_obeyed}
 use Rattle.dep_model.proofs.TwoRowLemmas.{AgreeOn-refl, AgreeOn-sym, AgreeOn-union, AgreeOn-trans}
 use Rattle.dep_model.proofs.TupleLemmas.{IsOver-length, same_tuple-Contains}
-use Rattle.table_queries.specs.Queries.{Query, whole, values_on, several, join, except, breaches_of}
+use Rattle.table_queries.specs.Queries.{Query, several, unpaired, breaches_of}
 use Rattle.table_queries.specs.Meanings.{GivesNone}
 
 -- ---- what can be said
@@ -107,11 +106,20 @@ splice-outside n z t u k long out = elim (cases_lt k n) [
 ]
 
 -- ---- multivalued dependencies
-abbrev rest_of : ℕ → Attributes → Attributes → Attributes
-rest_of n x y = difference (below n) (union x y)
-
 abbrev mvd_breaches : ℕ → Attributes → Attributes → Query
-mvd_breaches n x y = except (join (values_on (union x y)) (values_on (union x (rest_of n x y)))) whole
+mvd_breaches n x y = unpaired x (difference y x) (difference (below n) (union x y))
+
+-- the one tuple that has the values of t on xy and those of u elsewhere
+spliced_alone : (n : ℕ) (x y : Attributes) (t u w : Tuple) → length t ≡ n → length u ≡ n → length w ≡ n
+    → AgreeOn x w t → AgreeOn (difference y x) w t → AgreeOn (difference (below n) (union x y)) w u → w ≡ splice n (union x y) t u
+spliced_alone n x y t u w lt lu lw of_x of_y of_z =
+    same_tuple-Contains n w (splice n (union x y) t u) lw (length-splice n (union x y) t u) (λ (k : ℕ) low. elim (cases_Bool (union x y k)) [
+      | inl m ↦ elim (cases_Bool (x k)) [
+        | inl in_x ↦ of_x k in_x ∙ splice-inside n (union x y) t u lt k m
+        | inr out ↦ of_y k (grind (arith, m, out)) ∙ splice-inside n (union x y) t u lt k m
+      ]
+      | inr out ↦ of_z k (grind (arith, nat_tests, low, out)) ∙ splice-outside n (union x y) t u k lu out
+    ])
 
 mvd_query_exact : (n : ℕ) (x y : Attributes) (r : Relation) → IsOver n r → GivesNone n (mvd_breaches n x y) r ↔ ObeysMvd (below n) x y r
 mvd_query_exact n x y r over = (to, from)
@@ -119,37 +127,42 @@ mvd_query_exact n x y r over = (to, from)
     to : GivesNone n (mvd_breaches n x y) r → ObeysMvd (below n) x y r
     to none t u t_in u_in agree =
         let w = splice n (union x y) t u in
-        let long = length-splice n (union x y) t u in
-        let on_xy = splice-inside n (union x y) t u (IsOver-length n r t over t_in) in
-        let outside = λ (k : ℕ) (out : union x y k ≡ false). splice-outside n (union x y) t u k (IsOver-length n r u over u_in) out in
-        let on_xz : AgreeOn (union x (rest_of n x y)) u w = λ (k : ℕ) m. elim (cases_Bool (x k)) [
-          | inl in_x ↦ sym (agree k in_x) ∙ on_xy k (grind (arith, in_x))
-          | inr out ↦ outside k (grind (arith, m, out))
-        ] in
+        let lt = IsOver-length n r t over t_in in
+        let lu = IsOver-length n r u over u_in in
         elim (tell_tuple r w) [
-          | inl w_in ↦ (w, w_in, AgreeOn-sym (union x y) t w on_xy, λ (k : ℕ) m. sym (outside k (grind (arith, m))))
-          | inr out ↦ absurd (none (project_tuple (union (union x y) (union x (rest_of n x y))) w) (record {
-            tuple = w;
-            over = long;
-            gives = ((projected-from n r w t (union x y) over long t_in on_xy, projected-from n r w u (union x (rest_of n x y)) over long u_in on_xz), out);
+          | inl w_in ↦ (
+            w,
+            w_in,
+            AgreeOn-sym (union x y) t w (splice-inside n (union x y) t u lt),
+            λ (k : ℕ) m. sym (splice-outside n (union x y) t u k lu (grind (arith, m))),
+          )
+          | inr out ↦ absurd (none (project_tuple x t) (record {
+            tuple = t;
+            over = lt;
+            gives = (
+              t,
+              u,
+              record {
+                first = t_in;
+                second = u_in;
+                first_agrees = AgreeOn-refl x t;
+                second_agrees = AgreeOn-sym x t u agree;
+                no_pair = λ v v_in of_x of_y of_z. out (subst (λ (z : Tuple). Contains r z)
+                    (spliced_alone n x y t u v lt lu (IsOver-length n r v over v_in) of_x of_y of_z) v_in);
+              },
+            );
             values = refl;
           }))
         ]
 
     from : ObeysMvd (below n) x y r → GivesNone n (mvd_breaches n x y) r
     from obeys s given =
-        let t = given.tuple in
-        let u = projected_tuple_agrees r t (union x y) given.gives.0.0 in
-        let v = projected_tuple_agrees r t (union x (rest_of n x y)) given.gives.0.1 in
-        let agree : AgreeOn x u.0 v.0 = λ (k : ℕ) m. u.2 k (grind (arith, m)) ∙ sym (v.2 k (grind (arith, m))) in
-        let w = obeys u.0 v.0 u.1 v.1 agree in
-        let same : w.0 ≡ t = same_tuple-Contains n w.0 t (IsOver-length n r w.0 over w.1) given.over (λ (k : ℕ) low. elim (cases_Bool (union x y k)) [
-          | inl m ↦ w.2 k m ∙ u.2 k m
-          | inr out ↦
-              let rest : rest_of n x y k ≡ true = grind (arith, nat_tests, low, out) in
-              w.3 k rest ∙ v.2 k (grind (arith, rest))
-        ]) in
-        given.gives.1 (subst (λ (z : Tuple). Contains r z) same w.1)
+        let u = given.gives.0 in
+        let v = given.gives.1 in
+        let found = given.gives.2 in
+        let agree = AgreeOn-trans x u given.tuple v found.first_agrees (AgreeOn-sym x v given.tuple found.second_agrees) in
+        let w = obeys u v found.first found.second agree in
+        found.no_pair w.0 w.1 (λ (k : ℕ) m. w.2 k (grind (arith, m)) ∙ found.first_agrees k m) (λ (k : ℕ) m. w.2 k (grind (arith, m))) w.3
 
 -- where the universe lies within xy nothing is left
 mvd_whole : (n : ℕ) (x y : Attributes) (r : Relation) → IsSubset (below n) (union x y) → ObeysMvd (below n) x y r

@@ -1,6 +1,5 @@
 -- What a query gives depends on the values of its own attributes alone.
 use Rattle.std.proofs.Common.{◌≡◌, ℕ, List, [], ◌∷◌, length, map, sym, subst, inl, inr, ◌∙◌, arith}
-use mathlib.Core.Path.{fun_ext}
 use Rattle.std.proofs.lemmas.Bool.{cases_Bool, ltb-true}
 use Rattle.std.proofs.lemmas.Bool.Decides.{nat_tests}
 use Rattle.std.proofs.lemmas.List.{ext_get_or}
@@ -13,8 +12,8 @@ use Rattle.dep_model.specs.Dependencies.{Dependency, fd, mvd, IsWithin}
 use Rattle.dep_model.specs.Projections.{projection, Covers}
 use Rattle.dep_model.proofs.JoinLemmas.{project_tuple-same}
 use Rattle.dep_model.proofs.ListLemmas.{Contains-head, Contains-later}
-use Rattle.dep_model.proofs.TwoRowLemmas.{AgreeOn-trans}
-use Rattle.table_queries.specs.Queries.{Query, StoredTable, whole, values_on, several, join, except, kept, attributes_of, breaches_of, stored_query, joined_with, plan_join, table_beyond_view, view_beyond_table}
+use Rattle.dep_model.proofs.TwoRowLemmas.{AgreeOn-sym, AgreeOn-trans}
+use Rattle.table_queries.specs.Queries.{Query, StoredTable, whole, values_on, several, unpaired, join, except, kept, attributes_of, breaches_of, stored_query, joined_with, plan_join, table_beyond_view, view_beyond_table}
 use Rattle.table_queries.specs.Meanings.{Gives, IsUnionCompatible}
 use Rattle.table_queries.proofs.JoinedLemmas.{all_attributes}
 
@@ -38,6 +37,18 @@ own_values n (several x y) r t u even lt lu agree given =
         differ = found.differ;
       },
     )
+own_values n (unpaired x y z) r t u even lt lu agree given =
+    let found = given.2 in (
+      given.0,
+      given.1,
+      record {
+        first = found.first;
+        second = found.second;
+        first_agrees = AgreeOn-trans x given.0 t u found.first_agrees agree;
+        second_agrees = AgreeOn-trans x given.1 t u found.second_agrees agree;
+        no_pair = λ w w_in of_x. found.no_pair w w_in (AgreeOn-trans x w u t of_x (AgreeOn-sym x t u agree));
+      },
+    )
 own_values n (join p q) r t u even lt lu agree given = (
   own_values n p r t u even.0 lt lu (λ (k : ℕ) m. agree k (grind (arith, m))) given.0,
   own_values n q r t u even.1 lt lu (λ (k : ℕ) m. agree k (grind (arith, m))) given.1,
@@ -58,7 +69,7 @@ breaches_even n (mvd x y) inside = elim (cases_Bool (is_subset y x)) [
   | inl within ↦ rw within tt
   | inr beyond ↦ elim (cases_Bool (is_subset (below n) (union x y))) [
     | inl all ↦ rw (beyond, all) tt
-    | inr not_empty ↦ rw (beyond, not_empty) ((tt, tt), tt, fun_ext (λ (k : ℕ). let in_x = inside.0 k in let in_y = inside.1 k in grind (arith, in_x, in_y)))
+    | inr not_empty ↦ rw (beyond, not_empty) tt
   ]
 ]
 

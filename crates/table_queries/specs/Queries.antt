@@ -13,6 +13,8 @@ pub data Query : Type 0 where
   values_on : Attributes → Query
   -- those values on the first set that stand beside more than one value on the second
   several : Attributes → Attributes → Query
+  -- those on the first set beside which the values on the second and on the third are not all paired
+  unpaired : Attributes → Attributes → Attributes → Query
   -- the natural join of two queries
   join : Query → Query → Query
   -- what the first query gives and the second, which has the same attributes, does not
@@ -25,6 +27,7 @@ abbrev pub attributes_of : ℕ → Query → Attributes
 attributes_of n whole = below n
 attributes_of n (values_on x) = x
 attributes_of n (several x y) = x
+attributes_of n (unpaired x y z) = x
 attributes_of n (join p q) = union (attributes_of n p) (attributes_of n q)
 attributes_of n (except p q) = attributes_of n p
 attributes_of n (kept name q) = attributes_of n q
@@ -34,12 +37,12 @@ attributes_of n (kept name q) = attributes_of n q
 abbrev pub breaches_of_fd : Attributes → Attributes → Option Query
 breaches_of_fd x y = if is_subset y x then None else Some (several x (union x y))
 
--- what breaks x ->> y: what the join of the parts on xy, and on x and the rest, has beyond the table
+-- what breaks x ->> y: values of x beside which those of the rest of y, and those of what is left, are
+-- not all paired
 abbrev pub breaches_of_mvd : ℕ → Attributes → Attributes → Option Query
 breaches_of_mvd n x y =
     if is_subset y x || is_subset (below n) (union x y) then None
-    else Some (except (join (values_on (union x y))
-    (values_on (union x (difference (below n) (union x y))))) whole)
+    else Some (unpaired x (difference y x) (difference (below n) (union x y)))
 
 -- the query for what breaks a dependency; none where every relation obeys it
 abbrev pub breaches_of : ℕ → Dependency → Option Query

@@ -1,14 +1,17 @@
 -- Lists of items: one more at the end.
-use Rattle.std.proofs.Common.{◌≡◌, ◌<◌, ◌≤◌, ◌+◌, ℕ, zero, suc, Bool, true, false, List, [], ◌∷◌, ◌++◌, length, get_or, take, drop, take_all, sym, ap, ◌∙◌, append-nil, add-one, arith}
-use Rattle.std.specs.Prelude.{◌-◌, if◌then◌else◌, codes, nat_lt}
+use Rattle.std.proofs.Common.{◌≡◌, ◌<◌, ◌≤◌, ◌+◌, ℕ, zero, suc, Bool, true, false, List, [], ◌∷◌, ◌++◌, length, get_or, take, drop, take_all, sym, ap, ◌∙◌, append-nil, append_assoc, add-one, arith}
+use Rattle.std.specs.Prelude.{◌-◌, if◌then◌else◌, codes}
 use Rattle.std.specs.List.{zip}
-use Rattle.std.proofs.lemmas.List.{take_more, flat_map_more, length-drop}
+use Rattle.std.proofs.lemmas.List.{flat_map_more, length-drop}
 use Rattle.attr_sets.specs.Attributes.{Attributes}
 use Rattle.dep_model.specs.Projections.{members_below}
 use Rattle.dep_model.proofs.SchemeLemmas.{members_below-member, members_below-outside}
 use Rattle.sql_names.specs.Names.{separator, comma_list, is_not_empty}
-use Rattle.sql_names.proofs.ListLemmas.{comma_list-push, not_empty_pushed, not_empty_before}
-use Rattle.table_scripts.specs.Checking.{null_test, null_tests}
+use Rattle.sql_names.proofs.ListLemmas.{comma_list-push, not_empty_pushed}
+use Rattle.dep_model.specs.declared.schema.Schema.{Schema}
+use Rattle.sql_syntax.specs.Printing.{condition_text}
+use Rattle.check_queries.specs.Checks.{some_missing}
+use Rattle.table_scripts.specs.Listing.{missing_test, missing_tests}
 
 -- ---- columns
 pub listed_more : (f : ℕ → List ℕ) (x : Attributes) (n : ℕ) (any_written : Bool) (text next piece : List ℕ) → x n ≡ true
@@ -30,21 +33,29 @@ pub members_passed : (x : Attributes) (n : ℕ) → x n ≡ false → members_be
 members_passed x n outside = rw add-one (members_below-outside n x outside)
 
 -- ---- missing values
-null_push : (xs : List (List ℕ)) (x : List ℕ)
-    → null_tests (xs ++ x ∷ []) ≡ null_tests xs ++ (if is_not_empty xs then codes " OR " ++ null_test x else null_test x)
-null_push [] x = append-nil (null_test x)
-null_push (y ∷ xs) x = sym (flat_map_more (λ z. codes " OR " ++ null_test z) (null_test y) xs x)
+tests_push : (s : Schema) (ks : List ℕ) (k : ℕ)
+    → missing_tests s (ks ++ k ∷ []) ≡ missing_tests s ks ++ (if is_not_empty ks then codes " OR " ++ missing_test s k else missing_test s k)
+tests_push s [] k = append-nil (missing_test s k)
+tests_push s (m ∷ ks) k = sym (flat_map_more (λ z. codes " OR " ++ missing_test s z) (missing_test s m) ks k)
 
-pub null_more : (names : List (List ℕ)) (n : ℕ) (text next piece : List ℕ) → n < length names
-    → text ≡ null_tests (take n names) → piece ≡ null_test (get_or names n [])
-    → next ≡ text ++ (if nat_lt 0 n then codes " OR " ++ piece else piece)
-    → next ≡ null_tests (take (n + 1) names)
-null_more names n text next piece lt so_far is added =
-    added ∙ ap (λ (t : List ℕ). t ++ (if nat_lt 0 n then codes " OR " ++ piece else piece)) so_far
-    ∙ ap (λ (p : List ℕ). null_tests (take n names) ++ (if nat_lt 0 n then codes " OR " ++ p else p)) is
-    ∙ ap (λ (b : Bool). null_tests (take n names) ++ (if b then codes " OR " ++ null_test (get_or names n []) else null_test (get_or names n []))) (sym (not_empty_before names n lt))
-    ∙ sym (null_push (take n names) (get_or names n []))
-    ∙ ap null_tests (sym (take_more names n [] lt))
+pub tests_more : (s : Schema) (x : Attributes) (n : ℕ) (any_written : Bool) (text next piece : List ℕ) → x n ≡ true
+    → text ≡ missing_tests s (members_below n x) → any_written ≡ is_not_empty (members_below n x) → piece ≡ missing_test s n
+    → next ≡ text ++ (if any_written then codes " OR " ++ piece else piece)
+    → next ≡ missing_tests s (members_below (n + 1) x)
+tests_more s x n any_written text next piece inside so_far is_some is added =
+    added ∙ ap (λ (t : List ℕ). t ++ (if any_written then codes " OR " ++ piece else piece)) so_far
+    ∙ ap (λ (p : List ℕ). missing_tests s (members_below n x) ++ (if any_written then codes " OR " ++ p else p)) is
+    ∙ ap (λ (b : Bool). missing_tests s (members_below n x) ++ (if b then codes " OR " ++ missing_test s n else missing_test s n)) is_some
+    ∙ sym (tests_push s (members_below n x) n)
+    ∙ ap (missing_tests s) (sym (rw add-one (members_below-member n x inside)))
+
+-- the tests are those of the query
+pub tests_are : (s : Schema) (k : ℕ) (ms : List ℕ) → condition_text (some_missing s k ms) ≡ missing_tests s (k ∷ ms)
+unfolding missing_test
+tests_are s k [] = sym (append-nil (missing_test s k))
+tests_are s k (m ∷ ms) =
+    ap (λ (t : List ℕ). missing_test s k ++ codes " OR " ++ t) (tests_are s m ms)
+    ∙ append_assoc (missing_test s k) (codes " OR ") (missing_tests s (m ∷ ms))
 
 -- ---- pairs
 abbrev one_pair : {K X : Type 0} → K → X → List (K × X)

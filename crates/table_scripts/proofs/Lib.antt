@@ -1,5 +1,6 @@
 mod ItemLemmas
 mod JoiningLemmas
+mod ListingLemmas
 mod NamingLemmas
 mod PieceLemmas
 mod ScriptLemmas

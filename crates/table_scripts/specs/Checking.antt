@@ -1,45 +1,64 @@
 -- The script that asks for what breaks the rules of a schema: for `check_script` and `sql check`
 -- (`desk_cli/Scripts`).
-use Rattle.std.specs.Prelude.{ℕ, Option, Some, None, List, [], ◌∷◌, ◌++◌, codes, All, MatchOption, ⊤}
+use Rattle.std.specs.Prelude.{ℕ, Bool, true, false, if◌then◌else◌, Option, Some, None, List, [], ◌∷◌, ◌++◌, codes, All, MatchOption, ⊤}
 use Rattle.std.specs.Fmt.{decimal}
-use Rattle.std.specs.List.{flat_map, zip}
+use Rattle.std.specs.List.{flat_map, zip, range_with_len}
+use Rattle.attr_sets.specs.Attributes.{Attributes, difference}
+use Rattle.dep_model.specs.declared.column_type.ColumnType.{ColumnType}
+use Rattle.dep_model.specs.declared.column_type.ColumnType.TheVariants.{Integer}
+use Rattle.dep_model.specs.declared.naming.Naming.{Naming}
 use Rattle.dep_model.specs.declared.schema.Schema.{Schema}
 use Rattle.dep_model.specs.Dependencies.{Dependency}
-use Rattle.dep_model.specs.Schemas.{names_of, width_of, universe_of, lines_of, theory_of}
+use Rattle.dep_model.specs.Projections.{members_below}
+use Rattle.dep_model.specs.Schemas.{width_of, universe_of, naming_of, nullable_of, lines_of, theory_of}
 use Rattle.dep_model.specs.Tuples.{Relation}
-use Rattle.sql_names.specs.Names.{name_list, quoted_name}
 use Rattle.schema_printer.specs.Printing.{dependency_text}
-use Rattle.schema_printer.specs.Spelling.{printed_names_of}
-use Rattle.table_queries.specs.Queries.{Query, breaches_of}
+use Rattle.schema_printer.specs.Spelling.{spelling, printed_names_of}
+use Rattle.sql_syntax.specs.Syntax.{Query}
+use Rattle.sql_syntax.specs.Printing.{query_text}
+use Rattle.table_queries.specs.Queries.{breaches_of}
 use Rattle.table_queries.specs.Meanings.{GivesNone}
-use Rattle.table_scripts.specs.QueryTexts.{query_text}
+use Rattle.check_queries.specs.Columns.{name_at, type_at, named_column}
+use Rattle.check_queries.specs.Checks.{missing_query, integer_query, check_query}
 
--- ---- missing values
-unfoldable pub null_test : List ℕ → List ℕ
-null_test name = quoted_name name ++ codes " IS NULL"
+-- a query as a statement, in a line
+unfoldable pub check_line : Query → List ℕ
+check_line q = query_text q ++ codes ";\n"
 
--- whether one of these columns has no value
-abbrev pub null_tests : List (List ℕ) → List ℕ
-null_tests [] = []
-null_tests (name ∷ names) = null_test name ++ flat_map (λ other. codes " OR " ++ null_test other) names
+-- ---- values
+-- the attributes of which no value may be missing
+abbrev pub required_of : Schema → Attributes
+required_of s = difference (universe_of s) (nullable_of s)
 
--- the rows in which a value is missing
-unfoldable pub missing_text : Schema → List ℕ → List ℕ
-missing_text s table =
-    codes "SELECT " ++ name_list s (universe_of s) ++ codes " FROM " ++ table ++ codes " WHERE "
-    ++ null_tests (names_of s) ++ codes ";\n"
+-- a query for the rows in which a value of these attributes is missing, if there are some
+abbrev pub missing_text : Schema → List ℕ → List ℕ → List ℕ
+missing_text s table [] = []
+missing_text s table (k ∷ ms) = codes "-- no value is missing\n" ++ check_line (missing_query s table k ms)
+
+-- a query for the values of an integer column that are none
+unfoldable pub integer_text : Naming → List ℕ → List ℕ → List ℕ
+integer_text naming table name =
+    codes "-- " ++ spelling naming name ++ codes " is an integer\n"
+    ++ check_line (integer_query table (named_column (codes "r") name))
+
+abbrev pub is_integer : ColumnType → Bool
+is_integer Integer = true
+is_integer column = false
+
+abbrev pub value_text : Schema → List ℕ → ℕ → List ℕ
+value_text s table k = if is_integer (type_at s k) then integer_text (naming_of s) table (name_at s k) else []
 
 -- ---- rules
 -- after a rule the query for what breaks it, if there is one
-abbrev pub breaches_text : Schema → List ℕ → Option Query → List ℕ
-breaches_text s table None = codes " holds always\n"
-breaches_text s table (Some q) = codes "\n" ++ query_text s table q ++ codes ";\n"
+abbrev pub breaches_text : Option Query → List ℕ
+breaches_text None = codes " holds always\n"
+breaches_text (Some q) = codes "\n" ++ check_line q
 
 -- a rule: its line in the schema's file, the dependency, and the query
 unfoldable pub rule_text : Schema → List ℕ → ℕ → Dependency → List ℕ
 rule_text s table line d =
     codes "-- line " ++ decimal line ++ codes ": " ++ dependency_text (printed_names_of s) d
-    ++ breaches_text s table (breaches_of (width_of s) d)
+    ++ breaches_text (check_query s table d)
 
 -- each rule, in the order of the file
 abbrev pub rules_text : Schema → List ℕ → List ℕ
@@ -48,8 +67,9 @@ rules_text s table =
 
 abbrev pub check_text : Schema → List ℕ → List ℕ
 check_text s table =
-    codes "-- where all rules hold, no query gives a row\n-- no value is missing\n" ++ missing_text s table
-    ++ rules_text s table
+    codes "-- where all rules hold, no query gives a row\n"
+    ++ missing_text s table (members_below (width_of s) (required_of s))
+    ++ flat_map (value_text s table) (range_with_len 0 (width_of s)) ++ rules_text s table
 
 -- ---- what the queries tell
 -- no query for what breaks a rule gives a tuple over a relation

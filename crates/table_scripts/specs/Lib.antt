@@ -1,6 +1,7 @@
 -- The definitions of table_scripts, in reading order: names of tables, the texts of queries, and
 -- the scripts that check and migrate.
 pub mod Naming
+pub mod Listing
 pub mod QueryTexts
 pub mod Checking
 pub mod Migrating

@@ -1,7 +1,7 @@
--- Queries as SQL, over a table whose columns are the attributes of a schema: for both scripts.
+-- Queries as SQL, over a table whose columns are the attributes of a schema: for the
+-- script that migrates.
 use Rattle.std.specs.Prelude.{ℕ, if◌then◌else◌, List, [], ◌++◌, codes, slice_index_or}
 use Rattle.attr_sets.specs.Attributes.{Attributes, intersection}
-use Rattle.attr_sets.specs.Sets.{attributes}
 use Rattle.dep_model.specs.declared.column_type.ColumnType.{ColumnType}
 use Rattle.dep_model.specs.declared.column_type.ColumnType.TheVariants.{Text, Integer}
 use Rattle.dep_model.specs.declared.schema.Schema.{Schema}
@@ -9,7 +9,9 @@ use Rattle.dep_model.specs.Projections.{members_below}
 use Rattle.dep_model.specs.Schemas.{names_of, width_of, types_of, universe_of}
 use Rattle.ddl_text.specs.Ddl.{is_empty}
 use Rattle.sql_names.specs.Names.{name_list, quoted_name, comma_list}
-use Rattle.table_queries.specs.Queries.{Query, whole, values_on, several, join, except, kept, attributes_of}
+use Rattle.sql_syntax.specs.Printing as sql
+use Rattle.check_queries.specs.Checks.{several_query, unpaired_query}
+use Rattle.table_queries.specs.Queries.{Query, whole, values_on, several, unpaired, join, except, kept, attributes_of}
 
 -- ---- columns
 -- a column of the table: an integer one is cast, and keeps its name
@@ -48,27 +50,10 @@ link_text s shared source =
     if is_empty shared then codes " CROSS JOIN " ++ source
     else codes " JOIN " ++ source ++ codes " USING (" ++ name_list s shared ++ codes ")"
 
--- the values of columns that stand beside more than one row of a query
-unfoldable pub grouped_text : List ℕ → List ℕ → List ℕ
-grouped_text columns query =
-    codes "SELECT " ++ columns ++ codes " FROM (" ++ query ++ codes ") AS d GROUP BY " ++ columns
-    ++ codes " HAVING COUNT(*) > 1"
-
--- how many rows a query gives, where they are more than one
-unfoldable pub counted_text : List ℕ → List ℕ
-counted_text query =
-    codes "SELECT n FROM (SELECT COUNT(*) AS n FROM (" ++ query ++ codes ") AS d) AS c WHERE n > 1"
-
 -- ---- queries
 -- the table's values on a set
 abbrev pub values_text : Schema → List ℕ → Attributes → List ℕ
 values_text s table x = distinct_text (column_list s x) table
-
--- the values on a set that stand beside more than one on another
-abbrev pub several_text : Schema → List ℕ → Attributes → Attributes → List ℕ
-several_text s table x y =
-    if is_empty x then counted_text (values_text s table y)
-    else grouped_text (name_list s x) (values_text s table y)
 
 -- where a query stands: by itself, or on either side of a join
 pub data Stand : Type 0 where
@@ -97,7 +82,10 @@ join_sources right columns sources = derived_text (select_text columns sources) 
 abbrev pub text_at : Schema → List ℕ → Stand → Query → List ℕ
 text_at s table stand whole = with_alias stand (select_text (column_list s (universe_of s)) table)
 text_at s table stand (values_on x) = with_alias stand (values_text s table x)
-text_at s table stand (several x y) = with_alias stand (several_text s table x y)
+text_at s table stand (several x y) =
+    with_alias stand (sql.query_text (several_query s table x y))
+text_at s table stand (unpaired x y z) =
+    with_alias stand (sql.query_text (unpaired_query s table x y z))
 text_at s table stand (join p q) =
     join_sources stand (name_list s (attributes_of (width_of s) (join p q)))
     (text_at s table left p

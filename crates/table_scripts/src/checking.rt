@@ -1,9 +1,14 @@
-ghost use Rattle.std.specs.Prelude.{◌≡◌, ◌↔◌, ◌++◌, IsTrue, IfOk, OnOk};
+ghost use Rattle.std.specs.Prelude.{◌≡◌, ◌↔◌, ◌++◌, ℕ, List, IsTrue, IfOk, OnOk};
 ghost use Rattle.dep_model.specs.Schemas.{width_of, LegalFor};
 ghost use Rattle.dep_model.specs.Tuples.{Relation, IsOver};
+ghost use Rattle.sql_evaluation.specs.Cells.{Cell};
+ghost use Rattle.sql_evaluation.specs.Evaluation.{Engine};
+ghost use Rattle.check_laws.specs.Holding.{Holds};
+ghost use Rattle.check_laws.specs.Telling.{NothingShown};
 ghost use Rattle.table_scripts.specs.Naming.{is_table_name, quoted_table};
 ghost use Rattle.table_scripts.specs.Checking.{check_text, rules_text, NothingBreaks};
 
+use crate::integers::add_integers;
 use crate::missing::missing_text;
 use crate::naming::quote_table;
 use crate::rules::rule_text;
@@ -12,12 +17,16 @@ use schema_printer::add;
 use std::alloc::Global;
 
 /// A script that asks a table for the rows in which a value is missing, and for what breaks each rule of a
-/// schema. Over a relation its queries for the rules give nothing exactly where the relation is legal.
+/// schema. Over a relation its queries for the rules give nothing exactly where the relation is legal; and in an
+/// engine that holds the relation as this table they end without an error and give no row exactly there.
 pub fn check_script(alloc: Global, schema: &Schema, table: &[u8]) -> Result<Vec<u8>, OutOfMemory>
     requires name { IsTrue (is_table_name table.now) }
     ensures text { IfOk result (λ text. text.items ≡ check_text schema.now (quoted_table table.now)) }
     ensures exact { (r : Relation) → IsOver (width_of schema.now) r
         → LegalFor schema.now r ↔ NothingBreaks schema.now r }
+    ensures tells { (e : Engine) (cell : ℕ → List ℕ → Cell) (r : Relation)
+        → Holds e (quoted_table table.now) schema.now cell r → IsOver (width_of schema.now) r
+        → LegalFor schema.now r ↔ NothingShown e schema.now (quoted_table table.now) }
 {
     check_text(alloc, schema, table)
 }
@@ -30,9 +39,10 @@ fn check_text(alloc: Global, schema: &Schema, table: &[u8]) -> Result<Vec<u8>, O
     let mut text = Vec::new(alloc);
     add(
         &mut text,
-        b"-- where all rules hold, no query gives a row\n-- no value is missing\n",
+        b"-- where all rules hold, no query gives a row\n",
     )?;
     add(&mut text, &missing_text(alloc, schema, &table)?)?;
+    add_integers(alloc, &mut text, schema, &table)?;
     add_rules(alloc, &mut text, schema, &table)?;
     Ok(text)
 }

@@ -1,6 +1,6 @@
 ghost use Rattle.std.specs.Prelude.{◌≡◌, ◌<◌, IfOk};
 ghost use Rattle.attr_sets.specs.Sets.{attributes};
-ghost use Rattle.dep_model.specs.Schemas.{width_of, universe_of};
+ghost use Rattle.dep_model.specs.Schemas.{width_of};
 ghost use Rattle.sql_names.specs.Names.{name_list, quoted_name};
 ghost use Rattle.table_scripts.specs.QueryTexts.{column_text, column_item, column_list};
 
@@ -17,13 +17,6 @@ pub fn names_text(alloc: Global, schema: &Schema, set: AttrSet) -> Result<Vec<u8
     let mut text = Vec::new(alloc);
     add_name_list(&mut text, schema, set)?;
     Ok(text)
-}
-
-// The quoted names of all attributes.
-pub fn all_names(alloc: Global, schema: &Schema) -> Result<Vec<u8>, OutOfMemory>
-    ensures text { IfOk result (λ text. text.items ≡ name_list schema.now (universe_of schema.now)) }
-{
-    names_text(alloc, schema, AttrSet::full(schema.width()))
 }
 
 // The columns of a set's attributes, with a comma and a blank between.

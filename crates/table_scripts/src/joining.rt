@@ -7,7 +7,7 @@ ghost use Rattle.table_scripts.specs.Migrating.{stored_of, stored_tables};
 
 use crate::columns::{names_text, quoted_name};
 use crate::pieces::{link_text, select_text};
-use crate::rules::values;
+use crate::reading::values;
 use attr_sets::AttrSet;
 use ddl_text::TableDesign;
 use dep_model::{OutOfMemory, Schema};

@@ -9,12 +9,18 @@
 
 mod checking;
 mod columns;
+mod integers;
 mod joining;
+mod listing;
 mod migrating;
 mod missing;
 mod naming;
 mod pieces;
+mod reading;
 mod rules;
+mod selecting;
+mod several;
+mod unpaired;
 
 pub use checking::check_script;
 pub use migrating::migrate_script;

@@ -9,7 +9,7 @@ use crate::columns::names_text;
 use crate::joining::{attributes_of_tables, join_of_tables};
 use crate::naming::quote_table;
 use crate::pieces::{except_text, select_text};
-use crate::rules::{values, whole};
+use crate::reading::{values, whole};
 use ddl_text::{DesignList, TableDesign, print_ddl};
 use dep_model::{OutOfMemory, Schema};
 use schema_printer::add;

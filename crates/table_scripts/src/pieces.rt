@@ -1,6 +1,6 @@
 ghost use Rattle.std.specs.Prelude.{◌≡◌, ◌++◌, codes, IfOk};
 ghost use Rattle.attr_sets.specs.Sets.{attributes};
-ghost use Rattle.table_scripts.specs.QueryTexts.{select_text, distinct_text, derived_text, except_text, link_text, grouped_text, counted_text};
+ghost use Rattle.table_scripts.specs.QueryTexts.{select_text, distinct_text, except_text, link_text};
 
 use crate::columns::names_text;
 use attr_sets::AttrSet;
@@ -31,19 +31,6 @@ pub fn distinct_text(alloc: Global, columns: &[u8], source: &[u8]) -> Result<Vec
     add(&mut text, columns)?;
     add(&mut text, b" FROM ")?;
     add(&mut text, source)?;
-    Ok(text)
-}
-
-// A query as a source of rows, under an alias.
-#[tactic(auto, unfolding(crate::specs::QueryTexts::derived_text))]
-pub fn derived_table(alloc: Global, query: &[u8], alias: &[u8]) -> Result<Vec<u8>, OutOfMemory>
-    ensures text { IfOk result (λ text. text.items ≡ derived_text query.now alias.now) }
-{
-    let mut text = Vec::new(alloc);
-    add(&mut text, b"(")?;
-    add(&mut text, query)?;
-    add(&mut text, b") AS ")?;
-    add(&mut text, alias)?;
     Ok(text)
 }
 
@@ -97,33 +84,5 @@ fn join_using(alloc: Global, source: &[u8], columns: &[u8]) -> Result<Vec<u8>, O
     add(&mut text, b" USING (")?;
     add(&mut text, columns)?;
     add(&mut text, b")")?;
-    Ok(text)
-}
-
-// The values of columns that stand beside more than one row of a query.
-#[tactic(auto, unfolding(crate::specs::QueryTexts::grouped_text))]
-pub fn grouped_text(alloc: Global, columns: &[u8], query: &[u8]) -> Result<Vec<u8>, OutOfMemory>
-    ensures text { IfOk result (λ text. text.items ≡ grouped_text columns.now query.now) }
-{
-    let mut text = Vec::new(alloc);
-    add(&mut text, b"SELECT ")?;
-    add(&mut text, columns)?;
-    add(&mut text, b" FROM (")?;
-    add(&mut text, query)?;
-    add(&mut text, b") AS d GROUP BY ")?;
-    add(&mut text, columns)?;
-    add(&mut text, b" HAVING COUNT(*) > 1")?;
-    Ok(text)
-}
-
-// How many rows a query gives, where they are more than one.
-#[tactic(auto, unfolding(crate::specs::QueryTexts::counted_text))]
-pub fn counted_text(alloc: Global, query: &[u8]) -> Result<Vec<u8>, OutOfMemory>
-    ensures text { IfOk result (λ text. text.items ≡ counted_text query.now) }
-{
-    let mut text = Vec::new(alloc);
-    add(&mut text, b"SELECT n FROM (SELECT COUNT(*) AS n FROM (")?;
-    add(&mut text, query)?;
-    add(&mut text, b") AS d) AS c WHERE n > 1")?;
     Ok(text)
 }

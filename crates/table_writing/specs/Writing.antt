@@ -1,5 +1,5 @@
 -- What becomes of destinations to which tables are written: for table_writing, and for what the
--- call ends with (`desk_cli/Outcomes`).
+-- call ends with (`desk_delivery/Outcomes`).
 use Rattle.std.specs.Prelude.{◌≡◌, ◌⊎◌, ℕ, ◌<◌, ◌≤◌, Bool, List, [], ◌∷◌, ◌++◌, length, map, Option, None, slice_index_or}
 use Rattle.desk_outside.specs.Begun.{Begun}
 use Rattle.desk_outside.specs.Causes.{ErrorCountIncreased}

@@ -5,7 +5,6 @@ use Rattle.std.proofs.lemmas.List.{length_push, get_or_append_left, get_or_defau
 use Rattle.std.proofs.lemmas.List.Elements.{All-contains, Contains-get_or, Contains-append_left, Contains-append_right, Contains-push, Contains-push_cases, filter_passes}
 use Rattle.std.specs.Prelude.{Contains, All, AllPairs}
 use Rattle.attr_sets.specs.Attributes.{Attributes, union}
-use Rattle.attr_sets.specs.Sets.{attributes}
 use Rattle.dep_model.specs.declared.schema.Schema.{Schema}
 use Rattle.dep_model.specs.Schemas.{width_of, types_of, theory_of, TypedFor}
 use Rattle.dep_model.specs.Tuples.{Relation}

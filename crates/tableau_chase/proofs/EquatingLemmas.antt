@@ -36,7 +36,7 @@ keeps_replaced a former later t within = record {
   over = λ n over. All-map (λ (row : SymbolRow). length row ≡ n) (replace_in_row a former later) t (λ k d l. length-replace_in_row a former later (get_or t k d) ∙ over k d l);
 }
 
-KeepsRows-refl : (t : Tableau) → KeepsRows t t
+pub KeepsRows-refl : (t : Tableau) → KeepsRows t t
 KeepsRows-refl t = record { one_each = refl; equal = λ i j k i_low j_low same. same; over = λ n over. over }
 
 KeepsRows-trans : (t m s : Tableau) → KeepsRows t m → KeepsRows m s → KeepsRows t s

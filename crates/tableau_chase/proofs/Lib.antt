@@ -1,6 +1,7 @@
 pub mod NumberLemmas
 pub mod RowLemmas
 pub mod EquatingLemmas
+pub mod ApartLemmas
 pub mod GroupLemmas
 pub mod FunctionalClosingLemmas
 pub mod PoolLemmas

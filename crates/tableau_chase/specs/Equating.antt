@@ -1,7 +1,9 @@
 -- A tableau that functional dependencies change until they change nothing: for the functions below
 -- `chase`. `Desk` does not cite it.
-use Rattle.std.specs.Prelude.{◌≡◌, ℕ, ◌<◌, ◌⊎◌, suc, Bool, true, false, List, length, Contains}
+use Rattle.std.specs.Prelude.{◌≡◌, ℕ, ◌<◌, ◌⊎◌, suc, Bool, true, false, Option, IfSome, List, length, Contains}
 use Rattle.attr_sets.specs.Attributes.{Attributes}
+use Rattle.attr_sets.specs.Sets.{attributes}
+use Rattle.attr_sets.specs.declared.set.AttrSet.{AttrSet}
 use Rattle.dep_model.specs.Dependencies.{Dependency, fd, mvd}
 use Rattle.chase_laws.specs.Tableaux.{Tableau, symbol_at, SymbolsAgree, IsTableauOver}
 use Rattle.chase_laws.specs.Steps.{replace_symbol, IsFunctionalStep, LeadsIn}
@@ -42,6 +44,15 @@ abbrev pub AgreesBy : Attributes → Attributes → Tableau → Type 0
 AgreesBy x y t =
     (i j : ℕ) → i < length t → j < length t → SymbolsAgree x (symbol_row_at t i) (symbol_row_at t j)
     → SymbolsAgree y (symbol_row_at t i) (symbol_row_at t j)
+
+-- no two rows agree on x
+abbrev pub AreApart : Attributes → Tableau → Type 0
+AreApart x t =
+    (i j : ℕ) → i < length t → j < length t → SymbolsAgree x (symbol_row_at t i) (symbol_row_at t j) → i ≡ j
+
+-- the set that is kept, if one is, is such
+abbrev pub IsKeptApart : Option AttrSet → Tableau → Type 0
+IsKeptApart apart t = IfSome apart (λ set. AreApart (attributes set) t)
 
 -- rows that agree on x were made to agree on y; no change shows that they did before
 pub record AreGrouped (x y : Attributes) (t s : Tableau) (changed : Bool) : Type 0 where

@@ -1,16 +1,18 @@
 //! Steps by functional dependencies, until none changes the tableau.
 
-ghost use Rattle.std.specs.Prelude.{◌≡◌, ◌<◌, ◌≤◌, ◌^◌, ℕ, false, length, All, Contains, IfOk, OnOk};
+ghost use Rattle.std.specs.Prelude.{◌≡◌, ◌<◌, ◌≤◌, ◌^◌, ℕ, false, length, slice_index, All, Contains};
+ghost use Rattle.std.specs.Prelude.{IsTrue, IfOk, OnOk};
 ghost use Rattle.attr_sets.specs.Attributes.{Attributes};
 ghost use Rattle.attr_sets.specs.Sets.{attributes};
 ghost use Rattle.attr_sets.specs.declared.set.TheConstants.{MOST_ATTRIBUTES};
 ghost use Rattle.dep_model.specs.Dependencies.{fd};
 ghost use Rattle.dep_model.specs.Deps.{dependency_of, dependencies_of};
 ghost use Rattle.dep_model.specs.Projections.{members_below};
-ghost use Rattle.chase_laws.specs.Tableaux.{IsTableauOver};
+ghost use Rattle.chase_laws.specs.Tableaux.{IsTableauOver, Tableau};
 ghost use Rattle.chase_laws.specs.Steps.{replace_symbol};
 ghost use Rattle.chase_laws.specs.Rounds.{ClosesFunctionallyTo};
-ghost use Rattle.tableau_chase.specs.Equating.{Changes, KeepsRows, AgreesBy, IsEquatedAt, AreEquated, AreGroupedBy, AreGrouped};
+ghost use Rattle.tableau_chase.specs.Equating.{Changes, KeepsRows, AgreesBy, IsEquatedAt};
+ghost use Rattle.tableau_chase.specs.Equating.{AreEquated, AreGroupedBy, AreGrouped, AreApart, IsKeptApart};
 
 use crate::row_groups::{leaders, members};
 use crate::symbol_row::SymbolRow;
@@ -55,8 +57,9 @@ fn take_steps(
         → AgreesBy x y rows.old) }
 {
     let mut changed = false;
+    let mut apart = None;
     for dep in deps {
-        if take_steps_by(alloc, rows, *dep, width)? {
+        if take_steps_by(alloc, rows, *dep, width, &mut apart)? {
             changed = true;
         }
     }
@@ -69,33 +72,47 @@ fn take_steps_by(
     rows: &mut [SymbolRow],
     dep: Dep,
     width: u8,
+    apart: &mut Option<AttrSet>,
 ) -> Result<bool, OutOfMemory>
     requires width { width ≤ MOST_ATTRIBUTES }
     requires over { IsTableauOver width rows.old }
     requires fits_u32 { length rows.old < 2 ^ 32 }
+    requires apart { IsKeptApart apart.old rows.old }
     ensures grouped { IfOk result (λ changed. AreGroupedBy (dependency_of dep) rows.old rows.new changed) }
+    ensures apart { OnOk result (IsKeptApart apart.new rows.new) }
 {
     match dep {
-        Dep::Fd { lhs, rhs } => equate_groups(alloc, rows, lhs, rhs, width),
+        Dep::Fd { lhs, rhs } => equate_groups(alloc, rows, lhs, rhs, width, apart),
         Dep::Mvd { lhs: _, rhs: _ } => Ok(false),
     }
 }
 
-// Makes rows that agree on the left side agree on the right one.
+// Makes rows that agree on the left side agree on the right one. A set on which no two rows agree is kept
+// from one dependency to the next: where a left side holds it, there is nothing to do.
 fn equate_groups(
     alloc: Global,
     rows: &mut [SymbolRow],
     lhs: AttrSet,
     rhs: AttrSet,
     width: u8,
+    apart: &mut Option<AttrSet>,
 ) -> Result<bool, OutOfMemory>
     requires width { width ≤ MOST_ATTRIBUTES }
     requires over { IsTableauOver width rows.old }
     requires fits_u32 { length rows.old < 2 ^ 32 }
+    requires apart { IsKeptApart apart.old rows.old }
     ensures grouped { IfOk result (λ changed.
         AreGrouped (attributes lhs) (attributes rhs) rows.old rows.new changed) }
+    ensures apart { OnOk result (IsKeptApart apart.new rows.new) }
 {
+    if are_known_apart(*apart, lhs) {
+        return Ok(false);
+    }
     let leaders = leaders(alloc, rows, lhs, width)?;
+    if lead_themselves(&leaders) {
+        *apart = Some(lhs);
+        return Ok(false);
+    }
     let listed = members(alloc, rhs, width)?;
     let mut changed = false;
     for i in 0..rows.len() {
@@ -103,7 +120,39 @@ fn equate_groups(
             changed = true;
         }
     }
+    *apart = unless_changed(*apart, changed);
     Ok(changed)
+}
+
+// Whether no two rows agree on a set, since none do on a part of it.
+fn are_known_apart(apart: Option<AttrSet>, on: AttrSet) -> bool
+    ensures apart { IsTrue result → (t : Tableau) → IsKeptApart apart t → AreApart (attributes on) t }
+{
+    match apart {
+        Some(set) => set.is_subset(on),
+        None => false,
+    }
+}
+
+// Whether each row leads itself.
+fn lead_themselves(leaders: &[u32]) -> bool
+    ensures themselves { IsTrue result → (i : ℕ) → i < length leaders.now
+        → slice_index leaders.now i ≡ i }
+{
+    for i in 0..leaders.len() {
+        if leaders[i] as usize != i {
+            return false;
+        }
+    }
+    true
+}
+
+// The set that is kept, where the rows are as they were.
+fn unless_changed(apart: Option<AttrSet>, changed: bool) -> Option<AttrSet>
+    ensures kept { (t s : Tableau) → IsKeptApart apart t → (changed ≡ false → s ≡ t)
+        → IsKeptApart result s }
+{
+    if changed { None } else { apart }
 }
 
 // Makes two rows agree on a set, whose attributes these are.

@@ -73,6 +73,8 @@ fn refusals_in_their_order(rt: HostRuntime) -> Result<(), Fail> {
         ("City\n", RowRefusal::MissingColumn { attribute: 0 }),
         ("ZIP,CITY\n1,2\n1\n", RowRefusal::UnevenRow { row: 2 }),
         ("ZIP,CITY\n1,2,3\n", RowRefusal::UnevenRow { row: 1 }),
+        ("ZIP,\"CITY\n", RowRefusal::OpenHeader),
+        ("ZIP,CITY\n1,2\n\"3,4\n", RowRefusal::OpenRow { row: 2 }),
     ];
     for (text, want) in cases {
         check(&rt, ZIP_CITY, (text, Some(want)))?;
@@ -126,31 +128,5 @@ fn part_of_the_columns(rt: HostRuntime) -> Result<(), Fail> {
     assert!(rt; !part.scheme.contains(1));
     assert!(rt; part.rows.len() == 1 && part.rows.width(0) == 2);
     assert_eq!(rt; part.rows.value(0, 0), b"2".as_slice());
-    Ok(())
-}
-
-#[test]
-fn as_many_rows_as_may_be(rt: HostRuntime) -> Result<(), Fail> {
-    let alloc = rt.alloc();
-    let schema = read_schema(alloc, b"attributes A").expect(&rt, "a schema");
-    let mut text = Vec::from_slice(alloc, b"A\n")?;
-    for _ in 0..100_000 {
-        text.extend_from_slice(b"1\n")?;
-    }
-    let rows = read_rows(alloc, &schema, &text).expect(&rt, "rows");
-    assert_eq!(rt; rows.len(), 100_000);
-    let cases = [
-        ("\n", None),
-        ("1\n", Some(RowRefusal::TooManyRows)),
-        ("1,2\n", Some(RowRefusal::UnevenRow { row: 100_001 })),
-    ];
-    for (last, want) in cases {
-        let mut whole = Vec::from_slice(alloc, &text)?;
-        whole.extend_from_slice(last.as_bytes())?;
-        match read_rows(alloc, &schema, &whole) {
-            Err(failure) => assert!(rt; want.map(Failure::Refused) == Some(failure)),
-            Ok(_) => assert!(rt; want == None),
-        }
-    }
     Ok(())
 }

@@ -84,32 +84,11 @@ fn refusals_in_their_order(rt: HostRuntime) -> Result<(), Fail> {
             DiscoverRefusal::UnevenRow { row: 2 },
         ),
         ("A,B\n1,2,3\n", DiscoverRefusal::UnevenRow { row: 1 }),
+        ("A,\"?\n", DiscoverRefusal::OpenHeader),
+        ("A,B\n1,2\n\"3,4\n", DiscoverRefusal::OpenRow { row: 2 }),
     ];
     for (text, want) in cases {
         check(&rt, text.as_bytes(), Some(want))?;
-    }
-    Ok(())
-}
-
-#[test]
-fn as_many_rows_as_may_be(rt: HostRuntime) -> Result<(), Fail> {
-    let alloc = rt.alloc();
-    let mut text = Vec::from_slice(alloc, b"A\n")?;
-    for _ in 0..10_000 {
-        text.extend_from_slice(b"1\n")?;
-    }
-    let headed = read_headed(alloc, &text).expect(&rt, "rows");
-    assert_eq!(rt; headed.rows.len(), 10_000);
-    let cases = [
-        ("\n", None),
-        ("1\n", Some(DiscoverRefusal::TooManyRows)),
-        ("1\n1,2\n", Some(DiscoverRefusal::TooManyRows)),
-        ("1,2\n", Some(DiscoverRefusal::UnevenRow { row: 10_001 })),
-    ];
-    for (last, want) in cases {
-        let mut whole = Vec::from_slice(alloc, &text)?;
-        whole.extend_from_slice(last.as_bytes())?;
-        check(&rt, &whole, want)?;
     }
     Ok(())
 }

@@ -48,8 +48,8 @@ fn shows_the_irreducible_closed_sets(rt: HostRuntime) -> Result<(), Fail> {
 
 #[test]
 fn tells_the_first_multivalued_dependency_before_the_width(rt: HostRuntime) {
-    let text =
-        b"attributes a1 a2 a3 a4 a5 a6 a7 a8 a9 a10 a11 a12 a13 a14 a15 a16 a17\na1 -> a2\na2 ->> a3\na3 ->> a4";
+    let text = b"attributes a1 a2 a3 a4 a5 a6 a7 a8 a9 a10 a11 a12 a13 a14 a15 a16 a17\n\
+        a1 a2 a3 a4 a5 a6 a7 a8 a9 a10 a11 a12 a13 a14 a15 a16 a17 -> a1\na2 ->> a3\na3 ->> a4";
     match exhibit(rt.alloc(), &schema(&rt, text)) {
         Err(Failure::Refused(ExhibitRefusal::NotFunctional { dep })) => assert_eq!(rt; dep, 1),
         _ => panic!(rt; "another answer"),

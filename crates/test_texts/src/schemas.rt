@@ -222,17 +222,17 @@ fn wide_text(alloc: Global, n: u32, m: u32) -> Result<Vec<u8>, Fail> {
 }
 
 #[test]
-fn a_schema_has_256_dependencies_at_most(rt: HostRuntime) -> Result<(), Fail> {
-    let whole = wide_text(rt.alloc(), 128, 256)?;
+fn a_schema_has_4096_dependencies_at_most(rt: HostRuntime) -> Result<(), Fail> {
+    let whole = wide_text(rt.alloc(), 128, 4096)?;
     let schema = schema(&rt, &whole);
     assert_eq!(rt; schema.width(), 128);
-    assert_eq!(rt; schema.deps().len(), 256);
+    assert_eq!(rt; schema.deps().len(), 4096);
     let lines = schema.deps().len();
-    if 256 <= lines {
+    if 4096 <= lines {
         assert_eq!(rt; schema.line_of(0), 2);
-        assert_eq!(rt; schema.line_of(255), 257);
+        assert_eq!(rt; schema.line_of(4095), 4097);
     }
-    let long = wide_text(rt.alloc(), 2, 257)?;
-    check_refused(&rt, &long, refusal(258, 1, 2, TooManyDependencies));
+    let long = wide_text(rt.alloc(), 2, 4097)?;
+    check_refused(&rt, &long, refusal(4098, 1, 2, TooManyDependencies));
     Ok(())
 }

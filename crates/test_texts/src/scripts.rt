@@ -29,19 +29,32 @@ fn asks_for_what_breaks_a_rule(rt: HostRuntime) -> Result<(), Fail> {
     let script = check_script(rt.alloc(), &schema, name)?;
     let wanted = b"-- where all rules hold, no query gives a row
 -- no value is missing
-SELECT \"ID\", \"NAME\", \"AGE\" FROM \"main\".\"people\" WHERE \"ID\" IS NULL OR \"NAME\" IS NULL OR \"AGE\" IS NULL;
+SELECT r.\"ID\", r.\"NAME\", r.\"AGE\" FROM \"main\".\"people\" AS r WHERE \
+                r.\"ID\" IS NULL OR r.\"NAME\" IS NULL OR r.\"AGE\" IS NULL;
+-- ID is an integer
+SELECT r.\"ID\" FROM \"main\".\"people\" AS r WHERE CAST(CAST(r.\"ID\" AS \
+                BIGINT) AS TEXT) <> CAST(r.\"ID\" AS TEXT);
+-- AGE is an integer
+SELECT r.\"AGE\" FROM \"main\".\"people\" AS r WHERE CAST(CAST(r.\"AGE\" AS \
+                BIGINT) AS TEXT) <> CAST(r.\"AGE\" AS TEXT);
 -- line 5: ID -> NAME AGE
-SELECT \"ID\" FROM (SELECT DISTINCT CAST(\"ID\" AS BIGINT) AS \"ID\", \"NAME\", CAST(\"AGE\" AS \
-                BIGINT) AS \"AGE\" FROM \"main\".\"people\") AS d GROUP BY \"ID\" HAVING COUNT(*) > 1;
+SELECT d.\"ID\" FROM (SELECT DISTINCT CAST(r.\"ID\" AS TEXT) AS \"ID\", \
+                CAST(r.\"NAME\" AS TEXT) AS \"NAME\", CAST(r.\"AGE\" AS TEXT) AS \"AGE\" FROM \
+                \"main\".\"people\" AS r) AS d GROUP BY d.\"ID\" HAVING COUNT(*) > 1;
 -- line 6: NAME ->> AGE
-SELECT \"ID\", \"NAME\", \"AGE\" FROM (SELECT DISTINCT \"NAME\", CAST(\"AGE\" AS BIGINT) AS \"AGE\" \
-                FROM \"main\".\"people\") AS l JOIN (SELECT DISTINCT CAST(\"ID\" AS BIGINT) AS \
-                \"ID\", \"NAME\" FROM \"main\".\"people\") AS r USING (\"NAME\") EXCEPT SELECT \
-                CAST(\"ID\" AS BIGINT) AS \"ID\", \"NAME\", CAST(\"AGE\" AS BIGINT) AS \"AGE\" FROM \
-                \"main\".\"people\";
+SELECT e.c1 AS \"NAME\" FROM (SELECT d.\"NAME\" AS c1, COUNT(*) AS y, 0 AS z, 0 \
+                AS n FROM (SELECT DISTINCT CAST(r.\"NAME\" AS TEXT) AS \"NAME\", CAST(r.\"AGE\" \
+                AS TEXT) AS \"AGE\" FROM \"main\".\"people\" AS r) AS d GROUP BY d.\"NAME\" \
+                UNION ALL SELECT d.\"NAME\" AS c1, 0 AS y, COUNT(*) AS z, 0 AS n FROM (SELECT \
+                DISTINCT CAST(r.\"ID\" AS TEXT) AS \"ID\", CAST(r.\"NAME\" AS TEXT) AS \"NAME\" \
+                FROM \"main\".\"people\" AS r) AS d GROUP BY d.\"NAME\" UNION ALL SELECT \
+                d.\"NAME\" AS c1, 0 AS y, 0 AS z, COUNT(*) AS n FROM (SELECT DISTINCT \
+                CAST(r.\"ID\" AS TEXT) AS \"ID\", CAST(r.\"NAME\" AS TEXT) AS \"NAME\", \
+                CAST(r.\"AGE\" AS TEXT) AS \"AGE\" FROM \"main\".\"people\" AS r) AS d GROUP BY \
+                d.\"NAME\") AS e GROUP BY e.c1 HAVING SUM(e.y) * SUM(e.z) <> SUM(e.n);
 -- line 7: () -> AGE
-SELECT n FROM (SELECT COUNT(*) AS n FROM (SELECT DISTINCT CAST(\"AGE\" AS BIGINT) AS \"AGE\" FROM \
-                \"main\".\"people\") AS d) AS c WHERE n > 1;
+SELECT c.n FROM (SELECT COUNT(*) AS n FROM (SELECT DISTINCT CAST(r.\"AGE\" AS \
+                TEXT) AS \"AGE\" FROM \"main\".\"people\" AS r) AS d) AS c WHERE c.n > 1;
 -- line 8: ID -> ID holds always
 ";
     assert!(rt; script.as_slice() == wanted.as_slice(), "{script:?}");

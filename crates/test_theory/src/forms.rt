@@ -245,12 +245,19 @@ fn finds_violations_beside_prime_attributes(rt: HostRuntime) -> Result<(), Fail>
 fn refuses_wide_schemes(rt: HostRuntime) -> Result<(), Fail> {
     let wide = (1 << 21) - 1;
     for form in [Form::Third, Form::Bcnf, Form::Fourth] {
-        match find_violation(rt.alloc(), 21, &[], wide, form)? {
+        match find_violation(rt.alloc(), 21, &[fd(wide, 1)], wide, form)? {
             Ok(_) => assert!(rt; false),
             Err(TooWide { scheme }) => assert_eq!(rt; scheme, AttrSet(wide)),
         }
         // 20 of these attributes
-        assert!(rt; is_found(find_violation(rt.alloc(), 21, &[], wide - 2, form)?, None));
+        assert!(rt;
+            is_found(
+                find_violation(rt.alloc(), 21, &[fd(wide, 1)], wide - 2, form)?,
+                None
+            )
+        );
+        // none in a left side
+        assert!(rt; is_found(find_violation(rt.alloc(), 21, &[], wide, form)?, None));
     }
     Ok(())
 }

@@ -169,11 +169,12 @@ fn refuses_wide_schemes(rt: HostRuntime) {
     let next = (1u128 << 21) - 1;
     assert!(rt;
         matches!(
-            &keys_in(rt.alloc(), 21, &[fd(1, 2)], next),
+            &keys_in(rt.alloc(), 21, &[fd(next, 1)], next),
             Err(Failure::Refused(SchemeKeyRefusal::TooWide))
         )
     );
-    assert!(rt; matches!(&keys_in(rt.alloc(), 21, &[fd(1, 2)], twenty), Ok(_)));
+    assert!(rt; matches!(&keys_in(rt.alloc(), 21, &[fd(next, 1)], twenty), Ok(_)));
+    assert!(rt; matches!(&keys_in(rt.alloc(), 21, &[fd(1, 2)], next), Ok(_)));
 }
 
 #[test]

@@ -5,12 +5,13 @@ ghost use Rattle.schema_grammar.specs.Declarations.{mark_of};
 ghost use Rattle.schema_grammar.specs.Rests.{attribute_of_word};
 ghost use Rattle.schema_grammar.specs.Words.{is_reserved, is_reserved_token, look_up};
 ghost use Rattle.lexer.specs.Tokens.{bytes_of};
+ghost use Rattle.lexer.specs.declared.word.Word.TheVariants as word;
 ghost use Rattle.tokens.specs.Views.{names_in};
 
 use crate::guide::Guide;
 use attr_sets::MOST_ATTRIBUTES;
 use dep_model::{Name, Schema};
-use lexer::{Token, TokenKind, Word};
+use lexer::{QuotedName, Token, TokenKind, Word};
 use schema_grammar::{Format, SchemaRefusal, SchemaRefusalKind};
 
 /// The names among which a word is looked up.
@@ -39,8 +40,24 @@ pub fn look_up(
 {
     match word {
         Word::Bare(text) => look_up_bytes(names, format, kind, text),
-        Word::Quoted(quoted) => look_up_bytes(names, format, kind, quoted.name().bytes()),
+        Word::Quoted(quoted) => look_up_quoted(names, format, kind, quoted),
     }
+}
+
+/// The same of a quoted name. Few names are quoted, and this one takes room, so it stands apart.
+#[inline(never)]
+fn look_up_quoted(
+    names: &Names<'_>,
+    format: Format,
+    kind: TokenKind,
+    quoted: &QuotedName<'_>,
+) -> Result<u8, SchemaRefusalKind>
+    requires { length (names_in names.now) ≤ MOST_ATTRIBUTES }
+    ensures exact { result
+        ≡ look_up format (names_in names.now) kind (bytes_of (word.Quoted quoted.now)) }
+    ensures declared { IfOk result (λ attribute. attribute < length (names_in names.now)) }
+{
+    look_up_bytes(names, format, kind, quoted.name().bytes())
 }
 
 /// The same of the bytes that a token stands for.

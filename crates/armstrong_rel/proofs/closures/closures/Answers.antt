@@ -1,39 +1,46 @@
--- What is left to prove of `closures`: its clause `closures` and that the invariant of its loop
--- holds at first and stays, by `FoundLemmas` and `NumberLemmas`.
-use Rattle.std.proofs.Common.{◌≡◌, ℕ, ◌+◌, ◌^◌, ◌<◌, List, sym, subst, arith}
-use Rattle.std.proofs.lemmas.Nat.{one_shl}
-use Rattle.attr_sets.specs.declared.set.AttrSet.{AttrSet}
-use Rattle.attr_sets.specs.Attributes.{below, IsSubset}
+-- What is left to prove of `closures`: what `next_subset` requires, that the invariant of its loop holds at
+-- first and stays, and that its loop ends.
+use Rattle.std.proofs.Common.{List, sym, subst, ◌∙◌, arith}
+use Rattle.std.specs.Prelude.{All, Option, IfSome}
+use Rattle.std.proofs.lemmas.Bool.{true≢false}
+use Rattle.std.proofs.lemmas.List.Elements.{All-nil, All-push}
+use Rattle.attr_sets.specs.Attributes.{IsSubset}
 use Rattle.attr_sets.specs.Sets.{attributes}
-use Rattle.dep_model.specs.Dependencies.{Dependency}
-use Rattle.dep_model.specs.Deps.{dependencies_of}
-use Rattle.armstrong_rel.specs.Closures.{AreClosures, IsClosureOf, set_at}
-use Rattle.armstrong_rel.proofs.NumberLemmas.{set_low}
-use Rattle.armstrong_rel.proofs.FoundLemmas.{table_none, table_more}
+use Rattle.attr_sets.specs.declared.set.AttrSet.{AttrSet}
+use Rattle.attr_sets.proofs.AttributesLemmas.{same_at}
+use Rattle.armstrong_rel.specs.declared.closures.KnownClosure.{KnownClosure}
+use Rattle.armstrong_rel.specs.Closures.{IsKnown}
+use Rattle.armstrong_rel.proofs.FoundLemmas.{next_within, parts_left-less}
+use Rattle.armstrong_rel.proofs.KnownLemmas.{closure_known}
 use Rattle.armstrong_rel.proofs.closures.closures.Goals as goal
+use Rattle.armstrong_rel.proofs.closures.closures.Goals.{In-Some}
 
-pub loop-number-init : goal.loop-number-init
-loop-number-init c = table_none c.args.width
-    (dependencies_of c.args.deps.now) c.new-table.result.items c.new-table.ensures.items
+-- the set at hand lies within the whole
+at_hand : (c : In-Some) → IsSubset (attributes c.in-Some.set) (attributes c.args.whole)
+at_hand c = subst (λ (o : Option AttrSet). IfSome o (λ set. IsSubset (attributes set) (attributes c.args.whole))) c.in-Some.is c.loop-next.invariant.within
 
-pub loop-number-preserved : goal.loop-number-preserved
-loop-number-preserved c =
-    let n = c.args.width in
-    let ds = dependencies_of c.args.deps.now in
-    let number = c.loop-number.number in
-    let all = one_shl n 32 (omega (arith, c.requires.width)) in
-    let low : number < 2 ^ n = subst (λ (m : ℕ). number < m) all c.loop-number-test.true in
-    let inside : IsSubset (attributes (set_at number)) (below n) = set_low n number (omega (arith, c.requires.width)) low in
-    let closure : IsClosureOf n ds (attributes (set_at number)) (attributes c.closure.result) =
-    subst (λ (es : List Dependency). IsClosureOf n es (attributes (set_at number)) (attributes c.closure.result))
-    c.requires.functional (c.closure.ensures.closure n c.requires.deps inside) in
-    subst (λ (xs : List AttrSet). AreClosures n ds (number + 1) xs) (sym c.in_ok-push.ensures.items)
-    (table_more n ds number c.loop-number.table.items c.closure.result c.loop-number.invariant closure)
+pub loop-next-init : goal.loop-next-init
+loop-next-init c = record {
+  within = λ k m. absurd (true≢false (sym m ∙ same_at c.empty.ensures.members k));
+  known = subst (λ (xs : List KnownClosure). All (IsKnown c.args.schema.now) xs) (sym c.new-table.ensures.items) (All-nil (IsKnown c.args.schema.now));
+}
 
-pub returns : goal.returns
-returns c =
-    let n = c.args.width in
-    let ds = dependencies_of c.args.deps.now in
-    let all = one_shl n 32 (omega (arith, c.requires.width)) in
-    let end : c.loop-number.number ≡ 2 ^ n = omega arith in
-    record { closures = subst (λ (m : ℕ). AreClosures n ds m c.loop-number.table.items) end c.loop-number.invariant }
+pub next_subset-next-requires : goal.next_subset-next-requires
+next_subset-next-requires c = record { within = at_hand (goal.at.next_subset-next-requires c).In-Some }
+
+pub loop-next-smaller : goal.loop-next-smaller
+loop-next-smaller c = parts_left-less c.in-Some.set c.loop-next.next c.next_subset-next.result c.in-Some.is (omega arith) c.next_subset-next.ensures.number
+
+pub loop-next-preserved : goal.loop-next-preserved
+loop-next-preserved c =
+    let s = c.args.schema.now in
+    let set = c.in-Some.set in
+    let inside = at_hand (goal.at.loop-next-preserved c).In-Some in
+    let is = closure_known s c.deps.result.now c.deps.ensures.deps (attributes set) (attributes c.closure.result)
+    c.requires.functional (λ k m. c.requires.whole k (inside k m)) c.closure.ensures.closure in
+    let known : KnownClosure = record { of = set; closure = c.closure.result } in
+    record {
+      within = next_within (attributes c.args.whole) set c.next_subset-next.result c.next_subset-next.ensures.next;
+      known = subst (λ (xs : List KnownClosure). All (IsKnown s) xs) (sym c.in_ok-push.ensures.items)
+          (All-push (IsKnown s) c.loop-next.table.items known c.loop-next.invariant.known is);
+    }

@@ -1,7 +1,16 @@
--- What the loop of `closures` keeps: `AreClosures`.
-use Rattle.dep_model.specs.Deps.{dependencies_of}
-use Rattle.armstrong_rel.specs.Closures.{AreClosures}
+-- What the loop of `closures` keeps: what is kept with a set is its closure; and by what it ends.
+use Rattle.std.specs.Prelude.{All, IfSome}
+use Rattle.attr_sets.specs.Attributes.{IsSubset}
+use Rattle.attr_sets.specs.Sets.{attributes}
+use Rattle.armstrong_rel.specs.Closures.{IsKnown}
+use Rattle.armstrong_rel.proofs.FoundLemmas.{parts_left}
 use Rattle.armstrong_rel.proofs.closures.closures.Given as goal
 
-abbrev pub invariant-loop-number : goal.invariant-loop-number
-invariant-loop-number l = AreClosures l.width (dependencies_of l.deps) l.number l.table.items
+abbrev pub invariant-loop-next : goal.invariant-loop-next
+invariant-loop-next l = record {
+  within : IfSome l.next (λ set. IsSubset (attributes set) (attributes l.whole));
+  known : All (IsKnown l.schema) l.table.items;
+}
+
+abbrev pub decreases-loop-next : goal.decreases-loop-next
+decreases-loop-next l = parts_left l.next

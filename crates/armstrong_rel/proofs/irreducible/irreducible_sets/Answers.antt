@@ -1,45 +1,49 @@
--- What is left to prove of `irreducible_sets`: its clause `irreducible`, what `is_irreducible`
--- requires, and that a round of its loop keeps the invariant, by `FoundLemmas` and `NumberLemmas`.
-use Rattle.std.proofs.Common.{◌≡◌, ℕ, ◌+◌, ◌^◌, ◌<◌, List, ◌++◌, [], ◌∷◌, Vec, Global, sym, ap, subst, ◌∙◌, arith}
-use Rattle.std.proofs.lemmas.Bool.{true≢false}
+-- What is left to prove of `irreducible_sets`: its clause `sets`, what `closures` and `add_sets_with`
+-- require, and that a round of its loop keeps the invariant, by `FoundLemmas`.
+use Rattle.std.proofs.Common.{List, sym, subst, ◌∙◌}
+use Rattle.std.specs.Prelude.{All, Option, Some, IfSome}
+use Rattle.attr_sets.specs.Attributes.{Attributes, IsNextSubset}
+use Rattle.attr_sets.specs.Sets.{attributes}
 use Rattle.attr_sets.specs.declared.set.AttrSet.{AttrSet}
-use Rattle.armstrong_rel.specs.Closures.{set_at}
-use Rattle.armstrong_rel.proofs.NumberLemmas.{set_low, power_at_most}
-use Rattle.armstrong_rel.proofs.FoundLemmas.{AreFound, found_same, found_more, found_all}
-use Rattle.armstrong_rel.proofs.irreducible.irreducible_sets.Goals.{then-is_irreducible+in_ok-push, else-is_irreducible}
+use Rattle.attr_sets.proofs.AttributesLemmas.{same_at}
+use Rattle.dep_model.specs.Schemas.{width_of, theory_of}
+use Rattle.armstrong_rel.specs.declared.closures.KnownClosure.{KnownClosure}
+use Rattle.armstrong_rel.specs.Closures.{IsKnown}
+use Rattle.armstrong_rel.proofs.PartLemmas.{schema_within, left_sides_low}
+use Rattle.armstrong_rel.proofs.FoundLemmas.{IsWalk, walk_on, found_sorted}
 use Rattle.armstrong_rel.proofs.irreducible.irreducible_sets.Goals as goal
+use Rattle.armstrong_rel.proofs.irreducible.irreducible_sets.Goals.{In-Some}
 
-pub is_irreducible-requires-clause-set : goal.is_irreducible-requires-clause-set
-is_irreducible-requires-clause-set c =
-    let low : c.loop-number.number < 2 ^ c.args.width = subst
-    (λ (m : ℕ). c.loop-number.number < m) c.requires.table c.loop-number-test.true in
-    set_low c.args.width c.loop-number.number (omega (arith, c.requires.width)) low
+-- the walk, at the part at hand
+at_hand : (c : In-Some) → IsWalk (width_of c.args.schema.now) (theory_of c.args.schema.now) (Some c.in-Some.part) c.loop-next.found.items
+at_hand c = subst (λ (o : Option AttrSet). IsWalk (width_of c.args.schema.now) (theory_of c.args.schema.now) o c.loop-next.found.items) c.in-Some.is c.loop-next.invariant
 
-pub loop-number-preserved : goal.loop-number-preserved
-loop-number-preserved c ds are =
-    let n = c.args.width in
-    let number = c.loop-number.number in
-    let found = c.loop-number.invariant ds are in
-    let fact = c.is_irreducible.ensures.irreducible ds are in
-    elim c.if-is_irreducible.branch [
-      | then-is_irreducible+in_ok-push w ↦
-          let low : number < 2 ^ n = subst (λ (m : ℕ). number < m) c.requires.table c.loop-number-test.true in
-          let within_limit = power_at_most n c.requires.width in
-          let items : c.if-is_irreducible.sets.items
-          ≡ c.loop-number.sets.items ++ set_at number ∷ [] = ap (λ (v : Vec AttrSet Global). v.items) w.sets-is
-          ∙ w.in_ok-push.ensures.items in
-          subst (λ (xs : List AttrSet). AreFound n ds (number + 1) xs) (sym items)
-          (found_more n ds number c.loop-number.sets.items (omega arith) found (fact.0 w.if-is_irreducible.true))
-      | else-is_irreducible w ↦
-          subst (λ (v : Vec AttrSet Global). AreFound n ds (number + 1) v.items) (sym w.sets-is)
-          (found_same n ds number c.loop-number.sets.items found
-          (λ irreducible. true≢false (sym (fact.1 irreducible) ∙ w.if-is_irreducible.false)))
-    ]
+pub closures-requires-clause-whole : goal.closures-requires-clause-whole
+closures-requires-clause-whole c k m =
+    let s = c.args.schema.now in
+    left_sides_low (width_of s) (theory_of s) (schema_within s) k (sym (same_at c.requires.used k) ∙ m)
+
+pub add_sets_with-requires-clause-table : goal.add_sets_with-requires-clause-table
+add_sets_with-requires-clause-table c =
+    subst (λ (xs : List KnownClosure). All (IsKnown c.args.schema.now) xs) (sym c.deref.ensures.value) c.in_ok-table.ensures.known
+
+pub add_sets_with-requires-clause-found : goal.add_sets_with-requires-clause-found
+add_sets_with-requires-clause-found c = (at_hand (goal.at.add_sets_with-requires-clause-found c).In-Some).passed
+
+pub loop-next-preserved : goal.loop-next-preserved
+loop-next-preserved c =
+    let s = c.args.schema.now in
+    let part = c.in-Some.part in
+    let walk = at_hand (goal.at.loop-next-preserved c).In-Some in
+    walk_on (width_of s) (theory_of s) part c.next_subset-next.result c.add_sets_with.new.found.items (schema_within s) walk.within
+    (λ none. c.next_subset-next.ensures.none.0 none ∙ c.requires.used)
+    (subst (λ (whole : Attributes). IfSome c.next_subset-next.result (λ y. IsNextSubset whole (attributes part) (attributes y))) c.requires.used c.next_subset-next.ensures.next)
+    c.in_ok-add_sets_with.ensures.found
 
 pub returns : goal.returns
-returns c = record {
-  irreducible = λ ds are.
-      let end : c.loop-number.number ≡ 2 ^ c.args.width = omega (arith, c.requires.table) in
-      found_all c.args.width ds c.loop-number.sets.items (omega (arith, c.requires.width))
-      (subst (λ (m : ℕ). AreFound c.args.width ds m c.loop-number.sets.items) end (c.loop-number.invariant ds are));
-}
+returns c =
+    let s = c.args.schema.now in
+    record {
+      sets = found_sorted (width_of s) (theory_of s) c.loop-next.next c.loop-next.found.items c.sort_unstable.new.self.items
+          c.in_default.is c.loop-next.invariant c.sort_unstable.ensures.permutation c.sort_unstable.ensures.sorted;
+    }

@@ -1,11 +1,10 @@
--- What the loop of `irreducible_sets` keeps, in terms of `Dependency`, `AreClosures` and
--- `AreFound`.
-use Rattle.std.proofs.Common.{List, ◌^◌}
-use Rattle.dep_model.specs.Dependencies.{Dependency}
-use Rattle.armstrong_rel.specs.Closures.{AreClosures}
-use Rattle.armstrong_rel.proofs.FoundLemmas.{AreFound}
+-- What the loop of `irreducible_sets` keeps: `IsWalk`; and by what it ends.
+use Rattle.dep_model.specs.Schemas.{width_of, theory_of}
+use Rattle.armstrong_rel.proofs.FoundLemmas.{IsWalk, parts_left}
 use Rattle.armstrong_rel.proofs.irreducible.irreducible_sets.Given as goal
 
-abbrev pub invariant-loop-number : goal.invariant-loop-number
-invariant-loop-number l =
-    (ds : List Dependency) → AreClosures l.width ds (2 ^ l.width) l.table → AreFound l.width ds l.number l.sets.items
+abbrev pub invariant-loop-next : goal.invariant-loop-next
+invariant-loop-next l = IsWalk (width_of l.schema) (theory_of l.schema) l.next l.found.items
+
+abbrev pub decreases-loop-next : goal.decreases-loop-next
+decreases-loop-next l = parts_left l.next

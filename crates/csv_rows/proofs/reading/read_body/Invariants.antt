@@ -9,10 +9,10 @@ use Rattle.csv_rows.proofs.reading.read_body.Given as goal
 -- the records so far gave these rows
 abbrev pub invariant-records : goal.invariant-records
 invariant-records l = record {
-  within_limit : length l.rows ≤ 100000;
+  within_limit : length l.rows ≤ 10000000;
   progress : (rs : List (List (List ℕ))) (columns : List ℕ) → HasLeft l.fn.reader rs → IsHeader (width_of l.schema) columns l.header
-      → Progress l.schema columns rs l.reader l.rows;
+      → Progress l.schema columns l.unclosed rs l.reader l.rows;
 }
 
 abbrev pub decreases-records : goal.decreases-records
-decreases-records l = 100000 - length l.rows
+decreases-records l = 10000000 - length l.rows

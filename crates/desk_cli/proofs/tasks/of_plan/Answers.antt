@@ -4,7 +4,8 @@ use Rattle.attr_sets.specs.Attributes.{Attributes}
 use Rattle.plans.specs.Plans.{plan_of}
 use Rattle.desk_words.specs.Commands.{plan_question}
 use Rattle.desk_cli.specs.Performs.{AnswersPlan}
-use Rattle.desk_inputs.specs.Plans.{PlanStops, IsPlanFile}
+use Rattle.desk_inputs.specs.FileKinds.{FileStops, IsFile}
+use Rattle.desk_inputs.specs.Plans.{plan_file}
 use Rattle.desk_responses.proofs.StepLemmas.{With-found}
 use Rattle.desk_cli.proofs.tasks.of_plan.Goals as goal
 
@@ -12,5 +13,5 @@ pub returns-clause-response : goal.returns-clause-response
 returns-clause-response g c = λ r shows.
     let s = c.args.schema.now in
     let file = c.args.file.now in
-    With-found (PlanStops r s file) (IsPlanFile r s file) (λ (plan : List Attributes). AnswersPlan s plan (plan_question c.args.question))
+    With-found (FileStops (plan_file s) r file) (IsFile (plan_file s) r file) (λ (plan : List Attributes). AnswersPlan s plan (plan_question c.args.question))
     (plan_of c.in-Ok.plan) c.answer_plan.result (c.in-Ok.ensures.ok r shows.same) c.answer_plan.ensures.response

@@ -1,6 +1,7 @@
 -- What is left to prove of `of_schemas`: its clause `response`.
 use Rattle.dep_model.specs.declared.schema.Schema.{Schema}
-use Rattle.desk_inputs.specs.Inputs.{SchemaStops, IsSchemaFile}
+use Rattle.desk_inputs.specs.FileKinds.{FileStops, IsFile}
+use Rattle.desk_inputs.specs.Inputs.{schema_file}
 use Rattle.desk_implication.specs.Sameness.{ChecksSame}
 use Rattle.desk_responses.proofs.StepLemmas.{With-found}
 use Rattle.desk_cli.proofs.tasks.of_schemas.Goals as goal
@@ -10,5 +11,5 @@ returns-clause-response g c = λ r shows.
     let schema = c.args.schema.now in
     let file = c.args.file.now in
     let other_file = c.args.other_file.now in
-    With-found (SchemaStops r other_file) (IsSchemaFile r other_file) (λ (other : Schema). ChecksSame schema other file other_file) c.in-Ok.other c.check_same.result
+    With-found (FileStops schema_file r other_file) (IsFile schema_file r other_file) (λ (other : Schema). ChecksSame schema other file other_file) c.in-Ok.other c.check_same.result
     (c.in-Ok.ensures.ok r shows.same) c.check_same.ensures.response

@@ -1,9 +1,12 @@
--- What is left to prove of `perform_task`: its clause `response`, in the arms that read files.
+-- What is left to prove of `perform_task`: its clauses `reads` and `response`, by arms.
 use Rattle.std.proofs.Common.{subst, sym}
 use Rattle.desk_words.specs.declared.questions.Task.{Task}
 use Rattle.desk_words.specs.Commands.{task_form}
 use Rattle.desk_responses.specs.Responses.{RespondsAs}
+use Rattle.desk_cli.specs.FilesRead.{files_of_task}
 use Rattle.desk_cli.specs.Performs.{Does}
+use Rattle.desk_inputs.specs.FilesBegun.{BeginsFront}
+use Rattle.desk_inputs.proofs.BegunLemmas.{front_none}
 use Rattle.desk_cli.proofs.tasks.perform_task.Goals as goal
 
 pub returns-in-OfPlan-clause-response : goal.returns-in-OfPlan-clause-response
@@ -30,3 +33,35 @@ pub returns-in-CheckSame-clause-response : goal.returns-in-CheckSame-clause-resp
 unfolding Does
 returns-in-CheckSame-clause-response g c = λ r shows.
     subst (λ (task : Task). RespondsAs (Does r c.args.schema.now (task_form task)) c.of_schemas.result) (sym c.in-CheckSame.is) (c.of_schemas.ensures.response r shows)
+
+pub returns-in-CheckCover-clause-response : goal.returns-in-CheckCover-clause-response
+unfolding Does
+returns-in-CheckCover-clause-response g c = λ r shows.
+    subst (λ (task : Task). RespondsAs (Does r c.args.schema.now (task_form task)) c.of_cover.result) (sym c.in-CheckCover.is) (c.of_cover.ensures.response r shows)
+
+pub returns-in-OfSchema-clause-reads : goal.returns-in-OfSchema-clause-reads
+returns-in-OfSchema-clause-reads g c = front_none (files_of_task (task_form c.args.task)) (g.F.FileSource.begun c.args.source.now)
+
+pub returns-in-OfPlan-clause-reads : goal.returns-in-OfPlan-clause-reads
+returns-in-OfPlan-clause-reads g c =
+    subst (λ (task : Task). BeginsFront (files_of_task (task_form task)) (g.F.FileSource.begun c.args.source.now) (g.F.FileSource.begun c.of_plan.new.source)) (sym c.in-OfPlan.is) c.of_plan.ensures.reads
+
+pub returns-in-OfRows-clause-reads : goal.returns-in-OfRows-clause-reads
+returns-in-OfRows-clause-reads g c =
+    subst (λ (task : Task). BeginsFront (files_of_task (task_form task)) (g.F.FileSource.begun c.args.source.now) (g.F.FileSource.begun c.of_rows.new.source)) (sym c.in-OfRows.is) c.of_rows.ensures.reads
+
+pub returns-in-MigratePlan-clause-reads : goal.returns-in-MigratePlan-clause-reads
+returns-in-MigratePlan-clause-reads g c =
+    subst (λ (task : Task). BeginsFront (files_of_task (task_form task)) (g.F.FileSource.begun c.args.source.now) (g.F.FileSource.begun c.of_plan_and_rows.new.source)) (sym c.in-MigratePlan.is) c.of_plan_and_rows.ensures.reads
+
+pub returns-in-CheckProof-clause-reads : goal.returns-in-CheckProof-clause-reads
+returns-in-CheckProof-clause-reads g c =
+    subst (λ (task : Task). BeginsFront (files_of_task (task_form task)) (g.F.FileSource.begun c.args.source.now) (g.F.FileSource.begun c.of_proof.new.source)) (sym c.in-CheckProof.is) c.of_proof.ensures.reads
+
+pub returns-in-CheckSame-clause-reads : goal.returns-in-CheckSame-clause-reads
+returns-in-CheckSame-clause-reads g c =
+    subst (λ (task : Task). BeginsFront (files_of_task (task_form task)) (g.F.FileSource.begun c.args.source.now) (g.F.FileSource.begun c.of_schemas.new.source)) (sym c.in-CheckSame.is) c.of_schemas.ensures.reads
+
+pub returns-in-Rejoin-clause-reads : goal.returns-in-Rejoin-clause-reads
+returns-in-Rejoin-clause-reads g c =
+    subst (λ (task : Task). BeginsFront (files_of_task (task_form task)) (g.F.FileSource.begun c.args.source.now) (g.F.FileSource.begun c.of_parts.new.source)) (sym c.in-Rejoin.is) c.of_parts.ensures.reads

@@ -12,14 +12,15 @@ returns g c =
     let files = g.F.FileSource.files in
     let faults = g.F.FileSource.faults in
     let taken = g.F.FileSource.taken in
+    let begun = g.F.FileSource.begun in
     let old = c.args.source.now in
     let new = c.answer.new.source in
-    let source = source_in_call (files old) (files new) (faults old) (faults new) (taken new) in
+    let source = source_in_call (files old) (files new) (faults old) (faults new) (taken new) (begun old) (begun new) in
     let sink = sink_in_call (g.K.Sink.contents c.args.out.now) (g.K.Sink.contents c.deliver.new.out) (g.K.Sink.faults c.args.out.now) (g.K.Sink.faults c.deliver.new.out) in
     let destinations = destinations_in_call g.T.Destination.is_known g.T.Destination.finished g.T.Destination.begun g.T.Destination.width g.T.Destination.faults c.args.destinations.now.items c.deliver.new.destinations.items in
     record {
       desk = desk_delivered c.args.words.now source sink destinations (response_value c.in_ok-response.response) c.deliver.result
-          (c.in_ok-response.ensures.response _ (observed_shows files faults taken old new))
-          (λ fs are calm. c.in_ok-response.ensures.response (known_files fs) (known_files_shows files faults taken old new fs are calm))
-          c.deliver.ensures.delivers c.in_ok-response.ensures.files c.in_ok-response.ensures.later;
+          (λ last is. c.in_ok-response.ensures.response _ (observed_shows files faults taken begun old new last is))
+          (λ fs are calm. c.in_ok-response.ensures.response (known_files fs) (known_files_shows files faults taken begun old new fs are calm))
+          c.deliver.ensures.delivers c.in_ok-response.ensures.files c.in_ok-response.ensures.later c.in_ok-response.ensures.reads;
     }

@@ -1,8 +1,11 @@
--- What is left to prove of `perform`: its clause `response`.
+-- What is left to prove of `perform`: its clauses `reads` and `response`.
 use Rattle.std.proofs.Common.{subst, sym}
 use Rattle.desk_words.specs.declared.command.Command.{Command}
 use Rattle.desk_words.specs.Commands.{command_form}
+use Rattle.desk_cli.specs.FilesRead.{files_of_command}
 use Rattle.desk_cli.specs.Performs.{Performs}
+use Rattle.desk_inputs.specs.FilesBegun.{BeginsFront}
+use Rattle.desk_inputs.proofs.BegunLemmas.{front_none}
 use Rattle.desk_responses.specs.Responses.{RespondsAs}
 use Rattle.desk_cli.proofs.top.perform.Goals as goal
 
@@ -10,3 +13,20 @@ pub returns-in-OverSchema-clause-response : goal.returns-in-OverSchema-clause-re
 unfolding Performs
 returns-in-OverSchema-clause-response g c = λ r shows.
     subst (λ (command : Command). RespondsAs (Performs r (command_form command)) c.over_schema.result) (sym c.in-OverSchema.is) (c.over_schema.ensures.response r shows)
+
+pub returns-in-OverSchema-clause-reads : goal.returns-in-OverSchema-clause-reads
+returns-in-OverSchema-clause-reads g c =
+    subst (λ (command : Command). BeginsFront (files_of_command (command_form command)) (g.F.FileSource.begun c.args.source.now) (g.F.FileSource.begun c.over_schema.new.source)) (sym c.in-OverSchema.is) c.over_schema.ensures.reads
+
+pub returns-in-Discover-clause-reads : goal.returns-in-Discover-clause-reads
+returns-in-Discover-clause-reads g c =
+    subst (λ (command : Command). BeginsFront (files_of_command (command_form command)) (g.F.FileSource.begun c.args.source.now) (g.F.FileSource.begun c.of_headed.new.source)) (sym c.in-Discover.is) c.of_headed.ensures.reads
+
+pub returns-in-Sample-clause-reads : goal.returns-in-Sample-clause-reads
+returns-in-Sample-clause-reads g c = front_none (files_of_command (command_form c.args.command)) (g.F.FileSource.begun c.args.source.now)
+
+pub returns-in-Help-clause-reads : goal.returns-in-Help-clause-reads
+returns-in-Help-clause-reads g c = front_none (files_of_command (command_form c.args.command)) (g.F.FileSource.begun c.args.source.now)
+
+pub returns-in-Version-clause-reads : goal.returns-in-Version-clause-reads
+returns-in-Version-clause-reads g c = front_none (files_of_command (command_form c.args.command)) (g.F.FileSource.begun c.args.source.now)

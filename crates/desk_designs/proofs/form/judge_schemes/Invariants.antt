@@ -6,5 +6,5 @@ use Rattle.desk_designs.specs.NormalForms.{PassesForm}
 use Rattle.desk_designs.proofs.form.judge_schemes.Given as goal
 
 -- the schemes so far pass
-abbrev pub invariant-loop-scheme : goal.invariant-loop-scheme
-invariant-loop-scheme l = record { passed : All (λ scheme. PassesForm l.schema l.form (attributes scheme)) (take l.scheme-index l.schemes) }
+abbrev pub invariant-loop-i : goal.invariant-loop-i
+invariant-loop-i l = record { passed : All (λ scheme. PassesForm l.schema l.form (attributes scheme)) (take l.i l.schemes) }

@@ -1,5 +1,5 @@
--- What is left to prove of `exhibit_relation`: what it answers in the cases `Ok`, `TooWide` and
--- `NotFunctional`.
+-- What is left to prove of `exhibit_relation`: what it answers in the cases `Ok`, `TooWide`,
+-- `TooManyRows` and `NotFunctional`.
 use Rattle.std.proofs.Common.{◌≡◌, inl, inr, subst, ap, ◌∙◌}
 use Rattle.armstrong_rel.specs.declared.refusal.ExhibitRefusal.{ExhibitRefusal}
 use Rattle.armstrong_rel.specs.Refusals.{IsRefusedExhibit}
@@ -20,7 +20,7 @@ pub returns-in_ok-response_of-in-Ok : goal.returns-in_ok-response_of-in-Ok
 returns-in_ok-response_of-in-Ok c = record {
   response = inl (
     c.in-Ok.rows.items,
-    record { functional = c.in-Ok.ensures.functional; narrow = c.in-Ok.ensures.not_too_wide; exhibit = c.in-Ok.ensures.rows; exact = c.in-Ok.ensures.exact },
+    record { functional = c.in-Ok.ensures.functional; narrow = c.in-Ok.ensures.not_too_wide; within_limit = c.in-Ok.ensures.within_limit; exhibit = c.in-Ok.ensures.rows; exact = c.in-Ok.ensures.exact },
     subst (λ (rows : Relation). Says Yes (rows_text (names_of c.args.schema.now) rows) (response_value c.in_ok-response_of-in-Ok.field-0)) c.deref.ensures.value c.in_ok-response_of-in-Ok.ensures.says,
   );
 }
@@ -30,12 +30,19 @@ returns-in-TooWide c =
     let s = c.args.schema.now in
     let all : attributes c.full.result ≡ universe_of s = c.full.ensures.members ∙ ap below c.width.ensures.count in
     record {
-      response = λ response is. inr (inr (
+      response = λ response is. inr (inr (inl (
         subst (λ (refusal : ExhibitRefusal). IsRefusedExhibit s refusal) c.in-TooWide.is
             (refused_is _ _ _ c.in-Err-Refused.field-0-is c.in-Err-Refused.ensures.refused),
         subst (λ (x : Attributes). Says Refused (too_wide_text (printed_names_of s) x) (response_value response)) all (c.too_wide_exit.ensures.says response is),
-      ));
+      )));
     }
+
+pub returns-in-TooManyRows : goal.returns-in-TooManyRows
+returns-in-TooManyRows c =
+    let s = c.args.schema.now in
+    let refused = subst (λ (refusal : ExhibitRefusal). IsRefusedExhibit s refusal) c.in-TooManyRows.is
+    (refused_is _ _ _ c.in-Err-Refused.field-0-is c.in-Err-Refused.ensures.refused) in
+    record { response = λ response is. inr (inr (inr (refused, c.too_many_rows_exit.ensures.says response is))) }
 
 pub returns-in-NotFunctional : goal.returns-in-NotFunctional
 returns-in-NotFunctional c =

@@ -1,45 +1,22 @@
--- What is left to prove of `compare`: its clause `response`, by `say_the_same` and
--- `differences_differ`.
-use Rattle.std.proofs.Common.{◌≡◌, ◌++◌, ℕ, List, inl, inr, sym, subst, ap, ◌∙◌, append_assoc}
-use Rattle.std.specs.Prelude.{codes}
-use Rattle.std.proofs.lemmas.Bool.{false≢true}
+-- What is left to prove of `compare`: its clause `response`, where the schemas differ.
+use Rattle.std.proofs.Common.{ℕ, List, Option, Vec, Global, inr, subst}
+use Rattle.std.specs.Prelude.{IfSome}
 use Rattle.desk_responses.specs.ResponseValues.{Says}
 use Rattle.desk_responses.specs.Responses.{response_value}
-use Rattle.desk_implication.specs.Sameness.{different_text, differences_text}
-use Rattle.desk_texts.specs.Texts.{line}
-use Rattle.desk_responses.specs.declared.status.Status.TheVariants.{Yes, No}
-use Rattle.desk_implication.proofs.SamenessLemmas.{say_the_same, differences_differ}
+use Rattle.desk_responses.specs.declared.status.Status.TheVariants.{No}
+use Rattle.desk_implication.specs.Sameness.{IsDifferenceText}
 use Rattle.desk_implication.proofs.sameness.compare.Goals as goal
 
-pub returns-then-are_empty : goal.returns-then-are_empty
-returns-then-are_empty c =
-    let none = c.are_empty.ensures.none.0 c.if-are_empty.true in
-    let there = c.in_ok-of_schema.ensures.none.0 (sym c.deref.ensures.value ∙ none.0) in
-    let back = c.in_ok-of_other.ensures.none.0 (sym c.deref-2.ensures.value ∙ none.1) in
-    record { response = inl (say_the_same c.args.schema.now c.args.other.now c.requires.names there back, subst (λ (t : List ℕ). Says Yes t (response_value c.with_text.result)) c.in_ok-line_of.ensures.line c.with_text.ensures.says) }
-
-pub returns : goal.returns
-returns c =
-    let of_schema = c.in_ok-of_schema.of_schema.items in
-    let of_other = c.in_ok-of_other.of_other.items in
-    let there = λ (numbers : List ℕ). differences_text c.args.schema.now c.args.file.now c.args.other_file.now numbers in
-    let back = λ (numbers : List ℕ). differences_text c.args.other.now c.args.other_file.now c.args.file.now numbers in
-    let first = c.deref-3.result.now in
-    let second = c.deref-4.result.now in
-    let head = line (codes "different") in
-    let text : c.put_differences-2.new.text.items ≡ different_text c.args.schema.now c.args.other.now c.args.file.now c.args.other_file.now of_schema of_other =
-    c.in_ok-put_differences-2.ensures.added
-    ∙ ap (λ (t : List ℕ). t ++ back second) (c.in_ok-put_differences.ensures.added ∙ ap (λ (t : List ℕ). t ++ there first) c.in_ok-text.ensures.line)
-    ∙ append_assoc head (there first) (back second)
-    ∙ ap (λ (numbers : List ℕ). head ++ (there numbers ++ back second)) c.deref-3.ensures.value
-    ∙ ap (λ (numbers : List ℕ). head ++ (there of_schema ++ back numbers)) c.deref-4.ensures.value in
+pub returns-in-Some : goal.returns-in-Some
+returns-in-Some c =
+    let found = subst
+    (λ (lines : Option (Vec ℕ Global)). IfSome lines (λ text. IsDifferenceText c.args.schema.now c.args.other.now c.args.file.now c.args.other_file.now text.items))
+    c.in-Some.is c.in_ok-lines.ensures.differ in
     record {
       response = inr (
-        of_schema,
-        of_other,
-        differences_differ c.args.schema.now c.args.other.now of_schema of_other c.requires.names c.in_ok-of_schema.ensures.differences c.in_ok-of_other.ensures.differences
-            c.in_ok-of_schema.ensures.none c.in_ok-of_other.ensures.none
-            (λ none. false≢true (sym c.if-are_empty.false ∙ c.are_empty.ensures.none.1 (c.deref.ensures.value ∙ none.0, c.deref-2.ensures.value ∙ none.1))),
-        subst (λ (t : List ℕ). Says No t (response_value c.with_text-2.result)) text c.with_text-2.ensures.says,
+        found.of_schema,
+        found.of_other,
+        found.differ,
+        subst (λ (t : List ℕ). Says No t (response_value c.with_text-in-Some.result)) found.reads c.with_text-in-Some.ensures.says,
       );
     }

@@ -1,5 +1,5 @@
 -- What is left to prove of `open_plan`: its clauses `ok`, `within_limit`, `covers` and `exit`, by
--- `plan_stop`.
+-- `refusal_stops`.
 use Rattle.std.proofs.Common.{ℕ, List, subst}
 use Rattle.plans.specs.Plans.{plan_of}
 use Rattle.dep_model.proofs.FailureLemmas.{refused_is}
@@ -7,10 +7,10 @@ use Rattle.dep_model.specs.Schemas.{names_of}
 use Rattle.plan_grammar.specs.Diagnostics.{RefusesPlan}
 use Rattle.plan_grammar.specs.Meanings.{MeansPlan}
 use Rattle.desk_responses.specs.ResponseValues.{Says}
-use Rattle.desk_inputs.specs.Plans.{plan_refusal_text}
+use Rattle.desk_inputs.specs.Plans.{plan_file, plan_refusal_text}
 use Rattle.desk_responses.specs.declared.status.Status.TheVariants.{Refused}
 use Rattle.desk_responses.specs.Responses.{ExitsAs}
-use Rattle.desk_inputs.proofs.MeaningLemmas.{plan_stop}
+use Rattle.desk_inputs.proofs.KindLemmas.{refusal_stops}
 use Rattle.desk_inputs.proofs.plan.open_plan.Goals as goal
 
 pub returns-in-Ok-read_plan-clause-ok : goal.returns-in-Ok-read_plan-clause-ok
@@ -33,4 +33,4 @@ returns-in-Err-Refused-clause-exit g c = λ r shows.
     let refuses = refused_is _ _ _ c.in-Err-Refused.field-0-is c.in-Err-Refused.ensures.err in
     let refused = subst (λ (bytes : List ℕ). RefusesPlan (names_of s) bytes refusal) c.deref.ensures.value refuses in
     let exits_as = subst (λ (name : List ℕ). ExitsAs (Says Refused (plan_refusal_text (names_of s) name refusal)) c.plan_refusal_exit.result) c.bytes.ensures.bytes c.plan_refusal_exit.ensures.says in
-    plan_stop r s c.args.name.now c.in-Ok.bytes.items refusal c.plan_refusal_exit.result (c.in-Ok.ensures.ok r shows.same) refused exits_as
+    refusal_stops (plan_file s) r c.args.name.now c.in-Ok.bytes.items refusal c.plan_refusal_exit.result (c.in-Ok.ensures.ok r shows.same) refused exits_as

@@ -1,5 +1,5 @@
 -- What is left to prove of `open_proof`: its clauses `ok` and `exit` and what `proof_refusal_exit`
--- requires, by `proof_stop`.
+-- requires, by `refusal_stops`.
 use Rattle.std.proofs.Common.{ℕ, List, subst}
 use Rattle.derivation.specs.Derivs.{tree_of}
 use Rattle.dep_model.proofs.FailureLemmas.{refused_is}
@@ -11,14 +11,15 @@ use Rattle.desk_responses.specs.ResponseValues.{Says}
 use Rattle.desk_responses.specs.declared.status.Status.TheVariants.{Refused}
 use Rattle.desk_texts.specs.ProofTexts.{proof_refusal_text}
 use Rattle.desk_responses.specs.Responses.{ExitsAs}
-use Rattle.desk_inputs.proofs.MeaningLemmas.{proof_stop}
+use Rattle.desk_inputs.proofs.KindLemmas.{refusal_stops}
+use Rattle.desk_inputs.specs.Inputs.{proof_file}
 use Rattle.desk_inputs.proofs.read.open_proof.Goals as goal
 
 pub returns-in-Ok-read_concluded-clause-ok : goal.returns-in-Ok-read_concluded-clause-ok
 returns-in-Ok-read_concluded-clause-ok g c = λ r same. record {
   bytes = c.in-Ok.bytes.items;
   content = c.in-Ok.ensures.ok r same;
-  spells = subst (λ (bytes : List ℕ). SpellsWithin c.args.schema.now bytes (tree_of c.in-Ok-read_concluded.read.deriv.value)) c.deref.ensures.value c.in-Ok-read_concluded.ensures.ok;
+  means = subst (λ (bytes : List ℕ). SpellsWithin c.args.schema.now bytes (tree_of c.in-Ok-read_concluded.read.deriv.value)) c.deref.ensures.value c.in-Ok-read_concluded.ensures.ok;
 }
 
 pub proof_refusal_exit-requires : goal.proof_refusal_exit-requires
@@ -33,4 +34,4 @@ returns-in-Err-Refused-clause-exit g c = λ r shows.
     let refused = refused_is _ _ _ c.in-Err-Refused.field-0-is c.in-Err-Refused.ensures.err in
     let of_bytes = subst (λ (bytes : List ℕ). RefusesProof s bytes refusal) c.deref.ensures.value refused in
     let exits_as = subst (λ (name : List ℕ). ExitsAs (Says Refused (proof_refusal_text (printed_names_of s) name (line_diagnostic_of refusal))) c.proof_refusal_exit.result) c.bytes.ensures.bytes c.proof_refusal_exit.ensures.says in
-    proof_stop r s c.args.name.now c.in-Ok.bytes.items refusal c.proof_refusal_exit.result (c.in-Ok.ensures.ok r shows.same) of_bytes exits_as
+    refusal_stops (proof_file s) r c.args.name.now c.in-Ok.bytes.items (line_diagnostic_of refusal) c.proof_refusal_exit.result (c.in-Ok.ensures.ok r shows.same) of_bytes exits_as

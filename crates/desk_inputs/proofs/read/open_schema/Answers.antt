@@ -1,4 +1,4 @@
--- What is left to prove of `open_schema`: its clauses `ok` and `exit`, by `schema_stop`.
+-- What is left to prove of `open_schema`: its clauses `ok` and `exit`, by `refusal_stops`.
 use Rattle.std.proofs.Common.{ℕ, List, subst}
 use Rattle.std.specs.Prelude.{codes}
 use Rattle.dep_model.proofs.FailureLemmas.{refused_is}
@@ -8,15 +8,18 @@ use Rattle.desk_responses.specs.ResponseValues.{Says}
 use Rattle.desk_responses.specs.declared.status.Status.TheVariants.{Refused}
 use Rattle.desk_texts.specs.Texts.{refusal_text}
 use Rattle.desk_responses.specs.Responses.{ExitsAs}
-use Rattle.desk_inputs.proofs.MeaningLemmas.{schema_stop}
+use Rattle.desk_inputs.proofs.KindLemmas.{refusal_stops}
+use Rattle.desk_inputs.specs.Inputs.{schema_file}
 use Rattle.desk_inputs.proofs.read.open_schema.Goals as goal
 
 pub returns-in-Ok-read_schema-clause-ok : goal.returns-in-Ok-read_schema-clause-ok
 returns-in-Ok-read_schema-clause-ok g c = λ r same. record {
   bytes = c.in-Ok.bytes.items;
   content = c.in-Ok.ensures.ok r same;
-  means = subst (λ (bytes : List ℕ). MeansSchema bytes (declarations_of c.in-Ok-read_schema.schema)) c.deref.ensures.value c.in-Ok-read_schema.ensures.ok;
-  bare = c.in-Ok-read_schema.ensures.bare;
+  means = record {
+    declares = subst (λ (bytes : List ℕ). MeansSchema bytes (declarations_of c.in-Ok-read_schema.schema)) c.deref.ensures.value c.in-Ok-read_schema.ensures.ok;
+    bare = c.in-Ok-read_schema.ensures.bare;
+  };
 }
 
 pub returns-in-Err-Refused-clause-exit : goal.returns-in-Err-Refused-clause-exit
@@ -25,4 +28,4 @@ returns-in-Err-Refused-clause-exit g c = λ r shows.
     let refuses = refused_is _ _ _ c.in-Err-Refused.field-0-is c.in-Err-Refused.ensures.err in
     let refused = subst (λ (bytes : List ℕ). RefusesSchema bytes refusal) c.deref.ensures.value refuses in
     let exits_as = subst (λ (name : List ℕ). ExitsAs (Says Refused (refusal_text (codes "schema") name refusal)) c.refusal_exit.result) c.bytes.ensures.bytes c.refusal_exit.ensures.says in
-    schema_stop r c.args.name.now c.in-Ok.bytes.items refusal c.refusal_exit.result (c.in-Ok.ensures.ok r shows.same) refused exits_as
+    refusal_stops schema_file r c.args.name.now c.in-Ok.bytes.items refusal c.refusal_exit.result (c.in-Ok.ensures.ok r shows.same) refused exits_as

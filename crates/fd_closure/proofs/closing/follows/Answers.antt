@@ -1,13 +1,22 @@
--- What is left to prove of `follows`: its clause `implied`, by `closure_decides`.
+-- What is left to prove of `follows`: its clause `implied`, by `functionally_closed_holds`.
+use Rattle.std.proofs.Common.{⊎_elim}
 use Rattle.attr_sets.specs.Sets.{attributes}
-use Rattle.dep_model.specs.Dependencies.{functional_part}
-use Rattle.dep_model.specs.Deps.{dependencies_of}
-use Rattle.fd_closure.proofs.ClosureLemmas.{closure_decides}
+use Rattle.dep_model.proofs.RuleLemmas.{fd_weaker_obeyed}
+use Rattle.fd_closure.proofs.ClosureLemmas.{functionally_closed_holds}
 use Rattle.fd_closure.proofs.closing.follows.Goals as goal
 
 pub returns : goal.returns
-returns c = record {
-  implied = λ n within lhs_in rhs_in.
-      let decides = closure_decides n (functional_part (dependencies_of c.args.deps.now)) (attributes c.args.lhs) (attributes c.args.rhs) (attributes c.closure.result) rhs_in (c.closure.ensures.closure n within lhs_in) in
-      ((λ holds. decides.0 (c.is_subset.ensures.subset.0 holds)), (λ implied. c.is_subset.ensures.subset.1 (decides.1 implied)));
-}
+returns c =
+    let x = attributes c.args.lhs in
+    let y = attributes c.args.rhs in
+    let found = attributes c.closed_until.result in
+    let grows = c.closed_until.ensures.grows in
+    record {
+      implied = λ n within lhs_in rhs_in. (
+        (λ holds r legal. fd_weaker_obeyed x found x y r (λ k m. m) (c.is_subset.ensures.subset.0 holds) (grows.implied n r legal)),
+        (λ implied. ⊎_elim
+            (λ inside. c.is_subset.ensures.subset.1 inside)
+            (λ is_closed. c.is_subset.ensures.subset.1 (functionally_closed_holds n c.args.deps.now x y found within lhs_in rhs_in is_closed grows.holds implied))
+            c.closed_until.ensures.found),
+      );
+    }

@@ -1,17 +1,17 @@
--- What the loop of `read_body` keeps: `within_limit`, `even` and `taken`; and by what it ends.
+-- What the loop of `read_body` keeps: `within_limit`, `fit` and `taken`; and by what it ends.
 use Rattle.std.proofs.Common.{◌≤◌, ◌-◌, ℕ, List, length}
-use Rattle.dep_model.specs.Tuples.{IsOver}
 use Rattle.csv_rows.specs.Records.{HasLeft}
+use Rattle.fd_discovery.specs.Headings.{AreRows}
 use Rattle.fd_discovery.proofs.HeadingLemmas.{TakesRows}
 use Rattle.fd_discovery.proofs.headed_rows.read_body.Given as goal
 
 -- the records so far are the rows
 abbrev pub invariant-loop-rows : goal.invariant-loop-rows
 invariant-loop-rows l = record {
-  within_limit : length l.rows ≤ 10000;
-  even : IsOver l.columns l.rows;
+  within_limit : length l.rows ≤ 10000000;
+  fit : AreRows l.unclosed l.columns l.rows (length l.rows);
   taken : (rs : List (List (List ℕ))) → HasLeft l.fn.reader rs → TakesRows rs l.reader l.rows;
 }
 
 abbrev pub decreases-loop-rows : goal.decreases-loop-rows
-decreases-loop-rows l = 10000 - length l.rows
+decreases-loop-rows l = 10000000 - length l.rows

@@ -1,13 +1,12 @@
 -- What is left to prove of `one_reading`: its clauses `names`, `rows`, `refusal` and `never_both`,
 -- by `UniqueHeaded`.
-use Rattle.csv_rows.specs.Records.{records_of}
 use Rattle.fd_discovery.proofs.UniqueHeaded.{names_same, rows_same, refused_same, never_both}
 use Rattle.fd_discovery.proofs.laws.one_reading.Goals as goal
 
 pub returns : goal.returns
 returns c = record {
-  names = λ text one other p q. names_same (records_of text) one other p q;
-  rows = λ text one other p q. rows_same (records_of text) one other p q;
-  refusal = λ text one other p q. refused_same (records_of text) one other p q;
-  never_both = λ text headed why p q. never_both (records_of text) headed why p q;
+  names = λ text one other p q. names_same text one other p q;
+  rows = λ text one other p q. rows_same text one other p q;
+  refusal = λ text one other p q. refused_same text one other p q;
+  never_both = λ text headed why p q. never_both text headed why p q;
 }

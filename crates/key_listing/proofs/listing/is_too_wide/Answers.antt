@@ -1,13 +1,15 @@
 -- What is left to prove of `is_too_wide`: its clause `too_wide`, by `some_multivalued` and
 -- `none_multivalued`.
-use Rattle.std.proofs.Common.{◌≡◌, sym, ◌∙◌, subst, arith}
+use Rattle.std.proofs.Common.{◌≡◌, ◌↔◌, sym, ap, ◌∙◌, subst}
 use Rattle.std.proofs.lemmas.Bool.{false≢true}
-use Rattle.std.proofs.lemmas.Bool.Decides.{nat_tests}
-use Rattle.std.specs.Prelude.{List}
+use Rattle.std.specs.Prelude.{List, IsTrue}
+use Rattle.attr_sets.specs.Attributes.{Attributes, below}
+use Rattle.attr_sets.specs.Sets.{attributes}
 use Rattle.dep_model.specs.declared.dep.Dep.{Dep}
 use Rattle.dep_model.specs.Dependencies.{functional_part}
 use Rattle.dep_model.specs.Deps.{dependencies_of}
 use Rattle.dep_model.specs.Schemas.{theory_of}
+use Rattle.fd_closure.specs.LeftSides.{IsWide}
 use Rattle.key_listing.proofs.FoundLemmas.{some_multivalued, none_multivalued}
 use Rattle.key_listing.proofs.listing.is_too_wide.Goals as goal
 
@@ -20,7 +22,10 @@ returns-then-is_functional c =
 
 pub returns : goal.returns
 returns c =
-    let ds = theory_of c.args.schema.now in
+    let s = c.args.schema.now in
+    let ds = theory_of s in
     let not_empty = some_multivalued ds (λ same. false≢true (sym c.if-is_functional.false ∙ c.is_functional.ensures.functional.1
     (subst (λ (es : List Dep). functional_part (dependencies_of es) ≡ dependencies_of es) (sym c.deps.ensures.deps) same))) in
-    record { too_wide = ((λ e. (not_empty, grind (arith, nat_tests, e, c.width.ensures.count))), (λ wide. grind (arith, nat_tests, wide.1, c.width.ensures.count))) }
+    let wide = subst (λ (es : List Dep). IsTrue c.is_wide.result ↔ IsWide (dependencies_of es) (attributes c.full.result)) c.deps-2.ensures.deps c.is_wide.ensures.wide in
+    let exact = subst (λ (x : Attributes). IsTrue c.is_wide.result ↔ IsWide ds x) (c.full.ensures.members ∙ ap below c.width.ensures.count) wide in
+    record { too_wide = ((λ e. (not_empty, exact.0 e)), (λ h. exact.1 h.1)) }

@@ -5,10 +5,11 @@ use Rattle.std.proofs.Common.{sym, subst, ◌∙◌, arith}
 use Rattle.std.proofs.lemmas.Bool.{false≢true}
 use Rattle.std.specs.Prelude.{Option, Some}
 use Rattle.attr_sets.specs.declared.set.AttrSet.{AttrSet}
+use Rattle.attr_sets.specs.Attributes.{below, IsSubset}
 use Rattle.attr_sets.specs.Sets.{attributes}
 use Rattle.dep_model.specs.Schemas.{width_of, theory_of}
 use Rattle.normal_forms.specs.Breaking.{Breaks}
-use Rattle.normal_forms.proofs.SearchLemmas.{IsSearched, search_start, search_on, search_end, subsets_left-less}
+use Rattle.normal_forms.proofs.SearchLemmas.{IsSearched, search_start, search_past, search_on, search_end, passed_less}
 use Rattle.normal_forms.proofs.breaking.first_breaking.Goals as goal
 use Rattle.normal_forms.proofs.breaking.first_breaking.Goals.{In-Some}
 
@@ -37,21 +38,24 @@ returns-then-breaks-clause-first c =
       first = λ v v_in earlier. before.none v v_in earlier;
     }
 
+pub passed-requires-clause-set : goal.passed-requires-clause-set
+passed-requires-clause-set c = (searched (goal.at.passed-requires-clause-set c).In-Some).within
+
 pub next_subset-next-requires : goal.next_subset-next-requires
-next_subset-next-requires c =
-    let before = searched (goal.at.next_subset-next-requires c).In-Some in
-    record { within = before.within }
+next_subset-next-requires c = record { within = c.passed.ensures.within }
 
 pub loop-next-smaller : goal.loop-next-smaller
-loop-next-smaller c = subsets_left-less c.in-Some.set c.loop-next.next c.next_subset-next.result c.in-Some.is (omega arith) c.next_subset-next.ensures.number
+loop-next-smaller c = passed_less c.in-Some.set c.passed.result c.loop-next.next c.next_subset-next.result c.in-Some.is (omega arith) (omega arith) c.passed.ensures.holds c.next_subset-next.ensures.number
 
 pub loop-next-preserved : goal.loop-next-preserved
 loop-next-preserved c =
     let s = c.args.schema.now in
     let P = Breaks (width_of s) (theory_of s) c.args.form (attributes c.args.scheme) in
     let before = searched (goal.at.loop-next-preserved c).In-Some in
-    search_on (width_of s) P (attributes c.args.whole) c.in-Some.set c.next_subset-next.result (λ k m. c.requires.scheme k (c.requires.within_scheme k m)) before
-    (λ breaks. false≢true (sym c.if-breaks.false ∙ c.breaks.ensures.breaks.1 breaks)) c.next_subset-next.ensures.none.0 c.next_subset-next.ensures.next
+    let low : IsSubset (attributes c.args.whole) (below (width_of s)) = λ k m. c.requires.scheme k (c.requires.within_scheme k m) in
+    let past = search_past (width_of s) P (attributes c.args.whole) c.in-Some.set c.passed.result low before
+    (λ breaks. false≢true (sym c.if-breaks.false ∙ c.breaks.ensures.breaks.1 breaks)) c.passed.ensures.holds c.passed.ensures.within c.passed.ensures.passed in
+    search_on (width_of s) P (attributes c.args.whole) c.passed.result c.next_subset-next.result low past.0 past.1 c.next_subset-next.ensures.none.0 c.next_subset-next.ensures.next
 
 pub returns-clause-none : goal.returns-clause-none
 returns-clause-none c = λ _.

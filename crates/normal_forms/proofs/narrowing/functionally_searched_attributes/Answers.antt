@@ -1,4 +1,4 @@
--- What is left to prove of `functionally_searched_attributes`: its clauses `within` and `added`, by
+-- What is left to prove of `functionally_searched_attributes`: its clauses `within`, `sides` and `added`, by
 -- `AddedLemmas`.
 use Rattle.std.proofs.Common.{◌≡◌, ℕ, ◌↔◌, true, List, subst, arith}
 use Rattle.attr_sets.specs.Sets.{attributes}
@@ -10,7 +10,7 @@ use Rattle.attr_sets.proofs.AttributesLemmas.{same_at}
 use Rattle.fd_closure.specs.LeftSides.{InLeftSideWithin}
 use Rattle.fd_closure.proofs.SchemaLemmas.{closure_of_schema}
 use Rattle.fd_closure.proofs.LeftSideLemmas.{within_each}
-use Rattle.normal_forms.proofs.AddedLemmas.{functional_twice, functional_within, added_functional}
+use Rattle.normal_forms.proofs.AddedLemmas.{functional_side, functional_twice, functional_within, added_functional}
 use Rattle.normal_forms.proofs.narrowing.functionally_searched_attributes.Goals as goal
 
 pub returns : goal.returns
@@ -27,6 +27,7 @@ returns c =
     let each = within_each fs reach lefts (λ a h. (members a).1 h) in
     record {
       within = λ k m. grind (arith, same_at c.intersection.ensures.members k, m);
+      sides = λ k m. functional_side (theory_of s) reach k ((members k).0 (grind (arith, same_at c.intersection.ensures.members k, m)));
       added = added_functional n fs scheme reach lefts (attributes c.intersection.result) (functional_within n (deps_of s) s.valid.deps_within) (functional_twice (theory_of s)) c.requires.scheme
           (λ a h. (closed a).1 h) each c.intersection.ensures.members;
     }

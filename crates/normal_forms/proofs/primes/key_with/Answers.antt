@@ -15,7 +15,7 @@ use Rattle.dep_model.specs.Schemas.{width_of, theory_of}
 use Rattle.fd_closure.proofs.SchemaLemmas.{of_functional_part}
 use Rattle.normal_forms.specs.Primes.{BecomesSuperkeyBy}
 use Rattle.attr_sets.proofs.AttributesLemmas.{same_at}
-use Rattle.normal_forms.proofs.SearchLemmas.{IsSearched, search_start, search_on, search_end, subsets_left-less}
+use Rattle.normal_forms.proofs.SearchLemmas.{IsSearched, search_start, search_past, search_on, search_end, passed_less}
 use Rattle.normal_forms.proofs.PrimeLemmas.{without_in, beside_in, completed_key, completed_member, not_prime}
 use Rattle.normal_forms.proofs.primes.key_with.Goals as goal
 use Rattle.normal_forms.proofs.primes.key_with.Goals.{In-Some}
@@ -76,19 +76,30 @@ returns-then-becomes_superkey_by c =
       member = completed_member n fs scheme set (attributes c.with.result) key a c.requires.scheme set_in becomes_superkey c.with.ensures.members greedy;
     }
 
+pub passed_keys-requires-clause-whole : goal.passed_keys-requires-clause-whole
+passed_keys-requires-clause-whole c k m = c.requires.within_scheme k (without_in (attributes c.without-others.result) (attributes c.args.whole) c.args.attribute c.without-others.ensures.members k m)
+
+pub passed_keys-requires-clause-rest : goal.passed_keys-requires-clause-rest
+passed_keys-requires-clause-rest c k m = grind (arith, same_at c.without-rest.ensures.members k, same_at c.difference.ensures.members k, m)
+
+pub passed_keys-requires-clause-set : goal.passed_keys-requires-clause-set
+passed_keys-requires-clause-set c = (searched (goal.at.passed_keys-requires-clause-set c).In-Some).within
+
 pub next_subset-next-requires : goal.next_subset-next-requires
-next_subset-next-requires c = record { within = (searched (goal.at.next_subset-next-requires c).In-Some).within }
+next_subset-next-requires c = record { within = c.passed_keys.ensures.within }
 
 pub loop-next-smaller : goal.loop-next-smaller
-loop-next-smaller c = subsets_left-less c.in-Some.set c.loop-next.next c.next_subset-next.result c.in-Some.is (omega arith) c.next_subset-next.ensures.number
+loop-next-smaller c = passed_less c.in-Some.set c.passed_keys.result c.loop-next.next c.next_subset-next.result c.in-Some.is (omega arith) (omega arith) c.passed_keys.ensures.holds c.next_subset-next.ensures.number
 
 pub loop-next-preserved : goal.loop-next-preserved
 loop-next-preserved c =
     let at = (goal.at.loop-next-preserved c).In-Some in
     let others = attributes c.without-others.result in
-    search_on (width_of c.args.schema.now) (BecomesWithRest at) others c.in-Some.set c.next_subset-next.result
-    (λ k m. c.requires.scheme k (c.requires.within_scheme k (without_in others (attributes c.args.whole) c.args.attribute c.without-others.ensures.members k m))) (searched at)
+    let low : IsSubset others (below (width_of c.args.schema.now)) = λ k m. c.requires.scheme k (c.requires.within_scheme k (without_in others (attributes c.args.whole) c.args.attribute c.without-others.ensures.members k m)) in
+    let past = search_past (width_of c.args.schema.now) (BecomesWithRest at) others c.in-Some.set c.passed_keys.result low (searched at)
     (λ becomes_superkey. false≢true (sym c.if-becomes_superkey_by.false ∙ c.becomes_superkey_by.ensures.becomes_superkey.1 (subst (Becomes at) (sym c.union-before.ensures.members) becomes_superkey)))
+    c.passed_keys.ensures.holds c.passed_keys.ensures.within c.passed_keys.ensures.passed in
+    search_on (width_of c.args.schema.now) (BecomesWithRest at) others c.passed_keys.result c.next_subset-next.result low past.0 past.1
     c.next_subset-next.ensures.none.0 c.next_subset-next.ensures.next
 
 pub returns-clause-none : goal.returns-clause-none

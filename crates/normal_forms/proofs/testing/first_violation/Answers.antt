@@ -1,4 +1,4 @@
--- What is left to prove of `first_violation`: its clauses `none` and `chosen`, by `FormLemmas` and
+-- What is left to prove of `first_violation`: its clauses `none`, `chosen` and `in_left_sides`, by `FormLemmas` and
 -- `ViolationLemmas`.
 use Rattle.std.proofs.Common.{refl}
 use Rattle.std.proofs.lemmas.Bool.{true≢false}
@@ -28,3 +28,6 @@ returns-in-Some-clause-chosen c =
     let s = c.args.schema.now in
     chosen_from (width_of s) (theory_of s) c.args.form (attributes c.args.scheme) (attributes c.searched_attributes-whole.result) (attributes c.in-Some.lhs) (attributes c.right_side-rhs.result)
     c.requires.form c.requires.scheme c.searched_attributes-whole.ensures.enough c.in-Some.ensures.first c.right_side-rhs.ensures.violates
+
+pub returns-in-Some-clause-in_left_sides : goal.returns-in-Some-clause-in_left_sides
+returns-in-Some-clause-in_left_sides c k m = c.searched_attributes-whole.ensures.sides k (c.in-Some.ensures.first.within k m)

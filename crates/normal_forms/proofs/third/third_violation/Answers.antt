@@ -1,4 +1,4 @@
--- What is left to prove of `third_violation`: its clauses `chosen` and `none`, what
+-- What is left to prove of `third_violation`: its clauses `chosen`, `in_left_sides` and `none`, what
 -- `determined_beyond`, `prime_or_not`, `single` and `next_subset` require, that the invariant of
 -- its loop holds at first and stays, and that its loop ends, by `AddedLemmas`, `FormLemmas` and
 -- `SearchLemmas`.
@@ -7,14 +7,17 @@ use Rattle.std.proofs.lemmas.Bool.{true≢false, false_from_ne_true, ltb-true}
 use Rattle.std.specs.Prelude.{Option, Some}
 use Rattle.attr_sets.specs.declared.set.AttrSet.{AttrSet}
 use Rattle.attr_sets.specs.declared.set.TheConstants.{MOST_ATTRIBUTES}
-use Rattle.attr_sets.specs.Attributes.{Attributes}
+use Rattle.attr_sets.specs.Attributes.{Attributes, below, IsSubset}
 use Rattle.attr_sets.specs.Sets.{attributes}
 use Rattle.attr_sets.proofs.AttributesLemmas.{attributes_below, same_at}
 use Rattle.dep_model.specs.Dependencies.{functional_part}
 use Rattle.dep_model.specs.Schemas.{width_of, theory_of, deps_of}
+use Rattle.normal_forms.specs.declared.forms.Form.TheVariants.{Bcnf}
+use Rattle.normal_forms.specs.Breaking.{Breaks}
 use Rattle.normal_forms.specs.Violations.{ViolatesThird}
 use Rattle.normal_forms.proofs.AddedLemmas.{functional_within, functional_twice}
-use Rattle.normal_forms.proofs.SearchLemmas.{IsSearched, search_start, search_weaker, search_on, search_end, subsets_left-less}
+use Rattle.normal_forms.proofs.SearchLemmas.{IsSearched, search_start, search_weaker, search_past, search_on, search_end, passed_less}
+use Rattle.normal_forms.proofs.PassLemmas.{passes_weaker}
 use Rattle.normal_forms.proofs.FormLemmas.{MayViolateThird, third_from, third_first}
 use Rattle.normal_forms.proofs.third.third_violation.Goals as goal
 use Rattle.normal_forms.proofs.third.third_violation.Goals.{In-Some}
@@ -75,11 +78,17 @@ returns-in-NotPrime-clause-chosen c =
           (λ y y_in passed untold. before.none y y_in passed untold) earlier violated;
     }
 
+pub returns-in-NotPrime-clause-in_left_sides : goal.returns-in-NotPrime-clause-in_left_sides
+returns-in-NotPrime-clause-in_left_sides c k m = c.functionally_searched_attributes-whole.ensures.sides k ((searched (goal.at.returns-in-NotPrime-clause-in_left_sides c).In-Some).within k m)
+
+pub passed_third-requires-clause-set : goal.passed_third-requires-clause-set
+passed_third-requires-clause-set c = (searched (goal.at.passed_third-requires-clause-set c).In-Some).within
+
 pub next_subset-next-requires : goal.next_subset-next-requires
-next_subset-next-requires c = record { within = (searched (goal.at.next_subset-next-requires c).In-Some).within }
+next_subset-next-requires c = record { within = c.passed_third.ensures.within }
 
 pub loop-next-smaller : goal.loop-next-smaller
-loop-next-smaller c = subsets_left-less c.in-Some.lhs c.loop-next.next c.next_subset-next.result c.in-Some.is (omega arith) c.next_subset-next.ensures.number
+loop-next-smaller c = passed_less c.in-Some.lhs c.passed_third.result c.loop-next.next c.next_subset-next.result c.in-Some.is (omega arith) (omega arith) c.passed_third.ensures.holds c.next_subset-next.ensures.number
 
 pub loop-next-preserved : goal.loop-next-preserved
 loop-next-preserved c =
@@ -90,11 +99,16 @@ loop-next-preserved c =
     let sifted = c.in-Prime.ensures.prime_or_not in
     let fewer = search_weaker (MayViolate at primes) (MayViolate at known) whole (Some c.in-Some.lhs)
     (λ x u. (u.0, (u.1.0, u.1.1, false_from_ne_true (primes u.1.0) (λ m. true≢false (sym (sifted.2 u.1.0 m) ∙ u.1.2))))) (searched at) in
+    let n = width_of c.args.schema.now in
+    let low : IsSubset whole (below n) = λ k m. c.requires.scheme k (c.functionally_searched_attributes-whole.ensures.within k m) in
+    let passes = passes_weaker (Breaks n (functional_part (theory_of c.args.schema.now)) Bcnf (attributes c.args.scheme)) (MayViolate at known) whole (attributes c.in-Some.lhs) (attributes c.passed_third.result)
+    (λ x u. (u.0, (u.1.0, u.1.1))) c.passed_third.ensures.passed in
+    let past = search_past n (MayViolate at known) whole c.in-Some.lhs c.passed_third.result low fewer
+    (λ u. true≢false (sym (sifted.1 u.1.0 ((c.determined_beyond-beyond.ensures.beyond u.1.0).1 (u.0, u.1.1))) ∙ u.1.2))
+    c.passed_third.ensures.holds c.passed_third.ensures.within passes in
     record {
       prime = sifted.0;
-      searched = search_on (width_of c.args.schema.now) (MayViolate at known) whole c.in-Some.lhs c.next_subset-next.result
-          (λ k m. c.requires.scheme k (c.functionally_searched_attributes-whole.ensures.within k m)) fewer
-          (λ u. true≢false (sym (sifted.1 u.1.0 ((c.determined_beyond-beyond.ensures.beyond u.1.0).1 (u.0, u.1.1))) ∙ u.1.2))
+      searched = search_on n (MayViolate at known) whole c.passed_third.result c.next_subset-next.result low past.0 past.1
           c.next_subset-next.ensures.none.0 c.next_subset-next.ensures.next;
     }
 

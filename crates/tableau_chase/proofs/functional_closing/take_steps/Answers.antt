@@ -17,10 +17,10 @@ by_dep : (deps : List Dep) (k : ℕ) (d : Dep) (t s : Tableau) (changed : Bool) 
 by_dep deps k d t s changed low grouped = subst (λ (e : Dependency). AreGroupedBy e t s changed) (sym (get_or-map dependency_of deps k d (dependency_of d) low)) grouped
 
 pub take_steps_by-requires-clause-over : goal.take_steps_by-requires-clause-over
-take_steps_by-requires-clause-over c = c.loop-dep.invariant.keeps.over c.args.width c.requires.over
+take_steps_by-requires-clause-over c = c.loop-dep.invariant.taken.keeps.over c.args.width c.requires.over
 
 pub loop-dep-init : goal.loop-dep-init
-loop-dep-init c = taken_none (dependencies_of c.args.deps.now) c.args.rows.now
+loop-dep-init c = record { taken = taken_none (dependencies_of c.args.deps.now) c.args.rows.now; apart = tt }
 
 pub loop-dep-preserved : goal.loop-dep-preserved
 loop-dep-preserved c =
@@ -33,12 +33,15 @@ loop-dep-preserved c =
     let before = c.loop-dep.rows in
     let after = c.take_steps_by.new.rows in
     let grouped = c.in_ok-take_steps_by.ensures.grouped in
-    elim c.if-branch.branch [
-      | then-branch w ↦ rw w.changed-is (taken_more ds k (k + 1) c.args.rows.now before after c.loop-dep.changed (dependency_of first) refl low c.loop-dep.invariant
-          (by_dep deps k first before after true deps_low (subst (λ (b : Bool). AreGroupedBy (dependency_of (get_or deps k first)) before after b) w.if-branch.true grouped)))
-      | else-branch w ↦ rw w.changed-is (taken_same ds k (k + 1) c.args.rows.now before after c.loop-dep.changed (dependency_of first) refl low c.loop-dep.invariant
-          (by_dep deps k first before after false deps_low (subst (λ (b : Bool). AreGroupedBy (dependency_of (get_or deps k first)) before after b) w.if-branch.false grouped)))
-    ]
+    record {
+      taken = elim c.if-branch.branch [
+        | then-branch w ↦ rw w.changed-is (taken_more ds k (k + 1) c.args.rows.now before after c.loop-dep.changed (dependency_of first) refl low c.loop-dep.invariant.taken
+            (by_dep deps k first before after true deps_low (subst (λ (b : Bool). AreGroupedBy (dependency_of (get_or deps k first)) before after b) w.if-branch.true grouped)))
+        | else-branch w ↦ rw w.changed-is (taken_same ds k (k + 1) c.args.rows.now before after c.loop-dep.changed (dependency_of first) refl low c.loop-dep.invariant.taken
+            (by_dep deps k first before after false deps_low (subst (λ (b : Bool). AreGroupedBy (dependency_of (get_or deps k first)) before after b) w.if-branch.false grouped)))
+      ];
+      apart = c.in_ok-take_steps_by.ensures.apart;
+    }
 
 pub returns : goal.returns
 returns c =
@@ -46,7 +49,7 @@ returns c =
     let ds = dependencies_of deps in
     let all : length ds ≤ c.loop-dep.dep-index = omega (arith, c.loop-dep-test.false, length-map deps dependency_of) in
     record {
-      changes = c.loop-dep.invariant.changes;
-      keeps = c.loop-dep.invariant.keeps;
-      obeyed = taken_all ds c.loop-dep.dep-index c.args.rows.now c.loop-dep.rows c.loop-dep.changed all c.loop-dep.invariant;
+      changes = c.loop-dep.invariant.taken.changes;
+      keeps = c.loop-dep.invariant.taken.keeps;
+      obeyed = taken_all ds c.loop-dep.dep-index c.args.rows.now c.loop-dep.rows c.loop-dep.changed all c.loop-dep.invariant.taken;
     }

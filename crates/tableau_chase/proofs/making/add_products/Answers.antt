@@ -1,10 +1,9 @@
 -- What is left to prove of `add_products`: its clauses `too_many` and `made`, what `add_exchanged`
 -- requires, and that the invariant of its loop holds at first and stays, by `MakingLemmas` and
 -- `PoolLemmas`.
-use Rattle.std.proofs.Common.{◌≡◌, ℕ, ◌+◌, ◌<◌, List, ◌∙◌, [], length, take, get_or, ap, subst, refl, arith}
+use Rattle.std.proofs.Common.{◌≡◌, ℕ, ◌+◌, ◌<◌, List, ◌∙◌, length, take, get_or, subst, refl, arith}
 use Rattle.std.proofs.lemmas.List.{length-take-le, get_or_read, get_or_default}
 use Rattle.attr_sets.specs.Sets.{attributes}
-use Rattle.chase_laws.specs.Tableaux.{Tableau}
 use Rattle.tableau_chase.specs.Making.{IsExchangedRow, IsExchangedWith, Overflows}
 use Rattle.tableau_chase.proofs.PoolLemmas.{adds_none, adds_like}
 use Rattle.tableau_chase.proofs.MakingLemmas.{IsProductOf, product_parts, product_none, product_old, product_not, parts_to, parts_from, parts_more, parts_overflow, leads_read, group_read, group_within, group_over}

@@ -1,0 +1,11 @@
+pub mod EachLemmas
+pub mod ColumnLemmas
+pub mod CellLemmas
+pub mod ValuesLemmas
+pub mod GroupLemmas
+pub mod SeveralLemmas
+pub mod CountsLemmas
+pub mod ThreeLemmas
+pub mod UnpairedLemmas
+pub mod AloneLemmas
+pub mod LawLemmas

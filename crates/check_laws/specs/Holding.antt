@@ -1,0 +1,35 @@
+-- A table of an engine that holds a relation: for the laws of the queries of `sql check`.
+use Rattle.std.specs.Prelude.{◌≡◌, ℕ, ◌<◌, if◌then◌else◌, Some, List, [], ◌∷◌, Contains}
+use Rattle.dep_model.specs.declared.schema.Schema.{Schema}
+use Rattle.dep_model.specs.Columns.{is_plain_type}
+use Rattle.dep_model.specs.Schemas.{width_of}
+use Rattle.dep_model.specs.Tuples.{Tuple, Relation, value_at}
+use Rattle.check_queries.specs.Columns.{name_at, type_at}
+use Rattle.sql_evaluation.specs.Cells.{Cell, text_of}
+use Rattle.sql_evaluation.specs.Values.{named_cell}
+use Rattle.sql_evaluation.specs.Evaluation.{Rows, Engine}
+
+-- a row has the values of a tuple in the columns of the attributes, whatever other columns it has
+abbrev pub IsHeld : Schema → (ℕ → List ℕ → Cell) → List (List ℕ) → List Cell → Tuple → Type 0
+IsHeld s cell names row t =
+    (k : ℕ) → k < width_of s → named_cell names row (name_at s k) ≡ Some (cell k (value_at t k))
+
+-- each row has the values of the tuple in its place
+abbrev pub AreHeld : Schema → (ℕ → List ℕ → Cell) → List (List ℕ) → List (List Cell) → Relation → Type 0
+AreHeld s cell names [] [] = Unit {0}
+AreHeld s cell names (row ∷ rows) (t ∷ r) = IsHeld s cell names row t × AreHeld s cell names rows r
+AreHeld s cell names rows r = ⊥
+
+-- a value as it is compared: a text or an integer as text
+abbrev pub compared_cell : Schema → (ℕ → List ℕ → Cell) → ℕ → List ℕ → Cell
+compared_cell s cell k v = if is_plain_type (type_at s k) then text_of (cell k v) else cell k v
+
+-- a table of an engine holds a relation: each value of attribute k as `cell k` has it, and values of an
+-- attribute that differ are told apart where they are compared
+pub record Holds (e : Engine) (table : List ℕ) (s : Schema) (cell : ℕ → List ℕ → Cell) (r : Relation) : Type 0 where
+  pub given : Rows
+  pub known : e.tables table ≡ Some given
+  pub held : AreHeld s cell given.names given.rows r
+  pub apart : (k : ℕ) → k < width_of s → (t u : Tuple) → Contains r t → Contains r u
+      → compared_cell s cell k (value_at t k) ≡ compared_cell s cell k (value_at u k)
+      → value_at t k ≡ value_at u k

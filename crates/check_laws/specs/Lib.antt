@@ -1,0 +1,4 @@
+-- The definitions of check_laws: tables that hold relations, and what
+-- queries tell of these.
+pub mod Holding
+pub mod Telling

@@ -1,0 +1,1 @@
+-- counting_laws has no definitions of its own.

@@ -1,0 +1,188 @@
+-- After each file that words name there is one answer, where what is asked of its value has one.
+use Rattle.std.proofs.Common.{◌≡◌, ℕ, zero, suc, List, [], ◌∷◌, take, Some, Ok, refl, sym, ap, subst, ◌∙◌}
+use Rattle.std.specs.Prelude.{slice_get}
+use Rattle.std.specs.List.{AllZip}
+use Rattle.attr_sets.specs.Attributes.{Attributes}
+use Rattle.csv_rows.specs.declared.part.PartialRows.{PartialRows}
+use Rattle.dep_model.specs.Plans.{IsPlan}
+use Rattle.dep_model.specs.Schemas.{names_of, naming_of, width_of}
+use Rattle.dep_model.specs.Tuples.{Relation}
+use Rattle.dep_model.specs.declared.schema.Schema.{Schema}
+use Rattle.derivation.specs.Trees.{Tree}
+use Rattle.desk_outside.specs.Files.{Files}
+use Rattle.fd_discovery.specs.declared.headed_rows.Headed.{Headed}
+use Rattle.implication_laws.specs.OneAnswer.{AllowsOne}
+use Rattle.implication_laws.proofs.StepLaws.{With-alike}
+use Rattle.plan_grammar.proofs.PlanLaws.{lines_within, lines_not_empty}
+use Rattle.plan_grammar.specs.Meanings.{MeansPlan}
+use Rattle.lexer.specs.Lines.{line_texts, without_mark}
+use Rattle.proof_grammar.specs.Spelling.{SpellsWithin}
+use Rattle.schema_grammar.specs.Schemas.{MeansSchema}
+use Rattle.schema_grammar.specs.Texts.{declarations_of}
+use Rattle.table_join.specs.Tables.{PartialRelation, table_of_part, tables_of}
+use Rattle.desk_inputs.specs.Readings.{Reading, known_files}
+use Rattle.desk_responses.specs.ResponseValues.{ResponseValue, Allowed}
+use Rattle.csv_rows.specs.Reading.{RowsOf}
+use Rattle.desk_inputs.specs.FileKinds.{FileStops, IsFile, WithFile}
+use Rattle.desk_inputs.specs.Headed.{headed_file}
+use Rattle.desk_inputs.specs.Inputs.{proof_file, schema_file}
+use Rattle.desk_inputs.specs.Parts.{ArePartFiles, PartsStop, WithParts, part_file}
+use Rattle.desk_inputs.specs.Plans.{plan_file}
+use Rattle.desk_inputs.specs.Rows.{rows_file}
+use Rattle.desk_laws.proofs.OneFile.{goes, one_after, one_stop, one_view}
+use Rattle.desk_laws.proofs.OneText.{headed_text_once, names_and_rows, part_text_once, plan_text_once, proof_text_once, rows_text_once, schema_text_once, MeansNamesAndRows, MeansTable}
+
+-- ---- files
+module _ (files : Files) where
+  abbrev known : Reading
+  known = known_files files
+
+  pub one_after_schema : (name : List ℕ) (rest : Schema → Allowed)
+      → ((s t : Schema) (one other : ResponseValue) → naming_of s ≡ naming_of t
+      → declarations_of s ≡ declarations_of t → rest s one → rest t other → one ≡ other)
+      → AllowsOne (WithFile schema_file known name rest)
+  one_after_schema name rest alike =
+      one_after files name schema_file declarations_of MeansSchema schema_text_once
+      (λ text s means. means.declares) rest
+      (λ s t one other is also. alike s t one other (is.means.bare ∙ sym also.means.bare))
+
+  pub one_after_plan : (s : Schema) (name : List ℕ) (rest : List Attributes → Allowed)
+      → ((plan : List Attributes) → IsPlan (width_of s) plan → AllowsOne (rest plan))
+      → AllowsOne (WithFile (plan_file s) known name rest)
+  one_after_plan s name rest each =
+      one_after files name (plan_file s) (λ (plan : List Attributes). plan) (MeansPlan (names_of s))
+      (plan_text_once (names_of s)) (λ text plan means. means) rest
+      (λ plan others one other is also same first second.
+      each plan (is_plan is.bytes plan is.means) one other first
+      (subst (λ (p : List Attributes). rest p other) (sym same) second))
+    where
+      is_plan : (text : List ℕ) (plan : List Attributes) → MeansPlan (names_of s) text plan
+          → IsPlan (width_of s) plan
+      is_plan text plan means =
+          let lines = line_texts (without_mark text) in
+          record {
+            within = lines_within (names_of s) lines plan means.lines;
+            not_empty = lines_not_empty (names_of s) lines plan means.lines;
+            covers = means.covers;
+          }
+
+  pub one_after_rows : (s : Schema) (name : List ℕ) (rest : Relation → Allowed)
+      → ((rows : Relation) → AllowsOne (rest rows)) → AllowsOne (WithFile (rows_file s) known name rest)
+  one_after_rows s name rest each =
+      one_after files name (rows_file s) (λ (rows : Relation). rows) (λ text rows. RowsOf s text (Ok rows))
+      (rows_text_once s) (λ text rows means. means) rest
+      (λ rows others one other is also same first second.
+      each rows one other first (subst (λ (r : Relation). rest r other) (sym same) second))
+
+  pub one_after_proof : (s : Schema) (name : List ℕ) (rest : Tree → Allowed)
+      → ((tree : Tree) → AllowsOne (rest tree)) → AllowsOne (WithFile (proof_file s) known name rest)
+  one_after_proof s name rest each =
+      one_after files name (proof_file s) (λ (tree : Tree). tree) (SpellsWithin s) (proof_text_once s)
+      (λ text tree means. means) rest
+      (λ tree others one other is also same first second.
+      each tree one other first (subst (λ (t : Tree). rest t other) (sym same) second))
+
+  pub one_after_headed : (name : List ℕ) (rest : Headed → Allowed)
+      → ((h k : Headed) (one other : ResponseValue) → names_and_rows h ≡ names_and_rows k → rest h one
+      → rest k other → one ≡ other)
+      → AllowsOne (WithFile headed_file known name rest)
+  one_after_headed name rest alike =
+      one_after files name headed_file names_and_rows MeansNamesAndRows headed_text_once
+      (λ text h means. (h, means, refl)) rest (λ h k one other is also same. alike h k one other same)
+
+  -- ---- several files
+  module _ (s : Schema) where
+    abbrev IsPart : List ℕ → PartialRows → Type 0
+    IsPart name part = IsFile (part_file s) known name part
+
+    one_part_stop : (name : List ℕ) → AllowsOne (FileStops (part_file s) known name)
+    one_part_stop name =
+        one_stop files name (part_file s) table_of_part (MeansTable s) (part_text_once s)
+        (λ text p means. (p, means.rows, means.columns, refl))
+
+    part_goes : (name : List ℕ) (p : PartialRows) (response : ResponseValue) → IsPart name p
+        → FileStops (part_file s) known name response → ⊥
+    part_goes name =
+        goes files name (part_file s) table_of_part (MeansTable s) (part_text_once s)
+        (λ text p means. (p, means.rows, means.columns, refl))
+
+    one_part_table : (name : List ℕ) (p q : PartialRows) → IsPart name p → IsPart name q
+        → table_of_part p ≡ table_of_part q
+    one_part_table name =
+        one_view files name (part_file s) table_of_part (MeansTable s) (part_text_once s)
+        (λ text p means. (p, means.rows, means.columns, refl))
+
+    -- the first of several files, read or not
+    abbrev StopsAt : ℕ → List (List ℕ) → List PartialRows → Allowed
+    StopsAt position [] earlier response = ⊥
+    StopsAt zero (name ∷ names) earlier response = FileStops (part_file s) known name response
+    StopsAt (suc position) (name ∷ names) [] response = ⊥
+    StopsAt (suc position) (name ∷ names) (part ∷ earlier) response =
+        IsPart name part × StopsAt position names earlier response
+
+    stops_at : (names : List (List ℕ)) (position : ℕ) (name : List ℕ) (earlier : List PartialRows)
+        (response : ResponseValue) → slice_get names position ≡ Some name
+        → AllZip IsPart (take position names) earlier → FileStops (part_file s) known name response
+        → StopsAt position names earlier response
+    stops_at [] position name earlier response at before stops = cc
+    stops_at (n ∷ names) zero name earlier response at before stops =
+        let same : n ≡ name = cc in subst (λ (m : List ℕ). FileStops (part_file s) known m response) (sym same) stops
+    stops_at (n ∷ names) (suc position) name [] response at before stops = absurd before
+    stops_at (n ∷ names) (suc position) name (part ∷ earlier) response at before stops =
+        (before.0, stops_at names position name earlier response at before.1 stops)
+
+    one_place : (names : List (List ℕ)) (j k : ℕ) (ps qs : List PartialRows) (one other : ResponseValue)
+        → StopsAt j names ps one → StopsAt k names qs other → one ≡ other
+    one_place [] j k ps qs one other first second = absurd first
+    one_place (n ∷ names) zero zero ps qs one other first second = one_part_stop n one other first second
+    one_place (n ∷ names) zero (suc k) ps [] one other first second = absurd second
+    one_place (n ∷ names) zero (suc k) ps (q ∷ qs) one other first second =
+        absurd (part_goes n q one second.0 first)
+    one_place (n ∷ names) (suc j) zero [] qs one other first second = absurd first
+    one_place (n ∷ names) (suc j) zero (p ∷ ps) qs one other first second =
+        absurd (part_goes n p other first.0 second)
+    one_place (n ∷ names) (suc j) (suc k) [] qs one other first second = absurd first
+    one_place (n ∷ names) (suc j) (suc k) (p ∷ ps) [] one other first second = absurd second
+    one_place (n ∷ names) (suc j) (suc k) (p ∷ ps) (q ∷ qs) one other first second =
+        one_place names j k ps qs one other first.1 second.1
+
+    one_parts_stop : (names : List (List ℕ)) → AllowsOne (PartsStop known s names)
+    one_parts_stop names one other (first, stops) (second, also) =
+        one_place names first.position second.position first.earlier second.earlier one other
+        (stops_at names first.position first.name first.earlier one first.stands first.before stops)
+        (stops_at names second.position second.name second.earlier other second.stands second.before also)
+
+    all_read : (names : List (List ℕ)) (parts : List PartialRows) (k : ℕ) (earlier : List PartialRows)
+        (response : ResponseValue) → AllZip IsPart names parts
+        → StopsAt k names earlier response → ⊥
+    all_read [] parts k earlier response are stops = stops
+    all_read (n ∷ names) [] k earlier response are stops = are
+    all_read (n ∷ names) (p ∷ parts) zero earlier response are stops = part_goes n p response are.0 stops
+    all_read (n ∷ names) (p ∷ parts) (suc k) [] response are stops = stops
+    all_read (n ∷ names) (p ∷ parts) (suc k) (e ∷ earlier) response are stops =
+        all_read names parts k earlier response are.1 stops.1
+
+    same_tables : (names : List (List ℕ)) (ps qs : List PartialRows) → AllZip IsPart names ps
+        → AllZip IsPart names qs → tables_of ps ≡ tables_of qs
+    same_tables [] [] [] first second = refl
+    same_tables [] [] (q ∷ qs) first second = absurd second
+    same_tables [] (p ∷ ps) qs first second = absurd first
+    same_tables (n ∷ names) [] qs first second = absurd first
+    same_tables (n ∷ names) (p ∷ ps) [] first second = absurd second
+    same_tables (n ∷ names) (p ∷ ps) (q ∷ qs) first second =
+        ap (λ (table : PartialRelation). table ∷ tables_of ps) (one_part_table n p q first.0 second.0)
+        ∙ ap (λ (tables : List PartialRelation). table_of_part q ∷ tables) (same_tables names ps qs first.1 second.1)
+
+    pub one_after_parts : (names : List (List ℕ)) (rest : List PartialRelation → Allowed)
+        → ((tables : List PartialRelation) → AllowsOne (rest tables))
+        → AllowsOne (WithParts known s names (λ parts. rest (tables_of parts)))
+    one_after_parts names rest each =
+        With-alike (PartsStop known s names) (ArePartFiles known s names) (λ parts. rest (tables_of parts))
+        (one_parts_stop names)
+        (λ parts response are stops.
+        let first = stops.0 in
+        all_read names parts first.position first.earlier response are
+        (stops_at names first.position first.name first.earlier response first.stands first.before stops.1))
+        (λ ps qs one other are also first second.
+        each (tables_of ps) one other first
+        (subst (λ (tables : List PartialRelation). rest tables other) (sym (same_tables names ps qs are also)) second))

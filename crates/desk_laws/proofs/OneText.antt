@@ -1,0 +1,146 @@
+-- Every text of a file has one reading: it means one value, or is refused in one way, and never both.
+use Rattle.std.proofs.Common.{◌≡◌, ℕ, List, ◌∷◌, Ok, Err, Result, sym, ap, ◌∙◌}
+use Rattle.attr_sets.specs.Attributes.{Attributes}
+use Rattle.attr_sets.specs.Sets.{attributes}
+use Rattle.csv_rows.proofs.UniqueRows.{table_same, whole_header_same, part_header_same}
+use Rattle.csv_rows.specs.Columns.{columns_of_header, with_columns, IsHeaderOf}
+use Rattle.csv_rows.specs.Reading.{HasScheme, PartOf, RowsOf}
+use Rattle.csv_rows.specs.Quotes.{open_record}
+use Rattle.csv_rows.specs.Records.{records_of}
+use Rattle.csv_rows.specs.declared.part.PartialRows.{PartialRows}
+use Rattle.csv_rows.specs.declared.refusal.RowRefusal.{RowRefusal}
+use Rattle.dep_model.specs.Schemas.{names_of, width_of}
+use Rattle.dep_model.specs.Tuples.{Relation}
+use Rattle.dep_model.specs.declared.schema.Schema.{Schema}
+use Rattle.derivation.proofs.RuleTableLemmas.{the_ok}
+use Rattle.fd_discovery.proofs.UniqueHeaded.{names_same, rows_same, refused_same, never_both}
+use Rattle.fd_discovery.specs.Headings.{IsHeaded, IsRefusedDiscovery, names_under, rows_under}
+use Rattle.fd_discovery.specs.declared.headed_rows.Headed.{Headed}
+use Rattle.plan_grammar.proofs.ExactLaws.{plan_one_meaning, plan_one_refusal, plan_never_both}
+use Rattle.plan_grammar.specs.Diagnostics.{RefusesPlan}
+use Rattle.plan_grammar.specs.Meanings.{MeansPlan}
+use Rattle.proof_grammar.proofs.CertificateLaws.{spelled_back}
+use Rattle.proof_grammar.proofs.TextRefusals.{refused_back}
+use Rattle.proof_grammar.specs.Refusals.{IsRefusedCertificate}
+use Rattle.proof_grammar.specs.Spelling.{SpellsWithin}
+use Rattle.proof_grammar.specs.Texts.{read_proof}
+use Rattle.schema_grammar.proofs.OneTextRefusal.{schema-refusal-law}
+use Rattle.schema_grammar.proofs.SchemaLaws.{schema-law}
+use Rattle.schema_grammar.specs.Schemas.{MeansSchema, RefusesSchema}
+use Rattle.schema_grammar.specs.Texts.{read_text}
+use Rattle.table_join.specs.Tables.{PartialRelation, table_of_part}
+use Rattle.desk_laws.specs.OneReading.{HasOneReading}
+
+-- ---- one reading of each text
+one_error : {A E : Type 0} (e f : E) → ◌≡◌ {A = Result A E} (Err e) (Err f) → e ≡ f
+one_error e f same = cc
+
+-- what is read by a function has one reading
+read_once : {A E : Type 0} (read : Result A E) (Means : A → Type 0) (Refuses : E → Type 0)
+    → ((a : A) → Means a → read ≡ Ok a) → ((e : E) → Refuses e → read ≡ Err e) → HasOneReading Means Refuses
+read_once {A} {E} read Means Refuses means refuses = record {
+  one_meaning = λ a b first second. the_ok {A = A} {E = E} a b (sym (means a first) ∙ means b second);
+  one_refusal = λ e f first second. one_error {A = A} e f (sym (refuses e first) ∙ refuses f second);
+  never_both = λ a e first second.
+      let is : read ≡ Ok a = means a first in
+      let not : read ≡ Err e = refuses e second in cc;
+}
+
+pub schema_text_once : (text : List ℕ) → HasOneReading (MeansSchema text) (RefusesSchema text)
+schema_text_once text =
+    read_once (read_text text) (MeansSchema text) (RefusesSchema text) (λ d means. (schema-law text d).1 means)
+    (λ e refused. (schema-refusal-law text e).1 refused)
+
+pub proof_text_once : (s : Schema) (text : List ℕ) → HasOneReading (SpellsWithin s text) (IsRefusedCertificate s text)
+proof_text_once s text =
+    read_once (read_proof s text) (SpellsWithin s text) (IsRefusedCertificate s text) (spelled_back s text)
+    (refused_back s text)
+
+pub plan_text_once : (names : List (List ℕ)) (text : List ℕ)
+    → HasOneReading (MeansPlan names text) (RefusesPlan names text)
+plan_text_once names text = record {
+  one_meaning = plan_one_meaning names text;
+  one_refusal = plan_one_refusal names text;
+  never_both = plan_never_both names text;
+}
+
+-- a relation to one result is one reading
+one_result : {A E : Type 0} (Gives : Result A E → Type 0)
+    → ((one other : Result A E) → Gives one → Gives other → one ≡ other)
+    → HasOneReading (λ (a : A). Gives (Ok a)) (λ (e : E). Gives (Err e))
+one_result {A} {E} Gives same = record {
+  one_meaning = λ a b first second. the_ok {A = A} {E = E} a b (same (Ok a) (Ok b) first second);
+  one_refusal = λ e f first second. one_error {A = A} e f (same (Err e) (Err f) first second);
+  never_both = λ a e first second.
+      let both : ◌≡◌ {A = Result A E} (Ok a) (Err e) = same (Ok a) (Err e) first second in cc;
+}
+
+one_rows : (s : Schema) (text : List ℕ) (one other : Result Relation RowRefusal) → RowsOf s text one
+    → RowsOf s text other → one ≡ other
+one_rows s text one other =
+    table_same s (IsHeaderOf (width_of s) (names_of s)) (whole_header_same s) (open_record text) (records_of text) one other
+
+one_part : (s : Schema) (text : List ℕ) (one other : Result Relation RowRefusal) → PartOf s text one
+    → PartOf s text other → one ≡ other
+one_part s text one other =
+    table_same s (λ header columns. columns ≡ columns_of_header (names_of s) header) (part_header_same s)
+    (open_record text) (records_of text) one other
+
+pub rows_text_once : (s : Schema) (text : List ℕ)
+    → HasOneReading (λ (rows : Relation). RowsOf s text (Ok rows)) (λ (why : RowRefusal). RowsOf s text (Err why))
+rows_text_once s text = one_result (RowsOf s text) (one_rows s text)
+
+-- ---- rows under a header of their own
+abbrev pub names_and_rows : Headed → List (List ℕ) × Relation
+names_and_rows headed = (names_under headed, rows_under headed)
+
+abbrev pub MeansNamesAndRows : List ℕ → List (List ℕ) × Relation → Type 0
+MeansNamesAndRows text read =
+    (headed : Headed) × IsHeaded text headed × (names_and_rows headed ≡ read)
+
+pub headed_text_once : (text : List ℕ)
+    → HasOneReading (MeansNamesAndRows text) (IsRefusedDiscovery text)
+headed_text_once text = record {
+  one_meaning = λ read other first second.
+      sym first.2
+      ∙ ap (λ (names : List (List ℕ)). (names, rows_under first.0))
+      (names_same text first.0 second.0 first.1 second.1)
+      ∙ ap (λ (rows : Relation). (names_under second.0, rows))
+      (rows_same text first.0 second.0 first.1 second.1)
+      ∙ second.2;
+  one_refusal = refused_same text;
+  never_both = λ read why first refused. never_both text first.0 why first.1 refused;
+}
+
+-- ---- rows over some columns
+abbrev pub MeansTable : Schema → List ℕ → PartialRelation → Type 0
+MeansTable s text table =
+    (part : PartialRows) × PartOf s text (Ok part.rows) × HasScheme s text part.scheme × (table_of_part part ≡ table)
+
+one_scheme : (s : Schema) (text : List ℕ) (p q : PartialRows) → HasScheme s text p.scheme
+    → HasScheme s text q.scheme → attributes p.scheme ≡ attributes q.scheme
+one_scheme s text p q (header, records, read, columns, mean, is) (head, rest, also, others, means, are) =
+    let same : header ∷ records ≡ head ∷ rest = sym read ∙ also in
+    let heads : header ≡ head = cc in
+    let both : ◌≡◌ {A = Result (List ℕ) RowRefusal} (Ok columns) (Ok others) =
+    sym mean ∙ ap (λ (h : List (List ℕ)). columns_of_header (names_of s) h) heads ∙ means in
+    is ∙ ap with_columns (the_ok {A = List ℕ} {E = RowRefusal} columns others both) ∙ sym are
+
+pub part_text_once : (s : Schema) (text : List ℕ)
+    → HasOneReading (MeansTable s text) (λ (why : RowRefusal). PartOf s text (Err why))
+part_text_once s text = record {
+  one_meaning = λ table other first second.
+      let p = first.0 in
+      let q = second.0 in
+      sym first.3
+      ∙ ap (λ (x : Attributes). table_over x p.rows) (one_scheme s text p q first.2 second.2)
+      ∙ ap (λ (rows : Relation). table_over (attributes q.scheme) rows)
+      ((one_result (PartOf s text) (one_part s text)).one_meaning p.rows q.rows first.1 second.1)
+      ∙ second.3;
+  one_refusal = (one_result (PartOf s text) (one_part s text)).one_refusal;
+  never_both = λ table why first refused.
+      (one_result (PartOf s text) (one_part s text)).never_both first.0.rows why first.1 refused;
+}
+  where
+    table_over : Attributes → Relation → PartialRelation
+    table_over x rows = record { scheme = x; rows = rows }

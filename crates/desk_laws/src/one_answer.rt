@@ -1,0 +1,49 @@
+//! Laws that what is asked has one answer over known files.
+
+ghost use Rattle.std.specs.Prelude.{◌≡◌, ◌≤◌, ◌⊎◌, ℕ, List, Some, Ok, Err};
+ghost use Rattle.csv_rows.specs.Reading.{RowsOf};
+ghost use Rattle.csv_rows.specs.declared.refusal.RowRefusal.{RowRefusal};
+ghost use Rattle.dep_model.specs.Tuples.{Relation};
+ghost use Rattle.dep_model.specs.declared.schema.Schema.{Schema};
+ghost use Rattle.desk_outside.specs.Files.{Files};
+ghost use Rattle.implication_laws.specs.OneAnswer.{AllowsOne};
+ghost use Rattle.plan_grammar.specs.Diagnostics.{RefusesPlan};
+ghost use Rattle.plan_grammar.specs.Meanings.{MeansPlan};
+ghost use Rattle.proof_grammar.specs.Refusals.{IsRefusedCertificate};
+ghost use Rattle.proof_grammar.specs.Spelling.{SpellsWithin};
+ghost use Rattle.sample_rows.specs.declared.rows.TheConstants.{MOST_PERSONS};
+ghost use Rattle.schema_grammar.specs.Schemas.{MeansSchema, RefusesSchema};
+ghost use Rattle.desk_cli.specs.Performs.{Answers, Does};
+ghost use Rattle.desk_inputs.specs.Readings.{known_files};
+ghost use Rattle.desk_responses.specs.ResponseValues.{ResponseValue};
+ghost use Rattle.desk_words.specs.Forms.{CommandForm, Task, form_of, sample};
+ghost use Rattle.desk_laws.specs.OneReading.{AreOfOneText, HasOneReading, IsFixedTask};
+
+/// The text of a file has one reading: of a schema, of a plan, of a certificate, and of rows.
+pub fn texts_of_files_have_one_reading()
+    ensures schema { (text : List ℕ) → HasOneReading (MeansSchema text) (RefusesSchema text) }
+    ensures plan { (names : List (List ℕ)) (text : List ℕ)
+        → HasOneReading (MeansPlan names text) (RefusesPlan names text) }
+    ensures proof { (schema : Schema) (text : List ℕ)
+        → HasOneReading (SpellsWithin schema text) (IsRefusedCertificate schema text) }
+    ensures rows { (schema : Schema) (text : List ℕ)
+        → HasOneReading (λ (rows : Relation). RowsOf schema text (Ok rows))
+        (λ (why : RowRefusal). RowsOf schema text (Err why)) }
+{}
+
+/// What is asked of a schema that was read, with the files after it, has one answer, but for the
+/// derivation of a goal that is not fixed and the comparison with a second schema.
+pub fn tasks_have_one_answer()
+    ensures law { (files : Files) (schema : Schema) (task : Task) → IsFixedTask schema task
+        → AllowsOne (Does (known_files files) schema task) }
+{}
+
+/// Any two answers that words have over known files are equal, or were given of two schemas that declare
+/// the same and were read from one file. Where they form `sample`, its number keeps to the limit.
+pub fn words_have_one_answer()
+    ensures law { (files : Files) (words : List (List ℕ)) (one other : ResponseValue)
+        → ((persons : ℕ) → form_of words ≡ Some (sample persons) → persons ≤ MOST_PERSONS)
+        → Answers (known_files files) words one → Answers (known_files files) words other
+        → (one ≡ other)
+        ⊎ ((command : CommandForm) × (form_of words ≡ Some command) × AreOfOneText files command one other) }
+{}

@@ -1,0 +1,92 @@
+-- `ddl`, `draw` and `sql` have one answer each.
+use Rattle.std.proofs.Common.{◌≡◌, ℕ, IsTrue, List, sym, ◌∙◌}
+use Rattle.attr_sets.specs.Attributes.{Attributes}
+use Rattle.attr_sets.specs.declared.set.AttrSet.{AttrSet}
+use Rattle.dep_model.specs.Plans.{schemes_of}
+use Rattle.dep_model.specs.declared.schema.Schema.{Schema}
+use Rattle.normal_forms.specs.declared.forms.Form.{Form}
+use Rattle.table_scripts.specs.Naming.{is_table_name, quoted_table}
+use Rattle.implication_laws.specs.OneAnswer.{AllowsOne}
+use Rattle.implication_laws.proofs.StepLaws.{same_says, Unless-one}
+use Rattle.desk_responses.specs.ResponseValues.{ResponseValue, Allowed}
+use Rattle.desk_responses.specs.declared.status.Status.TheVariants.{Yes}
+use Rattle.desk_designs.specs.Designs.{WritesTables, WritesForm, WritesSchemes, WritesPlan}
+use Rattle.desk_designs.specs.Drawings.{DrawsTables, DrawsForm, DrawsSchemes}
+use Rattle.desk_designs.specs.Joins.{IsShownLossless, LossStops, WithoutLoss}
+use Rattle.desk_designs.specs.Scripts.{AsksTable, MakesSchemes, MakesTables, ScriptsCheck, ScriptsMigration, ScriptsMigrationByPlan, TableNameStops, WithTableName}
+use Rattle.desk_designs.specs.Decompositions.{WithPlanInForm}
+use Rattle.plan_laws.proofs.DesignTexts.{ddl_same, drawing_same, script_same}
+use Rattle.plan_laws.proofs.OneDesign.{one_sound_design}
+use Rattle.plan_laws.proofs.SplitAnswers.{one_in_form}
+use Rattle.plan_laws.proofs.UniqueLaws.{loss_goes, one_loss_stop}
+
+-- after the test of a plan there is one answer
+pub one_without_loss : (s : Schema) (plan : List Attributes) (rest : Allowed) → AllowsOne rest
+    → AllowsOne (WithoutLoss s plan rest)
+one_without_loss s plan rest one_rest =
+    Unless-one (LossStops s plan) (IsShownLossless s plan) rest (one_loss_stop s plan)
+    (λ response shown stops. loss_goes s plan response shown stops) (λ shown. one_rest)
+
+-- ---- `ddl`
+one_written : (s : Schema) (plan others : List AttrSet) (one other : ResponseValue)
+    → schemes_of plan ≡ schemes_of others → WritesTables s plan one → WritesTables s others other → one ≡ other
+one_written s plan others one other at (tables, sound, says) (designs, also, said) =
+    same_says Yes _ _ one other says said
+    (ddl_same s tables designs (one_sound_design s plan others tables designs at sound also))
+
+pub one_form_written : (s : Schema) (form : Form) → AllowsOne (WritesForm s form)
+one_form_written s form = one_in_form s form (WritesTables s) (one_written s)
+
+one_schemes_written : (s : Schema) (schemes : List Attributes) → AllowsOne (WritesSchemes s schemes)
+one_schemes_written s schemes one other (plan, is, written) (others, also, again) =
+    one_written s plan others one other (is ∙ sym also) written again
+
+pub one_plan_written : (s : Schema) (schemes : List Attributes) → AllowsOne (WritesPlan s schemes)
+one_plan_written s schemes = one_without_loss s schemes (WritesSchemes s schemes) (one_schemes_written s schemes)
+
+-- ---- `draw`
+one_drawn : (s : Schema) (plan others : List AttrSet) (one other : ResponseValue)
+    → schemes_of plan ≡ schemes_of others → DrawsTables s plan one → DrawsTables s others other → one ≡ other
+one_drawn s plan others one other at (tables, sound, says) (designs, also, said) =
+    same_says Yes _ _ one other says said
+    (drawing_same s tables designs (one_sound_design s plan others tables designs at sound also))
+
+pub one_form_drawn : (s : Schema) (form : Form) → AllowsOne (DrawsForm s form)
+one_form_drawn s form = one_in_form s form (DrawsTables s) (one_drawn s)
+
+pub one_plan_drawn : (s : Schema) (schemes : List Attributes) → AllowsOne (DrawsSchemes s schemes)
+one_plan_drawn s schemes one other (plan, is, drawn) (others, also, again) =
+    one_drawn s plan others one other (is ∙ sym also) drawn again
+
+-- ---- `sql`
+one_after_name : (name : List ℕ) (rest : Allowed) → AllowsOne rest → AllowsOne (WithTableName name rest)
+one_after_name name rest one_rest =
+    Unless-one (TableNameStops name) (IsTrue (is_table_name name)) rest (λ one other stops also. stops.1 ∙ sym also.1)
+    (λ response named stops. stops.0 named) (λ named. one_rest)
+
+pub one_check_scripted : (s : Schema) (name : List ℕ) → AllowsOne (ScriptsCheck s name)
+one_check_scripted s name =
+    one_after_name name (AsksTable s name) (λ one other first second. first.1 ∙ sym second.1)
+
+one_made : (s : Schema) (name : List ℕ) (plan others : List AttrSet) (one other : ResponseValue)
+    → schemes_of plan ≡ schemes_of others → MakesTables s name plan one → MakesTables s name others other
+    → one ≡ other
+one_made s name plan others one other at (tables, sound, script, says) (designs, also, second, said) =
+    same_says Yes _ _ one other says said
+    (script_same s (quoted_table name) tables designs
+    (one_sound_design s plan others tables designs at sound also))
+
+pub one_form_scripted : (s : Schema) (form : Form) (name : List ℕ) → AllowsOne (ScriptsMigration s form name)
+one_form_scripted s form name =
+    one_after_name name (WithPlanInForm s form (MakesTables s name))
+    (one_in_form s form (MakesTables s name) (one_made s name))
+
+one_schemes_made : (s : Schema) (name : List ℕ) (schemes : List Attributes) → AllowsOne (MakesSchemes s name schemes)
+one_schemes_made s name schemes one other (plan, is, made) (others, also, again) =
+    one_made s name plan others one other (is ∙ sym also) made again
+
+pub one_plan_scripted : (s : Schema) (schemes : List Attributes) (name : List ℕ)
+    → AllowsOne (ScriptsMigrationByPlan s schemes name)
+one_plan_scripted s schemes name =
+    one_after_name name (WithoutLoss s schemes (MakesSchemes s name schemes))
+    (one_without_loss s schemes (MakesSchemes s name schemes) (one_schemes_made s name schemes))

@@ -1,0 +1,139 @@
+-- What is printed of a design rests on the fields that make two designs the same.
+use Rattle.std.proofs.Common.{◌≡◌, ◌++◌, ℕ, zero, suc, List, [], ◌∷◌, map, refl, ap, ◌∙◌}
+use mathlib.Core.Path.{fun_ext}
+use Rattle.std.specs.Prelude.{slice_get, unwrap_or, option_map}
+use Rattle.std.specs.List.{flat_map}
+use Rattle.attr_sets.specs.Attributes.{Attributes}
+use Rattle.attr_sets.specs.Sets.{attributes}
+use Rattle.dep_model.specs.declared.schema.Schema.{Schema}
+use Rattle.ddl_text.specs.Ddl.{column_elements, ddl_text, elements, key_elements, reference_element, reference_elements, table_text}
+use Rattle.ddl_text.specs.declared.table.TableDesign.{TableDesign}
+use Rattle.table_drawing.specs.Drawing.{node_text, edge_text, edges_text, drawing_text}
+use Rattle.table_queries.specs.Queries.{StoredTable}
+use Rattle.table_scripts.specs.Migrating.{stored_of, stored_tables, fill_text, view_text, difference_queries_text, migrate_text}
+use Rattle.plan_laws.specs.SameDesigns.{IsSameTable, AreSameTables}
+
+-- ---- texts of tables
+-- the texts of tables, one after the other
+flat_same : (f g : TableDesign → List ℕ) → ((t u : TableDesign) → IsSameTable t u → f t ≡ g u)
+    → (one other : List TableDesign) → AreSameTables one other → flat_map f one ≡ flat_map g other
+flat_same f g each [] [] same = refl
+flat_same f g each [] (u ∷ us) same = absurd same
+flat_same f g each (t ∷ ts) [] same = absurd same
+flat_same f g each (t ∷ ts) (u ∷ us) same =
+    ap (λ (text : List ℕ). text ++ flat_map f ts) (each t u same.0)
+    ∙ ap (λ (text : List ℕ). g u ++ text) (flat_same f g each ts us same.1)
+
+-- the text of the table at a position
+found_same : (f g : TableDesign → List ℕ) → ((t u : TableDesign) → IsSameTable t u → f t ≡ g u)
+    → (one other : List TableDesign) → AreSameTables one other → (j : ℕ)
+    → unwrap_or (option_map f (slice_get one j)) [] ≡ unwrap_or (option_map g (slice_get other j)) []
+found_same f g each [] [] same j = refl
+found_same f g each [] (u ∷ us) same j = absurd same
+found_same f g each (t ∷ ts) [] same j = absurd same
+found_same f g each (t ∷ ts) (u ∷ us) same zero = each t u same.0
+found_same f g each (t ∷ ts) (u ∷ us) same (suc j) = found_same f g each ts us same.1 j
+
+-- ---- SQL
+reference_same : (s : Schema) (t u : TableDesign) → IsSameTable t u → reference_element s t ≡ reference_element s u
+unfolding reference_element
+reference_same s t u same = simp (same.name, same.key)
+
+references_same : (s : Schema) (one other : List TableDesign) → AreSameTables one other → (refs : List ℕ)
+    → reference_elements s one refs ≡ reference_elements s other refs
+references_same s one other same refs =
+    ap (λ (text : ℕ → List ℕ). map text refs)
+    (fun_ext (found_same (reference_element s) (reference_element s) (reference_same s) one other same))
+
+elements_same : (s : Schema) (one other : List TableDesign) → AreSameTables one other → (t u : TableDesign)
+    → IsSameTable t u → elements s one t ≡ elements s other u
+elements_same s one other same t u alike =
+    ap (λ (x : Attributes).
+    column_elements s x ++ key_elements s (attributes t.key) ++ reference_elements s one t.refs.items) alike.columns
+    ∙ ap (λ (x : Attributes).
+    column_elements s (attributes u.scheme) ++ key_elements s x ++ reference_elements s one t.refs.items) alike.key
+    ∙ ap (λ (refs : List ℕ).
+    column_elements s (attributes u.scheme) ++ key_elements s (attributes u.key) ++ reference_elements s one refs)
+    alike.references
+    ∙ ap (λ (texts : List (List ℕ)).
+    column_elements s (attributes u.scheme) ++ key_elements s (attributes u.key) ++ texts)
+    (references_same s one other same u.refs.items)
+
+table_same : (s : Schema) (one other : List TableDesign) → AreSameTables one other → (t u : TableDesign)
+    → IsSameTable t u → table_text s one t ≡ table_text s other u
+unfolding table_text
+table_same s one other same t u alike =
+    simp (elements_same s one other same t u alike) (simp (alike.name, alike.key))
+
+pub ddl_same : (s : Schema) (one other : List TableDesign) → AreSameTables one other
+    → ddl_text s one ≡ ddl_text s other
+ddl_same s one other same =
+    flat_same (table_text s one) (table_text s other) (table_same s one other same) one other same
+
+-- ---- pictures
+node_same : (s : Schema) (t u : TableDesign) → IsSameTable t u → node_text s t ≡ node_text s u
+unfolding node_text
+node_same s t u same = simp (same.name, same.key, same.columns)
+
+edge_same : (s : Schema) (t u : TableDesign) → IsSameTable t u → (v w : TableDesign) → IsSameTable v w
+    → edge_text s t v ≡ edge_text s u w
+unfolding edge_text
+edge_same s t u same v w alike = simp (same.name, alike.name, alike.key)
+
+edges_same : (s : Schema) (one other : List TableDesign) → AreSameTables one other → (t u : TableDesign)
+    → IsSameTable t u → edges_text s one t ≡ edges_text s other u
+edges_same s one other same t u alike =
+    ap (λ (text : ℕ → List ℕ). flat_map text t.refs.items)
+    (fun_ext (found_same (edge_text s t) (edge_text s u) (edge_same s t u alike) one other same))
+    ∙ ap (λ (refs : List ℕ). flat_map (λ j. unwrap_or (option_map (edge_text s u) (slice_get other j)) []) refs)
+    alike.references
+
+pub drawing_same : (s : Schema) (one other : List TableDesign) → AreSameTables one other
+    → drawing_text s one ≡ drawing_text s other
+drawing_same s one other same =
+    simp (
+      flat_same (node_text s) (node_text s) (node_same s) one other same,
+      flat_same (edges_text s one) (edges_text s other) (edges_same s one other same) one other same,
+    )
+
+-- ---- scripts
+stored_same : (t u : TableDesign) → IsSameTable t u → stored_of t ≡ stored_of u
+stored_same t u same =
+    ap (λ (name : List ℕ). stored name (attributes t.scheme)) same.name
+    ∙ ap (λ (scheme : Attributes). stored u.name scheme) same.columns
+  where
+    stored : List ℕ → Attributes → StoredTable
+    stored name scheme = record { name = name; scheme = scheme }
+
+all_stored : (one other : List TableDesign) → AreSameTables one other → stored_tables one ≡ stored_tables other
+all_stored [] [] same = refl
+all_stored [] (u ∷ us) same = absurd same
+all_stored (t ∷ ts) [] same = absurd same
+all_stored (t ∷ ts) (u ∷ us) same =
+    ap (λ (table : StoredTable). table ∷ stored_tables ts) (stored_same t u same.0)
+    ∙ ap (λ (tables : List StoredTable). stored_of u ∷ tables) (all_stored ts us same.1)
+
+fill_same : (s : Schema) (table : List ℕ) (t u : TableDesign) → IsSameTable t u
+    → fill_text s table t ≡ fill_text s table u
+unfolding fill_text
+fill_same s table t u same = simp (same.name, same.columns)
+
+view_same : (s : Schema) (table : List ℕ) (one other : List TableDesign) → AreSameTables one other
+    → view_text s table one ≡ view_text s table other
+unfolding view_text
+view_same s table one other same = simp (all_stored one other same)
+
+differences_same : (s : Schema) (table : List ℕ) (one other : List TableDesign) → AreSameTables one other
+    → difference_queries_text s table one ≡ difference_queries_text s table other
+unfolding difference_queries_text
+differences_same s table one other same = simp (all_stored one other same)
+
+pub script_same : (s : Schema) (table : List ℕ) (one other : List TableDesign) → AreSameTables one other
+    → migrate_text s table one ≡ migrate_text s table other
+script_same s table one other same =
+    simp (
+      ddl_same s one other same,
+      flat_same (fill_text s table) (fill_text s table) (fill_same s table) one other same,
+      view_same s table one other same,
+      differences_same s table one other same,
+    )

@@ -1,0 +1,134 @@
+-- `check rows`, `migrate` and `rejoin` have one answer each.
+use Rattle.std.proofs.Common.{◌≡◌, ◌<◌, ℕ, List, sym, ap, subst, ◌∙◌, inl, inr, arith}
+use Rattle.std.proofs.lemmas.Bool.{cases_lt}
+use Rattle.attr_sets.specs.Attributes.{Attributes}
+use Rattle.attr_sets.specs.declared.set.AttrSet.{AttrSet}
+use Rattle.csv_migrate.specs.Migration.{tables_of_migration}
+use Rattle.csv_text.specs.Rows.{rows_text}
+use Rattle.dep_model.specs.Plans.{schemes_of}
+use Rattle.dep_model.specs.Schemas.{names_of, width_of, theory_of, LegalFor}
+use Rattle.dep_model.specs.Tuples.{Relation}
+use Rattle.dep_model.specs.declared.schema.Schema.{Schema}
+use Rattle.design_order.proofs.OrderLemmas.{one_order}
+use Rattle.legality.proofs.OffenceLaws.{one_list}
+use Rattle.named_tables.specs.Tables.{TableValue}
+use Rattle.normal_forms.specs.declared.forms.Form.{Form}
+use Rattle.table_join.specs.Answers.{IsFirstBeyond, IsFirstUncovered, RefusesJoin}
+use Rattle.table_join.specs.Tables.{PartialRelation, plan_of_tables}
+use Rattle.table_join.specs.declared.refusal.JoinRefusal.{JoinRefusal}
+use Rattle.table_join.specs.declared.refusal.JoinRefusal.TheVariants.{NotCovered, TooManyRows}
+use Rattle.implication_laws.specs.OneAnswer.{AllowsOne}
+use Rattle.implication_laws.proofs.StepLaws.{same_says, Unless-one}
+use Rattle.desk_responses.specs.ResponseValues.{ResponseValue, Allowed, Says, yes_with_tables}
+use Rattle.desk_responses.specs.declared.status.Status.TheVariants.{Yes, No, Refused}
+use Rattle.desk_tables.specs.declared.rejoining.TheConstants.{MOST_JOINED_ROWS}
+use Rattle.desk_tables.specs.Legality.{JudgesRows, OffenceStops, WithLegal, legal_text, offences_text}
+use Rattle.desk_tables.specs.Migrations.{AreTablesOf, GivesTables, Migrates, MigratesPlan, MigratesRows, migrated_text}
+use Rattle.desk_tables.specs.Rejoining.{IsJoinOf, JoinsTables, join_refusal_text}
+use Rattle.plan_laws.proofs.DesignAnswers.{one_without_loss}
+use Rattle.plan_laws.proofs.SplitAnswers.{one_in_form}
+
+-- ---- legal rows
+one_offence_stop : (s : Schema) (rows : Relation) → AllowsOne (OffenceStops s rows)
+one_offence_stop s rows one other (broken, (offences, are, says)) (also, (others, again, said)) =
+    same_says No _ _ one other says said
+    (ap (offences_text s) (one_list (width_of s) rows 0 (theory_of s) offences others are again))
+
+pub one_with_legal : (s : Schema) (rows : Relation) (rest : Allowed) → AllowsOne rest
+    → AllowsOne (WithLegal s rows rest)
+one_with_legal s rows rest one_rest =
+    Unless-one (OffenceStops s rows) (LegalFor s rows) rest (one_offence_stop s rows)
+    (λ response legal stops. stops.0 legal) (λ legal. one_rest)
+
+pub one_rows_answer : (s : Schema) (rows : Relation) → AllowsOne (JudgesRows s rows)
+one_rows_answer s rows = one_with_legal s rows (Says Yes legal_text) (λ one other says said. says ∙ sym said)
+
+-- ---- tables
+one_migration : (s : Schema) (plan : List Attributes) (rows : Relation) (tables others : List TableValue)
+    → AreTablesOf s plan rows tables → AreTablesOf s plan rows others → tables ≡ others
+one_migration s plan rows tables others first second =
+    first.projections
+    ∙ ap (λ (ordered : List Attributes). tables_of_migration s ordered rows)
+    (one_order (width_of s) (theory_of s) plan first.ordered second.ordered first.order second.order)
+    ∙ sym second.projections
+
+one_given : (s : Schema) (plan : List Attributes) (rows : Relation) → AllowsOne (GivesTables s plan rows)
+one_given s plan rows one other (tables, are, says) (others, also, said) =
+    says
+    ∙ ap (λ (ts : List TableValue). yes_with_tables (migrated_text rows ts) ts)
+    (one_migration s plan rows tables others are also)
+    ∙ sym said
+
+one_migrated : (s : Schema) (plan : List Attributes) (rows : Relation) → AllowsOne (MigratesRows s plan rows)
+one_migrated s plan rows = one_with_legal s rows (GivesTables s plan rows) (one_given s plan rows)
+
+same_migrated : (s : Schema) (rows : Relation) (plan others : List AttrSet) (one other : ResponseValue)
+    → schemes_of plan ≡ schemes_of others → MigratesRows s (schemes_of plan) rows one
+    → MigratesRows s (schemes_of others) rows other → one ≡ other
+same_migrated s rows plan others one other at first second =
+    one_migrated s (schemes_of plan) rows one other first
+    (subst (λ (schemes : List Attributes). MigratesRows s schemes rows other) (sym at) second)
+
+pub one_form_migrated : (s : Schema) (form : Form) (rows : Relation) → AllowsOne (Migrates s form rows)
+one_form_migrated s form rows =
+    one_in_form s form (λ plan. MigratesRows s (schemes_of plan) rows) (same_migrated s rows)
+
+pub one_plan_migrated : (s : Schema) (plan : List Attributes) (rows : Relation) → AllowsOne (MigratesPlan s plan rows)
+one_plan_migrated s plan rows = one_without_loss s plan (MigratesRows s plan rows) (one_migrated s plan rows)
+
+-- ---- joined tables
+-- of two numbers that are each no greater than the other where it has the property, both are the same
+one_least : (P : ℕ → Type 0) (j k : ℕ) → (j < k → P j → ⊥) → (k < j → P k → ⊥) → P j → P k → j ≡ k
+one_least P j k no_less no_more j_is k_is = elim (cases_lt j k) [
+  | inl less ↦ absurd (no_less less j_is)
+  | inr from_on ↦ elim (cases_lt k j) [
+    | inl more ↦ absurd (no_more more k_is)
+    | inr back ↦ omega (arith, from_on, back)
+  ]
+]
+
+one_uncovered : (n : ℕ) (plan : List Attributes) (a b : ℕ) → IsFirstUncovered n plan a → IsFirstUncovered n plan b
+    → a ≡ b
+one_uncovered n plan a b first second =
+    one_least (IsFirstUncovered n plan) a b (λ less is. is.uncovered (second.least a less))
+    (λ more is. is.uncovered (first.least b more)) first second
+
+one_beyond : (n limit : ℕ) (tables : List PartialRelation) (j k : ℕ) → IsFirstBeyond n limit tables j
+    → IsFirstBeyond n limit tables k → j ≡ k
+one_beyond n limit tables j k first second =
+    one_least (IsFirstBeyond n limit tables) j k
+    (λ less is. let small = second.least j is.positive less in let large = is.beyond in omega (arith, small, large))
+    (λ more is. let small = first.least k is.positive more in let large = is.beyond in omega (arith, small, large))
+    first second
+
+one_join_refusal : (n limit : ℕ) (tables : List PartialRelation) (one other : JoinRefusal)
+    → RefusesJoin n limit tables one → RefusesJoin n limit tables other → one ≡ other
+one_join_refusal n limit tables (NotCovered a) (NotCovered b) first second =
+    ap (λ (k : ℕ). NotCovered k) (one_uncovered n (plan_of_tables tables) a b first second)
+one_join_refusal n limit tables (NotCovered a) (TooManyRows k) first second =
+    absurd (first.uncovered (second.0 a first.within))
+one_join_refusal n limit tables (TooManyRows j) (NotCovered b) first second =
+    absurd (second.uncovered (first.0 b second.within))
+one_join_refusal n limit tables (TooManyRows j) (TooManyRows k) first second =
+    ap (λ (m : ℕ). TooManyRows m) (one_beyond n limit tables j k first.1 second.1)
+
+join_goes : (s : Schema) (tables : List PartialRelation) (rows : Relation) (why : JoinRefusal)
+    → IsJoinOf s tables rows → RefusesJoin (width_of s) MOST_JOINED_ROWS tables why → ⊥
+join_goes s tables rows (NotCovered a) is refused = refused.uncovered (is.covered a refused.within)
+join_goes s tables rows (TooManyRows k) is refused =
+    let first = refused.1 in
+    let small = is.within_limit k first.positive first.among in
+    let large = first.beyond in
+    omega (arith, small, large)
+
+pub one_rejoined : (s : Schema) (tables : List PartialRelation) → AllowsOne (JoinsTables s tables)
+one_rejoined s tables one other (inl (rows, is, says)) (inl (others, also, said)) =
+    same_says Yes _ _ one other says said (ap (rows_text (names_of s)) (is.join ∙ sym also.join))
+one_rejoined s tables one other (inl (rows, is, says)) (inr (why, refused, said)) =
+    absurd (join_goes s tables rows why is refused)
+one_rejoined s tables one other (inr (why, refused, says)) (inl (rows, is, said)) =
+    absurd (join_goes s tables rows why is refused)
+one_rejoined s tables one other (inr (why, refused, says)) (inr (because, also, said)) =
+    same_says Refused _ _ one other says said
+    (ap (join_refusal_text (names_of s))
+    (one_join_refusal (width_of s) MOST_JOINED_ROWS tables why because refused also))

@@ -1,0 +1,69 @@
+//! Laws that each command on plans, tables and rows has one answer to the values that it is asked about.
+
+ghost use Rattle.std.specs.Prelude.{◌≤◌, ℕ, List};
+ghost use Rattle.attr_sets.specs.Attributes.{Attributes};
+ghost use Rattle.dep_model.specs.Tuples.{Relation};
+ghost use Rattle.dep_model.specs.declared.schema.Schema.{Schema};
+ghost use Rattle.normal_forms.specs.declared.forms.Form.{Form};
+ghost use Rattle.sample_rows.specs.declared.rows.TheConstants.{MOST_PERSONS};
+ghost use Rattle.table_join.specs.Tables.{PartialRelation};
+ghost use Rattle.implication_laws.specs.OneAnswer.{AllowsOne};
+ghost use Rattle.desk_designs.specs.Decompositions.{Splits, SplitsWide};
+ghost use Rattle.desk_designs.specs.Designs.{WritesForm, WritesPlan};
+ghost use Rattle.desk_designs.specs.Drawings.{DrawsForm, DrawsSchemes};
+ghost use Rattle.desk_designs.specs.Scripts.{ScriptsCheck, ScriptsMigration, ScriptsMigrationByPlan};
+ghost use Rattle.desk_tables.specs.Legality.{JudgesRows};
+ghost use Rattle.desk_tables.specs.Migrations.{Migrates, MigratesPlan, Samples};
+ghost use Rattle.desk_tables.specs.Rejoining.{JoinsTables};
+
+/// `split` has one answer to a schema, in each form and at any width.
+pub fn one_answer_of_split()
+    ensures form { (schema : Schema) (form : Form) → AllowsOne (Splits schema form) }
+    ensures wide { (schema : Schema) → AllowsOne (SplitsWide schema) }
+{}
+
+/// `ddl` has one answer to a schema and a form, and to a schema and a plan.
+pub fn one_answer_of_ddl()
+    ensures form { (schema : Schema) (form : Form) → AllowsOne (WritesForm schema form) }
+    ensures plan { (schema : Schema) (plan : List Attributes) → AllowsOne (WritesPlan schema plan) }
+{}
+
+/// `draw` has one answer to a schema and a form, and to a schema and a plan.
+pub fn one_answer_of_draw()
+    ensures form { (schema : Schema) (form : Form) → AllowsOne (DrawsForm schema form) }
+    ensures plan { (schema : Schema) (plan : List Attributes) → AllowsOne (DrawsSchemes schema plan) }
+{}
+
+/// `sql check` has one answer to a schema and a name.
+pub fn one_answer_of_sql_check()
+    ensures law { (schema : Schema) (name : List ℕ) → AllowsOne (ScriptsCheck schema name) }
+{}
+
+/// `sql migrate` has one answer to a schema, a form or a plan, and a name.
+pub fn one_answer_of_sql_migrate()
+    ensures form { (schema : Schema) (form : Form) (name : List ℕ) → AllowsOne (ScriptsMigration schema form name) }
+    ensures plan { (schema : Schema) (plan : List Attributes) (name : List ℕ)
+        → AllowsOne (ScriptsMigrationByPlan schema plan name) }
+{}
+
+/// `check rows` has one answer to a schema and rows.
+pub fn one_answer_of_check_rows()
+    ensures law { (schema : Schema) (rows : Relation) → AllowsOne (JudgesRows schema rows) }
+{}
+
+/// `migrate` has one answer, text and tables, to a schema, a form or a plan, and rows.
+pub fn one_answer_of_migrate()
+    ensures form { (schema : Schema) (form : Form) (rows : Relation) → AllowsOne (Migrates schema form rows) }
+    ensures plan { (schema : Schema) (plan : List Attributes) (rows : Relation)
+        → AllowsOne (MigratesPlan schema plan rows) }
+{}
+
+/// `sample` has one answer, text and tables, to a number of persons.
+pub fn one_answer_of_sample()
+    ensures law { (persons : ℕ) → persons ≤ MOST_PERSONS → AllowsOne (Samples persons) }
+{}
+
+/// `rejoin` has one answer to a schema and tables.
+pub fn one_answer_of_rejoin()
+    ensures law { (schema : Schema) (tables : List PartialRelation) → AllowsOne (JoinsTables schema tables) }
+{}

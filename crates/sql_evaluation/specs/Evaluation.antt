@@ -1,0 +1,98 @@
+-- What a query gives over the tables of an engine: for the laws of queries.
+use Rattle.std.specs.Prelude.{ℕ, ℤ, Bool, false, ◌&&◌, ◌==◌, if◌then◌else◌, Option, Some, None, List, [], ◌∷◌, ◌++◌, length, map, filter, option_map, option_and_then}
+use Rattle.std.specs.Set.{unique_keys}
+use Rattle.std.specs.Str.{bytes_eq}
+use Rattle.sql_syntax.specs.Syntax.{Column, column, Condition, Item, own, named, Clause, each_row, rows_where, groups_by, Query, stored, select, union_all}
+use Rattle.sql_evaluation.specs.Cells.{Cell, same_row}
+use Rattle.sql_evaluation.specs.Values.{each, bytes_of, Look, look_at, View, value, holds}
+
+-- rows with named columns, whose order means nothing
+pub record Rows : Type 0 where
+  pub names : List (List ℕ)
+  pub rows : List (List Cell)
+
+-- an engine: the tables that it holds, and what it makes of a text that is cast to an integer
+pub record Engine : Type 0 where
+  pub tables : List ℕ → Option Rows
+  pub cast : List ℕ → Option ℤ
+
+-- ---- which rows or groups
+-- those of which a test is true
+abbrev pub taken : {X : Type 0} → (X → Option Bool) → List X → Option (List X)
+taken test [] = Some []
+taken test (x ∷ xs) = option_and_then (λ b. option_map (λ rest. if b then x ∷ rest else rest) (taken test xs)) (test x)
+
+abbrev pub row_view : Look → View
+row_view look = record { own = look; rows = None }
+
+-- a column by which is grouped
+abbrev pub same_column : Column → Column → Bool
+same_column c d = bytes_eq c.alias d.alias && bytes_eq (bytes_of c.name) (bytes_of d.name)
+
+abbrev pub key_cell : List Column → List Cell → Look
+key_cell [] cells d = None
+key_cell (c ∷ cs) [] d = None
+key_cell (c ∷ cs) (v ∷ vs) d = if same_column c d then Some v else key_cell cs vs d
+
+-- whether a row has these values in the columns by which is grouped
+abbrev pub is_key : List Cell → Option (List Cell) → Bool
+is_key key None = false
+is_key key (Some other) = same_row other key
+
+abbrev pub in_group : List Column → List Cell → Look → Bool
+in_group columns key look = is_key key (each look columns)
+
+abbrev pub group_view : List Column → List Look → List Cell → View
+group_view columns looks key = record {
+  own = key_cell columns key;
+  rows = Some (filter (in_group columns key) looks);
+}
+
+-- the groups by columns; by no column all rows are one
+abbrev pub group_views : List Column → List Look → Option (List View)
+group_views [] looks = Some (record { own = key_cell [] []; rows = Some looks } ∷ [])
+group_views (c ∷ cs) looks =
+    option_map (λ keys. map (group_view (c ∷ cs) looks) (unique_keys same_row keys)) (each (λ look. each look (c ∷ cs)) looks)
+
+abbrev pub having_true : (List ℕ → Option ℤ) → Option Condition → List View → Option (List View)
+having_true cast None views = Some views
+having_true cast (Some p) views = taken (λ v. holds cast v p) views
+
+abbrev pub views_of : (List ℕ → Option ℤ) → Clause → List Look → Option (List View)
+views_of cast each_row looks = Some (map row_view looks)
+views_of cast (rows_where p) looks = taken (λ v. holds cast v p) (map row_view looks)
+views_of cast (groups_by columns having) looks =
+    option_and_then (having_true cast having) (group_views columns looks)
+
+-- ---- what is selected
+abbrev pub item_name : Item → List ℕ
+item_name (own c) = bytes_of c.name
+item_name (named x name) = bytes_of name
+
+abbrev pub item_value : (List ℕ → Option ℤ) → View → Item → Option Cell
+item_value cast v (own c) = value cast v (column c)
+item_value cast v (named x name) = value cast v x
+
+abbrev pub with_items : Bool → List Item → List (List Cell) → Rows
+with_items distinct items rows = record {
+  names = map item_name items;
+  rows = if distinct then unique_keys same_row rows else rows;
+}
+
+abbrev pub selected : (List ℕ → Option ℤ) → Bool → List Item → List ℕ → Clause → Rows → Option Rows
+selected cast distinct items alias clause given =
+    option_map (with_items distinct items)
+    (option_and_then (each (λ v. each (item_value cast v) items))
+    (views_of cast clause (map (look_at alias given.names) given.rows)))
+
+-- ---- queries
+-- one after the other, under the names of the first, where they have as many columns
+abbrev pub appended : Rows → Rows → Option Rows
+appended a b =
+    if length a.names == length b.names then Some (record { names = a.names; rows = a.rows ++ b.rows }) else None
+
+abbrev pub evaluate : Engine → Query → Option Rows
+evaluate e (stored name) = e.tables name
+evaluate e (select distinct items source alias clause) =
+    option_and_then (selected e.cast distinct items alias clause) (evaluate e source)
+evaluate e (union_all p q) = option_and_then (λ a. option_and_then (appended a) (evaluate e q)) (evaluate e p)

@@ -1,0 +1,52 @@
+-- Queries of SQL as values: for all that prints queries, and for the laws of what they give.
+use Rattle.std.specs.Prelude.{ℕ, Bool, Option, List}
+
+-- the name of a column: one of a user's table, or one that a query makes for itself
+pub data ColumnName : Type 0 where
+  attribute : List ℕ → ColumnName
+  helper : List ℕ → ColumnName
+
+-- a column of a source, by the alias of the source and the column's name: no name stands alone
+pub record Column : Type 0 where
+  pub alias : List ℕ
+  pub name : ColumnName
+
+-- a value
+pub data Scalar : Type 0 where
+  column : Column → Scalar
+  as_text : Scalar → Scalar
+  as_integer : Scalar → Scalar
+  number_zero : Scalar
+  number_one : Scalar
+  -- of a group: how many rows it has, the sum of a column, the product of two sums
+  count : Scalar
+  sum : Column → Scalar
+  sum_product : Column → Column → Scalar
+  -- a value less the sum of a column
+  less_sum : Scalar → Column → Scalar
+
+-- a test of values
+pub data Condition : Type 0 where
+  is_missing : Scalar → Condition
+  differs : Scalar → Scalar → Condition
+  exceeds : Scalar → Scalar → Condition
+  either : Condition → Condition → Condition
+
+-- what is selected: a column under its own name, or a value under a name
+pub data Item : Type 0 where
+  own : Column → Item
+  named : Scalar → ColumnName → Item
+
+-- what stands after a source: nothing; which rows are taken; or by which columns they are grouped, and
+-- which groups are taken. Grouped by no column, all rows are one group, also where there is no row
+pub data Clause : Type 0 where
+  each_row : Clause
+  rows_where : Condition → Clause
+  groups_by : List Column → Option Condition → Clause
+
+-- a query: a stored table, by its name as SQL has it; what is selected of a source under an alias,
+-- each value once or not; the rows of two queries one after the other
+pub data Query : Type 0 where
+  stored : List ℕ → Query
+  select : Bool → List Item → Query → List ℕ → Clause → Query
+  union_all : Query → Query → Query
