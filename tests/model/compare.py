@@ -310,6 +310,16 @@ def f_cover(m):
     return ["cover", "s"], {"s": m.schema_text(s)}
 
 
+def f_explain_cover(m):
+    words, files = f_cover(m)
+    return ["explain", *words], files
+
+
+def f_explain_keys(m):
+    words, files = (f_wide_keys if m.r.random() < .2 else f_keys)(m)
+    return ["explain", *words], files
+
+
 def f_synthesize(m):
     s = m.schema(1, 8)
     return ["synthesize", "s"], {"s": m.schema_text(s)}
@@ -469,6 +479,14 @@ def f_closure(m):
     return ["closure", *words[1:]], files
 
 
+def f_project(m):
+    s = m.schema(1, 8, deps=m.r.randint(0, 10)) if m.r.random() < .8 else m.wide_schema(.3)
+    side = m.side(s[0], m.some(len(s[0]), m.r.choice((3, 6, 30)), 0))
+    if m.r.random() < .1:
+        side = os.fsdecode(m.mutated(side.encode(), [p for p in PIECES if b"\0" not in p and b"\xff" not in p]))
+    return ["project", "s", side], {"s": m.schema_text(s)}
+
+
 def f_key(m):
     words, files = f_basis(m)
     return ["check", "key", *words[1:]], files
@@ -531,7 +549,7 @@ def f_sql(m):
 
 
 ALL_WORDS = ["implies", "keys", "cover", "synthesize", "split", "bcnf", "4nf", "3nf", "wide-bcnf", "ddl", "plan", "check", "proof", "join", "form",
-             "rows", "same", "keeps", "migrate", "sample", "exhibit", "discover", "rejoin", "basis", "closure", "key", "sql", "draw", "help", "--help", "-h", "--version",
+             "rows", "same", "keeps", "migrate", "sample", "exhibit", "discover", "rejoin", "basis", "closure", "project", "key", "explain", "sql", "draw", "help", "--help", "-h", "--version",
              "s", "p", "r", "A -> B", "1", "missing", "", "Keys", "table"]
 
 

@@ -1,7 +1,7 @@
 -- The query of each dependency tells whether a relation obeys it.
 use Rattle.std.proofs.Common.{◌≡◌, ℕ, Bool, false, ◌||◌, List, [], ◌∷◌, get_or, map, Some, None, Option, refl, sym, ap, subst, ◌∙◌, inl, inr, arith}
 use Rattle.std.proofs.lemmas.Bool.{cases_Bool, true≢false}
-use Rattle.std.specs.Prelude.{◌↔◌, All, MatchOption, ⊤, if◌then◌else◌, codes}
+use Rattle.std.specs.Prelude.{◌↔◌, All, MatchOption, if◌then◌else◌, codes}
 use Rattle.attr_sets.specs.Attributes.{Attributes, below, union, difference, IsSubset}
 use Rattle.attr_sets.specs.Sets.{is_subset}
 use Rattle.dep_model.specs.declared.schema.Schema.{Schema}
@@ -19,7 +19,7 @@ use Rattle.check_queries.specs.Columns.{column_at, group_at}
 use Rattle.check_queries.specs.Checks.{has_members, several_query, unpaired_query, check_query}
 use Rattle.sql_evaluation.specs.Evaluation.{Rows, Engine}
 use Rattle.check_laws.specs.Holding.{Holds}
-use Rattle.check_laws.specs.Telling.{GivesNoRowWhere, GivesNoRow, TellsDependency, NothingShown}
+use Rattle.check_laws.specs.Telling.{GivesNoRowWhere, Tells, ShowsNothing, TellsDependency, NoBreachShown}
 use Rattle.check_laws.proofs.GroupLemmas.{Cells}
 use Rattle.check_laws.proofs.SeveralLemmas.{several-known, several-none}
 use Rattle.check_laws.proofs.UnpairedLemmas.{unpaired-known, unpaired-none}
@@ -108,18 +108,18 @@ cons_same : {a b : Rows} → Some a ≡ Some b → a ≡ b
 unfolding rows_or
 cons_same {a} {b} e = ap (λ (o : Option Rows). rows_or o a) e
 
-shown_none : (e : Engine) (found : Option Query) (P : Type 0) → MatchOption found P (λ q. GivesNoRowWhere e q P) → P → MatchOption found ⊤ (λ q. GivesNoRow e q)
+pub shown_none : (e : Engine) (found : Option Query) (P : Type 0) → Tells e found P → P → ShowsNothing e found
 shown_none e None P tells holds = tt
 shown_none e (Some q) P tells holds = (tells.result, tells.evaluates, tells.exact.1 holds)
 
-none_shown : (e : Engine) (found : Option Query) (P : Type 0) → MatchOption found P (λ q. GivesNoRowWhere e q P) → MatchOption found ⊤ (λ q. GivesNoRow e q) → P
+pub none_shown : (e : Engine) (found : Option Query) (P : Type 0) → Tells e found P → ShowsNothing e found → P
 none_shown e None P tells none = tells
 none_shown e (Some q) P tells none =
     let same = cons_same (sym tells.evaluates ∙ none.1) in
     tells.exact.0 (ap (λ (result : Rows). result.rows) same ∙ none.2)
 
 pub legal_told : (e : Engine) (table : List ℕ) (s : Schema) (cell : Cells) (r : Relation) → Holds e table s cell r → IsOver (width_of s) r
-    → LegalFor s r ↔ NothingShown e s table
+    → LegalFor s r ↔ NoBreachShown e s table
 legal_told e table s cell r held over = (
   λ legal i d lt. shown_none e (check_query s table (get_or (theory_of s) i d)) (Obeys (width_of s) (get_or (theory_of s) i d) r) (dependencies_told e table s cell r held over i d lt) (legal.obeys i d lt),
   λ none. record {

@@ -9,3 +9,8 @@ pub mod ThreeLemmas
 pub mod UnpairedLemmas
 pub mod AloneLemmas
 pub mod LawLemmas
+pub mod RowLemmas
+pub mod MissingLemmas
+pub mod IntegerLemmas
+pub mod WitnessLemmas
+pub mod ScriptLemmas

@@ -1,11 +1,12 @@
 -- A table of an engine that holds a relation: for the laws of the queries of `sql check`.
-use Rattle.std.specs.Prelude.{◌≡◌, ℕ, ◌<◌, if◌then◌else◌, Some, List, [], ◌∷◌, Contains}
+use Rattle.std.specs.Prelude.{◌≡◌, ℕ, ℤ, ◌<◌, if◌then◌else◌, Option, Some, List, [], ◌∷◌, Contains}
 use Rattle.dep_model.specs.declared.schema.Schema.{Schema}
 use Rattle.dep_model.specs.Columns.{is_plain_type}
+use Rattle.dep_model.specs.Integers.{IsIntegerText}
 use Rattle.dep_model.specs.Schemas.{width_of}
 use Rattle.dep_model.specs.Tuples.{Tuple, Relation, value_at}
 use Rattle.check_queries.specs.Columns.{name_at, type_at}
-use Rattle.sql_evaluation.specs.Cells.{Cell, text_of}
+use Rattle.sql_evaluation.specs.Cells.{Cell, integer_text, text_of}
 use Rattle.sql_evaluation.specs.Values.{named_cell}
 use Rattle.sql_evaluation.specs.Evaluation.{Rows, Engine}
 
@@ -24,12 +25,21 @@ AreHeld s cell names rows r = ⊥
 abbrev pub compared_cell : Schema → (ℕ → List ℕ → Cell) → ℕ → List ℕ → Cell
 compared_cell s cell k v = if is_plain_type (type_at s k) then text_of (cell k v) else cell k v
 
--- a table of an engine holds a relation: each value of attribute k as `cell k` has it, and values of an
--- attribute that differ are told apart where they are compared
+-- values of an attribute that differ are told apart where they are compared
+abbrev pub AreApart : Schema → (ℕ → List ℕ → Cell) → Relation → Type 0
+AreApart s cell r =
+    (k : ℕ) → k < width_of s → (t u : Tuple) → Contains r t → Contains r u
+    → compared_cell s cell k (value_at t k) ≡ compared_cell s cell k (value_at u k) → value_at t k ≡ value_at u k
+
+-- a table of an engine holds a relation: each value of attribute k as `cell k` has it
 pub record Holds (e : Engine) (table : List ℕ) (s : Schema) (cell : ℕ → List ℕ → Cell) (r : Relation) : Type 0 where
   pub given : Rows
   pub known : e.tables table ≡ Some given
   pub held : AreHeld s cell given.names given.rows r
-  pub apart : (k : ℕ) → k < width_of s → (t u : Tuple) → Contains r t → Contains r u
-      → compared_cell s cell k (value_at t k) ≡ compared_cell s cell k (value_at u k)
-      → value_at t k ≡ value_at u k
+  pub apart : AreApart s cell r
+
+-- an engine casts the text of an integer of 64 bits to this integer, and gives such integers alone. Of
+-- another text it makes an error or any of these
+pub record CastsIntegers (cast : List ℕ → Option ℤ) : Type 0 where
+  pub exact : (t : List ℕ) → IsIntegerText t → (n : ℤ) × (cast t ≡ Some n) × (integer_text n ≡ t)
+  pub within : (t : List ℕ) (n : ℤ) → cast t ≡ Some n → IsIntegerText (integer_text n)

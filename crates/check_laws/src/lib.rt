@@ -1,17 +1,19 @@
 //! What the queries of `sql check` give, by the evaluator of SQL's syntax, over a table that holds a relation:
-//! the query of a dependency gives no row exactly where the relation obeys it.
+//! no row exactly where no value is missing that may not be, where the integers are integers, and where the
+//! relation obeys the dependency.
 //!
-//! The law is a function that does nothing, whose clause is the law; so the gate asks for its proof.
+//! Each law is a function that does nothing, whose clauses are the law; so the gate asks for its proof.
 #![tactic(auto)]
 
-ghost use Rattle.std.specs.Prelude.{◌↔◌, ℕ, List, All};
+ghost use Rattle.std.specs.Prelude.{◌≡◌, ◌↔◌, ◌<◌, ℕ, List, All};
 ghost use Rattle.dep_model.specs.declared.schema.Schema.{Schema};
 ghost use Rattle.dep_model.specs.Schemas.{width_of, theory_of, LegalFor};
 ghost use Rattle.dep_model.specs.Tuples.{Relation, IsOver};
-ghost use Rattle.sql_evaluation.specs.Cells.{Cell};
+ghost use Rattle.check_queries.specs.Checks.{required_query};
+ghost use Rattle.sql_evaluation.specs.Cells.{Cell, text};
 ghost use Rattle.sql_evaluation.specs.Evaluation.{Engine};
-ghost use Rattle.check_laws.specs.Holding.{Holds};
-ghost use Rattle.check_laws.specs.Telling.{TellsDependency, NothingShown};
+ghost use Rattle.check_laws.specs.Holding.{AreApart, Holds, CastsIntegers};
+ghost use Rattle.check_laws.specs.Telling.{Tells, NoneMissing, AreIntegers, ShowsIntegers, TellsDependency, NoBreachShown, RulesHold, NothingShown};
 
 /// Over a table that holds a relation, whatever engine it is, the query of each dependency ends without an
 /// error, and gives no row exactly where the relation obeys the dependency. So no query of a dependency gives
@@ -20,5 +22,37 @@ pub fn queries_tell_dependencies()
     ensures each { (e : Engine) (table : List ℕ) (s : Schema) (cell : ℕ → List ℕ → Cell) (r : Relation)
         → Holds e table s cell r → IsOver (width_of s) r → All (TellsDependency e s table r) (theory_of s) }
     ensures legal { (e : Engine) (table : List ℕ) (s : Schema) (cell : ℕ → List ℕ → Cell) (r : Relation)
-        → Holds e table s cell r → IsOver (width_of s) r → LegalFor s r ↔ NothingShown e s table }
+        → Holds e table s cell r → IsOver (width_of s) r → LegalFor s r ↔ NoBreachShown e s table }
+{}
+
+/// Over such a table the query of missing values ends without an error, and gives no row exactly where no value
+/// is missing that may not be; where it is not there, none may be missing.
+pub fn queries_tell_missing_values()
+    ensures exact { (e : Engine) (table : List ℕ) (s : Schema) (cell : ℕ → List ℕ → Cell) (r : Relation)
+        → Holds e table s cell r → Tells e (required_query s table) (NoneMissing s cell r) }
+{}
+
+/// Over such a table of an engine that casts the texts of integers to these integers, whatever it makes of other
+/// texts, the query of an integer attribute ends without an error and without a row exactly where each value
+/// in its column is missing, an integer, or the text of one.
+pub fn queries_tell_integers()
+    ensures exact { (e : Engine) (table : List ℕ) (s : Schema) (cell : ℕ → List ℕ → Cell) (r : Relation) (k : ℕ)
+        → Holds e table s cell r → CastsIntegers e.cast → k < width_of s
+        → AreIntegers cell r k ↔ ShowsIntegers e s table k }
+{}
+
+/// So no query of the script gives a row, and none ends with an error, exactly where all rules hold.
+pub fn scripts_tell_rules()
+    ensures exact { (e : Engine) (table : List ℕ) (s : Schema) (cell : ℕ → List ℕ → Cell) (r : Relation)
+        → Holds e table s cell r → IsOver (width_of s) r → CastsIntegers e.cast
+        → RulesHold s cell r ↔ NothingShown e s table }
+{}
+
+/// For each relation there are such engines: with any values in the columns that are told apart where the
+/// relation's are, so with the relation's own values as texts.
+pub fn engines_hold_relations()
+    ensures cells { (table : List ℕ) (s : Schema) (cell : ℕ → List ℕ → Cell) (r : Relation)
+        → AreApart s cell r → (e : Engine) × CastsIntegers e.cast × Holds e table s cell r }
+    ensures texts { (table : List ℕ) (s : Schema) (r : Relation)
+        → (e : Engine) × CastsIntegers e.cast × Holds e table s (λ k v. text v) r }
 {}

@@ -1,10 +1,10 @@
 -- The queries of `sql check` over a table, as values of SQL's syntax: for the laws of what they give, and
 -- for the script (`table_scripts`).
 use Rattle.std.specs.Prelude.{ℕ, Bool, true, false, if◌then◌else◌, Option, Some, None, List, [], ◌∷◌, ◌++◌, codes, option_and_then}
-use Rattle.attr_sets.specs.Attributes.{Attributes, union}
+use Rattle.attr_sets.specs.Attributes.{Attributes, union, difference}
 use Rattle.dep_model.specs.declared.schema.Schema.{Schema}
 use Rattle.dep_model.specs.Projections.{members_below}
-use Rattle.dep_model.specs.Schemas.{width_of, universe_of}
+use Rattle.dep_model.specs.Schemas.{width_of, universe_of, nullable_of}
 use Rattle.sql_names.specs.Names.{is_not_empty}
 use Rattle.sql_syntax.specs.Syntax.{ColumnName, helper, Column, Scalar, column, as_text, as_integer, number_zero, number_one, count, sum_product, less_sum, sum, Condition, is_missing, differs, exceeds, either, Item, own, named, each_row, rows_where, groups_by, Query, stored, select, union_all}
 use Rattle.dep_model.specs.Dependencies.{Dependency}
@@ -17,6 +17,10 @@ abbrev pub has_members : Schema → Attributes → Bool
 has_members s x = is_not_empty (members_below (width_of s) x)
 
 -- ---- values
+-- the attributes of which no value may be missing
+abbrev pub required_of : Schema → Attributes
+required_of s = difference (universe_of s) (nullable_of s)
+
 -- whether the value of one of these attributes is missing, the first of which is k
 abbrev pub some_missing : Schema → ℕ → List ℕ → Condition
 some_missing s k [] = is_missing (column (column_at s (codes "r") k))
@@ -28,6 +32,15 @@ unfoldable pub missing_query : Schema → List ℕ → ℕ → List ℕ → Quer
 missing_query s table k ms =
     select false (items_on s (codes "r") (universe_of s)) (stored table) (codes "r")
     (rows_where (some_missing s k ms))
+
+-- the same of the attributes of a list; none where it is empty
+abbrev pub missing_among : Schema → List ℕ → List ℕ → Option Query
+missing_among s table [] = None
+missing_among s table (k ∷ ms) = Some (missing_query s table k ms)
+
+-- the rows in which a value is missing that may not be
+abbrev pub required_query : Schema → List ℕ → Option Query
+required_query s table = missing_among s table (members_below (width_of s) (required_of s))
 
 -- the values of a column that are not the text of the integer that they are cast to
 unfoldable pub integer_query : List ℕ → Column → Query

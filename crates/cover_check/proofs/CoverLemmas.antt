@@ -1,4 +1,4 @@
--- A list without a member, and why a minimal cover has no complaint.
+-- A list without a member, and why a minimal cover has no diagnostic.
 use Rattle.std.proofs.Common.{◌≡◌, ℕ, ◌<◌, ◌≤◌, suc, List, ◌∷◌, ◌++◌, take, drop, refl, sym, subst, ◌∙◌, ap, ⊎_elim, arith}
 use Rattle.std.proofs.lemmas.Bool.{cases_order}
 use Rattle.std.proofs.lemmas.List.{take-append-drop, take-map, drop-map, map-append}
@@ -16,9 +16,9 @@ use Rattle.dep_model.specs.Deps.{dependency_of, dependencies_of}
 use Rattle.dep_model.specs.Implication.{Implies}
 use Rattle.dep_model.proofs.DistinctLemmas.{filter-keeps}
 use Rattle.min_cover.specs.Covers.{HaveSameLegal, IsSingle, IsMinimalCover, IsWholeCover}
-use Rattle.cover_check.specs.declared.complaint.Complaint.{Complaint}
-use Rattle.cover_check.specs.declared.complaint.Complaint.TheVariants.{WideRight, NotNeeded, Follows}
-use Rattle.cover_check.specs.Complaints.{FollowsFrom, HasWideRight, IsNotNeeded, IsComplaint}
+use Rattle.cover_check.specs.declared.diagnostic.CoverDiagnostic.{CoverDiagnostic}
+use Rattle.cover_check.specs.declared.diagnostic.CoverDiagnostic.TheVariants.{WideRight, NotNeeded, Follows}
+use Rattle.cover_check.specs.CoverDiagnostics.{FollowsFrom, HasWideRight, IsNotNeeded, IsCoverDiagnostic}
 
 -- ---- a list without a member
 pub remove_map : (ds : List Dep) (k : ℕ) → dependencies_of (remove ds k) ≡ remove (dependencies_of ds) k
@@ -83,7 +83,7 @@ none_follows n ds whole k (fd x y) minimal cover read follows =
 none_follows n ds whole k (mvd x y) minimal cover read follows =
     cover.needed (take k whole) (drop (suc k) whole) (mvd x y) (parted whole k (mvd x y) read) refl follows
 
-pub no_complaint : (n : ℕ) (ds whole : List Dependency) (one : Complaint) → IsMinimalCover n ds (functional_part whole) → IsWholeCover n ds whole → IsComplaint n whole one → ⊥
-no_complaint n ds whole (WideRight k) minimal cover is = no_wide n ds whole is.0 minimal (contained whole k is.0 is.1) is.2
-no_complaint n ds whole (NotNeeded k a) minimal cover is = all_needed n ds whole is.0 a minimal (contained whole k is.0 is.1) is.2
-no_complaint n ds whole (Follows k) minimal cover is = none_follows n ds whole k is.0 minimal cover is.1 is.2
+pub no_diagnostic : (n : ℕ) (ds whole : List Dependency) (one : CoverDiagnostic) → IsMinimalCover n ds (functional_part whole) → IsWholeCover n ds whole → IsCoverDiagnostic n whole one → ⊥
+no_diagnostic n ds whole (WideRight k) minimal cover is = no_wide n ds whole is.0 minimal (contained whole k is.0 is.1) is.2
+no_diagnostic n ds whole (NotNeeded k a) minimal cover is = all_needed n ds whole is.0 a minimal (contained whole k is.0 is.1) is.2
+no_diagnostic n ds whole (Follows k) minimal cover is = none_follows n ds whole k is.0 minimal cover is.1 is.2

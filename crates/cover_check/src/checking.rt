@@ -6,10 +6,10 @@ ghost use Rattle.dep_model.specs.Dependencies.{Dependency};
 ghost use Rattle.dep_model.specs.Deps.{dependency_of, dependencies_of, IsDepWithin};
 ghost use Rattle.dep_model.specs.Implication.{Implies};
 ghost use Rattle.dep_model.specs.Schemas.{deps_of, width_of, universe_of, theory_of};
-ghost use Rattle.cover_check.specs.Complaints.{AreComplaints, FollowsFrom, HasWideRight, IsNotNeeded, NamesAttribute};
-ghost use Rattle.cover_check.specs.Gathering.{AreComplaintsBefore};
+ghost use Rattle.cover_check.specs.CoverDiagnostics.{AreCoverDiagnostics, FollowsFrom, HasWideRight, IsNotNeeded, NamesAttribute};
+ghost use Rattle.cover_check.specs.Gathering.{AreCoverDiagnosticsBefore};
 
-use crate::complaint::Complaint;
+use crate::diagnostic::CoverDiagnostic;
 use attr_sets::MOST_ATTRIBUTES;
 use dep_basis::{Decision, decide_by};
 use dep_model::{Dep, OutOfMemory, Schema};
@@ -19,9 +19,9 @@ use std::alloc::Global;
 /// What keeps the dependencies of a schema from being a minimal cover, in the order of the file; of one
 /// dependency first its right side, then its left side, ascending, then whether it follows from the
 /// others. Multivalued ones are asked the last alone.
-pub fn complaints(alloc: Global, schema: &Schema) -> Result<Vec<Complaint>, OutOfMemory>
-    ensures complaints { IfOk result (λ found.
-        AreComplaints (width_of schema.now) (theory_of schema.now) found.items) }
+pub fn diagnostics(alloc: Global, schema: &Schema) -> Result<Vec<CoverDiagnostic>, OutOfMemory>
+    ensures diagnostics { IfOk result (λ found.
+        AreCoverDiagnostics (width_of schema.now) (theory_of schema.now) found.items) }
     ensures attributes { IfOk result (λ found. All NamesAttribute found.items) }
 {
     let mut found = Vec::new(alloc);
@@ -33,33 +33,41 @@ pub fn complaints(alloc: Global, schema: &Schema) -> Result<Vec<Complaint>, OutO
     Ok(found)
 }
 
-// Adds the complaint that a dependency has more than one attribute on the right.
-fn add_wide_right(schema: &Schema, k: usize, found: &mut Vec<Complaint>) -> Result<(), OutOfMemory>
+// Adds the diagnostic that a dependency has more than one attribute on the right.
+fn add_wide_right(
+    schema: &Schema,
+    k: usize,
+    found: &mut Vec<CoverDiagnostic>,
+) -> Result<(), OutOfMemory>
     requires position { k < length (deps_of schema.now) }
-    requires before { AreComplaintsBefore (width_of schema.now) (theory_of schema.now) k 0
+    requires before { AreCoverDiagnosticsBefore (width_of schema.now) (theory_of schema.now) k 0
         found.old.items }
-    ensures before { IfOk result (λ _. AreComplaintsBefore (width_of schema.now) (theory_of schema.now)
+    ensures before { IfOk result (λ _. AreCoverDiagnosticsBefore (width_of schema.now) (theory_of schema.now)
         k 1 found.new.items) }
 {
     if !has_wide_right(schema.deps()[k]) {
         return Ok(());
     }
-    found.push(Complaint::WideRight { dep: k as u16 })?;
+    found.push(CoverDiagnostic::WideRight { dep: k as u16 })?;
     Ok(())
 }
 
-// Adds the complaints that attributes are not needed on the left of a dependency.
-fn add_not_needed(schema: &Schema, k: usize, found: &mut Vec<Complaint>) -> Result<(), OutOfMemory>
+// Adds the diagnostics that attributes are not needed on the left of a dependency.
+fn add_not_needed(
+    schema: &Schema,
+    k: usize,
+    found: &mut Vec<CoverDiagnostic>,
+) -> Result<(), OutOfMemory>
     requires position { k < length (deps_of schema.now) }
-    requires before { AreComplaintsBefore (width_of schema.now) (theory_of schema.now) k 1
+    requires before { AreCoverDiagnosticsBefore (width_of schema.now) (theory_of schema.now) k 1
         found.old.items }
-    ensures before { IfOk result (λ _. AreComplaintsBefore (width_of schema.now) (theory_of schema.now)
+    ensures before { IfOk result (λ _. AreCoverDiagnosticsBefore (width_of schema.now) (theory_of schema.now)
         k (1 + MOST_ATTRIBUTES) found.new.items) }
 {
     let dep = schema.deps()[k];
     for attribute in 0..MOST_ATTRIBUTES {
         if is_not_needed(schema, dep, attribute) {
-            found.push(Complaint::NotNeeded {
+            found.push(CoverDiagnostic::NotNeeded {
                 dep: k as u16,
                 attribute,
             })?;
@@ -68,23 +76,23 @@ fn add_not_needed(schema: &Schema, k: usize, found: &mut Vec<Complaint>) -> Resu
     Ok(())
 }
 
-// Adds the complaint that a dependency follows from the others.
+// Adds the diagnostic that a dependency follows from the others.
 fn add_following(
     alloc: Global,
     schema: &Schema,
     k: usize,
-    found: &mut Vec<Complaint>,
+    found: &mut Vec<CoverDiagnostic>,
 ) -> Result<(), OutOfMemory>
     requires position { k < length (deps_of schema.now) }
-    requires before { AreComplaintsBefore (width_of schema.now) (theory_of schema.now) k
+    requires before { AreCoverDiagnosticsBefore (width_of schema.now) (theory_of schema.now) k
         (1 + MOST_ATTRIBUTES) found.old.items }
-    ensures before { IfOk result (λ _. AreComplaintsBefore (width_of schema.now) (theory_of schema.now)
+    ensures before { IfOk result (λ _. AreCoverDiagnosticsBefore (width_of schema.now) (theory_of schema.now)
         (k + 1) 0 found.new.items) }
 {
     if !follows_from_others(alloc, schema, k)? {
         return Ok(());
     }
-    found.push(Complaint::Follows { dep: k as u16 })?;
+    found.push(CoverDiagnostic::Follows { dep: k as u16 })?;
     Ok(())
 }
 

@@ -16,8 +16,8 @@ use Rattle.dep_model.specs.Projections.{project_tuple, projections, IsLossless}
 use Rattle.dep_model.specs.declared.schema.Schema.{Schema}
 use Rattle.dep_model.proofs.DistinctLemmas.{ordered_projection-same}
 use Rattle.dep_model.proofs.JoinLemmas.{tuple_in_join}
-use Rattle.named_tables.specs.Tables.{TableValue, table_value, table_values}
-use Rattle.named_tables.specs.declared.table.NamedTable.{NamedTable}
+use Rattle.named_tables.specs.Tables.{TableValue, chosen_value, chosen_values}
+use Rattle.named_tables.specs.declared.table.ChosenTable.{ChosenTable}
 use Rattle.csv_migrate.specs.Migration.{table_of, tables_from, tables_of_migration, schemes_in, relations_of, JoinIs}
 
 -- one scheme more
@@ -60,33 +60,33 @@ same_table name name' columns columns' rows rows' e f g = cc
 
 -- one table more, of the next scheme
 pub table_added : (schema : Schema) (rows : Relation) (sets listed : List AttrSet) (k : ℕ) (d : AttrSet)
-    (old new : List NamedTable) (made : NamedTable) → listed ≡ sets → k < length listed
-    → table_values old ≡ tables_of_migration schema (take k (schemes_of sets)) rows → new ≡ old ++ made ∷ []
-    → table_value made ≡ table_of schema rows (k + 1) (attributes (get_or listed k d))
-    → table_values new ≡ tables_of_migration schema (take (k + 1) (schemes_of sets)) rows
+    (old new : List ChosenTable) (made : ChosenTable) → listed ≡ sets → k < length listed
+    → chosen_values rows old ≡ tables_of_migration schema (take k (schemes_of sets)) rows → new ≡ old ++ made ∷ []
+    → chosen_value rows made ≡ table_of schema rows (k + 1) (attributes (get_or listed k d))
+    → chosen_values rows new ≡ tables_of_migration schema (take (k + 1) (schemes_of sets)) rows
 table_added schema rows sets listed k d old new made same low so_far pushed is =
     let l : k < length sets = subst (λ (xs : List AttrSet). k < length xs) same low in
-    ap table_values pushed ∙ map-append table_value old (made ∷ [])
-    ∙ ap (λ (ts : List TableValue). ts ++ table_value made ∷ []) so_far
+    ap (chosen_values rows) pushed ∙ map-append (chosen_value rows) old (made ∷ [])
+    ∙ ap (λ (ts : List TableValue). ts ++ chosen_value rows made ∷ []) so_far
     ∙ ap (λ (t : TableValue). tables_of_migration schema (take k (schemes_of sets)) rows ++ t ∷ [])
     (is ∙ ap (λ (xs : List AttrSet). table_of schema rows (k + 1) (attributes (get_or xs k d))) same)
     ∙ sym (next_table schema rows sets k d l)
 
-pub scheme_added : (sets listed : List AttrSet) (k : ℕ) (d : AttrSet) (old new : List NamedTable) (made : NamedTable)
+pub scheme_added : (sets listed : List AttrSet) (k : ℕ) (d : AttrSet) (old new : List ChosenTable) (made : ChosenTable)
     → listed ≡ sets → k < length listed
     → schemes_in old ≡ take k sets → new ≡ old ++ made ∷ [] → made.scheme ≡ get_or listed k d
     → schemes_in new ≡ take (k + 1) sets
 scheme_added sets listed k d old new made same low so_far pushed is =
     let l : k < length sets = subst (λ (xs : List AttrSet). k < length xs) same low in
     let more : take (k + 1) sets ≡ take k sets ++ get_or sets k d ∷ [] = rw add-one (take-suc sets k d l) in
-    ap schemes_in pushed ∙ map-append (λ (t : NamedTable). t.scheme) old (made ∷ [])
+    ap schemes_in pushed ∙ map-append (λ (t : ChosenTable). t.scheme) old (made ∷ [])
     ∙ ap (λ (xs : List AttrSet). xs ++ made.scheme ∷ []) so_far
     ∙ ap (λ (s : AttrSet). take k sets ++ s ∷ []) (is ∙ ap (λ (xs : List AttrSet). get_or xs k d) same) ∙ sym more
 
-pub all_tables : (schema : Schema) (rows : Relation) (sets listed : List AttrSet) (k : ℕ) (made : List NamedTable)
+pub all_tables : (schema : Schema) (rows : Relation) (sets listed : List AttrSet) (k : ℕ) (made : List ChosenTable)
     → listed ≡ sets → length listed ≤ k
-    → table_values made ≡ tables_of_migration schema (take k (schemes_of sets)) rows
-    → table_values made ≡ tables_of_migration schema (schemes_of sets) rows
+    → chosen_values rows made ≡ tables_of_migration schema (take k (schemes_of sets)) rows
+    → chosen_values rows made ≡ tables_of_migration schema (schemes_of sets) rows
 all_tables schema rows sets listed k made same whole so_far =
     let long : length (schemes_of sets) ≤ k = omega (arith, whole, ap length same, length-map sets attributes) in
     so_far ∙ ap (λ (plan : List Attributes). tables_of_migration schema plan rows) (take_all k (schemes_of sets) long)

@@ -124,64 +124,25 @@ column_count x names =
     ap (λ (l : List (List ℕ)). length (members_from x 0 l)) (sym (take_all (length names) names (omega arith)))
     ∙ names_counted x names (length names) (omega arith)
 
--- each projected row has a value for each column
-pub rows_even : (n : ℕ) (rows : Relation) (x : Attributes) (chosen : List ℕ) → IsOver n rows
-    → All (λ i. i < length rows) chosen → IsOver (count_below x n) (map (projected_row x rows) chosen)
-rows_even n rows x chosen over within i d l =
-    let low : i < length chosen = omega (arith, l, length-map chosen (projected_row x rows)) in
-    let row : get_or chosen i 0 < length rows = within i 0 low in
-    ap length
-    (same_default (map (projected_row x rows) chosen) i d (projected_row x rows 0) l
-    ∙ get_or-map (projected_row x rows) chosen i 0)
-    ∙ length-project_tuple x (row_at rows (get_or chosen i 0))
-    ∙ ap (count_below x) (row_width n rows (get_or chosen i 0) over row)
-
 -- ---- what is made of the first rows of the groups
-pub table_rows : (n : ℕ) (rows : Relation) (x : Attributes) (numbers firsts chosen : List ℕ) (made : Relation)
+pub table_rows : (n : ℕ) (rows : Relation) (x : Attributes) (numbers firsts chosen : List ℕ)
     → IsOver n rows → AreGroups rows x numbers → AreFirsts numbers firsts → chosen ≡ firsts
-    → made ≡ map (λ i. project_tuple x (row_at rows i)) chosen → made ≡ ordered_projection x rows
-table_rows n rows x numbers firsts chosen made over groups are same is =
-    is ∙ ap (map (projected_row x rows)) same ∙ first_projections n rows x numbers firsts over groups are
+    → map (projected_row x rows) chosen ≡ ordered_projection x rows
+table_rows n rows x numbers firsts chosen over groups are same =
+    ap (map (projected_row x rows)) same ∙ first_projections n rows x numbers firsts over groups are
 
+-- they are there, and have a value for each column
 pub table_even : (names : List (List ℕ)) (rows : Relation) (x : Attributes) (numbers firsts chosen : List ℕ)
-    (columns : List (List ℕ)) (made : Relation) → IsOver (length names) rows → AreGroups rows x numbers
+    (columns : List (List ℕ)) → IsOver (length names) rows → AreGroups rows x numbers
     → AreFirsts numbers firsts → chosen ≡ firsts → columns ≡ members_from x 0 names
-    → made ≡ map (λ i. project_tuple x (row_at rows i)) chosen → IsOver (length columns) made
-table_even names rows x numbers firsts chosen columns made over groups are same is_columns is =
-    subst (λ (w : ℕ). IsOver w made) (sym (ap length is_columns ∙ column_count x names))
-    (subst (IsOver (count_below x (length names))) (sym is) (rows_even (length names) rows x chosen over within))
-  where
-    within : All (λ i. i < length rows) chosen
-    within g d l =
-        let low : g < length firsts = omega (arith, l, ap length same) in
-        let here : get_or chosen g d ≡ number_at firsts g =
-        same_default chosen g d 0 l ∙ ap (λ (xs : List ℕ). number_at xs g) same in
-        omega (arith, here, are.within g low, groups.one_each)
-
--- ---- the values of a projection
--- the values of a tuple at the members of a scheme below n
-unfoldable pub values_below : Attributes → Tuple → ℕ → Tuple
-values_below x t n = map (λ k. value_at t k) (members_below n x)
-
-pub no_values : (x : Attributes) (t : Tuple) → values_below x t 0 ≡ []
-unfolding values_below
-no_values x t = ap (map (λ k. value_at t k)) (members_below-none x)
-
-pub value_taken : (x : Attributes) (t : Tuple) (n : ℕ) (v : List ℕ) → v ≡ value_at t n → x n ≡ true
-    → values_below x t (n + 1) ≡ values_below x t n ++ v ∷ []
-unfolding values_below
-value_taken x t n v is member =
-    rw add-one
-    (ap (map (λ k. value_at t k)) (members_below-member n x member)
-    ∙ map-append (λ k. value_at t k) (members_below n x) (n ∷ []))
-    ∙ ap (λ (w : List ℕ). map (λ k. value_at t k) (members_below n x) ++ w ∷ []) (sym is)
-
-pub value_passed : (x : Attributes) (t : Tuple) (n : ℕ) → x n ≡ false → values_below x t (n + 1) ≡ values_below x t n
-unfolding values_below
-value_passed x t n outside = rw add-one (ap (map (λ k. value_at t k)) (members_below-outside n x outside))
-
-pub all_values : (x : Attributes) (t : Tuple) (n : ℕ) → n ≡ length t → values_below x t n ≡ project_tuple x t
-unfolding values_below
-all_values x t n whole = ap (λ (m : ℕ). map (λ k. value_at t k) (members_below m x)) whole
-
-pub ruleset value_steps = (no_values, value_taken, value_passed, all_values)
+    → All (λ i. (i < length rows) × (length (projected_row x rows i) ≡ length columns)) chosen
+table_even names rows x numbers firsts chosen columns over groups are same is_columns g d l =
+    let low : g < length firsts = omega (arith, l, ap length same) in
+    let here : get_or chosen g d ≡ number_at firsts g =
+    same_default chosen g d 0 l ∙ ap (λ (xs : List ℕ). number_at xs g) same in
+    let within : get_or chosen g d < length rows = omega (arith, here, are.within g low, groups.one_each) in (
+      within,
+      length-project_tuple x (row_at rows (get_or chosen g d))
+          ∙ ap (count_below x) (row_width (length names) rows (get_or chosen g d) over within)
+          ∙ sym (ap length is_columns ∙ column_count x names),
+    )

@@ -10,7 +10,7 @@ use Rattle.dep_model.specs.declared.schema.Schema.{Schema}
 use Rattle.schema_printer.specs.Printing.{members_from}
 use Rattle.table_names.specs.TableNames.{table_name}
 use Rattle.named_tables.specs.Tables.{TableValue}
-use Rattle.named_tables.specs.declared.table.NamedTable.{NamedTable}
+use Rattle.named_tables.specs.declared.table.ChosenTable.{ChosenTable}
 
 -- the names of the attributes of a scheme, ascending
 abbrev pub column_names : Schema → Attributes → List (List ℕ)
@@ -36,7 +36,7 @@ abbrev pub tables_of_migration : Schema → List Attributes → Relation → Lis
 tables_of_migration schema plan rows = tables_from schema rows 1 plan
 
 -- the schemes of tables
-abbrev pub schemes_in : List NamedTable → List AttrSet
+abbrev pub schemes_in : List ChosenTable → List AttrSet
 schemes_in tables = map (λ table. table.scheme) tables
 
 -- the rows of each table

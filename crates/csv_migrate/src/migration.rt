@@ -1,21 +1,21 @@
-ghost use Rattle.std.specs.Prelude.{◌≡◌, ◌<◌, ◌≤◌, ◌^◌, length, IfOk};
+ghost use Rattle.std.specs.Prelude.{◌≡◌, ◌<◌, ◌≤◌, ◌^◌, length, All, IfOk};
 ghost use Rattle.attr_sets.specs.Attributes.{IsSubset, below};
 ghost use Rattle.attr_sets.specs.Sets.{attributes};
 ghost use Rattle.csv_migrate.specs.Migration.{JoinIs, column_names, tables_of_migration, schemes_in, table_of};
-ghost use Rattle.named_tables.specs.Tables.{table_value, table_values};
+ghost use Rattle.named_tables.specs.Choices.{HasRows};
+ghost use Rattle.named_tables.specs.Tables.{chosen_value, chosen_values, table_values};
 ghost use Rattle.csv_rows.specs.Interning.{IsInterned};
 ghost use Rattle.plans.specs.Plans.{IsPlanOver, plan_of, scheme_sets};
 ghost use Rattle.dep_model.specs.Projections.{IsLossless};
 ghost use Rattle.dep_model.specs.Schemas.{LegalFor, theory_of, width_of};
 ghost use Rattle.dep_model.specs.Tuples.{IsOver};
 
-use crate::projecting::project_rows;
 use attr_sets::AttrSet;
 use csv_rows::{Groups, Interned};
 use dep_model::{Name, OutOfMemory, Schema};
-use named_tables::{HeldTable, NamedTable};
+use named_tables::{ChosenTable, ChosenTables};
 use plans::Plan;
-use row_store::Rows;
+use row_store::{Hashing, Rows};
 use std::alloc::Global;
 use table_names::{MOST_TABLES, table_name};
 
@@ -25,22 +25,45 @@ use table_names::{MOST_TABLES, table_name};
 /// natural join of the tables is exactly the rows.
 pub fn tables(
     alloc: Global,
+    hashing: Hashing,
+    schema: &Schema,
+    plan: &Plan,
+    rows: Rows,
+) -> Result<ChosenTables, OutOfMemory>
+    requires over { IsOver (width_of schema.now) rows }
+    requires fits_u32 { length rows < 2 ^ 32 }
+    requires universe { IsPlanOver schema.now plan.now }
+    requires within_limit { length (scheme_sets plan.now) ≤ MOST_TABLES }
+    ensures rows { IfOk result (λ v. v.rows ≡ rows) }
+    ensures tables { IfOk result (λ v.
+        table_values v ≡ tables_of_migration schema.now (plan_of plan.now) rows) }
+    ensures schemes { IfOk result (λ v. schemes_in v.tables.items ≡ scheme_sets plan.now) }
+    ensures joins { LegalFor schema.now rows
+        → IsLossless (width_of schema.now) (theory_of schema.now) (plan_of plan.now)
+        → IfOk result (λ v. JoinIs (width_of schema.now) (plan_of plan.now) (table_values v) rows) }
+{
+    let tables = tables_of(alloc, hashing, schema, plan, &rows)?;
+    Ok(ChosenTables { rows, tables })
+}
+
+// The same tables, of rows that stay where they are.
+fn tables_of(
+    alloc: Global,
+    hashing: Hashing,
     schema: &Schema,
     plan: &Plan,
     rows: &Rows,
-) -> Result<Vec<NamedTable>, OutOfMemory>
+) -> Result<Vec<ChosenTable>, OutOfMemory>
     requires over { IsOver (width_of schema.now) rows.now }
     requires fits_u32 { length rows.now < 2 ^ 32 }
     requires universe { IsPlanOver schema.now plan.now }
     requires within_limit { length (scheme_sets plan.now) ≤ MOST_TABLES }
     ensures tables { IfOk result (λ v.
-        table_values v.items ≡ tables_of_migration schema.now (plan_of plan.now) rows.now) }
+        chosen_values rows.now v.items ≡ tables_of_migration schema.now (plan_of plan.now) rows.now) }
     ensures schemes { IfOk result (λ v. schemes_in v.items ≡ scheme_sets plan.now) }
-    ensures joins { LegalFor schema.now rows.now
-        → IsLossless (width_of schema.now) (theory_of schema.now) (plan_of plan.now)
-        → IfOk result (λ v. JoinIs (width_of schema.now) (plan_of plan.now) (table_values v.items) rows.now) }
+    ensures even { IfOk result (λ v. All (HasRows rows.now) v.items) }
 {
-    let codes = Interned::intern(alloc, schema.width(), rows)?;
+    let codes = Interned::intern(alloc, hashing, schema.width(), rows)?;
     let schemes = plan.schemes();
     let mut tables = Vec::with_capacity(alloc, schemes.len())?;
     for k in 0..schemes.len() {
@@ -58,25 +81,23 @@ fn table(
     codes: &Interned,
     number: u32,
     scheme: AttrSet,
-) -> Result<NamedTable, OutOfMemory>
+) -> Result<ChosenTable, OutOfMemory>
     requires over { IsOver (width_of schema.now) rows.now }
     requires codes { IsInterned (width_of schema.now) rows.now codes.now }
     requires scheme { IsSubset (attributes scheme) (below (width_of schema.now)) }
-    ensures value { IfOk result (λ t. table_value t
+    ensures value { IfOk result (λ t. chosen_value rows.now t
         ≡ table_of schema.now rows.now number (attributes scheme)) }
     ensures scheme { IfOk result (λ t. t.scheme ≡ scheme) }
+    ensures even { IfOk result (λ t. HasRows rows.now t) }
 {
     let groups = Groups::by_agreement(alloc, codes, scheme)?;
     let columns = columns(alloc, schema, scheme)?;
-    let rows = project_rows(alloc, scheme, rows, groups.firsts())?;
     let name = table_name(number);
-    Ok(NamedTable {
+    Ok(ChosenTable {
+        name,
+        columns,
         scheme,
-        held: HeldTable {
-            name,
-            columns,
-            rows,
-        },
+        chosen: groups.into_firsts(),
     })
 }
 

@@ -9,6 +9,7 @@ use crate::Interned;
 use attr_sets::{AttrSet, MOST_ATTRIBUTES};
 use dep_model::OutOfMemory;
 use indexmap::IndexSet;
+use row_store::Hashing;
 use std::alloc::Global;
 
 /// Rows grouped by what they have on a set of attributes. The groups are numbered from 0 in the order
@@ -35,7 +36,7 @@ impl Groups {
         let mut numbers = one_group(alloc, codes.count())?;
         for attribute in 0..MOST_ATTRIBUTES as u8 {
             if set.contains(attribute) {
-                numbers = refine_groups(alloc, &numbers, codes.column(attribute))?;
+                numbers = refine_groups(alloc, codes.hashing(), &numbers, codes.column(attribute))?;
             }
         }
         let firsts = first_rows(alloc, &numbers)?;
@@ -55,6 +56,13 @@ impl Groups {
     {
         &self.firsts
     }
+
+    /// The same as a list of its own, in place of the groups.
+    pub fn into_firsts(self) -> Vec<u32>
+        ensures firsts { result.items ≡ firsts_of self }
+    {
+        self.firsts
+    }
 }
 
 // One group of this many rows.
@@ -67,7 +75,12 @@ fn one_group(alloc: Global, count: usize) -> Result<Vec<u32>, OutOfMemory>
 }
 
 // The groups of rows that are in one group and have one number in a column.
-fn refine_groups(alloc: Global, groups: &[u32], codes: &[u32]) -> Result<Vec<u32>, OutOfMemory>
+fn refine_groups(
+    alloc: Global,
+    hashing: Hashing,
+    groups: &[u32],
+    codes: &[u32],
+) -> Result<Vec<u32>, OutOfMemory>
     requires same_length { length groups.now ≡ length codes.now }
     requires fits_u32 { length groups.now < 2 ^ 32 }
     ensures count { IfOk result (λ v. length v.items ≡ length groups.now) }
@@ -78,7 +91,7 @@ fn refine_groups(alloc: Global, groups: &[u32], codes: &[u32]) -> Result<Vec<u32
     if are_zeros(groups) {
         return Ok(Vec::from_slice(alloc, codes)?);
     }
-    let numbers = numbered_pairs(alloc, groups, codes)?;
+    let numbers = numbered_pairs(alloc, hashing, groups, codes)?;
     Ok(numbers)
 }
 
@@ -95,7 +108,12 @@ fn are_zeros(groups: &[u32]) -> bool
 }
 
 // The number of each pair, in the order of first occurrence.
-fn numbered_pairs(alloc: Global, first: &[u32], second: &[u32]) -> Result<Vec<u32>, OutOfMemory>
+fn numbered_pairs(
+    alloc: Global,
+    hashing: Hashing,
+    first: &[u32],
+    second: &[u32],
+) -> Result<Vec<u32>, OutOfMemory>
     requires same_length { length first.now ≡ length second.now }
     requires fits_u32 { length first.now < 2 ^ 32 }
     ensures numbered { IfOk result
@@ -103,7 +121,7 @@ fn numbered_pairs(alloc: Global, first: &[u32], second: &[u32]) -> Result<Vec<u3
         × AreNumbered (λ i. (number_at first.now i, number_at second.now i))
         (length first.now) seen v.items) }
 {
-    let mut pairs: IndexSet<(u32, u32)> = IndexSet::new(alloc);
+    let mut pairs: IndexSet<(u32, u32), Hashing> = IndexSet::with_hasher(alloc, hashing);
     let mut numbers = Vec::with_capacity(alloc, first.len())?;
     for i in 0..first.len() {
         let (number, _) = pairs.insert_full((first[i], second[i]))?;

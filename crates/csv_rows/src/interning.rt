@@ -5,7 +5,7 @@ ghost use Rattle.dep_model.specs.Tuples.{IsOver};
 
 use dep_model::OutOfMemory;
 use indexmap::IndexSet;
-use row_store::Rows;
+use row_store::{Hashing, Rows};
 use std::alloc::Global;
 use std::marker::Model;
 
@@ -27,6 +27,7 @@ impl Model for Codes {
 /// of their first rows, so two rows have one number exactly where they have one value.
 #[derive(Debug, Drop)]
 pub struct Interned {
+    hashing: Hashing,
     count: usize,
     columns: Vec<Codes>,
     pub ghost fits_u32: { count < 2 ^ 32 },
@@ -37,20 +38,33 @@ impl Interned {
     ghost use Rattle.csv_rows.specs.Interning.{IsInterned, codes_at, count_of, width_of_rows};
 
     /// The numbers of rows that have `width` values each.
-    pub fn intern(alloc: Global, width: u8, rows: &Rows) -> Result<Interned, OutOfMemory>
+    pub fn intern(
+        alloc: Global,
+        hashing: Hashing,
+        width: u8,
+        rows: &Rows,
+    ) -> Result<Interned, OutOfMemory>
         requires over { IsOver width rows.now }
         requires fits_u32 { length rows.now < 2 ^ 32 }
         ensures codes { IfOk result (λ t. IsInterned width rows.now t) }
     {
         let mut columns = Vec::with_capacity(alloc, width as usize)?;
         for attribute in 0..width {
-            let numbers = column_numbers(alloc, attribute, rows)?;
+            let numbers = column_numbers(alloc, hashing, attribute, rows)?;
             columns.push(Codes { numbers })?;
         }
         Ok(Interned {
+            hashing,
             count: rows.len(),
             columns,
         })
+    }
+
+    /// How the values were hashed.
+    pub fn hashing(&self) -> Hashing
+        ensures hashing { result ≡ self.now.hashing }
+    {
+        self.hashing
     }
 
     /// How many rows there are.
@@ -80,12 +94,17 @@ impl Interned {
 }
 
 // The number of each row's value at an attribute, in the order of first occurrence.
-fn column_numbers(alloc: Global, attribute: u8, rows: &Rows) -> Result<Vec<u32>, OutOfMemory>
+fn column_numbers(
+    alloc: Global,
+    hashing: Hashing,
+    attribute: u8,
+    rows: &Rows,
+) -> Result<Vec<u32>, OutOfMemory>
     requires attribute { All (λ t. attribute < length t) rows.now }
     requires fits_u32 { length rows.now < 2 ^ 32 }
     ensures groups { IfOk result (λ v. AreGroups rows.now (only attribute) v.items) }
 {
-    let mut values: IndexSet<&[u8]> = IndexSet::new(alloc);
+    let mut values: IndexSet<&[u8], Hashing> = IndexSet::with_hasher(alloc, hashing);
     let mut numbers = Vec::with_capacity(alloc, rows.len())?;
     for row in 0..rows.len() {
         let (number, _) = values.insert_full(rows.value(row, attribute as usize))?;

@@ -1,23 +1,11 @@
-ghost use Rattle.std.specs.Prelude.{◌≡◌, ◌<◌, length, IfOk};
+ghost use Rattle.std.specs.Prelude.{◌≡◌, IfOk};
 ghost use Rattle.csv.specs.Records.{fields_of};
 ghost use Rattle.csv_text.specs.Rows.{csv_row};
-ghost use Rattle.row_store.specs.Rows.{row_at};
 
-use crate::writing::{take_values, write_row};
+use crate::writing::write_row;
 use csv::{ByteRecord, Writer};
 use dep_model::{Name, OutOfMemory};
-use row_store::Rows;
 use std::alloc::Global;
-
-/// The line of a row of rows.
-pub fn row_line(alloc: Global, rows: &Rows, row: usize) -> Result<Vec<u8>, OutOfMemory>
-    requires row { row < length rows.now }
-    ensures text { IfOk result (λ text. text.items ≡ csv_row (row_at rows.now row)) }
-{
-    let mut fields = ByteRecord::new(alloc);
-    take_values(&mut fields, rows, row)?;
-    fields_line(alloc, &fields)
-}
 
 /// The line of a header of these names.
 pub fn header_line(alloc: Global, names: &[Name]) -> Result<Vec<u8>, OutOfMemory>

@@ -1,22 +1,26 @@
 -- A design grows by a table, its references name earlier tables, and its keys and references hold.
 use Rattle.std.proofs.Common.{◌≡◌, ◌<◌, ◌+◌, ℕ, zero, suc, List, [], ◌∷◌, ◌++◌, length, get_or, take, drop, Option, Some, refl, sym, subst, ap, ◌∙◌, ◌⊎◌, inl, inr, ⊎_elim, arith}
-use Rattle.std.specs.Prelude.{All, Contains, slice_get, IsSomeAnd}
+use Rattle.std.specs.Prelude.{All, Contains, slice_get, IsSomeAnd, None, not, Vec}
+use Rattle.std.specs.declared.alloc.Global.{Global}
 use Rattle.std.proofs.lemmas.Bool.{cases_lt}
 use Rattle.std.proofs.lemmas.Option.{slice_get_cases, slice_get_within, slice_get-get_or, get_or_from_slice_get}
 use Rattle.std.proofs.lemmas.List.{length_push, length-take-le, take-append-le, take-append-drop, get_or_append_left, take_more}
 use Rattle.std.proofs.Math.Seq.{get_or-append_seam, take-append_seam}
-use Rattle.std.proofs.lemmas.List.Elements.{All-weaker, All-contains_itself, Contains-get_or, Contains-append_left, Contains-push, Contains-push_cases}
+use Rattle.std.proofs.lemmas.List.Elements.{All-weaker, All-contains, All-contains_itself, Contains-get_or, Contains-append_left, Contains-push, Contains-push_cases}
 use Rattle.std.proofs.lemmas.List.Quantifiers.{all_pairs_push}
 use Rattle.attr_sets.specs.declared.set.AttrSet.{AttrSet}
 use Rattle.attr_sets.specs.Attributes.{Attributes, IsSubset}
-use Rattle.attr_sets.specs.Sets.{attributes}
+use Rattle.attr_sets.specs.Sets.{attributes, is_same}
 use Rattle.dep_model.specs.declared.schema.Schema.{Schema}
-use Rattle.dep_model.specs.Keys.{IsGreedyKey}
+use Rattle.dep_model.specs.Keys.{IsGreedyKey, IsKey}
+use Rattle.dep_model.specs.Plans.{schemes_of}
 use Rattle.dep_model.specs.Schemas.{width_of, universe_of, theory_of}
+use Rattle.dep_model.proofs.DistinctLemmas.{filter-member}
+use Rattle.dep_model.proofs.ListLemmas.{map-member}
 use Rattle.ddl_text.specs.declared.table.TableDesign.{TableDesign}
-use Rattle.ddl_text.specs.Designs.{RefersTo, AreReferences, IsTableOf, IsDesign, ReferToEarlier}
-use Rattle.ddl_text.specs.Laws.{KeysHold, ReferencesHold}
-use Rattle.ddl_text.proofs.HoldingLemmas.{key_holds, reference_holds}
+use Rattle.ddl_text.specs.Designs.{RefersTo, AreReferences, AreOtherKeys, known_keys, IsTableOf, IsDesign, ReferToEarlier}
+use Rattle.ddl_text.specs.Laws.{KeysHold, OtherKeysHold, ReferencesHold}
+use Rattle.ddl_text.proofs.HoldingLemmas.{key_holds, is_key_holds, reference_holds}
 
 -- ---- lists
 get_in_front : {X : Type 0} (xs ys : List X) (j : ℕ) → j < length xs → slice_get (xs ++ ys) j ≡ slice_get xs j
@@ -153,6 +157,20 @@ pub design_more : (s : Schema) (schemes : List AttrSet) (i : ℕ) (d : AttrSet) 
 design_more s schemes i d tables table lt design last = rw (take_more schemes i d lt)
     (design_push s (take i schemes) tables (get_or schemes i d) table design last)
 
+-- ---- other keys
+other_key : (s : Schema) (scheme key : Attributes) (others : Option (Vec AttrSet Global)) (k : Attributes)
+    → AreOtherKeys s scheme key others → Contains (known_keys others) k → IsKey (width_of s) (theory_of s) scheme k
+other_key s scheme key None k are has = absurd (omega (arith, has.1))
+other_key s scheme key (Some keys) k (inl only) has =
+    absurd (let none = subst (λ (ks : List AttrSet). Contains (schemes_of ks) k) only.1 has in omega (arith, none.1))
+other_key s scheme key (Some keys) k (inr listed) has =
+    let all = listed.all in
+    let from = map-member attributes keys.items k has in
+    let at = filter-member (λ (j : AttrSet). not (is_same (attributes j) key)) all.0 from.0
+    (subst (λ (ks : List AttrSet). Contains ks from.0) all.3 from.1) in
+    subst (IsKey (width_of s) (theory_of s) scheme) from.2
+    (All-contains (λ (j : AttrSet). IsKey (width_of s) (theory_of s) scheme (attributes j)) all.0 from.0 all.1.each at.0)
+
 -- ---- each table of a design
 table_at : (s : Schema) (schemes : List AttrSet) (tables : List TableDesign) (k : ℕ) (table : TableDesign)
     → IsDesign s schemes tables → slice_get tables k ≡ Some table
@@ -191,6 +209,16 @@ design_keys s schemes tables design within r legal table has =
     (subst (λ (x : AttrSet). IsSubset (attributes x) (universe_of s)) (sym is.columns) inside) legal
     (subst (λ (x : AttrSet). IsGreedyKey (width_of s) (theory_of s) (attributes x) (attributes table.key)) (sym is.columns)
     is.key)
+
+pub design_other_keys : (s : Schema) (schemes : List AttrSet) (tables : List TableDesign) → IsDesign s schemes tables
+    → All (λ (scheme : AttrSet). IsSubset (attributes scheme) (universe_of s)) schemes → OtherKeysHold s tables
+design_other_keys s schemes tables design within r legal table has key named =
+    let is = table_at s schemes tables has.0 table design (slice_get-member tables table has) in
+    let inside = within has.0 table.scheme (omega (arith, has.1, design.one_each)) in
+    let is_key = other_key s (attributes (get_or schemes has.0 table.scheme)) (attributes table.key) table.other_keys key is.other_keys named in
+    is_key_holds (width_of s) (theory_of s) (attributes table.scheme) key r
+    (subst (λ (x : AttrSet). IsSubset (attributes x) (universe_of s)) (sym is.columns) inside) legal
+    (subst (λ (x : AttrSet). IsKey (width_of s) (theory_of s) (attributes x) key) (sym is.columns) is_key)
 
 -- the table that a reference names
 referred_table : (scheme : Attributes) (tables : List TableDesign) (k j : ℕ) (other : TableDesign)

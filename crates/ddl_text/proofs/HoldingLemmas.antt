@@ -1,4 +1,4 @@
--- A greedy key holds in the projection of a legal relation, and a reference between two projections.
+-- A key holds in the projection of a legal relation, and a reference between two projections.
 use Rattle.std.proofs.Common.{◌≡◌, ℕ, List, length, sym, subst, ◌∙◌}
 use Rattle.std.specs.Prelude.{Contains}
 use Rattle.std.proofs.lemmas.List.Elements.{All-contains}
@@ -8,7 +8,7 @@ use Rattle.dep_model.specs.Dependencies.{Dependency}
 use Rattle.dep_model.specs.Implication.{IsLegal}
 use Rattle.dep_model.specs.Projections.{project_tuple, projection, ordered_projection}
 use Rattle.dep_model.specs.OnSchemes.{value_in, AgreeIn}
-use Rattle.dep_model.specs.Keys.{IsGreedyKey}
+use Rattle.dep_model.specs.Keys.{IsGreedyKey, IsKey}
 use Rattle.dep_model.proofs.ListLemmas.{Contains-map, map-member}
 use Rattle.dep_model.proofs.DistinctLemmas.{distinct_tuples-to, distinct_tuples-from}
 use Rattle.dep_model.proofs.SchemeLemmas.{value_in-project_tuple, AgreeIn-to}
@@ -21,20 +21,24 @@ row_of : (scheme : Attributes) (r : Relation) (t : Tuple) → Contains (ordered_
     → (u : Tuple) × Contains r u × (project_tuple scheme u ≡ t)
 row_of scheme r t has = map-member (project_tuple scheme) r t (distinct_tuples-to (projection scheme r) t has)
 
-pub key_holds : (n : ℕ) (ds : List Dependency) (scheme key : Attributes) (r : Relation) → IsSubset scheme (below n)
-    → IsLegal n ds r → IsGreedyKey n ds scheme key → KeyHolds scheme (ordered_projection scheme r) key
-key_holds n ds scheme key r inside legal greedy t u t_in u_in agree =
+pub is_key_holds : (n : ℕ) (ds : List Dependency) (scheme key : Attributes) (r : Relation) → IsSubset scheme (below n)
+    → IsLegal n ds r → IsKey n ds scheme key → KeyHolds scheme (ordered_projection scheme r) key
+is_key_holds n ds scheme key r inside legal is_key t u t_in u_in agree =
     let first = row_of scheme r t t_in in
     let second = row_of scheme r u u_in in
-    let superkey = (greedy_is_key n ds scheme key inside greedy).superkey in
     let whole : AgreeIn scheme scheme t u =
-    superkey.obeyed r legal t u (distinct_tuples-to (projection scheme r) t t_in)
+    is_key.superkey.obeyed r legal t u (distinct_tuples-to (projection scheme r) t t_in)
     (distinct_tuples-to (projection scheme r) u u_in) agree in
     let on_scheme : AgreeOn scheme first.0 second.0 = AgreeIn-to scheme scheme first.0 second.0 (λ k member. member)
     (rw (first.2, second.2) whole) in
     let first_long = All-contains (λ (v : Tuple). length v ≡ n) r first.0 legal.over first.1 in
     let second_long = All-contains (λ (v : Tuple). length v ≡ n) r second.0 legal.over second.1 in
     sym first.2 ∙ project_tuple-same scheme first.0 second.0 (first_long ∙ sym second_long) on_scheme ∙ second.2
+
+pub key_holds : (n : ℕ) (ds : List Dependency) (scheme key : Attributes) (r : Relation) → IsSubset scheme (below n)
+    → IsLegal n ds r → IsGreedyKey n ds scheme key → KeyHolds scheme (ordered_projection scheme r) key
+key_holds n ds scheme key r inside legal greedy =
+    is_key_holds n ds scheme key r inside legal (greedy_is_key n ds scheme key inside greedy)
 
 pub reference_holds : (scheme other key : Attributes) (r : Relation) → IsSubset key scheme → IsSubset key other
     → ReferenceHolds scheme (ordered_projection scheme r) other (ordered_projection other r) key

@@ -1,9 +1,9 @@
 -- Lists of quoted names, and elements on their lines: one more at the end.
-use Rattle.std.proofs.Common.{◌≡◌, ◌<◌, ◌+◌, ℕ, Bool, true, false, ◌||◌, List, [], ◌∷◌, ◌++◌, length, get_or, map, take, Option, Some, Result, Ok, Err, inl, inr, refl, sym, ap, ◌∙◌, arith, append_assoc, append-nil, add-one}
-use Rattle.std.specs.Prelude.{if◌then◌else◌, codes, slice_get, slice_index_or, unwrap_or, option_map, OnOk}
+use Rattle.std.proofs.Common.{◌≡◌, ◌<◌, ◌+◌, ℕ, Bool, true, false, ◌||◌, List, [], ◌∷◌, ◌++◌, length, get_or, map, take, Option, Some, Result, Ok, Err, refl, sym, ap, ◌∙◌, append_assoc, append-nil, add-one}
+use Rattle.std.specs.Prelude.{if◌then◌else◌, codes, slice_get, slice_index_or, unwrap_or, option_map, is_some, OnOk}
 use Rattle.std.proofs.Math.Bool.{or-false}
-use Rattle.std.proofs.lemmas.Bool.{true≢false, false_from_ne_true, cases_Bool}
-use Rattle.std.proofs.lemmas.List.{map-append, take_more, length-take-le, flat_map_more}
+use Rattle.std.proofs.lemmas.Bool.{true≢false, false_from_ne_true}
+use Rattle.std.proofs.lemmas.List.{map-append, take_more, flat_map_more}
 use Rattle.std.proofs.lemmas.Option.{get_or_from_slice_get, slice_get_read}
 use Rattle.attr_sets.specs.declared.set.AttrSet.{AttrSet}
 use Rattle.attr_sets.specs.Attributes.{Attributes, none, IsEmpty}
@@ -12,15 +12,15 @@ use Rattle.attr_sets.proofs.AttributesLemmas.{attributes_below, is_subset-from, 
 use Rattle.dep_model.specs.declared.column_type.ColumnType.{ColumnType}
 use Rattle.dep_model.specs.declared.column_type.ColumnType.TheVariants.{Text}
 use Rattle.dep_model.specs.declared.schema.Schema.{Schema}
-use Rattle.dep_model.specs.Schemas.{names_of, width_of, types_of, nullable_of}
+use Rattle.dep_model.specs.Plans.{schemes_of}
+use Rattle.dep_model.specs.Schemas.{names_of, types_of, nullable_of}
 use Rattle.dep_model.specs.Projections.{members_below}
 use Rattle.dep_model.proofs.SchemeLemmas.{members_below-member, members_below-outside}
-use Rattle.schema_printer.specs.Printing.{members_from}
-use Rattle.sql_names.specs.Names.{separator, comma_list, quoted_name, name_list, is_not_empty}
+use Rattle.sql_names.specs.Names.{quoted_name, name_list, is_not_empty}
 use Rattle.ddl_text.specs.declared.table.TableDesign.{TableDesign}
-use Rattle.ddl_text.specs.Ddl.{column_type, column_element, is_empty, key_element, key_elements, reference_element, reference_elements, elements, opening, element_lines, comment, table_text}
+use Rattle.ddl_text.specs.Ddl.{column_type, column_element, is_empty, key_element, key_elements, unique_element, reference_element, reference_elements, elements, opening, element_lines, comment, table_text}
 use Rattle.std.specs.List.{flat_map}
-use Rattle.sql_names.proofs.ListLemmas.{append_two, not_empty_pushed}
+use Rattle.sql_names.proofs.ListLemmas.{append_two}
 use Rattle.sql_names.proofs.NameLemmas.{or_true, not_empty_more, name_is}
 
 -- ---- the members of a set
@@ -119,6 +119,31 @@ pub key_not_empty : (s : Schema) (key : AttrSet) (any_before : Bool) → (IsEmpt
 key_not_empty s key any_before not_empty = sym (ap (λ (es : List (List ℕ)). any_before || is_not_empty es) (one_key s key not_empty)
     ∙ or_true any_before)
 
+-- ---- other keys
+uniques_next : (s : Schema) (keys : List AttrSet) (i : ℕ) (d : AttrSet) → i < length keys
+    → map (unique_element s) (schemes_of (take (i + 1) keys))
+    ≡ map (unique_element s) (schemes_of (take i keys)) ++ unique_element s (attributes (get_or keys i d)) ∷ []
+uniques_next s keys i d lt =
+    ap (λ (ks : List AttrSet). map (unique_element s) (schemes_of ks)) (take_more keys i d lt)
+    ∙ ap (map (unique_element s)) (map-append attributes (take i keys) (get_or keys i d ∷ []))
+    ∙ map-append (unique_element s) (schemes_of (take i keys)) (attributes (get_or keys i d) ∷ [])
+
+pub uniques_more : (s : Schema) (keys : List AttrSet) (i : ℕ) (d : AttrSet) (first any_before : Bool) (before text mid next : List ℕ) → i < length keys
+    → text ≡ before ++ element_lines first (map (unique_element s) (schemes_of (take i keys)))
+    → any_before ≡ (first || is_not_empty (map (unique_element s) (schemes_of (take i keys))))
+    → mid ≡ text ++ opening any_before → next ≡ mid ++ unique_element s (attributes (get_or keys i d))
+    → next ≡ before ++ element_lines first (map (unique_element s) (schemes_of (take (i + 1) keys)))
+uniques_more s keys i d first any_before before text mid next lt so_far is_some opened added =
+    lines_more first any_before (map (unique_element s) (schemes_of (take i keys))) (unique_element s (attributes (get_or keys i d)))
+    before text mid next so_far is_some opened added
+    ∙ ap (λ (es : List (List ℕ)). before ++ element_lines first es) (sym (uniques_next s keys i d lt))
+
+pub uniques_not_empty : (s : Schema) (keys : List AttrSet) (i : ℕ) (d : AttrSet) (first : Bool) → i < length keys
+    → true ≡ (first || is_not_empty (map (unique_element s) (schemes_of (take (i + 1) keys))))
+uniques_not_empty s keys i d first lt =
+    not_empty_more first (map (unique_element s) (schemes_of (take i keys))) (unique_element s (attributes (get_or keys i d)))
+    ∙ ap (λ (es : List (List ℕ)). first || is_not_empty es) (sym (uniques_next s keys i d lt))
+
 -- ---- references
 pub reference_added : {T E : Type 0} (r : Result T E) (s : Schema) (other : TableDesign) (old t u v w x y new : List ℕ)
     → t ≡ old ++ codes "FOREIGN KEY (" → u ≡ t ++ name_list s (attributes other.key) → v ≡ u ++ codes ") REFERENCES "
@@ -179,7 +204,7 @@ references_not_empty s tables refs i d first lt =
     ∙ ap (λ (es : List (List ℕ)). first || is_not_empty es) (sym (references_next s tables refs i d lt))
 
 -- ---- tables
-some_append : (xs ys : List (List ℕ)) → is_not_empty (xs ++ ys) ≡ (is_not_empty xs || is_not_empty ys)
+pub some_append : (xs ys : List (List ℕ)) → is_not_empty (xs ++ ys) ≡ (is_not_empty xs || is_not_empty ys)
 some_append [] ys = refl
 some_append (x ∷ xs) ys = refl
 
@@ -202,23 +227,27 @@ elements_added r columns keys references one two old t u new to_t is_one to_u is
     ∙ ap (λ (b : Bool). old ++ (element_lines false (columns ++ keys) ++ element_lines b references)) any_before
     ∙ ap (λ (t : List ℕ). old ++ t) (sym (lines_append false (columns ++ keys) references))) to_new
 
-pub comment-empty_key : (key : Attributes) → IsEmpty key → comment key ≡ codes "-- at most one row\n"
+pub comment-empty_key : (key : Attributes) (are_known : Bool) → IsEmpty key → comment key are_known ≡ codes "-- at most one row\n"
 unfolding comment
-comment-empty_key key empty = ap (λ (b : Bool). if b then codes "-- at most one row\n" else []) (empty_passes key empty)
+comment-empty_key key are_known empty = rw (empty_passes key empty) refl
 
-pub comment-key : (key : AttrSet) → (IsEmpty (attributes key) → ⊥) → comment (attributes key) ≡ []
+pub comment-known : (key : AttrSet) → (IsEmpty (attributes key) → ⊥) → comment (attributes key) true ≡ []
 unfolding comment
-comment-key key not_empty = ap (λ (b : Bool). if b then codes "-- at most one row\n" else []) (empty_fails key not_empty)
+comment-known key not_empty = rw (empty_fails key not_empty) refl
+
+pub comment-unknown : (key : AttrSet) → (IsEmpty (attributes key) → ⊥) → comment (attributes key) false ≡ codes "-- further keys are not looked for\n"
+unfolding comment
+comment-unknown key not_empty = rw (empty_fails key not_empty) refl
 
 pub table_added : {T E : Type 0} (r : Result T E) (s : Schema) (tables : List TableDesign) (table : TableDesign)
     (old t u v w x new : List ℕ)
-    → t ≡ old ++ comment (attributes table.key) → u ≡ t ++ codes "CREATE TABLE " → v ≡ u ++ quoted_name table.name
+    → t ≡ old ++ comment (attributes table.key) (is_some table.other_keys) → u ≡ t ++ codes "CREATE TABLE " → v ≡ u ++ quoted_name table.name
     → w ≡ v ++ codes " (\n"
     → x ≡ w ++ element_lines false (elements s tables table) → OnOk r (new ≡ x ++ codes "\n);\n")
     → OnOk r (new ≡ old ++ table_text s tables table)
 unfolding table_text
 table_added r s tables table old t u v w x new to_t to_u to_v to_w to_x to_new =
-    let head = comment (attributes table.key) in
+    let head = comment (attributes table.key) (is_some table.other_keys) in
     let create : List ℕ = codes "CREATE TABLE " in
     let name = quoted_name table.name in
     let begin_lines : List ℕ = codes " (\n" in

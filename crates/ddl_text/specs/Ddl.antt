@@ -1,6 +1,6 @@
 -- A design as SQL: for `print_ddl` and the command `ddl` (`desk_cli/Designs`), and for the
 -- statements of `sql migrate`.
-use Rattle.std.specs.Prelude.{ℕ, Bool, true, false, if◌then◌else◌, List, [], ◌∷◌, ◌++◌, map, codes, decimal, slice_get, slice_index_or, unwrap_or, option_map}
+use Rattle.std.specs.Prelude.{ℕ, Bool, true, false, if◌then◌else◌, List, [], ◌∷◌, ◌++◌, map, codes, decimal, slice_get, slice_index_or, unwrap_or, option_map, is_some}
 use Rattle.std.specs.List.{flat_map}
 use Rattle.attr_sets.specs.Attributes.{Attributes, none}
 use Rattle.attr_sets.specs.Sets.{attributes, is_subset}
@@ -10,6 +10,7 @@ use Rattle.dep_model.specs.declared.schema.Schema.{Schema}
 use Rattle.dep_model.specs.Projections.{members_below}
 use Rattle.dep_model.specs.Schemas.{names_of, width_of, types_of, nullable_of}
 use Rattle.sql_names.specs.Names.{name_list, quoted_name}
+use Rattle.ddl_text.specs.Designs.{known_keys}
 use Rattle.ddl_text.specs.declared.table.TableDesign.{TableDesign}
 
 -- a type of columns in SQL
@@ -46,6 +47,15 @@ is_empty x = is_subset x none
 abbrev pub key_elements : Schema → Attributes → List (List ℕ)
 key_elements s key = if is_empty key then [] else key_element s key ∷ []
 
+-- another key
+unfoldable pub unique_element : Schema → Attributes → List ℕ
+unique_element s key = codes "UNIQUE (" ++ name_list s key ++ codes ")"
+
+-- the key and the other keys of a table
+abbrev pub keys_elements : Schema → TableDesign → List (List ℕ)
+keys_elements s table =
+    key_elements s (attributes table.key) ++ map (unique_element s) (known_keys table.other_keys)
+
 -- a reference to a table by its key
 unfoldable pub reference_element : Schema → TableDesign → List ℕ
 reference_element s other =
@@ -57,10 +67,10 @@ abbrev pub reference_elements : Schema → List TableDesign → List ℕ → Lis
 reference_elements s tables refs =
     map (λ j. unwrap_or (option_map (reference_element s) (slice_get tables j)) []) refs
 
--- the columns, the key and the references of a table
+-- the columns, the keys and the references of a table
 abbrev pub elements : Schema → List TableDesign → TableDesign → List (List ℕ)
 elements s tables table =
-    column_elements s (attributes table.scheme) ++ key_elements s (attributes table.key)
+    column_elements s (attributes table.scheme) ++ keys_elements s table
     ++ reference_elements s tables
     table.refs.items
 
@@ -74,14 +84,16 @@ abbrev pub element_lines : Bool → List (List ℕ) → List ℕ
 element_lines any_before [] = []
 element_lines any_before (e ∷ es) = opening any_before ++ e ++ element_lines true es
 
--- what stands before a table: a comment where its key is empty
-unfoldable pub comment : Attributes → List ℕ
-comment key = if is_empty key then codes "-- at most one row\n" else []
+-- what stands before a table: a comment where its key is empty, or where its other keys are not known
+unfoldable pub comment : Attributes → Bool → List ℕ
+comment key are_known =
+    if is_empty key then codes "-- at most one row\n"
+    else if are_known then [] else codes "-- further keys are not looked for\n"
 
 -- the statement that creates a table
 unfoldable pub table_text : Schema → List TableDesign → TableDesign → List ℕ
 table_text s tables table =
-    comment (attributes table.key) ++ codes "CREATE TABLE " ++ quoted_name table.name ++ codes " (\n"
+    comment (attributes table.key) (is_some table.other_keys) ++ codes "CREATE TABLE " ++ quoted_name table.name ++ codes " (\n"
     ++ element_lines false (elements s tables table) ++ codes "\n);\n"
 
 -- the statements that create the tables of a design, in order

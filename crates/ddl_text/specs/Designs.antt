@@ -1,12 +1,17 @@
 -- The design of tables for the schemes of a plan: for `design` and the commands `ddl`, `draw` and
 -- `sql migrate` (`desk_cli/Designs`).
-use Rattle.std.specs.Prelude.{◌≡◌, ℕ, ◌+◌, ◌<◌, ◌↔◌, List, length, take, slice_get, slice_index_or, Some, IsSomeAnd, All, AllPairs, Contains}
+use Rattle.std.specs.Prelude.{◌≡◌, ℕ, ◌+◌, ◌<◌, ◌≤◌, ◌↔◌, ◌⊎◌, not, List, [], length, take, filter, slice_get, slice_index_or, Option, Some, None, IsSomeAnd, All, AllPairs, Contains, Vec}
+use Rattle.std.specs.declared.alloc.Global.{Global}
 use Rattle.attr_sets.specs.Attributes.{Attributes, IsSubset, IsEmpty}
-use Rattle.attr_sets.specs.Sets.{attributes}
+use Rattle.attr_sets.specs.Sets.{attributes, is_same}
 use Rattle.attr_sets.specs.declared.set.AttrSet.{AttrSet}
 use Rattle.dep_model.specs.Keys.{IsGreedyKey}
+use Rattle.dep_model.specs.Plans.{schemes_of}
 use Rattle.dep_model.specs.Schemas.{width_of, theory_of}
 use Rattle.dep_model.specs.declared.schema.Schema.{Schema}
+use Rattle.fd_closure.specs.LeftSides.{IsWide}
+use Rattle.key_listing.specs.declared.refusal.TheConstants.{MOST_KEYS}
+use Rattle.key_listing.specs.Listing.{AreAllKeys, AreManyKeys}
 use Rattle.table_names.specs.TableNames.{table_name}
 use Rattle.ddl_text.specs.declared.table.TableDesign.{TableDesign}
 
@@ -20,12 +25,40 @@ pub record AreReferences (earlier : List TableDesign) (scheme : Attributes) (ref
   pub exactly : (j : ℕ) → Contains refs j ↔ IsSomeAnd (slice_get earlier j) (RefersTo scheme)
   pub ascending : AllPairs ◌<◌ refs
 
+-- keys but for one
+abbrev pub without_key : Attributes → List AttrSet → List AttrSet
+without_key key keys = filter (λ k. not (is_same (attributes k) key)) keys
+
+-- all keys of a scheme but for one, ascending, where they are within the limits of what is listed
+pub record AreListedBeside (s : Schema) (scheme key : Attributes) (keys : List AttrSet) : Type 0 where
+  pub not_empty : IsEmpty key → ⊥
+  pub narrow : IsWide (theory_of s) scheme → ⊥
+  pub all : (all : List AttrSet) × AreAllKeys (width_of s) (theory_of s) scheme all × (length all ≤ MOST_KEYS)
+      × (keys ≡ without_key key all)
+
+-- a scheme is beyond these limits: it is too wide, or it has too many keys
+abbrev pub IsBeyondListing : Schema → Attributes → Type 0
+IsBeyondListing s scheme =
+    IsWide (theory_of s) scheme ⊎ ((found : List AttrSet) × AreManyKeys (width_of s) (theory_of s) scheme found)
+
+-- the keys of a scheme beside one: an empty key is the only one; they are not looked for where the
+-- scheme is beyond the limits
+abbrev pub AreOtherKeys : Schema → Attributes → Attributes → Option (Vec AttrSet Global) → Type 0
+AreOtherKeys s scheme key None = (IsEmpty key → ⊥) × IsBeyondListing s scheme
+AreOtherKeys s scheme key (Some keys) = (IsEmpty key × (keys.items ≡ [])) ⊎ AreListedBeside s scheme key keys.items
+
+-- the other keys of a table as sets, where they are known
+abbrev pub known_keys : Option (Vec AttrSet Global) → List Attributes
+known_keys None = []
+known_keys (Some keys) = schemes_of keys.items
+
 -- the table of a scheme, after the earlier ones
 pub record IsTableOf (s : Schema) (earlier : List TableDesign) (scheme : AttrSet) (table : TableDesign)
     : Type 0 where
   pub name : table.name ≡ table_name (length earlier + 1)
   pub columns : table.scheme ≡ scheme
   pub key : IsGreedyKey (width_of s) (theory_of s) (attributes scheme) (attributes table.key)
+  pub other_keys : AreOtherKeys s (attributes scheme) (attributes table.key) table.other_keys
   pub refs : AreReferences earlier (attributes scheme) table.refs.items
 
 -- the design of a plan: a table for each scheme, in order

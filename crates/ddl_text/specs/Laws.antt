@@ -1,12 +1,14 @@
 -- What a design promises of the tables of a legal relation: for `design` and the command `ddl`
 -- (`desk_cli/Designs`).
 use Rattle.std.specs.Prelude.{◌≡◌, ℕ, List, slice_get, Some, Contains}
+use Rattle.attr_sets.specs.Attributes.{Attributes}
 use Rattle.attr_sets.specs.Sets.{attributes}
 use Rattle.dep_model.specs.Tuples.{Relation}
 use Rattle.dep_model.specs.Projections.{ordered_projection}
 use Rattle.dep_model.specs.Schemas.{LegalFor}
 use Rattle.dep_model.specs.declared.schema.Schema.{Schema}
 use Rattle.ddl_text.specs.declared.table.TableDesign.{TableDesign}
+use Rattle.ddl_text.specs.Designs.{known_keys}
 use Rattle.ddl_text.specs.Holding.{KeyHolds, ReferenceHolds}
 
 -- the rows of a table: the ordered projection of a relation on its scheme
@@ -18,6 +20,13 @@ abbrev pub KeysHold : Schema → List TableDesign → Type 0
 KeysHold s tables =
     (r : Relation) → LegalFor s r → (table : TableDesign) → Contains tables table
     → KeyHolds (attributes table.scheme) (rows_on table r) (attributes table.key)
+
+-- in the tables of every legal relation each other key of a table holds
+abbrev pub OtherKeysHold : Schema → List TableDesign → Type 0
+OtherKeysHold s tables =
+    (r : Relation) → LegalFor s r → (table : TableDesign) → Contains tables table
+    → (key : Attributes) → Contains (known_keys table.other_keys) key
+    → KeyHolds (attributes table.scheme) (rows_on table r) key
 
 -- in the tables of every legal relation each reference holds
 abbrev pub ReferencesHold : Schema → List TableDesign → Type 0

@@ -5,9 +5,10 @@ ghost use Rattle.dep_model.specs.Schemas.{universe_of};
 ghost use Rattle.plans.specs.Plans.{scheme_sets, IsPlanOver};
 ghost use Rattle.table_names.specs.declared.numbered.TheConstants.{MOST_TABLES};
 ghost use Rattle.ddl_text.specs.Designs.{RefersTo, AreReferences, IsTableOf, IsDesign, ReferToEarlier};
-ghost use Rattle.ddl_text.specs.Laws.{KeysHold, ReferencesHold};
+ghost use Rattle.ddl_text.specs.Laws.{KeysHold, OtherKeysHold, ReferencesHold};
 
 use crate::TableDesign;
+use crate::other_keys::other_keys;
 use attr_sets::AttrSet;
 use dep_model::{OutOfMemory, Schema};
 use key_listing::one_key;
@@ -46,13 +47,15 @@ impl DesignList {
 
 /// The tables of a plan, one for each scheme, in order. They are named `t1`, `t2` and so on. The key of a
 /// table is its scheme without each attribute, tried from the last to the first, that the rest still
-/// determines by all dependencies. It refers to each earlier table whose key lies within its scheme and is
-/// not empty.
+/// determines by all dependencies. Its other keys are those that `key_listing::keys_of_scheme` lists beside
+/// this one; they are not looked for where that is refused and the key is not empty. It refers to each earlier
+/// table whose key lies within its scheme and is not empty.
 pub fn design(alloc: Global, schema: &Schema, plan: &Plan) -> Result<DesignList, OutOfMemory>
     requires universe { IsPlanOver schema.now plan.now }
     requires within_limit { length (scheme_sets plan.now) ≤ MOST_TABLES }
     ensures design { IfOk result (λ tables. IsDesign schema.now (scheme_sets plan.now) tables) }
     ensures keys_hold { IfOk result (λ tables. KeysHold schema.now tables) }
+    ensures other_keys_hold { IfOk result (λ tables. OtherKeysHold schema.now tables) }
     ensures references_hold { IfOk result (λ tables. ReferencesHold schema.now tables) }
 {
     let tables = tables_of(alloc, schema, plan.schemes())?;
@@ -89,10 +92,12 @@ fn table_of(
     requires within_limit { length earlier.now < MOST_TABLES }
     ensures table { IfOk result (IsTableOf schema.now earlier.now scheme) }
 {
+    let key = one_key(schema, scheme);
     Ok(TableDesign {
         name: table_name(earlier.len() as u32 + 1),
         scheme,
-        key: one_key(schema, scheme),
+        key,
+        other_keys: other_keys(alloc, schema, scheme, key)?,
         refs: references(alloc, earlier, scheme)?,
     })
 }

@@ -1,6 +1,7 @@
-ghost use Rattle.std.specs.Prelude.{◌≡◌, ◌<◌, ◌++◌, ◌||◌, false, length, All, IfOk, OnOk};
+ghost use Rattle.std.specs.Prelude.{◌≡◌, ◌<◌, ◌++◌, ◌||◌, false, length, map, All, IfOk, OnOk};
 ghost use Rattle.attr_sets.specs.Sets.{attributes};
-ghost use Rattle.ddl_text.specs.Ddl.{opening, elements, element_lines, key_elements};
+ghost use Rattle.dep_model.specs.Plans.{schemes_of};
+ghost use Rattle.ddl_text.specs.Ddl.{opening, elements, element_lines, key_elements, keys_elements, unique_element};
 ghost use Rattle.sql_names.specs.Names.{is_not_empty};
 
 use crate::TableDesign;
@@ -11,7 +12,7 @@ use dep_model::{OutOfMemory, Schema};
 use schema_printer::add;
 use sql_names::add_name_list;
 
-// Adds the columns, the key and the references of a table.
+// Adds the columns, the keys and the references of a table.
 pub fn add_elements(
     text: &mut Vec<u8>,
     schema: &Schema,
@@ -23,8 +24,59 @@ pub fn add_elements(
         ≡ text.old.items ++ element_lines false (elements schema.now tables.now table.now)) }
 {
     let any_before = add_columns(text, schema, table.scheme)?;
-    let any_before = add_key(text, any_before, schema, table.key)?;
+    let any_before = add_keys(text, any_before, schema, table)?;
     add_references(text, any_before, schema, tables, &table.refs)
+}
+
+// Adds the key and the other keys of a table, and says whether there are some elements.
+fn add_keys(
+    text: &mut Vec<u8>,
+    any_before: bool,
+    schema: &Schema,
+    table: &TableDesign,
+) -> Result<bool, OutOfMemory>
+    ensures added { OnOk result (text.new.items
+        ≡ text.old.items ++ element_lines any_before (keys_elements schema.now table.now)) }
+    ensures any_written { IfOk result (λ more. more
+        ≡ (any_before || is_not_empty (keys_elements schema.now table.now))) }
+{
+    let any_before = add_key(text, any_before, schema, table.key)?;
+    match &table.other_keys {
+        Some(keys) => add_unique_keys(text, any_before, schema, keys),
+        None => Ok(any_before),
+    }
+}
+
+// Adds other keys, and says whether there are some elements.
+fn add_unique_keys(
+    text: &mut Vec<u8>,
+    any_before: bool,
+    schema: &Schema,
+    keys: &[AttrSet],
+) -> Result<bool, OutOfMemory>
+    ensures added { OnOk result (text.new.items ≡ text.old.items
+        ++ element_lines any_before (map (unique_element schema.now) (schemes_of keys.now))) }
+    ensures any_written { IfOk result (λ more. more
+        ≡ (any_before || is_not_empty (map (unique_element schema.now) (schemes_of keys.now)))) }
+{
+    let mut any_before = any_before;
+    for key in keys {
+        add_opening(text, any_before)?;
+        add_unique_key(text, schema, *key)?;
+        any_before = true;
+    }
+    Ok(any_before)
+}
+
+// Adds another key.
+#[tactic(auto, unfolding(crate::specs::Ddl::unique_element))]
+fn add_unique_key(text: &mut Vec<u8>, schema: &Schema, key: AttrSet) -> Result<(), OutOfMemory>
+    ensures added { OnOk result (text.new.items ≡ text.old.items
+        ++ unique_element schema.now (attributes key)) }
+{
+    add(text, b"UNIQUE (")?;
+    add_name_list(text, schema, key)?;
+    add(text, b")")
 }
 
 // Adds the key of a table, if it is not empty, and says whether there are some elements.

@@ -12,8 +12,8 @@ use sql_names::add_quoted;
 use std::alloc::Global;
 
 /// A `CREATE TABLE` statement for each table of a design, in order: its columns, its key, if this is not
-/// empty, and its references. A table with an empty key has a comment before it, since SQL knows no such
-/// key.
+/// empty, its other keys and its references. A table with an empty key has a comment before it, since SQL knows
+/// no such key; so has one whose other keys are not looked for.
 pub fn print_ddl(
     alloc: Global,
     schema: &Schema,
@@ -52,7 +52,7 @@ fn add_table(
     ensures added { OnOk result (text.new.items
         ≡ text.old.items ++ table_text schema.now tables.now table.now) }
 {
-    add_comment(text, table.key)?;
+    add_comment(text, table.key, table.other_keys.is_some())?;
     add(text, b"CREATE TABLE ")?;
     add_quoted(text, &table.name)?;
     add(text, b" (\n")?;
@@ -60,12 +60,16 @@ fn add_table(
     add(text, b"\n);\n")
 }
 
-// Adds a comment where a key is empty.
-fn add_comment(text: &mut Vec<u8>, key: AttrSet) -> Result<(), OutOfMemory>
-    ensures added { OnOk result (text.new.items ≡ text.old.items ++ comment (attributes key)) }
+// Adds a comment where a key is empty, or where the other keys are not known.
+fn add_comment(text: &mut Vec<u8>, key: AttrSet, are_known: bool) -> Result<(), OutOfMemory>
+    ensures added { OnOk result (text.new.items ≡ text.old.items
+        ++ comment (attributes key) are_known) }
 {
     if key.is_empty() {
         return add(text, b"-- at most one row\n");
     }
-    Ok(())
+    if are_known {
+        return Ok(());
+    }
+    add(text, b"-- further keys are not looked for\n")
 }

@@ -10,8 +10,9 @@ use crate::ending::exit_code;
 use crate::words::words;
 use dep_model::OutOfMemory;
 use desk_cli::desk;
-use desk_outside::{Argument, FileFolder, RealFiles, StdoutSink};
+use desk_outside::{Argument, FileFolder, ProgressLine, RealFiles, StdoutSink};
 use destinations::{Destination, FileDestination, TableFormat};
+use row_store::Hashing;
 use std::process::ExitCode;
 use std::rt::Runtime;
 
@@ -31,8 +32,17 @@ fn main(rt: HostRuntime) -> ExitCode {
     if destinations.push(csv).is_err() || destinations.push(sql).is_err() {
         return exit_code(Err(OutOfMemory));
     }
-    let mut out = StdoutSink::new(rt);
-    exit_code(desk(alloc, &words, &mut source, &mut out, &mut destinations))
+    let hashing = Hashing::new(&rt);
+    let progress = ProgressLine::new(alloc, &rt);
+    let mut out = StdoutSink::new(rt, progress);
+    exit_code(desk(
+        alloc,
+        hashing,
+        &words,
+        &mut source,
+        &mut out,
+        &mut destinations,
+    ))
 }
 
 // The words after the program's name, and the file source.

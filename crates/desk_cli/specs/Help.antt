@@ -3,7 +3,7 @@ use Rattle.std.specs.Prelude.{ℕ, List, ◌++◌, codes}
 use Rattle.desk_texts.specs.Texts.{line}
 
 abbrev pub version_text : List ℕ
-version_text = line (codes "desk 0.3.0")
+version_text = line (codes "desk 0.4.0")
 
 abbrev pub help_text : List ℕ
 help_text =
@@ -25,6 +25,7 @@ help_text =
     ++ line (codes "desk basis SCHEMA SET                 "
     ++ codes "what the set of attributes determines, and the blocks of the others")
     ++ line (codes "desk closure SCHEMA SET               how the closure of the set comes about, step by step")
+    ++ line (codes "desk project SCHEMA SET               the functional dependencies inside the set, as a schema")
     ++ line (codes "desk keys SCHEMA                      all keys")
     ++ line (codes "desk keys SCHEMA PLAN                 all keys of each scheme of the plan")
     ++ line (codes "desk synthesize SCHEMA                a plan in third normal form")
@@ -32,6 +33,8 @@ help_text =
     ++ line (codes "desk split 4nf SCHEMA                 a plan in fourth normal form")
     ++ line (codes "desk split wide-bcnf SCHEMA           a plan in Boyce-Codd normal form, at any width")
     ++ line (codes "desk exhibit SCHEMA                   rows that obey just what follows from the schema")
+    ++ line (codes "desk explain COMMAND                  "
+    ++ codes "reasons above what COMMAND prints: cover SCHEMA or keys SCHEMA")
     ++ line (codes "desk ddl FORM SCHEMA                  SQL tables in the form")
     ++ line (codes "desk ddl plan SCHEMA PLAN             SQL tables of the plan")
     ++ line (codes "desk migrate FORM SCHEMA CSV          "

@@ -10,6 +10,7 @@ use Rattle.desk_implication.specs.Bases.{GivesBasis}
 use Rattle.desk_implication.specs.Certificates.{ChecksProof}
 use Rattle.desk_implication.specs.Closures.{GivesClosure}
 use Rattle.desk_implication.specs.CoverChecks.{ChecksCover}
+use Rattle.desk_implication.specs.CoverReasons.{ExplainsCover}
 use Rattle.desk_implication.specs.Covering.{GivesCover}
 use Rattle.desk_designs.specs.Decompositions.{Splits, SplitsWide}
 use Rattle.desk_designs.specs.Designs.{WritesForm, WritesPlan}
@@ -26,11 +27,13 @@ use Rattle.desk_inputs.specs.Inputs.{proof_file, schema_file}
 use Rattle.desk_designs.specs.Joins.{JudgesJoin}
 use Rattle.desk_designs.specs.Keeping.{JudgesKeeping}
 use Rattle.desk_implication.specs.KeyChecks.{ChecksKey}
+use Rattle.desk_implication.specs.KeyReasons.{ExplainsKeys}
 use Rattle.desk_implication.specs.Keys.{ListsKeys, ListsKeysOfPlan}
 use Rattle.desk_tables.specs.Legality.{JudgesRows}
 use Rattle.desk_tables.specs.Migrations.{Migrates, MigratesPlan, Samples}
 use Rattle.desk_designs.specs.NormalForms.{JudgesForm}
 use Rattle.desk_inputs.specs.Parts.{WithParts}
+use Rattle.desk_implication.specs.Projections.{Projects}
 use Rattle.desk_inputs.specs.Plans.{plan_file}
 use Rattle.desk_inputs.specs.Readings.{Reading}
 use Rattle.desk_tables.specs.Rejoining.{JoinsTables}
@@ -46,12 +49,15 @@ AnswersSchema schema (form.implies goal) = DecidesGoal schema goal
 AnswersSchema schema form.cover = GivesCover schema
 AnswersSchema schema (form.basis set) = GivesBasis schema set
 AnswersSchema schema (form.closure set) = GivesClosure schema set
+AnswersSchema schema (form.project set) = Projects schema set
 AnswersSchema schema form.keys = ListsKeys schema
 AnswersSchema schema (form.check_key set) = ChecksKey schema set
 AnswersSchema schema form.synthesize = Synthesizes schema
 AnswersSchema schema (form.split normal) = Splits schema normal
 AnswersSchema schema form.split_wide = SplitsWide schema
 AnswersSchema schema form.exhibit = Exhibits schema
+AnswersSchema schema form.explain_cover = ExplainsCover schema
+AnswersSchema schema form.explain_keys = ExplainsKeys schema
 AnswersSchema schema (form.ddl normal) = WritesForm schema normal
 AnswersSchema schema (form.sql_check name) = ScriptsCheck schema name
 AnswersSchema schema (form.sql_migrate normal name) = ScriptsMigration schema normal name

@@ -18,6 +18,7 @@ desk check cover SCHEMA OTHER         whether OTHER is a minimal cover of SCHEMA
 desk cover SCHEMA                     what says the same, shortened
 desk basis SCHEMA SET                 what the set of attributes determines, and the blocks of the others
 desk closure SCHEMA SET               how the closure of the set comes about, step by step
+desk project SCHEMA SET               the functional dependencies inside the set, as a schema
 desk keys SCHEMA                      all keys
 desk keys SCHEMA PLAN                 all keys of each scheme of the plan
 desk synthesize SCHEMA                a plan in third normal form
@@ -25,6 +26,7 @@ desk split bcnf SCHEMA                a plan in Boyce-Codd normal form
 desk split 4nf SCHEMA                 a plan in fourth normal form
 desk split wide-bcnf SCHEMA           a plan in Boyce-Codd normal form, at any width
 desk exhibit SCHEMA                   rows that obey just what follows from the schema
+desk explain COMMAND                  reasons above what COMMAND prints: cover SCHEMA or keys SCHEMA
 desk ddl FORM SCHEMA                  SQL tables in the form
 desk ddl plan SCHEMA PLAN             SQL tables of the plan
 desk migrate FORM SCHEMA CSV          the rows in CSV as tables in the form, in files t1.csv, t1.sql and so on
@@ -57,7 +59,7 @@ pub fn help(alloc: Global) -> Result<Response, EarlyExit>
 pub fn version(alloc: Global) -> Result<Response, EarlyExit>
     ensures response { RespondsAs (Says Status.Yes version_text) result }
 {
-    match Vec::from_slice(alloc, b"desk 0.3.0\n") {
+    match Vec::from_slice(alloc, b"desk 0.4.0\n") {
         Ok(text) => Ok(Response::with_text(Status::Yes, text)),
         Err(_) => Err(EarlyExit::OutOfMemory),
     }

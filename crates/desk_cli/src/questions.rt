@@ -16,15 +16,15 @@ use desk_designs::{
     write_plan,
 };
 use desk_implication::{
-    check_key, cover, exhibit_relation, give_basis, give_closure, implies, list_keys,
-    list_keys_of_plan,
+    check_key, cover, exhibit_relation, explain_cover, explain_keys, give_basis, give_closure,
+    give_projection, implies, list_keys, list_keys_of_plan,
 };
 use desk_responses::{EarlyExit, Response};
 use desk_tables::{check_rows, migrate_in_form};
 use desk_words::{PlanQuestion, RowsQuestion, SchemaQuestion};
 use plan_reader::MOST_SCHEMES;
 use plans::Plan;
-use row_store::Rows;
+use row_store::{Hashing, Rows};
 use std::alloc::Global;
 
 /// Answers what is asked of a schema alone.
@@ -41,12 +41,15 @@ pub fn answer_schema(
         SchemaQuestion::Cover => cover(alloc, schema),
         SchemaQuestion::Basis { set } => give_basis(alloc, schema, set),
         SchemaQuestion::Closure { set } => give_closure(alloc, schema, set),
+        SchemaQuestion::Project { set } => give_projection(alloc, schema, set),
         SchemaQuestion::Keys => list_keys(alloc, schema),
         SchemaQuestion::CheckKey { set } => check_key(alloc, schema, set),
         SchemaQuestion::Synthesize => synthesize_plan(alloc, schema),
         SchemaQuestion::Split { form } => split_in_form(alloc, schema, form),
         SchemaQuestion::SplitWide => split_by_pairs(alloc, schema),
         SchemaQuestion::Exhibit => exhibit_relation(alloc, schema),
+        SchemaQuestion::ExplainCover => explain_cover(alloc, schema),
+        SchemaQuestion::ExplainKeys => explain_keys(alloc, schema),
         SchemaQuestion::Ddl { form } => write_form(alloc, schema, form),
         SchemaQuestion::SqlCheck { name } => script_check(alloc, schema, name),
         SchemaQuestion::SqlMigrate { form, name } => script_migration(alloc, schema, form, name),
@@ -83,17 +86,17 @@ pub fn answer_plan(
 #[tactic(auto, unfolding(crate::specs::Performs::AnswersRows))]
 pub fn answer_rows(
     alloc: Global,
+    hashing: Hashing,
     schema: &Schema,
-    rows: &Rows,
+    rows: Rows,
     question: RowsQuestion,
 ) -> Result<Response, EarlyExit>
-    requires over { IsOver (width_of schema.now) rows.now }
-    requires fits_u32 { length rows.now < 2 ^ 32 }
-    ensures response { RespondsAs
-        (AnswersRows schema.now rows.now (rows_question question)) result }
+    requires over { IsOver (width_of schema.now) rows }
+    requires fits_u32 { length rows < 2 ^ 32 }
+    ensures response { RespondsAs (AnswersRows schema.now rows (rows_question question)) result }
 {
     match question {
-        RowsQuestion::CheckRows => check_rows(alloc, schema, rows),
-        RowsQuestion::Migrate { form } => migrate_in_form(alloc, schema, form, rows),
+        RowsQuestion::CheckRows => check_rows(alloc, hashing, schema, &rows),
+        RowsQuestion::Migrate { form } => migrate_in_form(alloc, hashing, schema, form, rows),
     }
 }

@@ -30,11 +30,13 @@ use desk_outside::{Argument, FileSource};
 use desk_responses::{EarlyExit, Response};
 use desk_tables::{migrate_by_plan, rejoin};
 use desk_words::{MOST_FILES, PlanQuestion, RowsQuestion, Task};
+use row_store::Hashing;
 use std::alloc::Global;
 
 /// Answers what is asked of the schema of a file.
 pub fn over_schema<F: FileSource>(
     alloc: Global,
+    hashing: Hashing,
     source: &mut F,
     file: &Argument,
     task: Task<'_>,
@@ -50,13 +52,14 @@ pub fn over_schema<F: FileSource>(
         Ok(schema) => schema,
         Err(exit) => return Err(exit),
     };
-    perform_task(alloc, source, &schema, task)
+    perform_task(alloc, hashing, source, &schema, task)
 }
 
 // Answers what is asked of a schema and the files after its own.
 #[tactic(auto, unfolding(crate::specs::Performs::Does))]
 fn perform_task<F: FileSource>(
     alloc: Global,
+    hashing: Hashing,
     source: &mut F,
     schema: &Schema,
     task: Task<'_>,
@@ -71,12 +74,14 @@ fn perform_task<F: FileSource>(
     match task {
         Task::OfSchema { question } => answer_schema(alloc, schema, question),
         Task::OfPlan { plan, question } => of_plan(alloc, source, schema, plan, question),
-        Task::OfRows { file, question } => of_rows(alloc, source, schema, file, question),
-        Task::MigratePlan { plan, file } => of_plan_and_rows(alloc, source, schema, plan, file),
+        Task::OfRows { file, question } => of_rows(alloc, hashing, source, schema, file, question),
+        Task::MigratePlan { plan, file } => of_plan_and_rows(
+            alloc, hashing, source, schema, plan, file,
+        ),
         Task::CheckProof { file, goal } => of_proof(alloc, source, schema, file, goal),
         Task::CheckSame { file, other } => of_schemas(alloc, source, schema, file, other),
         Task::CheckCover { file, other } => of_cover(alloc, source, schema, file, other),
-        Task::Rejoin { files } => of_parts(alloc, source, schema, files),
+        Task::Rejoin { files } => of_parts(alloc, hashing, source, schema, files),
     }
 }
 
@@ -106,6 +111,7 @@ fn of_plan<F: FileSource>(
 // Answers what is asked of a schema and the rows of a file.
 fn of_rows<F: FileSource>(
     alloc: Global,
+    hashing: Hashing,
     source: &mut F,
     schema: &Schema,
     file: &Argument,
@@ -123,12 +129,13 @@ fn of_rows<F: FileSource>(
         Ok(rows) => rows,
         Err(exit) => return Err(exit),
     };
-    answer_rows(alloc, schema, &rows, question)
+    answer_rows(alloc, hashing, schema, rows, question)
 }
 
 // The rows of a file, as tables of the plan of another.
 fn of_plan_and_rows<F: FileSource>(
     alloc: Global,
+    hashing: Hashing,
     source: &mut F,
     schema: &Schema,
     plan: &Argument,
@@ -150,7 +157,7 @@ fn of_plan_and_rows<F: FileSource>(
         Ok(rows) => rows,
         Err(exit) => return Err(exit),
     };
-    migrate_by_plan(alloc, schema, &plan, &rows)
+    migrate_by_plan(alloc, hashing, schema, &plan, rows)
 }
 
 // Whether the certificate of a file proves a goal.
@@ -225,6 +232,7 @@ fn of_cover<F: FileSource>(
 // The natural join of the tables of files.
 fn of_parts<F: FileSource>(
     alloc: Global,
+    hashing: Hashing,
     source: &mut F,
     schema: &Schema,
     files: &[Argument],
@@ -244,12 +252,13 @@ fn of_parts<F: FileSource>(
     if parts.len() > MOST_FILES {
         return Err(EarlyExit::OutOfMemory);
     }
-    rejoin(alloc, schema, &parts)
+    rejoin(alloc, hashing, schema, &parts)
 }
 
 /// The minimal functional dependencies that the rows of a file obey.
 pub fn of_headed<F: FileSource>(
     alloc: Global,
+    hashing: Hashing,
     source: &mut F,
     file: &Argument,
 ) -> Result<Response, EarlyExit>
@@ -264,5 +273,5 @@ pub fn of_headed<F: FileSource>(
         Ok(headed) => headed,
         Err(exit) => return Err(exit),
     };
-    discover_rules(alloc, headed)
+    discover_rules(alloc, hashing, headed)
 }

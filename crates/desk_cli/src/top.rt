@@ -18,6 +18,7 @@ use desk_tables::migrate_sample;
 use desk_texts::line_of;
 use desk_words::{Command, parse};
 use destinations::Destination;
+use row_store::Hashing;
 use std::alloc::Global;
 
 /// Answers the words over the files of the file source, in a status, a text that goes to the sink, and
@@ -26,9 +27,11 @@ use std::alloc::Global;
 /// The words are those after the program's name. The whole text is made before its first byte is
 /// written, and before the first call of a destination. The words are looked at first, then each file
 /// in the order of the words (read, its length, its grammar), then the goal (its length, its grammar),
-/// then the answer, then the destinations, then the sink; the first that applies decides.
+/// then the answer, then the destinations, then the sink; the first that applies decides. Values are hashed
+/// as the caller says, which changes no answer.
 pub fn desk<F: FileSource, K: Sink>(
     alloc: Global,
+    hashing: Hashing,
     words: &[Argument],
     source: &mut F,
     out: &mut K,
@@ -48,12 +51,13 @@ pub fn desk<F: FileSource, K: Sink>(
         ⟦<Box<dyn Destination> as Destination>⟧.faults destinations.old.items destinations.new.items)
         result }
 {
-    desk_over(alloc, words, source, out, destinations)
+    desk_over(alloc, hashing, words, source, out, destinations)
 }
 
 // The same over destinations of one type.
 fn desk_over<F: FileSource, K: Sink, T: Destination>(
     alloc: Global,
+    hashing: Hashing,
     words: &[Argument],
     source: &mut F,
     out: &mut K,
@@ -70,7 +74,7 @@ fn desk_over<F: FileSource, K: Sink, T: Destination>(
         destinations.new.items)
         result }
 {
-    let response = answer(alloc, words, source)?;
+    let response = answer(alloc, hashing, words, source)?;
     deliver(alloc, response, out, destinations)
 }
 
@@ -97,6 +101,7 @@ pub fn deliver<K: Sink, T: Destination>(
 /// The response to the words.
 fn answer<F: FileSource>(
     alloc: Global,
+    hashing: Hashing,
     words: &[Argument],
     source: &mut F,
 ) -> Result<Response, OutOfMemory>
@@ -111,7 +116,7 @@ fn answer<F: FileSource>(
             Status::Refused,
             line_of(alloc, b"refused: the words form no command", b"", b"")?,
         )),
-        Some(command) => match perform(alloc, command, source) {
+        Some(command) => match perform(alloc, hashing, command, source) {
             Ok(response) => Ok(response),
             Err(EarlyExit::Answered(response)) => Ok(response),
             Err(EarlyExit::OutOfMemory) => Err(OutOfMemory),
@@ -123,6 +128,7 @@ fn answer<F: FileSource>(
 #[tactic(auto, unfolding(crate::specs::Performs::Performs))]
 fn perform<F: FileSource>(
     alloc: Global,
+    hashing: Hashing,
     command: Command<'_>,
     source: &mut F,
 ) -> Result<Response, EarlyExit>
@@ -134,9 +140,9 @@ fn perform<F: FileSource>(
         → RespondsAs (Performs r (command_form command.entry)) result }
 {
     match command {
-        Command::OverSchema { schema, task } => over_schema(alloc, source, schema, task),
-        Command::Discover { file } => of_headed(alloc, source, file),
-        Command::Sample { persons } => migrate_sample(alloc, persons),
+        Command::OverSchema { schema, task } => over_schema(alloc, hashing, source, schema, task),
+        Command::Discover { file } => of_headed(alloc, hashing, source, file),
+        Command::Sample { persons } => migrate_sample(alloc, hashing, persons),
         Command::Help => help(alloc),
         Command::Version => version(alloc),
     }

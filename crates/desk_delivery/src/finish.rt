@@ -12,7 +12,7 @@ use dep_model::OutOfMemory;
 use desk_responses::{Response, Status};
 use destinations::Destination;
 use itoa::Buffer;
-use named_tables::NamedTable;
+use named_tables::ChosenTables;
 use std::alloc::Global;
 use table_writing::{WriteOutcome, write_tables_to_list};
 
@@ -62,7 +62,7 @@ fn hand_over<T: Destination>(
     alloc: Global,
     destinations: &mut Vec<T>,
     text: Vec<u8>,
-    tables: &[NamedTable],
+    tables: &ChosenTables,
 ) -> Result<Outcome, OutOfMemory>
     ensures ends { IfOk result
         (λ end. WritesTables

@@ -8,7 +8,7 @@ use Rattle.dep_model.specs.declared.schema.Schema.{Schema}
 use Rattle.ddl_text.specs.declared.table.TableDesign.{TableDesign}
 use Rattle.ddl_text.specs.Ddl.{ddl_text}
 use Rattle.ddl_text.specs.Designs.{IsDesign}
-use Rattle.ddl_text.specs.Laws.{KeysHold, ReferencesHold}
+use Rattle.ddl_text.specs.Laws.{KeysHold, OtherKeysHold, ReferencesHold}
 use Rattle.design_order.specs.Order.{IsInDesignOrder}
 use Rattle.normal_forms.specs.declared.forms.Form.{Form}
 use Rattle.desk_responses.specs.declared.status.Status.TheVariants.{Yes}
@@ -22,6 +22,7 @@ pub record IsSoundDesign (schema : Schema) (plan : List AttrSet) (tables : List 
   pub order : IsInDesignOrder (width_of schema) (theory_of schema) (schemes_of plan) (schemes_of ordered)
   pub design : IsDesign schema ordered tables
   pub keys_hold : KeysHold schema tables
+  pub other_keys_hold : OtherKeysHold schema tables
   pub references_hold : ReferencesHold schema tables
 
 -- yes, with the statements that create the tables of a plan

@@ -10,8 +10,8 @@ use Rattle.ddl_text.specs.declared.table.TableDesign.{TableDesign}
 use Rattle.normal_forms.specs.declared.forms.Form.{Form}
 use Rattle.sql_evaluation.specs.Cells.{Cell}
 use Rattle.sql_evaluation.specs.Evaluation.{Engine}
-use Rattle.check_laws.specs.Holding.{Holds}
-use Rattle.check_laws.specs.Telling.{NothingShown}
+use Rattle.check_laws.specs.Holding.{Holds, CastsIntegers}
+use Rattle.check_laws.specs.Telling.{NoBreachShown, RulesHold, NothingShown}
 use Rattle.table_scripts.specs.Checking.{check_text, NothingBreaks}
 use Rattle.table_scripts.specs.Migrating.{migrate_text, FillsTables, ViewIsTable}
 use Rattle.table_scripts.specs.Naming.{is_table_name, quoted_table}
@@ -35,13 +35,16 @@ abbrev pub WithTableName : List ℕ → Allowed → Allowed
 WithTableName name = Unless (TableNameStops name) (IsTrue (is_table_name name))
 
 -- ---- checking
--- what the queries for the rules of a schema tell, in a script for a table: over a relation, their terms
--- give nothing exactly where it is legal; and where an engine holds a relation as this table, they end
--- without an error, and give no row exactly where it is legal
+-- what the queries of a script for a table tell: over a relation, the terms for the dependencies of a
+-- schema give nothing exactly where it is legal; and where an engine holds a relation as this table, their
+-- queries end without an error, and give no row exactly where it is legal. Where the engine casts integers,
+-- no query of the script gives a row, and none ends with an error, exactly where all rules hold
 pub record TellLegal (schema : Schema) (table : List ℕ) : Type 0 where
   pub terms : (r : Relation) → IsOver (width_of schema) r → LegalFor schema r ↔ NothingBreaks schema r
   pub queries : (e : Engine) (cell : ℕ → List ℕ → Cell) (r : Relation) → Holds e table schema cell r
-      → IsOver (width_of schema) r → LegalFor schema r ↔ NothingShown e schema table
+      → IsOver (width_of schema) r → LegalFor schema r ↔ NoBreachShown e schema table
+  pub script : (e : Engine) (cell : ℕ → List ℕ → Cell) (r : Relation) → Holds e table schema cell r
+      → IsOver (width_of schema) r → CastsIntegers e.cast → RulesHold schema cell r ↔ NothingShown e schema table
 
 -- yes, with the queries for what breaks each rule
 abbrev pub AsksTable : Schema → List ℕ → Allowed

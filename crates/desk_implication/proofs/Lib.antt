@@ -1,3 +1,4 @@
 pub mod KeyLemmas
 pub mod RuleLemmas
 pub mod SamenessLemmas
+pub mod ProjectionLemmas

@@ -2,9 +2,9 @@
 use Rattle.std.specs.Prelude.{◌≡◌, ◌⊎◌, ℕ, List, [], ◌++◌, codes, slice_get}
 use Rattle.std.specs.List.{flat_map}
 use Rattle.attr_sets.specs.Attributes.{only}
-use Rattle.cover_check.specs.Complaints.{AreComplaints}
-use Rattle.cover_check.specs.declared.complaint.Complaint.{Complaint}
-use Rattle.cover_check.specs.declared.complaint.Complaint.TheVariants.{WideRight, NotNeeded, Follows}
+use Rattle.cover_check.specs.CoverDiagnostics.{AreCoverDiagnostics}
+use Rattle.cover_check.specs.declared.diagnostic.CoverDiagnostic.{CoverDiagnostic}
+use Rattle.cover_check.specs.declared.diagnostic.CoverDiagnostic.TheVariants.{WideRight, NotNeeded, Follows}
 use Rattle.dep_model.specs.Schemas.{deps_of, lines_of, width_of, theory_of}
 use Rattle.dep_model.specs.declared.schema.Schema.{Schema}
 use Rattle.schema_printer.specs.Printing.{set_text}
@@ -22,16 +22,16 @@ placed_dep_text schema k =
     codes "line " ++ line_number_text (slice_get (lines_of schema) k) ++ codes ": "
     ++ dep_text (printed_names_of schema) (slice_get (deps_of schema) k)
 
-abbrev pub complaint_text : Schema → Complaint → List ℕ
-complaint_text schema (WideRight k) =
+abbrev pub diagnostic_text : Schema → CoverDiagnostic → List ℕ
+diagnostic_text schema (WideRight k) =
     line (placed_dep_text schema k ++ codes " has more than one attribute on the right")
-complaint_text schema (NotNeeded k a) =
+diagnostic_text schema (NotNeeded k a) =
     line (placed_dep_text schema k ++ codes ": " ++ set_text (printed_names_of schema) (only a)
     ++ codes " is not needed on the left")
-complaint_text schema (Follows k) = line (placed_dep_text schema k ++ codes " follows from the others")
+diagnostic_text schema (Follows k) = line (placed_dep_text schema k ++ codes " follows from the others")
 
-abbrev pub complaints_text : Schema → List Complaint → List ℕ
-complaints_text schema found = flat_map (complaint_text schema) found
+abbrev pub diagnostics_text : Schema → List CoverDiagnostic → List ℕ
+diagnostics_text schema found = flat_map (diagnostic_text schema) found
 
 abbrev pub minimal_text : List ℕ
 minimal_text = line (codes "equivalent and minimal")
@@ -40,9 +40,9 @@ minimal_text = line (codes "equivalent and minimal")
 -- yes exactly where nothing keeps a schema from being a minimal cover; else no, with all that does
 abbrev pub TestsMinimal : Schema → Allowed
 TestsMinimal schema response =
-    (found : List Complaint) × AreComplaints (width_of schema) (theory_of schema) found
+    (found : List CoverDiagnostic) × AreCoverDiagnostics (width_of schema) (theory_of schema) found
     × (((found ≡ []) × Says Yes minimal_text response)
-    ⊎ ((found ≡ [] → ⊥) × Says No (complaints_text schema found) response))
+    ⊎ ((found ≡ [] → ⊥) × Says No (diagnostics_text schema found) response))
 
 -- where the two do not say the same, the answer of `check same`; else whether the other is minimal
 abbrev pub TestsCover : Schema → Schema → List ℕ → List ℕ → Allowed

@@ -10,6 +10,7 @@ use Rattle.derivation.specs.Derivs.{tree_of}
 use Rattle.dep_basis.specs.Decisions.{IsBrokenBy}
 use Rattle.dep_basis.specs.JoinedProofs.{IsProofOf}
 use Rattle.dep_basis.specs.Proofs.{IsChainIfFunctional, IsDirectUnlessChain}
+use Rattle.short_proofs.specs.Short.{IsShort}
 use Rattle.proof_grammar.specs.Printing.{canonical_certificate}
 use Rattle.desk_responses.specs.declared.status.Status.TheVariants.{Yes, No}
 use Rattle.desk_responses.specs.ResponseValues.{Allowed, Says}
@@ -18,13 +19,13 @@ use Rattle.desk_texts.specs.Texts.{yes_text, no_text}
 
 -- yes exactly where every relation that obeys the schema's dependencies obeys the goal, with a derivation
 -- of the goal, which is the functional chain where the functional part alone implies it, and else a direct
--- one; else no, with two tuples that obey the dependencies and break the goal
+-- one, of a multivalued goal no longer than the listed ones; else no, with two tuples that obey the dependencies and break the goal
 abbrev pub Decided : Schema → Dependency → Allowed
 Decided schema goal response =
     (ImpliedBy schema goal
     × ((proof : Deriv) × IsProofOf schema goal (tree_of proof)
     × IsChainIfFunctional schema goal (tree_of proof)
-    × IsDirectUnlessChain schema goal (tree_of proof)
+    × (IsDirectUnlessChain schema goal (tree_of proof) × IsShort schema goal (tree_of proof))
     × Says Yes (yes_text ++ canonical_certificate schema (tree_of proof)) response))
     ⊎ ((ImpliedBy schema goal → ⊥)
     × ((agreement : Attributes) × IsBrokenBy (width_of schema) (theory_of schema) goal agreement

@@ -29,6 +29,12 @@ abbrev pub HasManyKeys : Schema → Type 0
 HasManyKeys schema = (found : List AttrSet)
     × AreManyKeys (width_of schema) (theory_of schema) (universe_of schema) found
 
+-- refused: the universe is too wide to be searched, or has too many keys
+abbrev pub RefusesKeys : Schema → Allowed
+RefusesKeys schema response =
+    (IsTooWide schema × Says Refused (too_wide_text (printed_names_of schema) (universe_of schema)) response)
+    ⊎ ((IsTooWide schema → ⊥) × HasManyKeys schema × Says Refused too_many_keys_text response)
+
 -- yes, with exactly all keys of the universe, ascending; refused where the universe is too wide to be
 -- searched, or has too many keys
 abbrev pub ListsKeys : Schema → Allowed
@@ -36,8 +42,7 @@ ListsKeys schema response =
     ((keys : List AttrSet) × AreAllKeys (width_of schema) (theory_of schema) (universe_of schema) keys
     × (length keys ≤ MOST_KEYS) × (IsTooWide schema → ⊥)
     × Says Yes (sets_text (printed_names_of schema) keys) response)
-    ⊎ (IsTooWide schema × Says Refused (too_wide_text (printed_names_of schema) (universe_of schema)) response)
-    ⊎ ((IsTooWide schema → ⊥) × HasManyKeys schema × Says Refused too_many_keys_text response)
+    ⊎ RefusesKeys schema response
 
 -- ---- the schemes of a plan
 -- a scheme, and keys of it

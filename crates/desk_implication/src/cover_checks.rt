@@ -1,12 +1,12 @@
 ghost use Rattle.std.specs.Prelude.{◌≡◌, All, IfOk};
-ghost use Rattle.cover_check.specs.Complaints.{NamesAttribute};
-ghost use Rattle.desk_implication.specs.CoverChecks.{ChecksCover, TestsCover, TestsMinimal, complaint_text, complaints_text, placed_dep_text};
+ghost use Rattle.cover_check.specs.CoverDiagnostics.{NamesAttribute};
+ghost use Rattle.desk_implication.specs.CoverChecks.{ChecksCover, TestsCover, TestsMinimal, diagnostic_text, diagnostics_text, placed_dep_text};
 ghost use Rattle.desk_responses.specs.Responses.{response_value, RespondsAs};
 ghost use Rattle.schema_match.specs.Columns.{SameNames};
 
 use crate::sameness::{difference_lines, test_names};
 use attr_sets::AttrSet;
-use cover_check::{Complaint, complaints};
+use cover_check::{CoverDiagnostic, diagnostics};
 use dep_model::{OutOfMemory, Schema};
 use desk_outside::Argument;
 use desk_responses::{EarlyExit, Response, Status, put_dep, put_line};
@@ -56,53 +56,53 @@ fn test_cover(
 fn test_minimal(alloc: Global, schema: &Schema) -> Result<Response, OutOfMemory>
     ensures response { IfOk result (λ response. TestsMinimal schema.now (response_value response)) }
 {
-    let found = complaints(alloc, schema)?;
+    let found = diagnostics(alloc, schema)?;
     if found.is_empty() {
         let text = line_of(alloc, b"equivalent and minimal", b"", b"")?;
         return Ok(Response::with_text(Status::Yes, text));
     }
-    let text = complaint_lines(alloc, schema, &found)?;
+    let text = diagnostic_lines(alloc, schema, &found)?;
     Ok(Response::with_text(Status::No, text))
 }
 
-// A line for each complaint.
-fn complaint_lines(
+// A line for each diagnostic.
+fn diagnostic_lines(
     alloc: Global,
     schema: &Schema,
-    found: &[Complaint],
+    found: &[CoverDiagnostic],
 ) -> Result<Vec<u8>, OutOfMemory>
     requires attributes { All NamesAttribute found.now }
-    ensures text { IfOk result (λ text. text.items ≡ complaints_text schema.now found.now) }
+    ensures text { IfOk result (λ text. text.items ≡ diagnostics_text schema.now found.now) }
 {
     let mut text = Vec::new(alloc);
-    for complaint in found {
-        add(&mut text, &complaint_line(alloc, schema, *complaint)?)?;
+    for diagnostic in found {
+        add(&mut text, &diagnostic_line(alloc, schema, *diagnostic)?)?;
     }
     Ok(text)
 }
 
-fn complaint_line(
+fn diagnostic_line(
     alloc: Global,
     schema: &Schema,
-    complaint: Complaint,
+    diagnostic: CoverDiagnostic,
 ) -> Result<Vec<u8>, OutOfMemory>
-    requires attribute { NamesAttribute complaint }
-    ensures text { IfOk result (λ text. text.items ≡ complaint_text schema.now complaint) }
+    requires attribute { NamesAttribute diagnostic }
+    ensures text { IfOk result (λ text. text.items ≡ diagnostic_text schema.now diagnostic) }
 {
-    match complaint {
-        Complaint::WideRight { dep } => {
+    match diagnostic {
+        CoverDiagnostic::WideRight { dep } => {
             let mut text = placed_dep(alloc, schema, dep)?;
             add(&mut text, b" has more than one attribute on the right\n")?;
             Ok(text)
         }
-        Complaint::NotNeeded { dep, attribute } => {
+        CoverDiagnostic::NotNeeded { dep, attribute } => {
             let mut text = placed_dep(alloc, schema, dep)?;
             add(&mut text, b": ")?;
             add_set(&mut text, schema, AttrSet::single(attribute))?;
             add(&mut text, b" is not needed on the left\n")?;
             Ok(text)
         }
-        Complaint::Follows { dep } => {
+        CoverDiagnostic::Follows { dep } => {
             let mut text = placed_dep(alloc, schema, dep)?;
             add(&mut text, b" follows from the others\n")?;
             Ok(text)

@@ -11,21 +11,26 @@ ghost use Rattle.desk_responses.specs.Responses.{response_value, RespondsAs};
 use dep_model::{Dep, Name, OutOfMemory, Schema};
 use desk_responses::{EarlyExit, Response, Status};
 use fd_discovery::{Headed, discover};
+use row_store::Hashing;
 use schema_printer::print_deps;
 use std::alloc::Global;
 
 /// The minimal functional dependencies of rows, under the names of their columns.
-pub fn discover_rules(alloc: Global, headed: Headed) -> Result<Response, EarlyExit>
+pub fn discover_rules(
+    alloc: Global,
+    hashing: Hashing,
+    headed: Headed,
+) -> Result<Response, EarlyExit>
     requires header { IsColumnHeader (names_under headed) }
     requires any_name { 0 < length (names_under headed) }
     requires same_width { IsOver (length (names_under headed)) (rows_under headed) }
     requires within_limit { length (rows_under headed) ≤ MOST_HEADED_ROWS }
     ensures response { RespondsAs (FindsRules headed) result }
 {
-    Ok(rules_response(alloc, headed)?)
+    Ok(rules_response(alloc, hashing, headed)?)
 }
 
-fn rules_response(alloc: Global, headed: Headed) -> Result<Response, OutOfMemory>
+fn rules_response(alloc: Global, hashing: Hashing, headed: Headed) -> Result<Response, OutOfMemory>
     requires header { IsColumnHeader (names_under headed) }
     requires any_name { 0 < length (names_under headed) }
     requires same_width { IsOver (length (names_under headed)) (rows_under headed) }
@@ -33,7 +38,7 @@ fn rules_response(alloc: Global, headed: Headed) -> Result<Response, OutOfMemory
     ensures response { IfOk result (λ response. FindsRules headed (response_value response)) }
 {
     let Headed { names, rows } = headed;
-    let deps = discover(alloc, names.len() as u8, &rows)?;
+    let deps = discover(alloc, hashing, names.len() as u8, &rows)?;
     Ok(Response::with_text(Status::Yes, rule_lines(alloc, names, &deps)?))
 }
 

@@ -15,7 +15,7 @@ ghost use Rattle.desk_texts.specs.Texts.{yes_text, no_text};
 use crate::goal::goal_of;
 use attr_sets::AttrSet;
 use csv_rows::print_rows;
-use dep_basis::{Proof, prove, witness};
+use dep_basis::{Proof, witness};
 use dep_model::{Dep, OutOfMemory, Schema};
 use derivation::{Deriv, MOST_LEVELS, MOST_NODES};
 use desk_outside::Argument;
@@ -24,6 +24,7 @@ use desk_texts::line_of;
 use proof_text::print_proof;
 use row_store::Rows;
 use schema_printer::add;
+use short_proofs::prove_shortly;
 use std::alloc::Global;
 
 /// Whether a schema implies a goal: `yes` with a certificate, or `no` with two tuples that obey the
@@ -44,7 +45,7 @@ fn decision_response(alloc: Global, schema: &Schema, dep: Dep) -> Result<Respons
     ensures response { IfOk result (λ response. Decided schema.now (dependency_of dep)
         (response_value response)) }
 {
-    match prove(alloc, schema, dep)? {
+    match prove_shortly(alloc, schema, dep)? {
         Proof::Yes(deriv) => certificate_response(alloc, schema, &deriv),
         Proof::No { agreement } => counterexample_response(alloc, schema, agreement),
     }

@@ -3,8 +3,10 @@ ghost use Rattle.attr_sets.specs.Attributes.{IsSubset};
 ghost use Rattle.attr_sets.specs.Sets.{attributes};
 ghost use Rattle.dep_model.specs.Schemas.{universe_of};
 ghost use Rattle.schema_printer.specs.Spelling.{printed_names_of};
+ghost use Rattle.dep_model.specs.declared.failure.Failure.TheVariants as failed;
+ghost use Rattle.key_listing.specs.Refusals.{IsRefusedListing};
 ghost use Rattle.desk_responses.specs.ResponseValues.{Says};
-ghost use Rattle.desk_implication.specs.Keys.{ListsKeys, sets_text, too_many_keys_text};
+ghost use Rattle.desk_implication.specs.Keys.{ListsKeys, RefusesKeys, sets_text, too_many_keys_text};
 ghost use Rattle.desk_responses.specs.Responses.{response_value, RespondsAs, ExitsAs};
 
 use attr_sets::AttrSet;
@@ -21,11 +23,19 @@ pub fn list_keys(alloc: Global, schema: &Schema) -> Result<Response, EarlyExit>
 {
     match keys(alloc, schema) {
         Ok(keys) => Ok(sets_response(alloc, schema, &keys)?),
-        Err(Failure::Refused(KeyRefusal::TooManyKeys { .. })) => Err(too_many_keys_exit(alloc)),
-        Err(Failure::Refused(KeyRefusal::TooWide)) => {
-            Err(too_wide_exit(alloc, schema, AttrSet::full(schema.width())))
-        }
+        Err(Failure::Refused(refusal)) => Err(keys_exit(alloc, schema, &refusal)),
         Err(Failure::OutOfMemory) => Err(EarlyExit::OutOfMemory),
+    }
+}
+
+/// The keys are not listed.
+pub fn keys_exit(alloc: Global, schema: &Schema, refusal: &KeyRefusal) -> EarlyExit
+    requires refused { IsRefusedListing schema.now (failed.Refused refusal.now) }
+    ensures exits { ExitsAs (RefusesKeys schema.now) result }
+{
+    match refusal {
+        KeyRefusal::TooManyKeys { .. } => too_many_keys_exit(alloc),
+        KeyRefusal::TooWide => too_wide_exit(alloc, schema, AttrSet::full(schema.width())),
     }
 }
 
@@ -43,7 +53,8 @@ pub fn sets_response(
     Ok(Response::with_text(Status::Yes, set_lines(alloc, schema, sets)?))
 }
 
-fn set_lines(alloc: Global, schema: &Schema, sets: &[AttrSet]) -> Result<Vec<u8>, OutOfMemory>
+/// A line for each set.
+pub fn set_lines(alloc: Global, schema: &Schema, sets: &[AttrSet]) -> Result<Vec<u8>, OutOfMemory>
     requires within { All (λ set. IsSubset (attributes set) (universe_of schema.now)) sets.now }
     ensures text { IfOk result (λ text. text.items ≡ sets_text (printed_names_of schema.now) sets.now) }
 {

@@ -1,4 +1,5 @@
-ghost use Rattle.std.specs.Prelude.{◌≡◌, ◌++◌, All, IfOk, IfErr, OnOk};
+ghost use Rattle.std.specs.Prelude.{◌≡◌, ◌≤◌, [], ◌∷◌, ◌++◌, length, All, Contains, IfOk, IfErr, IfSome, OnOk};
+ghost use Rattle.std.specs.List.{slice_range};
 ghost use Rattle.attr_sets.specs.Attributes.{IsSubset};
 ghost use Rattle.attr_sets.specs.Sets.{attributes};
 ghost use Rattle.dep_model.specs.Plans.{schemes_of};
@@ -6,6 +7,7 @@ ghost use Rattle.dep_model.specs.Schemas.{universe_of};
 ghost use Rattle.schema_printer.specs.Spelling.{printed_names_of};
 ghost use Rattle.plans.specs.Plans.{IsPlanOver, plan_of};
 ghost use Rattle.desk_implication.specs.Keys.{EndsKeys, HasKeys, ListsKeysOfPlan, keyed_text, keys_text};
+ghost use Rattle.desk_implication.specs.KeyedLines.{AddsKeys, StandIn};
 ghost use Rattle.desk_responses.specs.Responses.{RespondsAs, ExitsAs};
 
 use crate::keys::too_many_keys_exit;
@@ -24,7 +26,15 @@ pub fn list_keys_of_plan(alloc: Global, schema: &Schema, plan: &Plan) -> Result<
     list_keys_of_schemes(alloc, schema, plan.schemes())
 }
 
-// The keys of these schemes.
+// A scheme, and from where to where the lines with its keys stand in the text.
+#[derive(Clone, Copy, Debug)]
+pub struct KeyedLines {
+    pub scheme: AttrSet,
+    pub start: usize,
+    pub end: usize,
+}
+
+// The keys of these schemes. Of equal schemes those of the first alone are sought.
 fn list_keys_of_schemes(
     alloc: Global,
     schema: &Schema,
@@ -35,14 +45,77 @@ fn list_keys_of_schemes(
     ensures response { RespondsAs (ListsKeysOfPlan schema.now (schemes_of schemes.now)) result }
 {
     let mut text = Vec::new(alloc);
+    let mut known = Vec::new(alloc);
     for scheme in schemes {
-        let keys = match keys_or_stop(alloc, schema, *scheme) {
-            Ok(keys) => keys,
+        match put_scheme_keys(alloc, &mut text, schema, *scheme, &mut known) {
+            Ok(()) => {}
             Err(exit) => return Err(exit),
-        };
-        put_keyed(&mut text, schema, *scheme, &keys)?;
+        }
     }
     Ok(Response::with_text(Status::Yes, text))
+}
+
+// Adds a scheme and its keys to a text. Where the text has those of an equal scheme, these lines are
+// added again.
+fn put_scheme_keys(
+    alloc: Global,
+    text: &mut Vec<u8>,
+    schema: &Schema,
+    scheme: AttrSet,
+    known: &mut Vec<KeyedLines>,
+) -> Result<(), EarlyExit>
+    requires within { IsSubset (attributes scheme) (universe_of schema.now) }
+    requires known { All (StandIn schema.now text.old.items) known.old.items }
+    ensures added { OnOk result
+        (AddsKeys schema.now (attributes scheme) text.old.items text.new.items) }
+    ensures known { OnOk result (All (StandIn schema.now text.new.items) known.new.items) }
+    ensures ends { IfErr result (ExitsAs (EndsKeys schema.now (attributes scheme))) }
+{
+    if let Some(lines) = lines_with_keys(known, scheme) {
+        put_again(text, lines.start, lines.end)?;
+        return Ok(());
+    }
+    let keys = match keys_or_stop(alloc, schema, scheme) {
+        Ok(keys) => keys,
+        Err(exit) => return Err(exit),
+    };
+    let start = text.len();
+    put_keyed(text, schema, scheme, &keys)?;
+    let end = text.len();
+    keep_lines(known, KeyedLines { scheme, start, end })?;
+    Ok(())
+}
+
+// Adds the lines of a scheme to those that are known.
+fn keep_lines(known: &mut Vec<KeyedLines>, lines: KeyedLines) -> Result<(), OutOfMemory>
+    ensures kept { OnOk result (known.new.items ≡ known.old.items ++ lines ∷ []) }
+{
+    known.push(lines)?;
+    Ok(())
+}
+
+// Where the lines of a scheme stand that equals this one.
+fn lines_with_keys(known: &[KeyedLines], scheme: AttrSet) -> Option<KeyedLines>
+    ensures stand { IfSome result (Contains known.now) }
+    ensures equal { IfSome result (λ lines. attributes lines.scheme ≡ attributes scheme) }
+{
+    for lines in known {
+        if lines.scheme == scheme {
+            return Some(*lines);
+        }
+    }
+    None
+}
+
+// Adds a part of a text to it again.
+fn put_again(text: &mut Vec<u8>, start: usize, end: usize) -> Result<(), OutOfMemory>
+    requires ordered { start ≤ end }
+    requires within { end ≤ length text.old.items }
+    ensures added { OnOk result
+        (text.new.items ≡ text.old.items ++ slice_range text.old.items start end) }
+{
+    text.extend_from_within(start..end)?;
+    Ok(())
 }
 
 // All keys of a scheme.

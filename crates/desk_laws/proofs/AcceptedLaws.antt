@@ -38,7 +38,9 @@ use Rattle.desk_implication.specs.Goals.{WithGoal}
 use Rattle.desk_cli.specs.Performs.{Answers, Performs, Does, AnswersSchema}
 use Rattle.desk_inputs.specs.Readings.{known_files}
 use Rattle.desk_texts.specs.Texts.{yes_text}
-use Rattle.desk_laws.proofs.SchemaLemmas.{AreAlike, proves_alike, spells_alike}
+use Rattle.alike_laws.proofs.Alike.{proves_alike}
+use Rattle.alike_laws.specs.SameDeclarations.{AreAlike}
+use Rattle.desk_laws.proofs.SchemaLemmas.{spells_alike}
 use Rattle.desk_laws.proofs.StopLemmas.{schema_says, goal_says, one_content, schema_goes, proof_goes, goal_goes}
 
 -- ---- the first answer

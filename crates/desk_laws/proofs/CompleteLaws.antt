@@ -56,7 +56,8 @@ use Rattle.desk_inputs.specs.Readings.{known_files}
 use Rattle.desk_inputs.specs.Rows.{rows_file}
 use Rattle.desk_designs.specs.Synthesis.{Synthesizes}
 use Rattle.desk_laws.specs.Completeness.{IsYesOrNo, IsAnswered, FailsNowhere}
-use Rattle.desk_laws.proofs.SchemaLemmas.{AreAlike, spells_alike}
+use Rattle.alike_laws.specs.SameDeclarations.{AreAlike}
+use Rattle.desk_laws.proofs.SchemaLemmas.{spells_alike}
 use Rattle.desk_laws.proofs.StopLemmas.{one_content, file_goes, schema_goes, proof_goes, goal_goes}
 
 -- ---- the call
@@ -303,15 +304,15 @@ synthesize_answered files name schema file response answered =
     after_schema files name schema Synthesizes response file (λ r same found. inl (ap (λ (a : ResponseValue). a.status) found.2))
     (synthesize_asks files name response answered)
 
-narrow_same : (s r : Schema) → AreSame s r → (IsTooWide s → ⊥) → IsTooWide r → ⊥
+pub narrow_same : (s r : Schema) → AreSame s r → (IsTooWide s → ⊥) → IsTooWide r → ⊥
 narrow_same s r same narrow wide =
     narrow (subst (λ (d : Declarations). Any (λ e. is_fd e ≡ false) d.deps × IsWide d.deps (below (length d.names))) (sym same) wide)
 
-not_many_same : (s r : Schema) → AreSame s r → (HasManyKeys s → ⊥) → HasManyKeys r → ⊥
+pub not_many_same : (s r : Schema) → AreSame s r → (HasManyKeys s → ⊥) → HasManyKeys r → ⊥
 not_many_same s r same within_limit many =
     within_limit (subst (λ (d : Declarations). (found : List AttrSet) × AreManyKeys (length d.names) d.deps (below (length d.names)) found) (sym same) many)
 
-lists_keys : (r : Schema) (response : ResponseValue) → (IsTooWide r → ⊥) → (HasManyKeys r → ⊥) → ListsKeys r response
+pub lists_keys : (r : Schema) (response : ResponseValue) → (IsTooWide r → ⊥) → (HasManyKeys r → ⊥) → ListsKeys r response
     → IsYesOrNo response.status
 lists_keys r response narrow within_limit (inl found) = inl (ap (λ (a : ResponseValue). a.status) found.4)
 lists_keys r response narrow within_limit (inr (inl (wide, says))) = absurd (narrow wide)

@@ -5,9 +5,12 @@ pub mod CompleteLaws
 pub mod TableLaws
 pub mod FileLaws
 pub mod QuestionLaws
+mod ReasonLaws
 pub mod ScriptLaws
 pub mod BegunLaws
 mod OneText
 mod OneFile
 mod OneInput
+mod OneTask
+mod SampleWords
 mod OneWords

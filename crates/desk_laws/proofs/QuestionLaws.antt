@@ -5,10 +5,12 @@ use Rattle.std.proofs.lemmas.Bool.{false≢true}
 use Rattle.std.specs.Prelude.{codes, All, Contains}
 use Rattle.attr_sets.specs.Attributes.{Attributes, IsEmpty}
 use Rattle.attr_sets.specs.declared.set.AttrSet.{AttrSet}
+use Rattle.dep_model.specs.Dependencies.{Dependency}
 use Rattle.dep_model.specs.Schemas.{names_of, width_of, theory_of, attribute_named}
 use Rattle.dep_model.specs.declared.schema.Schema.{Schema}
 use Rattle.key_listing.specs.Listing.{AreManyKeys}
 use Rattle.fd_closure.specs.LeftSides.{IsWide}
+use Rattle.fd_projection.specs.Refusals.{AreTooMany}
 use Rattle.schema_grammar.specs.Declarations.{Declarations}
 use Rattle.schema_grammar.specs.Sets.{MeansSet, read_set}
 use Rattle.schema_grammar.proofs.SetLaws.{set-law, set-refusal-law}
@@ -23,11 +25,13 @@ use Rattle.desk_implication.specs.Goals.{WithSet, SetStops, IsSetText}
 use Rattle.desk_implication.specs.Closures.{TellsClosure}
 use Rattle.desk_implication.specs.CoverChecks.{TestsCover}
 use Rattle.desk_implication.specs.KeyChecks.{TestsKey}
+use Rattle.desk_implication.specs.Projections.{ProjectsSet}
 use Rattle.desk_implication.specs.Keys.{ListsKeysOfPlan}
 use Rattle.desk_cli.specs.Performs.{Answers, Performs, Does, AnswersSchema, AnswersPlan}
 use Rattle.desk_inputs.specs.Plans.{plan_file}
 use Rattle.desk_inputs.specs.Readings.{known_files}
 use Rattle.desk_implication.specs.Sameness.{WithSameNames, Compares, LacksName}
+use Rattle.implication_laws.proofs.OneAnswer.{one_set}
 use Rattle.desk_laws.specs.Completeness.{IsYesOrNo, IsAnswered}
 use Rattle.desk_laws.proofs.CompleteLaws.{AreSame, names_same, after_schema, after_plan}
 use Rattle.std.proofs.lemmas.List.Elements.{All-contains, Contains-append_right}
@@ -75,6 +79,46 @@ closure_answered files name set schema x file is response answered =
     after_schema files name schema (λ r. WithSet r set (TellsClosure r)) response file
     (λ r same more. after_set schema r set x (TellsClosure r) response same is (λ y found. inl (ap (λ (a : ResponseValue). a.status) found.2)) more)
     (closure_asks files name set response answered)
+
+-- the set that was read is the one that the text means
+read_the_set : (r : Schema) (set : List ℕ) (x : Attributes) (rest : Attributes → Allowed) (response : ResponseValue)
+    → IsSetText r set x → (rest x response → IsYesOrNo response.status) → WithSet r set rest response
+    → IsYesOrNo response.status
+read_the_set r set x rest response is go (inl exit) = absurd (set_goes r set x response is exit)
+read_the_set r set x rest response is go (inr (y, found, more)) =
+    go (subst (λ (z : Attributes). rest z response) (one_set (names_of r) set y x found.means is.means) more)
+
+after_the_set : (s r : Schema) (set : List ℕ) (x : Attributes) (rest : Attributes → Allowed) (response : ResponseValue)
+    → AreSame s r → IsSetText s set x → (rest x response → IsYesOrNo response.status) → WithSet r set rest response
+    → IsYesOrNo response.status
+after_the_set s r set x rest response same is go more =
+    let means : MeansSet (names_of r) set x = subst (λ (names : List (List ℕ)). MeansSet names set x) (names_same s r same) is.means in
+    read_the_set r set x rest response (record { within_limit = is.within_limit; means = means }) go more
+
+projects_yes : (s r : Schema) (x : Attributes) (response : ResponseValue) → AreSame s r → (IsEmpty x → ⊥) → (IsWide (theory_of s) x → ⊥)
+    → ((found : List Dependency) → AreTooMany (width_of s) (theory_of s) x found → ⊥) → ProjectsSet r x response → IsYesOrNo response.status
+projects_yes s r x response same some narrow few (inl (empty, says)) = absurd (some empty)
+projects_yes s r x response same some narrow few (inr (inl (also, inl (wide, says)))) =
+    absurd (narrow (subst (λ (d : Declarations). IsWide d.deps x) (sym same) wide))
+projects_yes s r x response same some narrow few (inr (inl (also, inr ((fits, many), says)))) =
+    absurd (few many.0 (subst (λ (d : Declarations). AreTooMany (length d.names) d.deps x many.0) (sym same) many.1))
+projects_yes s r x response same some narrow few (inr (inr (rules, is, says))) = inl (ap (λ (a : ResponseValue). a.status) says)
+
+project_asks : (files : Files) (name set : List ℕ) (response : ResponseValue)
+    → Answers (known_files files) (codes "project" ∷ name ∷ set ∷ []) response
+    → WithFile schema_file (known_files files) name (λ r. WithSet r set (ProjectsSet r)) response
+unfolding form_of form_over_schema schema_and_word Performs Does AnswersSchema
+project_asks files name set response answered = answered
+
+pub project_answered : (files : Files) (name set : List ℕ) (schema : Schema) (x : Attributes)
+    → IsFile schema_file (known_files files) name schema → IsSetText schema set x
+    → (IsEmpty x → ⊥) → (IsWide (theory_of schema) x → ⊥)
+    → ((found : List Dependency) → AreTooMany (width_of schema) (theory_of schema) x found → ⊥)
+    → IsAnswered files (codes "project" ∷ name ∷ set ∷ [])
+project_answered files name set schema x file is some narrow few response answered =
+    after_schema files name schema (λ r. WithSet r set (ProjectsSet r)) response file
+    (λ r same more. after_the_set schema r set x (ProjectsSet r) response same is (λ found. projects_yes schema r x response same some narrow few found) more)
+    (project_asks files name set response answered)
 
 TestsKey-yes_or_no : (r : Schema) (y : Attributes) (response : ResponseValue) → TestsKey r y response → IsYesOrNo response.status
 TestsKey-yes_or_no r y response (text, inl (shown, says)) = inl (ap (λ (a : ResponseValue). a.status) says)

@@ -1,16 +1,17 @@
 -- When a text has one reading, and words one answer: for the laws of `one_answer`. `Desk` does not cite it.
-use Rattle.std.specs.Prelude.{◌≡◌, ◌⊎◌, ℕ, List, Option, Some}
+use Rattle.std.specs.Prelude.{◌≡◌, ◌⊎◌, ℕ, List, Some}
 use Rattle.dep_model.specs.Dependencies.{Dependency}
 use Rattle.dep_model.specs.Schemas.{ImpliedBy}
 use Rattle.dep_model.specs.declared.schema.Schema.{Schema}
-use Rattle.schema_grammar.specs.Texts.{declarations_of}
 use Rattle.implication_laws.specs.OneAnswer.{HasFixedProof}
-use Rattle.desk_cli.specs.Performs.{Does}
 use Rattle.desk_implication.specs.Goals.{IsGoal}
+use Rattle.desk_inputs.specs.FileKinds.{IsFile}
+use Rattle.desk_inputs.specs.Inputs.{schema_file}
 use Rattle.desk_inputs.specs.Readings.{known_files}
 use Rattle.desk_outside.specs.Files.{Files}
 use Rattle.desk_responses.specs.ResponseValues.{ResponseValue}
-use Rattle.desk_words.specs.Forms.{CommandForm, SchemaQuestion, Task, check_cover, check_same, implies, of_schema, over_schema, sample}
+use Rattle.desk_responses.specs.declared.status.Status.TheVariants.{Yes}
+use Rattle.desk_words.specs.Forms.{Task, form_of, implies, of_schema, over_schema}
 
 -- a text means one value at most, or is refused in one way at most, and never both
 pub record HasOneReading {Value Refusal : Type 0} (Means : Value → Type 0) (Refuses : Refusal → Type 0)
@@ -19,20 +20,27 @@ pub record HasOneReading {Value Refusal : Type 0} (Means : Value → Type 0) (Re
   pub one_refusal : (refusal other : Refusal) → Refuses refusal → Refuses other → refusal ≡ other
   pub never_both : (value : Value) (refusal : Refusal) → Means value → Refuses refusal → ⊥
 
--- where the question is whether a goal is implied, and it is, the derivation that is printed is fixed
-abbrev pub AsksForFixedProof : Schema → SchemaQuestion → Type 0
-AsksForFixedProof schema question =
-    (goal : List ℕ) (d : Dependency) → question ≡ implies goal → IsGoal schema goal d → ImpliedBy schema d
-    → HasFixedProof schema d
+-- it is asked whether a goal is implied, and it is: both answers say so, and they are equal where the derivation
+-- that is printed is fixed
+pub record BothDerive (schema : Schema) (task : Task) (one other : ResponseValue) : Type 0 where
+  pub goal : List ℕ
+  pub asks : task ≡ of_schema (implies goal)
+  pub dependency : Dependency
+  pub means : IsGoal schema goal dependency
+  pub implied : ImpliedBy schema dependency
+  pub one_says_yes : one.status ≡ Yes
+  pub other_says_yes : other.status ≡ Yes
+  pub fixed : HasFixedProof schema dependency → one ≡ other
 
--- the same of what is asked of a schema, but that it is no comparison with a second schema
-pub record IsFixedTask (schema : Schema) (task : Task) : Type 0 where
-  pub proof : (question : SchemaQuestion) → task ≡ of_schema question → AsksForFixedProof schema question
-  pub alone : (file other : List ℕ) → (task ≡ check_same file other) ⊎ (task ≡ check_cover file other) → ⊥
+-- two answers are equal, but for the derivation of a goal that is implied
+abbrev pub IsOneButForProof : Schema → Task → ResponseValue → ResponseValue → Type 0
+IsOneButForProof schema task one other = (one ≡ other) ⊎ BothDerive schema task one other
 
--- two answers were given of two schemas that declare the same, read from one file
-abbrev pub AreOfOneText : Files → CommandForm → ResponseValue → ResponseValue → Type 0
-AreOfOneText files form one other =
-    (file : List ℕ) × (task : Task) × (schema : Schema) × (again : Schema) × (form ≡ over_schema file task)
-    × (declarations_of schema ≡ declarations_of again) × Does (known_files files) schema task one
-    × Does (known_files files) again task other
+-- the words ask whether the schema of a file implies a goal, and it does
+pub record AskWhatIsDerived (files : Files) (words : List (List ℕ)) (one other : ResponseValue) : Type 0 where
+  pub file : List ℕ
+  pub task : Task
+  pub forms : form_of words ≡ Some (over_schema file task)
+  pub schema : Schema
+  pub read : IsFile schema_file (known_files files) file schema
+  pub derive : BothDerive schema task one other

@@ -3,12 +3,14 @@
 //! two schemas.
 
 ghost use Rattle.std.specs.Prelude.{ℕ, List, [], ◌∷◌, codes, All};
-ghost use Rattle.attr_sets.specs.Attributes.{Attributes};
+ghost use Rattle.attr_sets.specs.Attributes.{Attributes, IsEmpty};
 ghost use Rattle.attr_sets.specs.declared.set.AttrSet.{AttrSet};
+ghost use Rattle.dep_model.specs.Dependencies.{Dependency};
 ghost use Rattle.dep_model.specs.Schemas.{width_of, theory_of};
 ghost use Rattle.dep_model.specs.declared.schema.Schema.{Schema};
 ghost use Rattle.key_listing.specs.Listing.{AreManyKeys};
 ghost use Rattle.fd_closure.specs.LeftSides.{IsWide};
+ghost use Rattle.fd_projection.specs.Refusals.{AreTooMany};
 ghost use Rattle.schema_match.specs.Columns.{SameNames};
 ghost use Rattle.desk_outside.specs.Files.{Files};
 ghost use Rattle.desk_inputs.specs.FileKinds.{IsFile};
@@ -30,6 +32,16 @@ pub fn closure_is_answered()
     ensures law { (files : Files) (name set : List ℕ) (schema : Schema) (x : Attributes)
         → IsFile schema_file (known_files files) name schema → IsSetText schema set x
         → IsAnswered files (codes "closure" ∷ name ∷ set ∷ []) }
+{}
+
+/// `project` is answered where the schema file means a schema and the text a set, which has an attribute, is
+/// not too wide, and inside which no more dependencies than are listed have a least left side.
+pub fn project_is_answered()
+    ensures law { (files : Files) (name set : List ℕ) (schema : Schema) (x : Attributes)
+        → IsFile schema_file (known_files files) name schema → IsSetText schema set x
+        → (IsEmpty x → ⊥) → (IsWide (theory_of schema) x → ⊥)
+        → ((found : List Dependency) → AreTooMany (width_of schema) (theory_of schema) x found → ⊥)
+        → IsAnswered files (codes "project" ∷ name ∷ set ∷ []) }
 {}
 
 /// `check key` is answered where the schema file means a schema and the text a set.

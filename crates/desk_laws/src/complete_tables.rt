@@ -92,7 +92,8 @@ pub fn migrate_is_answered()
     ensures plan { (files : Files) (name planned file : List ℕ) (schema : Schema)
         (plan : List Attributes)
         (rows : Relation)
-        → IsFile schema_file (known_files files) name schema → IsFile (plan_file schema) (known_files files) planned plan
+        → IsFile schema_file (known_files files) name schema
+        → IsFile (plan_file schema) (known_files files) planned plan
         → IsFile (rows_file schema) (known_files files) file rows → (IsTooLarge schema plan → ⊥)
         → IsAnswered files (codes "migrate" ∷ codes "plan" ∷ name ∷ planned ∷ file ∷ []) }
 {}

@@ -7,6 +7,7 @@
 mod begun;
 mod complete;
 mod complete_questions;
+mod complete_reasons;
 mod complete_scripts;
 mod complete_tables;
 mod one_answer;
@@ -27,8 +28,9 @@ pub use complete::{
 };
 pub use complete_questions::{
     basis_is_answered, check_cover_is_answered, check_key_is_answered, check_same_is_answered,
-    closure_is_answered, keys_of_plan_is_answered,
+    closure_is_answered, keys_of_plan_is_answered, project_is_answered,
 };
+pub use complete_reasons::{explain_cover_is_answered, explain_keys_is_answered};
 pub use complete_scripts::{draw_is_answered, sql_check_is_answered, sql_migrate_is_answered};
 pub use complete_tables::{
     check_form_is_answered, check_keeps_is_answered, ddl_is_answered, discover_is_answered,

@@ -1,23 +1,22 @@
 //! Laws that what is asked has one answer over known files.
 
-ghost use Rattle.std.specs.Prelude.{◌≡◌, ◌≤◌, ◌⊎◌, ℕ, List, Some, Ok, Err};
+ghost use Rattle.std.specs.Prelude.{◌≡◌, ◌⊎◌, ℕ, List, Ok, Err};
+ghost use Rattle.alike_laws.specs.SameDeclarations.{DeclareTheSame};
 ghost use Rattle.csv_rows.specs.Reading.{RowsOf};
 ghost use Rattle.csv_rows.specs.declared.refusal.RowRefusal.{RowRefusal};
 ghost use Rattle.dep_model.specs.Tuples.{Relation};
 ghost use Rattle.dep_model.specs.declared.schema.Schema.{Schema};
 ghost use Rattle.desk_outside.specs.Files.{Files};
-ghost use Rattle.implication_laws.specs.OneAnswer.{AllowsOne};
 ghost use Rattle.plan_grammar.specs.Diagnostics.{RefusesPlan};
 ghost use Rattle.plan_grammar.specs.Meanings.{MeansPlan};
 ghost use Rattle.proof_grammar.specs.Refusals.{IsRefusedCertificate};
 ghost use Rattle.proof_grammar.specs.Spelling.{SpellsWithin};
-ghost use Rattle.sample_rows.specs.declared.rows.TheConstants.{MOST_PERSONS};
 ghost use Rattle.schema_grammar.specs.Schemas.{MeansSchema, RefusesSchema};
 ghost use Rattle.desk_cli.specs.Performs.{Answers, Does};
 ghost use Rattle.desk_inputs.specs.Readings.{known_files};
 ghost use Rattle.desk_responses.specs.ResponseValues.{ResponseValue};
-ghost use Rattle.desk_words.specs.Forms.{CommandForm, Task, form_of, sample};
-ghost use Rattle.desk_laws.specs.OneReading.{AreOfOneText, HasOneReading, IsFixedTask};
+ghost use Rattle.desk_words.specs.Forms.{Task};
+ghost use Rattle.desk_laws.specs.OneReading.{AskWhatIsDerived, HasOneReading, IsOneButForProof};
 
 /// The text of a file has one reading: of a schema, of a plan, of a certificate, and of rows.
 pub fn texts_of_files_have_one_reading()
@@ -31,19 +30,19 @@ pub fn texts_of_files_have_one_reading()
         (λ (why : RowRefusal). RowsOf schema text (Err why)) }
 {}
 
-/// What is asked of a schema that was read, with the files after it, has one answer, but for the
-/// derivation of a goal that is not fixed and the comparison with a second schema.
+/// What is asked of a schema, with the files after it, has one answer, which rests on what the schema declares
+/// alone: two answers of schemas that declare the same are equal, but for the derivation of a goal that is not
+/// fixed.
 pub fn tasks_have_one_answer()
-    ensures law { (files : Files) (schema : Schema) (task : Task) → IsFixedTask schema task
-        → AllowsOne (Does (known_files files) schema task) }
+    ensures law { (files : Files) (schema other_schema : Schema) (task : Task) (one other : ResponseValue)
+        → DeclareTheSame schema other_schema → Does (known_files files) schema task one
+        → Does (known_files files) other_schema task other → IsOneButForProof schema task one other }
 {}
 
-/// Any two answers that words have over known files are equal, or were given of two schemas that declare
-/// the same and were read from one file. Where they form `sample`, its number keeps to the limit.
+/// Any two answers that words have over known files are equal, unless the words ask whether a goal is implied
+/// which is: then both answers are yes, and equal where the derivation is fixed.
 pub fn words_have_one_answer()
     ensures law { (files : Files) (words : List (List ℕ)) (one other : ResponseValue)
-        → ((persons : ℕ) → form_of words ≡ Some (sample persons) → persons ≤ MOST_PERSONS)
         → Answers (known_files files) words one → Answers (known_files files) words other
-        → (one ≡ other)
-        ⊎ ((command : CommandForm) × (form_of words ≡ Some command) × AreOfOneText files command one other) }
+        → (one ≡ other) ⊎ AskWhatIsDerived files words one other }
 {}

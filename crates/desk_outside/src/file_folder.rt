@@ -4,11 +4,12 @@ ghost use Rattle.std.specs.IoError.{error_kind};
 use crate::argument::{Argument, HeldFile};
 use crate::failure::OutsideFault;
 use crate::folder::Folder;
+use crate::progress::ProgressLine;
 use std::alloc::Global;
 use std::fs::{OpenFile, OpenOptions};
 use std::io;
 use std::io::{ErrorKind, Write};
-use std::rt::Files;
+use std::rt::{Clock, Files};
 
 /// The system's current folder.
 ///
@@ -16,27 +17,47 @@ use std::rt::Files;
 /// nothing and any error of the system are faults, and all are counted. A file of a name that is there
 /// is emptied. What ends is flushed first, unless it is of a kind that cannot be.
 #[derive(Drop)]
-pub struct FileFolder<R: Files + Drop> {
+pub struct FileFolder<R: Files + Clock + Eprint + Drop> {
     alloc: Global,
     rt: R,
     begun: Vec<Argument>,
     opened: Option<R::File>,
+    written: u64,
     faults: u64,
+    progress: ProgressLine,
 }
 
-impl<R: Files + Drop> FileFolder<R> {
+impl<R: Files + Clock + Eprint + Drop> FileFolder<R> {
     /// The folder that the runtime reaches. No file is open or begun, and no fault is counted.
     pub fn new(alloc: Global, rt: R) -> FileFolder<R>
         ensures is_open { ⟦<FileFolder<R> as Folder>⟧.is_open result ≡ false }
         ensures begun { ⟦<FileFolder<R> as Folder>⟧.begun result ≡ [] }
         ensures faults { ⟦<FileFolder<R> as Folder>⟧.faults result ≡ 0 }
     {
+        let progress = ProgressLine::new(alloc, &rt);
         FileFolder {
             alloc,
             rt,
             begun: Vec::new(alloc),
             opened: None,
+            written: 0,
             faults: 0,
+            progress,
+        }
+    }
+}
+
+impl<R: Files + Clock + Eprint + Drop> FileFolder<R> {
+    // Tells what is written.
+    fn tell(&mut self, count: usize)
+        ensures opened { self.new.opened ≡ self.old.opened }
+        ensures begun { self.new.begun ≡ self.old.begun }
+        ensures faults { self.new.faults ≡ self.old.faults }
+    {
+        self.written = self.written.saturating_add(count as u64);
+        if let Some(name) = self.begun.last() {
+            self.progress
+                .show(&self.rt, "writing", name.bytes(), self.written);
         }
     }
 }
@@ -83,7 +104,7 @@ fn flush_opened<T: OpenFile>(opened: &Option<T>) -> io::Result<()> {
     }
 }
 
-impl<R: Files + Drop> Folder for FileFolder<R> {
+impl<R: Files + Clock + Eprint + Drop> Folder for FileFolder<R> {
     ghost contents = { λ _. None };
 
     ghost is_open = { λ folder. is_some folder.opened };
@@ -97,6 +118,7 @@ impl<R: Files + Drop> Folder for FileFolder<R> {
         if self.begun.push(Argument::new(self.alloc, name)?).is_err() {
             return Err(OutsideFault::OutOfMemory);
         }
+        self.written = 0;
         self.opened = create_named(&self.rt, name);
         if self.opened.is_some() {
             return Ok(());
@@ -107,7 +129,10 @@ impl<R: Files + Drop> Folder for FileFolder<R> {
 
     fn write(&mut self, piece: &[u8]) -> Result<usize, OutsideFault> {
         match write_opened(&mut self.opened, piece) {
-            Ok(count) if count > 0 => Ok(count),
+            Ok(count) if count > 0 => {
+                self.tell(count);
+                Ok(count)
+            }
             _ => {
                 self.opened = None;
                 self.faults = self.faults.saturating_add(1);

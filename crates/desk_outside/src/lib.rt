@@ -11,6 +11,7 @@
 //! - [`MemoryFiles`], [`MemorySink`] and [`MemoryFolder`] make known all that they hold, and fail at chosen
 //!   calls alone. [`MemorySeries`] is what `MemoryFolder` and a destination in memory both are.
 //! - [`RealFiles`], [`StdoutSink`] and [`FileFolder`] are the system's. Nothing is known of their content.
+//!   What takes long they tell on standard error, where it is a terminal.
 #![tactic(auto)]
 
 mod argument;
@@ -22,6 +23,7 @@ mod folder;
 mod memory;
 mod memory_folder;
 mod memory_series;
+mod progress;
 mod real_files;
 mod sink;
 mod transfer;
@@ -35,6 +37,7 @@ pub use folder::Folder;
 pub use memory::{MemoryFiles, MemorySink};
 pub use memory_folder::MemoryFolder;
 pub use memory_series::MemorySeries;
+pub use progress::ProgressLine;
 pub use real_files::{RealFiles, StdoutSink};
 pub use sink::Sink;
 pub use transfer::{load, send, write_all};

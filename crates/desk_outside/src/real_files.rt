@@ -4,10 +4,11 @@ ghost use Rattle.std.specs.Io.{ReadsAtMost};
 use crate::argument::Argument;
 use crate::failure::{Failed, OutsideFault};
 use crate::file_source::FileSource;
+use crate::progress::ProgressLine;
 use crate::sink::Sink;
 use std::alloc::Global;
 use std::io::Read;
-use std::rt::Files;
+use std::rt::{Clock, Files};
 use std::{fs, io};
 
 /// The system's files.
@@ -15,22 +16,24 @@ use std::{fs, io};
 /// Of them only the names begun are known. A name that is not UTF-8, a missing file and any error of
 /// the system are faults, and all are counted.
 #[derive(Drop)]
-pub struct RealFiles<R: Files + Drop> {
+pub struct RealFiles<R: Files + Clock + Eprint + Drop> {
     alloc: Global,
     rt: R,
     names: Vec<Argument>,
     begun: Option<R::File>,
     taken: u64,
     faults: u64,
+    progress: ProgressLine,
 }
 
-impl<R: Files + Drop> RealFiles<R> {
+impl<R: Files + Clock + Eprint + Drop> RealFiles<R> {
     /// The files that the runtime reaches. None is begun, and no fault is counted.
     pub fn new(alloc: Global, rt: R) -> RealFiles<R>
         ensures begun { ⟦<RealFiles<R> as FileSource>⟧.begun result [] }
         ensures taken { ⟦<RealFiles<R> as FileSource>⟧.taken result ≡ 0 }
         ensures faults { ⟦<RealFiles<R> as FileSource>⟧.faults result ≡ 0 }
     {
+        let progress = ProgressLine::new(alloc, &rt);
         RealFiles {
             alloc,
             rt,
@@ -38,6 +41,22 @@ impl<R: Files + Drop> RealFiles<R> {
             begun: None,
             taken: 0,
             faults: 0,
+            progress,
+        }
+    }
+}
+
+impl<R: Files + Clock + Eprint + Drop> RealFiles<R> {
+    // Tells what is read, and at the end of a file that it is at work.
+    fn tell(&mut self, count: usize)
+        ensures names { self.new.names ≡ self.old.names }
+        ensures taken { self.new.taken ≡ self.old.taken }
+        ensures faults { self.new.faults ≡ self.old.faults }
+    {
+        let doing = if count == 0 { "at work on" } else { "reading" };
+        if let Some(name) = self.names.last() {
+            self.progress
+                .show(&self.rt, doing, name.bytes(), self.taken);
         }
     }
 }
@@ -58,7 +77,7 @@ fn read_begun<T: Read>(begun: &mut Option<T>, buf: &mut [u8]) -> io::Result<usiz
     }
 }
 
-impl<R: Files + Drop> FileSource for RealFiles<R> {
+impl<R: Files + Clock + Eprint + Drop> FileSource for RealFiles<R> {
     ghost files = { λ _. None };
 
     ghost left = { λ _. None };
@@ -87,6 +106,7 @@ impl<R: Files + Drop> FileSource for RealFiles<R> {
         match read_begun(&mut self.begun, buf) {
             Ok(count) => {
                 self.taken = self.taken.saturating_add(count as u64);
+                self.tell(count);
                 Ok(count)
             }
             Err(_) => {
@@ -105,26 +125,32 @@ impl<R: Files + Drop> FileSource for RealFiles<R> {
 /// Nothing is known of what it took. An error of the system, and a write that takes nothing, are
 /// faults, and all are counted.
 #[derive(Drop)]
-pub struct StdoutSink<R: Print + Drop> {
+pub struct StdoutSink<R: Print + Clock + Eprint + Drop> {
     rt: R,
     faults: u64,
+    progress: ProgressLine,
 }
 
-impl<R: Print + Drop> StdoutSink<R> {
-    /// The output that the runtime prints to. No fault is counted.
-    pub fn new(rt: R) -> StdoutSink<R>
+impl<R: Print + Clock + Eprint + Drop> StdoutSink<R> {
+    /// The output that the runtime prints to, before which a line is cleared. No fault is counted.
+    pub fn new(rt: R, progress: ProgressLine) -> StdoutSink<R>
         ensures faults { ⟦<StdoutSink<R> as Sink>⟧.faults result ≡ 0 }
     {
-        StdoutSink { rt, faults: 0 }
+        StdoutSink {
+            rt,
+            faults: 0,
+            progress,
+        }
     }
 }
 
-impl<R: Print + Drop> Sink for StdoutSink<R> {
+impl<R: Print + Clock + Eprint + Drop> Sink for StdoutSink<R> {
     ghost contents = { λ _. None };
 
     ghost faults = { λ sink. sink.faults };
 
     fn write(&mut self, piece: &[u8]) -> Result<usize, Failed> {
+        self.progress.clear(&self.rt);
         match self.rt.write_some(piece) {
             Ok(count) if count > 0 => Ok(count),
             _ => {

@@ -12,7 +12,7 @@ use crate::sink::Sink;
 use std::alloc::Global;
 
 // The most bytes that one read asks for.
-const CHUNK: usize = 4096;
+const CHUNK: usize = 65_536;
 
 /// Begins the file of this name and reads it to its end, which is at most `limit` bytes away.
 pub fn load<F: FileSource>(

@@ -11,8 +11,7 @@ abbrev pub response_value : Response → ResponseValue
 response_value response = record {
   status = response.status;
   text = response.text.items;
-  tables = option_map
-      (λ tables. table_values tables.items) response.tables;
+  tables = option_map table_values response.tables;
 }
 
 -- a command ends early with an allowed response; running out of memory is always allowed

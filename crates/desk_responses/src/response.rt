@@ -3,14 +3,14 @@ ghost use Rattle.desk_responses.specs.declared.status.Status.TheVariants.{Yes};
 
 use crate::Status;
 use dep_model::OutOfMemory;
-use named_tables::NamedTable;
+use named_tables::ChosenTables;
 
 /// A status, the text that goes with it, and tables for the destinations, which only yes has.
 #[derive(Debug, Drop)]
 pub struct Response {
     pub status: Status,
     pub text: Vec<u8>,
-    pub tables: Option<Vec<NamedTable>>,
+    pub tables: Option<ChosenTables>,
     pub ghost yes: { IsSome tables → status ≡ Yes },
 }
 
@@ -31,8 +31,8 @@ impl Response {
     }
 
     /// Yes with a text, and these tables for the destinations.
-    pub fn with_tables(text: Vec<u8>, tables: Vec<NamedTable>) -> Response
-        ensures gives { RespondsWithTables text.items (table_values tables.items)
+    pub fn with_tables(text: Vec<u8>, tables: ChosenTables) -> Response
+        ensures gives { RespondsWithTables text.items (table_values tables)
             (response_value result) }
     {
         Response {

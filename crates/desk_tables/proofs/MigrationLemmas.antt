@@ -9,13 +9,15 @@ use Rattle.desk_responses.specs.declared.response.Response.{Response}
 use Rattle.desk_responses.specs.declared.response.EarlyExit.{EarlyExit}
 use Rattle.desk_responses.specs.Responses.{RespondsAs}
 use Rattle.std.specs.List.{flat_map}
-use Rattle.named_tables.specs.declared.table.NamedTable.{NamedTable}
-use Rattle.named_tables.specs.Tables.{table_value, table_values}
+use Rattle.dep_model.specs.Tuples.{Relation}
+use Rattle.named_tables.specs.declared.table.ChosenTable.{ChosenTable}
+use Rattle.named_tables.specs.Tables.{chosen_value, chosen_values}
 use Rattle.desk_tables.specs.Migrations.{table_line, IsSampleSchema, MigratesRows, Samples}
 
-pub lines_of : (tables : List NamedTable) → flat_map (λ table. table_line (table_value table)) tables ≡ flat_map table_line (table_values tables)
-lines_of [] = refl
-lines_of (table ∷ tables) = ap (λ (l : List ℕ). table_line (table_value table) ++ l) (lines_of tables)
+pub lines_of : (rows : Relation) (tables : List ChosenTable)
+    → flat_map (λ table. table_line (chosen_value rows table)) tables ≡ flat_map table_line (chosen_values rows tables)
+lines_of rows [] = refl
+lines_of rows (table ∷ tables) = ap (λ (l : List ℕ). table_line (chosen_value rows table) ++ l) (lines_of rows tables)
 
 -- what is answered of the schema of the sample is answered of the sample
 pub sample_response : (persons : ℕ) (schema : Schema) (result : Result Response EarlyExit) → IsSampleSchema schema

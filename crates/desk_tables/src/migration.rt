@@ -1,11 +1,11 @@
 ghost use Rattle.std.specs.Prelude.{◌≡◌, ◌≤◌, ◌<◌, ◌^◌, ◌++◌, length, codes, IfOk, OnOk};
 ghost use Rattle.std.specs.Fmt.{decimal};
 ghost use Rattle.std.specs.List.{flat_map};
-ghost use Rattle.named_tables.specs.Tables.{table_value, table_values};
+ghost use Rattle.named_tables.specs.Tables.{chosen_value, table_values};
 ghost use Rattle.plans.specs.Plans.{IsPlanOver, plan_of};
 ghost use Rattle.dep_model.specs.Projections.{Covers, IsLossless};
 ghost use Rattle.dep_model.specs.Schemas.{LegalFor, theory_of, width_of};
-ghost use Rattle.dep_model.specs.Tuples.{IsOver};
+ghost use Rattle.dep_model.specs.Tuples.{IsOver, Relation};
 ghost use Rattle.schema_printer.specs.Printing.{words_text};
 ghost use Rattle.desk_tables.specs.Migrations.{AreTablesOf, GivesTables, Migrates, MigratesPlan, MigratesRows, migrated_text, table_line};
 ghost use Rattle.desk_responses.specs.Responses.{response_value, RespondsAs};
@@ -19,11 +19,11 @@ use desk_designs::{plan_in_form, test_loss};
 use desk_responses::{EarlyExit, Response};
 use desk_texts::line_of;
 use itoa::Buffer;
-use named_tables::NamedTable;
+use named_tables::{ChosenTable, ChosenTables};
 use normal_forms::Form;
 use plan_reader::MOST_SCHEMES;
 use plans::Plan;
-use row_store::Rows;
+use row_store::{Hashing, Rows};
 use schema_printer::add;
 use std::alloc::Global;
 use table_names::MOST_TABLES;
@@ -31,109 +31,116 @@ use table_names::MOST_TABLES;
 /// Rows as tables in a normal form.
 pub fn migrate_in_form(
     alloc: Global,
+    hashing: Hashing,
     schema: &Schema,
     form: Form,
-    rows: &Rows,
+    rows: Rows,
 ) -> Result<Response, EarlyExit>
-    requires over { IsOver (width_of schema.now) rows.now }
-    requires fits_u32 { length rows.now < 2 ^ 32 }
-    ensures response { RespondsAs (Migrates schema.now form rows.now) result }
+    requires over { IsOver (width_of schema.now) rows }
+    requires fits_u32 { length rows < 2 ^ 32 }
+    ensures response { RespondsAs (Migrates schema.now form rows) result }
 {
     let plan = match plan_in_form(alloc, schema, form) {
         Ok(plan) => plan,
         Err(exit) => return Err(exit),
     };
-    migrate_rows(alloc, schema, &plan, rows)
+    migrate_rows(alloc, hashing, schema, &plan, rows)
 }
 
 /// Rows as tables of a plan, where it loses nothing.
 pub fn migrate_by_plan(
     alloc: Global,
+    hashing: Hashing,
     schema: &Schema,
     plan: &Plan,
-    rows: &Rows,
+    rows: Rows,
 ) -> Result<Response, EarlyExit>
     requires universe { IsPlanOver schema.now plan.now }
     requires within_limit { length (plan_of plan.now) ≤ MOST_SCHEMES }
     requires covers { Covers (width_of schema.now) (plan_of plan.now) }
-    requires over { IsOver (width_of schema.now) rows.now }
-    requires fits_u32 { length rows.now < 2 ^ 32 }
-    ensures response { RespondsAs (MigratesPlan schema.now (plan_of plan.now) rows.now) result }
+    requires over { IsOver (width_of schema.now) rows }
+    requires fits_u32 { length rows < 2 ^ 32 }
+    ensures response { RespondsAs (MigratesPlan schema.now (plan_of plan.now) rows) result }
 {
     match test_loss(alloc, schema, plan) {
         Ok(()) => {}
         Err(exit) => return Err(exit),
     }
-    migrate_rows(alloc, schema, plan, rows)
+    migrate_rows(alloc, hashing, schema, plan, rows)
 }
 
 /// Rows as tables of a plan that loses nothing, if they are legal.
 pub fn migrate_rows(
     alloc: Global,
+    hashing: Hashing,
     schema: &Schema,
     plan: &Plan,
-    rows: &Rows,
+    rows: Rows,
 ) -> Result<Response, EarlyExit>
-    requires over { IsOver (width_of schema.now) rows.now }
-    requires fits_u32 { length rows.now < 2 ^ 32 }
+    requires over { IsOver (width_of schema.now) rows }
+    requires fits_u32 { length rows < 2 ^ 32 }
     requires universe { IsPlanOver schema.now plan.now }
     requires lossless { IsLossless (width_of schema.now) (theory_of schema.now) (plan_of plan.now) }
-    ensures response { RespondsAs (MigratesRows schema.now (plan_of plan.now) rows.now) result }
+    ensures response { RespondsAs (MigratesRows schema.now (plan_of plan.now) rows) result }
 {
-    match test_rows(alloc, schema, rows) {
+    match test_rows(alloc, hashing, schema, &rows) {
         Ok(()) => {}
         Err(exit) => return Err(exit),
     }
-    Ok(tables_response(alloc, schema, plan, rows)?)
+    Ok(tables_response(alloc, hashing, schema, plan, rows)?)
 }
 
 // Legal rows as the tables of a plan.
 fn tables_response(
     alloc: Global,
+    hashing: Hashing,
     schema: &Schema,
     plan: &Plan,
-    rows: &Rows,
+    rows: Rows,
 ) -> Result<Response, OutOfMemory>
-    requires over { IsOver (width_of schema.now) rows.now }
-    requires fits_u32 { length rows.now < 2 ^ 32 }
+    requires over { IsOver (width_of schema.now) rows }
+    requires fits_u32 { length rows < 2 ^ 32 }
     requires universe { IsPlanOver schema.now plan.now }
     requires lossless { IsLossless (width_of schema.now) (theory_of schema.now) (plan_of plan.now) }
-    requires legal { LegalFor schema.now rows.now }
+    requires legal { LegalFor schema.now rows }
     ensures response { IfOk result
-        (λ response. GivesTables schema.now (plan_of plan.now) rows.now (response_value response)) }
+        (λ response. GivesTables schema.now (plan_of plan.now) rows (response_value response)) }
 {
-    let tables = tables_of(alloc, schema, plan, rows)?;
-    let text = migrated_lines(alloc, rows, &tables)?;
+    let tables = tables_of(alloc, hashing, schema, plan, rows)?;
+    let text = migrated_lines(alloc, &tables)?;
     Ok(Response::with_tables(text, tables))
 }
 
 // The tables of a plan, in the order of a design. No memory holds a plan of more tables than have a name.
 fn tables_of(
     alloc: Global,
+    hashing: Hashing,
     schema: &Schema,
     plan: &Plan,
-    rows: &Rows,
-) -> Result<Vec<NamedTable>, OutOfMemory>
-    requires over { IsOver (width_of schema.now) rows.now }
-    requires fits_u32 { length rows.now < 2 ^ 32 }
+    rows: Rows,
+) -> Result<ChosenTables, OutOfMemory>
+    requires over { IsOver (width_of schema.now) rows }
+    requires fits_u32 { length rows < 2 ^ 32 }
     requires universe { IsPlanOver schema.now plan.now }
     requires lossless { IsLossless (width_of schema.now) (theory_of schema.now) (plan_of plan.now) }
-    requires legal { LegalFor schema.now rows.now }
+    requires legal { LegalFor schema.now rows }
+    ensures rows { IfOk result (λ tables. tables.rows ≡ rows) }
     ensures tables { IfOk result
-        (λ tables. AreTablesOf schema.now (plan_of plan.now) rows.now (table_values tables.items)) }
+        (λ tables. AreTablesOf schema.now (plan_of plan.now) rows (table_values tables)) }
 {
     let ordered = in_design_order(alloc, schema, plan)?;
     if ordered.schemes().len() > MOST_TABLES as usize {
         return Err(OutOfMemory);
     }
-    Ok(tables(alloc, schema, &ordered, rows)?)
+    Ok(tables(alloc, hashing, schema, &ordered, rows)?)
 }
 
 // How many rows were read, and the tables that they became.
-fn migrated_lines(alloc: Global, rows: &Rows, tables: &[NamedTable]) -> Result<Vec<u8>, OutOfMemory>
-    ensures text { IfOk result (λ text. text.items ≡ migrated_text rows.now (table_values tables.now)) }
+fn migrated_lines(alloc: Global, tables: &ChosenTables) -> Result<Vec<u8>, OutOfMemory>
+    ensures text { IfOk result
+        (λ text. text.items ≡ migrated_text tables.now.rows (table_values tables.now)) }
 {
-    let mut text = read_line(alloc, rows.len())?;
+    let mut text = read_line(alloc, tables.rows.len())?;
     put_tables(&mut text, tables)?;
     Ok(text)
 }
@@ -151,26 +158,26 @@ fn read_line(alloc: Global, rows: usize) -> Result<Vec<u8>, OutOfMemory>
 }
 
 // A line for each table, at the end of a text.
-fn put_tables(text: &mut Vec<u8>, tables: &[NamedTable]) -> Result<(), OutOfMemory>
-    ensures added { OnOk result (text.new.items
-        ≡ text.old.items ++ flat_map (λ table. table_line (table_value table)) tables.now) }
+fn put_tables(text: &mut Vec<u8>, tables: &ChosenTables) -> Result<(), OutOfMemory>
+    ensures added { OnOk result (text.new.items ≡ text.old.items
+        ++ flat_map (λ table. table_line (chosen_value tables.now.rows table)) tables.now.tables.items) }
 {
-    for table in tables {
+    for table in &tables.tables {
         put_table(text, table)?;
     }
     Ok(())
 }
 
 // A table: its name, how many rows it has, and its columns.
-fn put_table(text: &mut Vec<u8>, table: &NamedTable) -> Result<(), OutOfMemory>
-    ensures added { OnOk result (text.new.items ≡ text.old.items
-        ++ table_line (table_value table.now)) }
+fn put_table(text: &mut Vec<u8>, table: &ChosenTable) -> Result<(), OutOfMemory>
+    ensures added { (rows : Relation) → OnOk result (text.new.items ≡ text.old.items
+        ++ table_line (chosen_value rows table.now)) }
 {
-    add(text, table.held.name.bytes())?;
+    add(text, table.name.bytes())?;
     add(text, b" ")?;
-    add(text, Buffer::new().format(table.held.rows.len()).as_bytes())?;
+    add(text, Buffer::new().format(table.chosen.len()).as_bytes())?;
     add(text, b" rows:")?;
-    put_names(text, &table.held.columns)?;
+    put_names(text, &table.columns)?;
     add(text, b"\n")
 }
 

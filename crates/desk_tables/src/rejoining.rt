@@ -14,7 +14,7 @@ use csv_rows::{PartialRows, print_rows};
 use dep_model::{Failure, OutOfMemory, Schema};
 use desk_responses::{EarlyExit, Response, Status, name_of};
 use desk_texts::put_pair;
-use row_store::Rows;
+use row_store::{Hashing, Rows};
 use schema_printer::{add, add_number};
 use std::alloc::Global;
 use table_join::{JoinRefusal, join};
@@ -23,12 +23,17 @@ use table_join::{JoinRefusal, join};
 pub const MOST_JOINED_ROWS: u32 = 10_000_000;
 
 /// The natural join of tables.
-pub fn rejoin(alloc: Global, schema: &Schema, parts: &[PartialRows]) -> Result<Response, EarlyExit>
+pub fn rejoin(
+    alloc: Global,
+    hashing: Hashing,
+    schema: &Schema,
+    parts: &[PartialRows],
+) -> Result<Response, EarlyExit>
     requires fits_u32 { length parts.now < 2 ^ 32 }
     requires tables { All (IsTable (width_of schema.now)) (tables_of parts.now) }
     ensures response { RespondsAs (JoinsTables schema.now (tables_of parts.now)) result }
 {
-    match join(alloc, schema, parts, MOST_JOINED_ROWS) {
+    match join(alloc, hashing, schema, parts, MOST_JOINED_ROWS) {
         Ok(rows) => Ok(response_of(alloc, schema, &rows)?),
         Err(Failure::Refused(refusal)) => Err(join_refusal_exit(alloc, schema, refusal)),
         Err(Failure::OutOfMemory) => Err(EarlyExit::OutOfMemory),

@@ -9,17 +9,22 @@ use dep_model::{OutOfMemory, Schema};
 use desk_responses::{EarlyExit, Response, Status, put_dep, put_line};
 use desk_texts::line_of;
 use legality::{Offence, offences};
-use row_store::Rows;
+use row_store::{Hashing, Rows};
 use schema_printer::{add, add_number};
 use std::alloc::Global;
 
 /// Whether rows are legal for a schema.
-pub fn check_rows(alloc: Global, schema: &Schema, rows: &Rows) -> Result<Response, EarlyExit>
+pub fn check_rows(
+    alloc: Global,
+    hashing: Hashing,
+    schema: &Schema,
+    rows: &Rows,
+) -> Result<Response, EarlyExit>
     requires over { IsOver (width_of schema.now) rows.now }
     requires fits_u32 { length rows.now < 2 ^ 32 }
     ensures response { RespondsAs (JudgesRows schema.now rows.now) result }
 {
-    match test_rows(alloc, schema, rows) {
+    match test_rows(alloc, hashing, schema, rows) {
         Ok(()) => {}
         Err(exit) => return Err(exit),
     }
@@ -27,13 +32,18 @@ pub fn check_rows(alloc: Global, schema: &Schema, rows: &Rows) -> Result<Respons
 }
 
 /// The test that rows are legal.
-pub fn test_rows(alloc: Global, schema: &Schema, rows: &Rows) -> Result<(), EarlyExit>
+pub fn test_rows(
+    alloc: Global,
+    hashing: Hashing,
+    schema: &Schema,
+    rows: &Rows,
+) -> Result<(), EarlyExit>
     requires over { IsOver (width_of schema.now) rows.now }
     requires fits_u32 { length rows.now < 2 ^ 32 }
     ensures ok { IfOk result (λ _. LegalFor schema.now rows.now) }
     ensures exit { IfErr result (ExitsAs (OffenceStops schema.now rows.now)) }
 {
-    let found = offences(alloc, schema, rows)?;
+    let found = offences(alloc, hashing, schema, rows)?;
     if found.is_empty() {
         return Ok(());
     }

@@ -6,11 +6,16 @@ use desk_designs::plan_in_form;
 use desk_responses::{EarlyExit, Response};
 use desk_words::Persons;
 use normal_forms::Form;
+use row_store::Hashing;
 use sample_rows::{sample_rows, sample_schema};
 use std::alloc::Global;
 
 /// The rows of so many invented persons, as tables in fourth normal form.
-pub fn migrate_sample(alloc: Global, persons: Persons) -> Result<Response, EarlyExit>
+pub fn migrate_sample(
+    alloc: Global,
+    hashing: Hashing,
+    persons: Persons,
+) -> Result<Response, EarlyExit>
     ensures response { RespondsAs (Samples persons.number) result }
 {
     let schema = sample_schema(alloc)?;
@@ -19,5 +24,5 @@ pub fn migrate_sample(alloc: Global, persons: Persons) -> Result<Response, Early
         Ok(plan) => plan,
         Err(exit) => return Err(exit),
     };
-    migrate_rows(alloc, &schema, &plan, &rows)
+    migrate_rows(alloc, hashing, &schema, &plan, rows)
 }

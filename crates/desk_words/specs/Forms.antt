@@ -19,6 +19,8 @@ pub data SchemaQuestion : Type 0 where
   basis : List ℕ → SchemaQuestion
   -- how the closure of a set of attributes comes about
   closure : List ℕ → SchemaQuestion
+  -- the functional dependencies inside a set of attributes
+  project : List ℕ → SchemaQuestion
   -- its keys
   keys : SchemaQuestion
   -- whether a set of attributes is a key
@@ -31,6 +33,10 @@ pub data SchemaQuestion : Type 0 where
   split_wide : SchemaQuestion
   -- a relation that obeys just what it implies
   exhibit : SchemaQuestion
+  -- its cover, and how that comes about
+  explain_cover : SchemaQuestion
+  -- its keys, what they have in common, and what is in none of them
+  explain_keys : SchemaQuestion
   -- SQL tables in a normal form
   ddl : NormalForm → SchemaQuestion
   -- queries for what breaks each rule in a table of this name
@@ -202,6 +208,14 @@ after_split (what ∷ rest) =
     else if bytes_eq what (codes "wide-bcnf") then schema_alone split_wide rest
     else None
 
+-- after `explain`
+unfoldable pub after_explain : List (List ℕ) → Option CommandForm
+after_explain [] = None
+after_explain (what ∷ rest) =
+    if bytes_eq what (codes "cover") then schema_alone explain_cover rest
+    else if bytes_eq what (codes "keys") then schema_alone explain_keys rest
+    else None
+
 -- after `ddl`
 unfoldable pub after_ddl : List (List ℕ) → Option CommandForm
 after_ddl [] = None
@@ -246,10 +260,12 @@ form_over_schema verb rest =
     else if bytes_eq verb (codes "cover") then schema_alone cover rest
     else if bytes_eq verb (codes "basis") then schema_and_word basis rest
     else if bytes_eq verb (codes "closure") then schema_and_word closure rest
+    else if bytes_eq verb (codes "project") then schema_and_word project rest
     else if bytes_eq verb (codes "keys") then after_keys rest
     else if bytes_eq verb (codes "synthesize") then schema_alone synthesize rest
     else if bytes_eq verb (codes "split") then after_split rest
     else if bytes_eq verb (codes "exhibit") then schema_alone exhibit rest
+    else if bytes_eq verb (codes "explain") then after_explain rest
     else if bytes_eq verb (codes "ddl") then after_ddl rest
     else if bytes_eq verb (codes "migrate") then after_migrate rest
     else if bytes_eq verb (codes "rejoin") then schema_and_several rejoin rest

@@ -3,6 +3,7 @@ ghost use Rattle.desk_words.specs.Commands.{command_form};
 ghost use Rattle.desk_words.specs.Forms as forms;
 
 use crate::check::after_check;
+use crate::explain::after_explain;
 use crate::persons::{Persons, count_of};
 use crate::questions::{SchemaQuestion, Task};
 use crate::shapes::{no_more_arguments, over, schema_alone};
@@ -121,6 +122,17 @@ fn over_schema<'a>(verb: &Argument, rest: &'a [Argument]) -> Option<Command<'a>>
             },
         );
     }
+    if verb.bytes() == b"project".as_slice() {
+        let [schema, set] = rest else {
+            return None;
+        };
+        return over(
+            schema,
+            Task::OfSchema {
+                question: SchemaQuestion::Project { set },
+            },
+        );
+    }
     if verb.bytes() == b"keys".as_slice() {
         return after_keys(rest);
     }
@@ -132,6 +144,9 @@ fn over_schema<'a>(verb: &Argument, rest: &'a [Argument]) -> Option<Command<'a>>
     }
     if verb.bytes() == b"exhibit".as_slice() {
         return schema_alone(SchemaQuestion::Exhibit, rest);
+    }
+    if verb.bytes() == b"explain".as_slice() {
+        return after_explain(rest);
     }
     if verb.bytes() == b"ddl".as_slice() {
         return after_ddl(rest);

@@ -5,6 +5,7 @@
 
 mod check;
 mod command;
+mod explain;
 mod persons;
 mod questions;
 mod shapes;

@@ -12,6 +12,8 @@ pub enum SchemaQuestion<'a> {
     Basis { set: &'a Argument },
     /// How the closure of a set of attributes comes about.
     Closure { set: &'a Argument },
+    /// The functional dependencies inside a set of attributes.
+    Project { set: &'a Argument },
     /// All its keys.
     Keys,
     /// Whether a set of attributes is a key.
@@ -24,6 +26,10 @@ pub enum SchemaQuestion<'a> {
     SplitWide,
     /// A relation that obeys just what it implies.
     Exhibit,
+    /// What says the same, shortened, and how that comes about.
+    ExplainCover,
+    /// All its keys, what they have in common, and what is in none of them.
+    ExplainKeys,
     /// SQL tables in a normal form.
     Ddl { form: Form },
     /// Queries for what breaks each rule in a table of this name.

@@ -1,6 +1,7 @@
 //! A destination in a box, of whatever type: each call goes to the one in the box.
 
 use crate::destination::Destination;
+use attr_sets::AttrSet;
 use dep_model::Name;
 use desk_outside::{HeldFile, OutsideFault};
 use named_tables::HeldTable;
@@ -23,8 +24,8 @@ impl Destination for Box<dyn Destination> {
         (**self).begin_table(name, columns)
     }
 
-    fn put_row(&mut self, rows: &Rows, row: usize) -> Result<(), OutsideFault> {
-        (**self).put_row(rows, row)
+    fn put_row(&mut self, rows: &Rows, row: usize, scheme: AttrSet) -> Result<(), OutsideFault> {
+        (**self).put_row(rows, row, scheme)
     }
 
     fn end_table(&mut self) -> Result<(), OutsideFault> {

@@ -3,8 +3,11 @@ ghost use Rattle.named_tables.specs.Tables.{TableValue, held_value, empty_table}
 ghost use Rattle.desk_outside.specs.Causes.{HasOutsideCause};
 ghost use Rattle.desk_outside.specs.Begun.{Begins, MayBegin, KeepsBegun};
 ghost use Rattle.destinations.specs.Destinations.{GivesUp, MayGiveUp, KeepsFinished, AddsRow, FinishesTable};
+ghost use Rattle.attr_sets.specs.Sets.{attributes};
+ghost use Rattle.dep_model.specs.Projections.{project_tuple};
 ghost use Rattle.row_store.specs.Rows.{row_at};
 
+use attr_sets::AttrSet;
 use dep_model::Name;
 use desk_outside::{HeldFile, OutsideFault};
 use named_tables::HeldTable;
@@ -49,14 +52,16 @@ pub trait Destination: Drop {
         ensures width { width self.new ≡ (if is_ok result then Some (length columns.now) else None) }
         ensures cause { HasOutsideCause (faults self.old) (faults self.new) result };
 
-    /// Adds a row of these rows at the end of the open table.
-    fn put_row(&mut self, rows: &Rows, row: usize) -> Result<(), OutsideFault>
+    /// Adds a row of these rows, projected on a scheme, at the end of the open table.
+    fn put_row(&mut self, rows: &Rows, row: usize, scheme: AttrSet) -> Result<(), OutsideFault>
         requires row { row < length rows.now }
-        requires row_width { width self.old ≡ Some (length (row_at rows.now row)) }
+        requires row_width { width self.old
+            ≡ Some (length (project_tuple (attributes scheme) (row_at rows.now row))) }
         ensures is_known { is_known self.new ≡ is_known self.old }
         ensures keeps { KeepsFinished (finished self.old) (finished self.new) }
         ensures keeps_begun { KeepsBegun (begun self.old) (begun self.new) }
-        ensures adds { OnOk result (AddsRow (row_at rows.now row) (opened self.old) (opened self.new)) }
+        ensures adds { OnOk result (AddsRow (project_tuple (attributes scheme) (row_at rows.now row))
+            (opened self.old) (opened self.new)) }
         ensures width { width self.new ≡ (if is_ok result then width self.old else None) }
         ensures cause { HasOutsideCause (faults self.old) (faults self.new) result };
 

@@ -3,16 +3,18 @@ ghost use Rattle.desk_outside.specs.Files.{files_of};
 
 use crate::buffered_folder::BufferedFolder;
 use crate::destination::Destination;
-use crate::format::{TableFormat, file_name, front_of, line_of, opening_of};
+use crate::format::{TableFormat, add_line, file_name, front_of, opening_of};
+use attr_sets::AttrSet;
 use dep_model::{Name, OutOfMemory};
 use desk_outside::{Folder, HeldFile, OutsideFault, write_all};
 use named_tables::HeldTable;
-use row_store::Rows;
+use row_store::{FlatValues, Rows, project_row};
 use std::alloc::Global;
 
 /// A destination over a folder. Each table becomes a file of its own, in one format.
 ///
-/// It gathers what it writes in a buffer of 64 KiB, which the end of a table writes out.
+/// It gathers what it writes in a buffer of 64 KiB, which the end of a table writes out. The values of a row
+/// and its line are made in memory that it keeps.
 #[derive(Drop)]
 pub struct FileDestination<G: Folder> {
     alloc: Global,
@@ -20,6 +22,8 @@ pub struct FileDestination<G: Folder> {
     folder: BufferedFolder<G>,
     front: Vec<u8>,
     columns: Option<usize>,
+    values: FlatValues,
+    line: Vec<u8>,
     pub ghost is_open: { IsSome columns → IsTrue (G.is_open folder.folder) },
 }
 
@@ -47,6 +51,8 @@ impl<G: Folder> FileDestination<G> {
             folder: BufferedFolder::new(alloc, folder)?,
             front: Vec::new(alloc),
             columns: None,
+            values: FlatValues::new(alloc),
+            line: Vec::new(alloc),
         })
     }
 
@@ -90,10 +96,18 @@ impl<G: Folder> Destination for FileDestination<G> {
         Ok(())
     }
 
-    fn put_row(&mut self, rows: &Rows, row: usize) -> Result<(), OutsideFault> {
+    fn put_row(&mut self, rows: &Rows, row: usize, scheme: AttrSet) -> Result<(), OutsideFault> {
         let columns = self.columns.take();
-        let line = line_of(self.alloc, self.format, &self.front, rows, row)?;
-        write_all(&mut self.folder, &line)?;
+        project_row(&mut self.values, scheme, rows, row)?;
+        self.line.clear();
+        add_line(
+            self.alloc,
+            &mut self.line,
+            self.format,
+            &self.front,
+            &self.values,
+        )?;
+        write_all(&mut self.folder, &self.line)?;
         self.columns = columns;
         Ok(())
     }

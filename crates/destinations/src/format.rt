@@ -1,10 +1,9 @@
-ghost use Rattle.std.specs.Prelude.{◌≡◌, ◌<◌, ◌++◌, length, IfOk};
+ghost use Rattle.std.specs.Prelude.{◌≡◌, ◌++◌, IfOk, OnOk};
 ghost use Rattle.destinations.specs.Formats.{ending, opening, line_front, row_line};
-ghost use Rattle.row_store.specs.Rows.{row_at};
 
 use crate::sql_line;
 use dep_model::{Name, OutOfMemory};
-use row_store::Rows;
+use row_store::FlatValues;
 use schema_printer::add;
 use std::alloc::Global;
 
@@ -58,19 +57,19 @@ pub fn front_of(
     }
 }
 
-/// The line of one row. It begins with `front`, which `front_of` gives, where the format has one.
-pub fn line_of(
+/// Adds the line of one row to a text. It begins with `front`, which `front_of` gives, where the format has
+/// one.
+pub fn add_line(
     alloc: Global,
+    text: &mut Vec<u8>,
     format: TableFormat,
     front: &[u8],
-    rows: &Rows,
-    row: usize,
-) -> Result<Vec<u8>, OutOfMemory>
-    requires row { row < length rows.now }
-    ensures text { IfOk result (λ text. text.items ≡ row_line format front.now (row_at rows.now row)) }
+    row: &FlatValues,
+) -> Result<(), OutOfMemory>
+    ensures line { OnOk result (text.new.items ≡ text.old.items ++ row_line format front.now row.now) }
 {
     match format {
-        TableFormat::Csv => csv_text::row_line(alloc, rows, row),
-        TableFormat::Sql => sql_line::line_of(alloc, front, rows, row),
+        TableFormat::Csv => csv_text::add_row(text, row),
+        TableFormat::Sql => sql_line::add_line(alloc, text, front, row),
     }
 }

@@ -1,17 +1,20 @@
-ghost use Rattle.std.specs.Prelude.{◌≡◌, ◌<◌, ◌↔◌, true, [], ◌++◌, length, map, None, Some, is_ok, if◌then◌else◌, option_map, option_to_list, IsSome, IsSomeAnd, IsErrOf, OnOk, OnErr};
+ghost use Rattle.std.specs.Prelude.{◌≡◌, ◌<◌, ◌↔◌, true, [], ◌∷◌, ◌++◌, length, map, None, Some, is_ok, if◌then◌else◌, option_map, option_to_list, IsSome, IsSomeAnd, IsErrOf, OnOk, OnErr};
 ghost use Rattle.desk_outside.specs.Causes.{HasOutsideCause, is_failed};
 ghost use Rattle.desk_outside.specs.Planned.{FailsNext, CountsCall};
 ghost use Rattle.desk_outside.specs.Folders.{BeginsName};
 ghost use Rattle.destinations.specs.Destinations.{without_table};
 ghost use Rattle.destinations.specs.Memory.{new_destination};
 ghost use Rattle.named_tables.specs.Tables.{held_value, empty_table, with_row};
+ghost use Rattle.attr_sets.specs.Sets.{attributes};
+ghost use Rattle.dep_model.specs.Projections.{project_tuple};
 ghost use Rattle.row_store.specs.Rows.{row_at};
 
 use crate::destination::Destination;
-use dep_model::Name;
+use attr_sets::AttrSet;
+use dep_model::{Name, OutOfMemory};
 use desk_outside::{HeldFile, MemorySeries, OutsideFault};
 use named_tables::HeldTable;
-use row_store::Rows;
+use row_store::{FlatValues, Rows, project_row};
 use std::alloc::Global;
 use std::marker::Model;
 
@@ -106,14 +109,15 @@ impl Destination for MemoryDestination {
         Ok(())
     }
 
-    fn put_row(&mut self, rows: &Rows, row: usize) -> Result<(), OutsideFault>
+    fn put_row(&mut self, rows: &Rows, row: usize, scheme: AttrSet) -> Result<(), OutsideFault>
         requires row { row < length rows.now }
         requires even { option_map (λ table. length table.columns) self.old.opened
-            ≡ Some (length (row_at rows.now row)) }
+            ≡ Some (length (project_tuple (attributes scheme) (row_at rows.now row))) }
         ensures finished { self.new.finished ≡ self.old.finished }
         ensures same { self.new.begun ≡ self.old.begun }
         ensures adds { OnOk result (self.new.opened
-            ≡ option_map (with_row (row_at rows.now row)) self.old.opened) }
+            ≡ option_map (with_row (project_tuple (attributes scheme) (row_at rows.now row)))
+            self.old.opened) }
         ensures closed { OnErr result (self.new.opened ≡ None) }
         ensures failed { IsErrOf result OutsideFault.Failed ↔ FailsNext self.old.planned }
         ensures counts { CountsCall self.old.planned self.new.planned (is_failed result) }
@@ -122,7 +126,7 @@ impl Destination for MemoryDestination {
         let Some(mut table) = self.tables.take_open()? else {
             unreachable!();
         };
-        match table.rows.push_copy(self.alloc, rows, row) {
+        match push_projection(self.alloc, &mut table.rows, rows, row, scheme) {
             Ok(()) => {
                 self.tables.opened = Some(table);
                 Ok(())
@@ -156,4 +160,21 @@ impl Destination for MemoryDestination {
     {
         None
     }
+}
+
+// Adds a row of other rows, projected on a scheme, at the end of rows.
+fn push_projection(
+    alloc: Global,
+    to: &mut Rows,
+    rows: &Rows,
+    row: usize,
+    scheme: AttrSet,
+) -> Result<(), OutOfMemory>
+    requires row { row < length rows.now }
+    ensures rows { OnOk result
+        (to.new ≡ to.old ++ project_tuple (attributes scheme) (row_at rows.now row) ∷ []) }
+{
+    let mut values = FlatValues::new(alloc);
+    project_row(&mut values, scheme, rows, row)?;
+    to.push(&values)
 }

@@ -1,14 +1,13 @@
-ghost use Rattle.std.specs.Prelude.{◌≡◌, ◌<◌, [], ◌∷◌, ◌++◌, length, IfOk, OnOk};
-ghost use Rattle.std.specs.List.{flat_map};
+ghost use Rattle.std.specs.Prelude.{◌≡◌, ◌==◌, false, [], ◌∷◌, ◌++◌, if◌then◌else◌, IfOk, OnOk};
+ghost use Rattle.std.specs.List.{flat_map, list_any};
 ghost use Rattle.std.specs.Str.{is_utf8};
 ghost use Rattle.destinations.specs.Sql.{escape_quote, is_sql_text, sql_value, sql_head, sql_row};
-ghost use Rattle.row_store.specs.Rows.{row_at};
-ghost use Rattle.sql_names.specs.Names.{comma_list};
+ghost use Rattle.sql_names.specs.Names.{comma_list, separator};
 
 use dep_model::{Name, OutOfMemory};
-use row_store::Rows;
+use row_store::FlatValues;
 use schema_printer::add;
-use sql_names::{add_listed, add_names, add_quoted};
+use sql_names::{add_names, add_quoted};
 use std::alloc::Global;
 
 /// The front of each line of a table with these columns.
@@ -24,43 +23,57 @@ pub fn head_of(alloc: Global, name: &Name, columns: &[Name]) -> Result<Vec<u8>, 
     Ok(text)
 }
 
-/// The line of a row of rows, after this front.
-pub fn line_of(alloc: Global, head: &[u8], rows: &Rows, row: usize) -> Result<Vec<u8>, OutOfMemory>
-    requires row { row < length rows.now }
-    ensures line { IfOk result (λ line. line.items ≡ sql_row head.now (row_at rows.now row)) }
+/// Adds the line of a row, after this front.
+pub fn add_line(
+    alloc: Global,
+    text: &mut Vec<u8>,
+    head: &[u8],
+    row: &FlatValues,
+) -> Result<(), OutOfMemory>
+    ensures line { OnOk result (text.new.items ≡ text.old.items ++ sql_row head.now row.now) }
 {
-    let mut text = Vec::from_slice(alloc, head)?;
-    let values = values_of(alloc, rows, row)?;
-    add(&mut text, &values)?;
-    add(&mut text, b");\n")?;
-    Ok(text)
+    add(text, head)?;
+    add_values(alloc, text, row)?;
+    add(text, b");\n")
 }
 
 // The values of a row, with a comma and a blank between.
-fn values_of(alloc: Global, rows: &Rows, row: usize) -> Result<Vec<u8>, OutOfMemory>
-    requires row { row < length rows.now }
-    ensures values { IfOk result (λ text. text.items ≡ comma_list sql_value (row_at rows.now row)) }
+fn add_values(alloc: Global, text: &mut Vec<u8>, row: &FlatValues) -> Result<(), OutOfMemory>
+    ensures values { OnOk result (text.new.items ≡ text.old.items ++ comma_list sql_value row.now) }
 {
-    let mut text = Vec::new(alloc);
-    for i in 0..rows.width(row) {
-        let value = value_of(alloc, rows.value(row, i))?;
-        add_listed(&mut text, i > 0, &value)?;
+    for i in 0..row.len() {
+        add_listed_value(alloc, text, i > 0, row.value(i))?;
     }
-    Ok(text)
+    Ok(())
+}
+
+// A value; after a comma and a blank where another one stands before it.
+fn add_listed_value(
+    alloc: Global,
+    text: &mut Vec<u8>,
+    any_written: bool,
+    value: &[u8],
+) -> Result<(), OutOfMemory>
+    ensures added { OnOk result (text.new.items ≡ text.old.items
+        ++ (if any_written then separator ++ sql_value value.now else sql_value value.now)) }
+{
+    if any_written {
+        add(text, b", ")?;
+    }
+    add_value(alloc, text, value)
 }
 
 // The text of a value.
-fn value_of(alloc: Global, value: &[u8]) -> Result<Vec<u8>, OutOfMemory>
-    ensures text { IfOk result (λ text. text.items ≡ sql_value value.now) }
+fn add_value(alloc: Global, text: &mut Vec<u8>, value: &[u8]) -> Result<(), OutOfMemory>
+    ensures text { OnOk result (text.new.items ≡ text.old.items ++ sql_value value.now) }
 {
     if is_text(value) {
-        return quote(alloc, value);
+        return quote(text, value);
     }
     let digits = hex::encode_upper(alloc, value)?;
-    let mut text = Vec::from_slice(alloc, b"X'")?;
-    add(&mut text, digits.as_bytes())?;
-    add(&mut text, b"'")?;
-    Ok(text)
+    add(text, b"X'")?;
+    add(text, digits.as_bytes())?;
+    add(text, b"'")
 }
 
 // Whether a value can be a text of SQL.
@@ -82,16 +95,36 @@ fn is_valid(bytes: &[u8]) -> bool
 }
 
 // A value between single quotes, each single quote in it doubled.
-fn quote(alloc: Global, value: &[u8]) -> Result<Vec<u8>, OutOfMemory>
-    ensures text { IfOk result (λ text. text.items ≡ 39 ∷ (flat_map escape_quote value.now
-        ++ 39 ∷ [])) }
+fn quote(text: &mut Vec<u8>, value: &[u8]) -> Result<(), OutOfMemory>
+    ensures text { OnOk result (text.new.items ≡ text.old.items
+        ++ 39 ∷ (flat_map escape_quote value.now ++ 39 ∷ [])) }
 {
-    let mut text = Vec::from_slice(alloc, b"'")?;
-    for (i, byte) in value.iter().enumerate() {
-        add_doubled(&mut text, *byte)?;
+    add(text, b"'")?;
+    if value.contains(&b'\'') {
+        add_escaped(text, value)?;
+    } else {
+        add_plain(text, value)?;
     }
-    add(&mut text, b"'")?;
-    Ok(text)
+    add(text, b"'")
+}
+
+// A value without a single quote, as it is.
+#[tactic(auto, using(crate::proofs::SqlLemmas::no_quote))]
+fn add_plain(text: &mut Vec<u8>, value: &[u8]) -> Result<(), OutOfMemory>
+    requires plain { list_any (λ byte. byte == 39) value.now ≡ false }
+    ensures text { OnOk result (text.new.items ≡ text.old.items ++ flat_map escape_quote value.now) }
+{
+    add(text, value)
+}
+
+// A value with each single quote in it doubled.
+fn add_escaped(text: &mut Vec<u8>, value: &[u8]) -> Result<(), OutOfMemory>
+    ensures text { OnOk result (text.new.items ≡ text.old.items ++ flat_map escape_quote value.now) }
+{
+    for (i, byte) in value.iter().enumerate() {
+        add_doubled(text, *byte)?;
+    }
+    Ok(())
 }
 
 // A byte between single quotes, at the end of a text.

@@ -11,7 +11,7 @@ use crate::searching::{add_minimal, search_above};
 use crate::table::CodeColumns;
 use attr_sets::AttrSet;
 use dep_model::{Dep, OutOfMemory};
-use row_store::Rows;
+use row_store::{Hashing, Rows};
 use std::alloc::Global;
 
 /// All minimal functional dependencies that rows of `width` columns obey, each with one attribute on
@@ -20,7 +20,12 @@ use std::alloc::Global;
 ///
 /// Sets are tried from the empty one on, so that one from which an attribute follows is the first of
 /// those that hold it (Huhtala, Kärkkäinen, Porkka and Toivonen 1999).
-pub fn discover(alloc: Global, width: u8, rows: &Rows) -> Result<Vec<Dep>, OutOfMemory>
+pub fn discover(
+    alloc: Global,
+    hashing: Hashing,
+    width: u8,
+    rows: &Rows,
+) -> Result<Vec<Dep>, OutOfMemory>
     requires width { width ≤ WIDEST_HEADED }
     requires over { IsOver width rows.now }
     requires fits_u32 { length rows.now < 2 ^ 32 }
@@ -30,7 +35,7 @@ pub fn discover(alloc: Global, width: u8, rows: &Rows) -> Result<Vec<Dep>, OutOf
         Implies width (dependencies_of found.items) (fd x y) ↔ ObeysFd x y rows.now) }
     ensures within { IfOk result (λ found. All (IsDepWithin (below width)) found.items) }
 {
-    let table = CodeColumns::new(alloc, width, rows)?;
+    let table = CodeColumns::new(alloc, hashing, width, rows)?;
     let leaders = Vec::from_elem(alloc, 0, rows.len())?;
     let none = AttrSet::empty();
     let all = AttrSet::full(width);

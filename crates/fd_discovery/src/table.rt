@@ -6,7 +6,7 @@ ghost use Rattle.fd_discovery.specs.Leaders.{IsTableOfRows, order_at};
 use crate::ordering::RowOrder;
 use csv_rows::Interned;
 use dep_model::OutOfMemory;
-use row_store::Rows;
+use row_store::{Hashing, Rows};
 use std::alloc::Global;
 
 // Rows by numbers in place of their values, and for each column the order of the rows by its numbers.
@@ -19,12 +19,17 @@ pub struct CodeColumns {
 
 impl CodeColumns {
     // The table of rows that have `width` values each.
-    pub fn new(alloc: Global, width: u8, rows: &Rows) -> Result<CodeColumns, OutOfMemory>
+    pub fn new(
+        alloc: Global,
+        hashing: Hashing,
+        width: u8,
+        rows: &Rows,
+    ) -> Result<CodeColumns, OutOfMemory>
         requires over { IsOver width rows.now }
         requires fits_u32 { length rows.now < 2 ^ 32 }
         ensures table { IfOk result (λ table. IsTableOfRows width rows.now table) }
     {
-        let codes = Interned::intern(alloc, width, rows)?;
+        let codes = Interned::intern(alloc, hashing, width, rows)?;
         let mut orders = Vec::with_capacity(alloc, width as usize)?;
         for attribute in 0..width {
             orders.push(RowOrder::by_numbers(alloc, codes.column(attribute))?)?;

@@ -12,5 +12,8 @@ mod ExhibitLaws
 pub mod StepLaws
 pub mod OneAnswer
 pub mod OneStepsAnswer
+pub mod OneProjection
+pub mod OneReasons
+mod EveryKeyLaws
 pub mod OneDecision
 pub mod OnePlanAnswer

@@ -63,7 +63,7 @@ one_list n ds (d ∷ firsts) (e ∷ es) (f ∷ fs) first second =
     ∙ ap (λ (gs : List Dependency). f ∷ gs) (one_list n ds firsts es fs first.1 second.1)
 
 -- ---- what is left
-one_thinned : (n : ℕ) (kept ds one other : List Dependency) → IsThinned n kept ds one
+pub one_thinned : (n : ℕ) (kept ds one other : List Dependency) → IsThinned n kept ds one
     → IsThinned n kept ds other → one ≡ other
 one_thinned n kept [] one other first second = first ∙ sym second
 one_thinned n kept (d ∷ later) one other (inl first) (inl second) = one_thinned n kept later one other first.1 second.1

@@ -32,7 +32,7 @@ one_decided schema d one other fixed (inl (implied, (proof, proves, chain, direc
     (inl (also, (deriv, derives, run, short, said))) =
     same_says Yes _ _ one other says said
     (ap (λ (t : Tree). yes_text ++ canonical_certificate schema t)
-    (one_tree schema d (tree_of proof) (tree_of deriv) (fixed (says-status Yes _ one says)) chain run direct short))
+    (one_tree schema d (tree_of proof) (tree_of deriv) (fixed (says-status Yes _ one says)) chain run direct.0 short.0))
 one_decided schema d one other fixed (inl (implied, found)) (inr (broken, shown)) = absurd (broken implied)
 one_decided schema d one other fixed (inr (broken, shown)) (inl (implied, found)) = absurd (broken implied)
 one_decided schema d one other fixed (inr (broken, (agreement, is, says))) (inr (also, (outside, shows, said))) =

@@ -31,7 +31,7 @@ one_differences schema other first second one two =
     (differences_held schema other first second one two) (differences_held schema other second first two one)
 
 -- ---- minimal dependencies
-precedes_one_way : (P : Dependency → Type 0) → IsOneWay P Precedes
+pub precedes_one_way : (P : Dependency → Type 0) → IsOneWay P Precedes
 precedes_one_way P d e d_is e_is (inl there) (inl back) =
     IsBefore-irrefl (left_of d) (IsBefore-trans (left_of d) (left_of e) (left_of d) there back)
 precedes_one_way P d e d_is e_is (inl there) (inr (same, right)) =

@@ -11,8 +11,8 @@ use Rattle.closure_steps.specs.declared.without.Without.{Without}
 use Rattle.closure_steps.specs.Steps.{Step, reached}
 use Rattle.closure_steps.specs.Without.{IsClosureWithout, AreClosuresWithout}
 use Rattle.closure_steps.proofs.StepLemmas.{one_list}
-use Rattle.cover_check.specs.declared.complaint.Complaint.{Complaint}
-use Rattle.cover_check.specs.Complaints.{IsComplaint, IsBeforePlace, AreComplaints, position_of, rank_of}
+use Rattle.cover_check.specs.declared.diagnostic.CoverDiagnostic.{CoverDiagnostic}
+use Rattle.cover_check.specs.CoverDiagnostics.{IsCoverDiagnostic, IsBeforePlace, AreCoverDiagnostics, position_of, rank_of}
 use Rattle.dep_model.specs.Dependencies.{Dependency, fd}
 use Rattle.dep_model.specs.Keys.{InClosure}
 use Rattle.dep_model.specs.Schemas.{names_of, width_of, universe_of, theory_of}
@@ -24,7 +24,7 @@ use Rattle.schema_match.specs.Columns.{SameNames}
 use Rattle.schema_printer.specs.Printing.{set_text}
 use Rattle.schema_printer.specs.Spelling.{printed_names_of}
 use Rattle.desk_implication.specs.Closures.{IsBesideText, ComesAbout, TellsClosure, GivesClosure, closure_text}
-use Rattle.desk_implication.specs.CoverChecks.{TestsMinimal, TestsCover, ChecksCover, complaints_text}
+use Rattle.desk_implication.specs.CoverChecks.{TestsMinimal, TestsCover, ChecksCover, diagnostics_text}
 use Rattle.desk_implication.specs.Goals.{SetStops, IsSetText}
 use Rattle.desk_implication.specs.KeyChecks.{IsKeyText, IsKeyShown, IsNoSuperkey, HasKeyWithin, TestsKey, ChecksKey, is_key_text, key_within_text, no_superkey_text, without_text}
 use Rattle.desk_implication.specs.Sameness.{NameStops, different_text}
@@ -192,18 +192,18 @@ one_key_answer s set =
     (λ x y is also. one_set (names_of s) set x y is.means also.means) (λ x is. one_tested_key s x)
 
 -- ---- covers
-complaints_one_way : (n : ℕ) (ds : List Dependency)
-    → IsOneWay (IsComplaint n ds) (λ (c : Complaint) (d : Complaint). IsBeforePlace (position_of d) (rank_of d) c)
-complaints_one_way n ds c d c_is d_is (inl there) (inl back) = omega (arith, there, back)
-complaints_one_way n ds c d c_is d_is (inl there) (inr (at, back)) = omega (arith, there, at)
-complaints_one_way n ds c d c_is d_is (inr (at, there)) (inl back) = omega (arith, at, back)
-complaints_one_way n ds c d c_is d_is (inr (at, there)) (inr (also, back)) = omega (arith, there, back)
+diagnostics_one_way : (n : ℕ) (ds : List Dependency)
+    → IsOneWay (IsCoverDiagnostic n ds) (λ (c : CoverDiagnostic) (d : CoverDiagnostic). IsBeforePlace (position_of d) (rank_of d) c)
+diagnostics_one_way n ds c d c_is d_is (inl there) (inl back) = omega (arith, there, back)
+diagnostics_one_way n ds c d c_is d_is (inl there) (inr (at, back)) = omega (arith, there, at)
+diagnostics_one_way n ds c d c_is d_is (inr (at, there)) (inl back) = omega (arith, at, back)
+diagnostics_one_way n ds c d c_is d_is (inr (at, there)) (inr (also, back)) = omega (arith, there, back)
 
-one_complaint_list : (n : ℕ) (ds : List Dependency) (one other : List Complaint) → AreComplaints n ds one
-    → AreComplaints n ds other → one ≡ other
-one_complaint_list n ds one other first second =
-    one_ordered_list (IsComplaint n ds) (λ (c : Complaint) (d : Complaint). IsBeforePlace (position_of d) (rank_of d) c)
-    one other (complaints_one_way n ds)
+one_diagnostic_list : (n : ℕ) (ds : List Dependency) (one other : List CoverDiagnostic) → AreCoverDiagnostics n ds one
+    → AreCoverDiagnostics n ds other → one ≡ other
+one_diagnostic_list n ds one other first second =
+    one_ordered_list (IsCoverDiagnostic n ds) (λ (c : CoverDiagnostic) (d : CoverDiagnostic). IsBeforePlace (position_of d) (rank_of d) c)
+    one other (diagnostics_one_way n ds)
     (λ k d low. first.each _ (Contains-get_or one k d low)) (λ k d low. second.each _ (Contains-get_or other k d low))
     first.ordered second.ordered
     (λ c has. second.all c (first.each c has)) (λ c has. first.all c (second.each c has))
@@ -211,12 +211,12 @@ one_complaint_list n ds one other first second =
 one_minimal : (s : Schema) → AllowsOne (TestsMinimal s)
 one_minimal s one other (found, first, inl (none, says)) (also, second, inl (empty, said)) = says ∙ sym said
 one_minimal s one other (found, first, inl (none, says)) (also, second, inr (some, said)) =
-    absurd (some (one_complaint_list (width_of s) (theory_of s) also found second first ∙ none))
+    absurd (some (one_diagnostic_list (width_of s) (theory_of s) also found second first ∙ none))
 one_minimal s one other (found, first, inr (some, says)) (also, second, inl (none, said)) =
-    absurd (some (one_complaint_list (width_of s) (theory_of s) found also first second ∙ none))
+    absurd (some (one_diagnostic_list (width_of s) (theory_of s) found also first second ∙ none))
 one_minimal s one other (found, first, inr (some, says)) (also, second, inr (more, said)) =
     same_says No _ _ one other says said
-    (ap (complaints_text s) (one_complaint_list (width_of s) (theory_of s) found also first second))
+    (ap (diagnostics_text s) (one_diagnostic_list (width_of s) (theory_of s) found also first second))
 
 one_tested_cover : (s other : Schema) (file other_file : List ℕ) → AllowsOne (TestsCover s other file other_file)
 one_tested_cover s other file other_file one two (inl (there, back, differ, says)) (inl (of_s, of_other, also, said)) =

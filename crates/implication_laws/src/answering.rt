@@ -10,13 +10,16 @@ ghost use Rattle.desk_implication.specs.Bases.{GivesBasis};
 ghost use Rattle.desk_implication.specs.Certificates.{ChecksProof};
 ghost use Rattle.desk_implication.specs.Closures.{GivesClosure};
 ghost use Rattle.desk_implication.specs.CoverChecks.{ChecksCover};
+ghost use Rattle.desk_implication.specs.CoverReasons.{ExplainsCover};
 ghost use Rattle.desk_implication.specs.Covering.{GivesCover};
 ghost use Rattle.desk_implication.specs.Discoveries.{FindsRules};
 ghost use Rattle.desk_implication.specs.Exhibits.{Exhibits};
 ghost use Rattle.desk_implication.specs.Goals.{IsGoal};
 ghost use Rattle.desk_implication.specs.Implication.{DecidesGoal};
 ghost use Rattle.desk_implication.specs.KeyChecks.{ChecksKey};
+ghost use Rattle.desk_implication.specs.KeyReasons.{ExplainsKeys};
 ghost use Rattle.desk_implication.specs.Keys.{ListsKeys, ListsKeysOfPlan};
+ghost use Rattle.desk_implication.specs.Projections.{Projects};
 ghost use Rattle.desk_implication.specs.Sameness.{ChecksSame};
 ghost use Rattle.desk_responses.specs.ResponseValues.{ResponseValue};
 ghost use Rattle.desk_responses.specs.declared.status.Status.TheVariants.{Yes};
@@ -56,6 +59,11 @@ pub fn closure_has_one_answer()
     ensures law { (schema : Schema) (set : List ℕ) → AllowsOne (GivesClosure schema set) }
 {}
 
+/// `project` has one answer to a set.
+pub fn project_has_one_answer()
+    ensures law { (schema : Schema) (set : List ℕ) → AllowsOne (Projects schema set) }
+{}
+
 /// `check key` has one answer to a set.
 pub fn check_key_has_one_answer()
     ensures law { (schema : Schema) (set : List ℕ) → AllowsOne (ChecksKey schema set) }
@@ -65,6 +73,12 @@ pub fn check_key_has_one_answer()
 pub fn check_cover_has_one_answer()
     ensures law { (schema other : Schema) (file other_file : List ℕ)
         → AllowsOne (ChecksCover schema other file other_file) }
+{}
+
+/// `explain cover` and `explain keys` have one answer.
+pub fn explanations_have_one_answer()
+    ensures cover { (schema : Schema) → AllowsOne (ExplainsCover schema) }
+    ensures keys { (schema : Schema) → AllowsOne (ExplainsKeys schema) }
 {}
 
 /// `exhibit` has one answer.

@@ -6,6 +6,7 @@
 
 mod answering;
 mod exhibiting;
+mod explaining;
 mod implying;
 mod rewriting;
 mod uniqueness;
@@ -13,12 +14,14 @@ mod uniqueness;
 pub use answering::{
     basis_has_one_answer, check_cover_has_one_answer, check_key_has_one_answer,
     check_proof_has_one_answer, check_same_has_one_answer, closure_has_one_answer,
-    cover_has_one_answer, discover_has_one_answer, exhibit_has_one_answer, implies_has_one_answer,
-    keys_has_one_answer,
+    cover_has_one_answer, discover_has_one_answer, exhibit_has_one_answer,
+    explanations_have_one_answer, implies_has_one_answer, keys_has_one_answer,
+    project_has_one_answer,
 };
 pub use exhibiting::{
     exhibits_are_legal, exhibits_decide_goals, rules_of_exhibits_are_answered_alike,
 };
+pub use explaining::undetermined_attributes_are_in_every_key;
 pub use implying::{
     accepted_goals_are_implied, legal_rows_obey_implied_goals, yes_and_no_exclude_each_other,
 };

@@ -14,7 +14,7 @@ use crate::pair::Pair;
 use attr_sets::MOST_ATTRIBUTES;
 use csv_rows::Interned;
 use dep_model::{Dep, OutOfMemory, Schema};
-use row_store::Rows;
+use row_store::{Hashing, Rows};
 use std::alloc::Global;
 
 /// For each dependency that the rows do not obey, in the order of the file, the least pair of rows
@@ -22,14 +22,19 @@ use std::alloc::Global;
 /// break `X -> Y` where they agree on X and not on Y; they break `X ->> Y` where they agree on X and
 /// no row agrees with the first on X and Y and with the second on the rest.
 /// There is none exactly where the rows are legal.
-pub fn offences(alloc: Global, schema: &Schema, rows: &Rows) -> Result<Vec<Offence>, OutOfMemory>
+pub fn offences(
+    alloc: Global,
+    hashing: Hashing,
+    schema: &Schema,
+    rows: &Rows,
+) -> Result<Vec<Offence>, OutOfMemory>
     requires over { IsOver (width_of schema.now) rows.now }
     requires fits_u32 { length rows.now < 2 ^ 32 }
     ensures offences { IfOk result
         (λ v. OffencesOf (width_of schema.now) (theory_of schema.now) rows.now v.items) }
     ensures legal { IfOk result (λ v. (v.items ≡ []) ↔ LegalFor schema.now rows.now) }
 {
-    let codes = Interned::intern(alloc, schema.width(), rows)?;
+    let codes = Interned::intern(alloc, hashing, schema.width(), rows)?;
     let mut offences = Vec::new(alloc);
     for k in 0..schema.deps().len() {
         let least = least_pair(alloc, rows, schema.width(), &codes, schema.deps()[k])?;

@@ -3,6 +3,7 @@
 //! `minimal_cover` gives a minimal cover of the functional dependencies, the one that a fixed order of
 //! trying leaves (Ullman 1982; Maier 1983 has it as a canonical cover). `whole_cover` adds the
 //! multivalued dependencies that the others do not imply; it says all that the schema says.
+//! `nonredundant_from` leaves out of any list what the others imply.
 #![tactic(auto)]
 
 mod covering;
@@ -10,3 +11,4 @@ mod shortening;
 mod thinning;
 
 pub use covering::{minimal_cover, whole_cover};
+pub use thinning::nonredundant_from;

@@ -54,7 +54,8 @@ fn is_implied_by_blocks(deps: &[Dep], width: u8, dep: Dep) -> bool
     }
 }
 
-// What is left of a list where, from a position on, each dependency is left out that the others imply.
+/// What is left of a list where, from a position on, each dependency is left out that the others imply: those kept
+/// before it and all after it. From that position on all are multivalued, or all of the list are functional.
 pub fn nonredundant_from(
     alloc: Global,
     width: u8,

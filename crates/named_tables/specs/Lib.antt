@@ -1,2 +1,3 @@
 -- The definitions of named_tables: tables with names.
+pub mod Choices
 pub mod Tables

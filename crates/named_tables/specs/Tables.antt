@@ -2,8 +2,10 @@
 -- (`desk_responses/ResponseValues`).
 use Rattle.std.specs.Prelude.{ℕ, List, [], ◌∷◌, ◌++◌, map}
 use Rattle.dep_model.specs.Tuples.{Tuple, Relation}
+use Rattle.named_tables.specs.Choices.{chosen_row}
 use Rattle.named_tables.specs.declared.table.HeldTable.{HeldTable}
-use Rattle.named_tables.specs.declared.table.NamedTable.{NamedTable}
+use Rattle.named_tables.specs.declared.table.ChosenTable.{ChosenTable}
+use Rattle.named_tables.specs.declared.table.ChosenTables.{ChosenTables}
 
 -- a table: its name, the names of its columns, and its rows
 pub record TableValue : Type 0 where
@@ -23,8 +25,14 @@ with_row row table = record { name = table.name; columns = table.columns; rows =
 abbrev pub held_value : HeldTable → TableValue
 held_value table = record { name = table.name; columns = table.columns.items; rows = table.rows }
 
-abbrev pub table_value : NamedTable → TableValue
-table_value table = held_value table.held
+-- a table of chosen rows: the projections of the rows of these numbers
+abbrev pub chosen_value : Relation → ChosenTable → TableValue
+chosen_value rows table =
+    record { name = table.name; columns = table.columns.items; rows = map (chosen_row rows table) table.chosen.items }
 
-abbrev pub table_values : List NamedTable → List TableValue
-table_values tables = map table_value tables
+-- tables that choose from the same rows
+abbrev pub chosen_values : Relation → List ChosenTable → List TableValue
+chosen_values rows tables = map (chosen_value rows) tables
+
+abbrev pub table_values : ChosenTables → List TableValue
+table_values tables = chosen_values tables.rows tables.tables.items

@@ -1,5 +1,5 @@
-ghost use Rattle.std.specs.Prelude.{length};
-ghost use Rattle.dep_model.specs.Tuples.{IsOver};
+ghost use Rattle.std.specs.Prelude.{All};
+ghost use Rattle.named_tables.specs.Choices.{HasRows};
 
 use attr_sets::AttrSet;
 use dep_model::Name;
@@ -15,11 +15,22 @@ pub struct HeldTable {
     pub rows: Rows,
 }
 
-/// A table for the destinations.
+/// A table whose rows are chosen among others, each projected on a scheme.
 #[derive(Debug, Drop)]
-pub struct NamedTable {
+pub struct ChosenTable {
+    pub name: Name,
+    /// The names of its columns.
+    pub columns: Vec<Name>,
     /// The attributes of its columns.
     pub scheme: AttrSet,
-    pub held: HeldTable,
-    pub ghost even: { IsOver (length held.columns.items) held.rows },
+    /// The numbers of the rows that are chosen, counted from 0.
+    pub chosen: Vec<u32>,
+}
+
+/// Tables for the destinations, with the rows that they all choose from.
+#[derive(Debug, Drop)]
+pub struct ChosenTables {
+    pub rows: Rows,
+    pub tables: Vec<ChosenTable>,
+    pub ghost even: { All (HasRows rows) tables.items },
 }

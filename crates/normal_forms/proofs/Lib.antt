@@ -7,3 +7,4 @@ pub mod SearchLemmas
 pub mod PrimeLemmas
 pub mod FormLemmas
 pub mod PassLemmas
+pub mod BeginLemmas

@@ -7,3 +7,4 @@ pub mod Breaking
 pub mod Adding
 pub mod Primes
 pub mod Passing
+pub mod Beginning

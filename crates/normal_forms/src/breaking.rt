@@ -4,23 +4,32 @@ ghost use Rattle.attr_sets.specs.Sets.{attributes};
 ghost use Rattle.dep_model.specs.Dependencies.{Dependency, functional_part};
 ghost use Rattle.dep_model.specs.Keys.{InClosure, IsBlockOn};
 ghost use Rattle.dep_model.specs.Schemas.{width_of, universe_of, theory_of};
+ghost use Rattle.normal_forms.specs.Beginning.{IsKnownPart};
 ghost use Rattle.normal_forms.specs.Breaking.{Breaks, IsFirstBreaking, NoneBreaks};
 ghost use Rattle.normal_forms.specs.Passing.{LiesBetween, PassesOver};
 ghost use Rattle.normal_forms.specs.Violations.{Violates};
 
+use crate::beginning::{KnownPart, closure_begun, first_few, next_part, no_part};
 use crate::forms::Form;
 use crate::parting::parts_none;
 use crate::passing::{FEWEST_PASSED, determines_none, filled};
 use attr_sets::AttrSet;
 use dep_basis::{block, closure_of, has_two_parts};
 use dep_model::Schema;
-use fd_closure::closure;
 
 // Whether a left side violates Boyce-Codd or fourth form. Where all dependencies are functional
 // both are violated by a left side that determines some of the rest and not all. Else a left side
 // with one part alone is named first, which most often is all that is asked.
-pub fn breaks(schema: &Schema, scheme: AttrSet, form: Form, functional: bool, lhs: AttrSet) -> bool
+pub fn breaks(
+    schema: &Schema,
+    scheme: AttrSet,
+    form: Form,
+    functional: bool,
+    part: KnownPart,
+    lhs: AttrSet,
+) -> bool
     requires scheme { IsSubset (attributes scheme) (universe_of schema.now) }
+    requires part { IsKnownPart schema.now part }
     requires lhs { IsSubset (attributes lhs) (attributes scheme) }
     requires form { form ≡ Form.Third → ⊥ }
     requires functional { IsTrue functional
@@ -30,7 +39,7 @@ pub fn breaks(schema: &Schema, scheme: AttrSet, form: Form, functional: bool, lh
         (attributes lhs) }
 {
     if functional {
-        return determines_some(scheme, lhs, closure(schema.deps(), lhs));
+        return determines_some(scheme, lhs, closure_begun(schema, part, lhs));
     }
     if !has_two_parts(schema, scheme, lhs) {
         return false;
@@ -72,9 +81,12 @@ pub fn first_breaking(
         IsFirstBreaking (width_of schema.now) (theory_of schema.now) form (attributes scheme)
         (attributes whole) (attributes lhs)) }
 {
+    let few = first_few(whole);
+    let mut part = no_part();
     let mut next = Some(AttrSet::empty());
     while let Some(set) = next {
-        if breaks(schema, scheme, form, functional, set) {
+        part = next_part(schema, part, few, set);
+        if breaks(schema, scheme, form, functional, part, set) {
             return Some(set);
         }
         next = passed(schema, scheme, form, functional, whole, set).next_subset(whole);

@@ -8,6 +8,7 @@
 //! left sides alone, at any width. `laws` has what holds of violations. No call takes memory.
 #![tactic(auto)]
 
+mod beginning;
 mod breaking;
 mod forms;
 pub mod laws;

@@ -5,9 +5,11 @@ ghost use Rattle.dep_model.specs.Dependencies.{functional_part};
 ghost use Rattle.dep_model.specs.Keys.{IsSuperkey, IsKey, IsPrime};
 ghost use Rattle.dep_model.specs.Schemas.{width_of, universe_of, theory_of};
 ghost use Rattle.normal_forms.specs.Adding.{AddOnlyThemselves};
+ghost use Rattle.normal_forms.specs.Beginning.{IsKnownPart};
 ghost use Rattle.normal_forms.specs.Passing.{PassesOver};
 ghost use Rattle.normal_forms.specs.Primes.{BecomesSuperkeyBy, ArePrime, IsPrimeOrNot};
 
+use crate::beginning::{KnownPart, begun, first_few, next_part, no_part};
 use crate::passing::{FEWEST_PASSED, filled};
 use attr_sets::AttrSet;
 use dep_model::Schema;
@@ -70,13 +72,16 @@ fn key_with(schema: &Schema, scheme: AttrSet, whole: AttrSet, attribute: u8) -> 
 {
     let rest = scheme.difference(whole).without(attribute);
     let others = whole.without(attribute);
+    let few = first_few(others);
+    let mut part = no_part();
     let mut next = Some(AttrSet::empty());
     while let Some(set) = next {
         let before = set.union(rest);
-        if becomes_superkey_by(schema, scheme, before, attribute) {
+        part = next_part(schema, part, few, before);
+        if becomes_superkey_by(schema, scheme, part, before, attribute) {
             return Some(functional_key(schema.deps(), before.with(attribute)));
         }
-        next = passed_keys(schema, scheme, rest, attribute, others, set).next_subset(others);
+        next = passed_keys(schema, scheme, part, rest, attribute, others, set).next_subset(others);
     }
     None
 }
@@ -87,12 +92,14 @@ fn key_with(schema: &Schema, scheme: AttrSet, whole: AttrSet, attribute: u8) -> 
 fn passed_keys(
     schema: &Schema,
     scheme: AttrSet,
+    part: KnownPart,
     rest: AttrSet,
     attribute: u8,
     whole: AttrSet,
     set: AttrSet,
 ) -> AttrSet
     requires scheme { IsSubset (attributes scheme) (universe_of schema.now) }
+    requires part { IsKnownPart schema.now part }
     requires whole { IsSubset (attributes whole) (attributes scheme) }
     requires rest { IsSubset (attributes rest) (attributes scheme) }
     requires attribute { attributes scheme attribute ≡ true }
@@ -110,11 +117,11 @@ fn passed_keys(
         return set;
     }
     let with_rest = set.union(rest);
-    if is_superkey(schema, scheme, with_rest) {
+    if is_superkey(schema, scheme, part, with_rest) {
         return most;
     }
     let with_most = most.union(rest).with(attribute);
-    if is_superkey(schema, scheme, with_most) {
+    if is_superkey(schema, scheme, part, with_most) {
         set
     } else {
         most
@@ -122,24 +129,34 @@ fn passed_keys(
 }
 
 // Whether a set is no superkey of a scheme and becomes one with an attribute.
-fn becomes_superkey_by(schema: &Schema, scheme: AttrSet, set: AttrSet, attribute: u8) -> bool
+fn becomes_superkey_by(
+    schema: &Schema,
+    scheme: AttrSet,
+    part: KnownPart,
+    set: AttrSet,
+    attribute: u8,
+) -> bool
     requires scheme { IsSubset (attributes scheme) (universe_of schema.now) }
+    requires part { IsKnownPart schema.now part }
     requires set { IsSubset (attributes set) (attributes scheme) }
     requires attribute { attributes scheme attribute ≡ true }
     ensures becomes_superkey { IsTrue result
         ↔ BecomesSuperkeyBy (width_of schema.now) (functional_part (theory_of schema.now))
         (attributes scheme) (attributes set) attribute }
 {
-    is_superkey(schema, scheme, set.with(attribute)) && !is_superkey(schema, scheme, set)
+    is_superkey(schema, scheme, part, set.with(attribute))
+        && !is_superkey(schema, scheme, part, set)
 }
 
-// Whether a set determines all of a scheme by the functional dependencies.
-fn is_superkey(schema: &Schema, scheme: AttrSet, set: AttrSet) -> bool
+// Whether a set determines all of a scheme by the functional dependencies. What it determines is found
+// from what a part is known to determine on.
+fn is_superkey(schema: &Schema, scheme: AttrSet, part: KnownPart, set: AttrSet) -> bool
     requires scheme { IsSubset (attributes scheme) (universe_of schema.now) }
+    requires part { IsKnownPart schema.now part }
     requires set { IsSubset (attributes set) (attributes scheme) }
     ensures superkey { IsTrue result
         ↔ IsSuperkey (width_of schema.now) (functional_part (theory_of schema.now))
         (attributes scheme) (attributes set) }
 {
-    follows(schema.deps(), set, scheme)
+    follows(schema.deps(), begun(part, set), scheme)
 }

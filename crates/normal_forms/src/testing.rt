@@ -6,6 +6,7 @@ ghost use Rattle.fd_closure.specs.LeftSides.{left_sides, IsWide};
 ghost use Rattle.normal_forms.specs.Chosen.{IsInForm, IsChosenViolation};
 ghost use Rattle.normal_forms.specs.Chosen.{IsVisibleViolation, HasNoVisibleViolation};
 
+use crate::beginning::no_part;
 use crate::breaking::{breaks, first_breaking, right_side};
 use crate::forms::{Breach, Form, TooWide};
 use crate::narrowing::searched_attributes;
@@ -82,7 +83,7 @@ pub fn visible_violation(schema: &Schema, scheme: AttrSet, form: Form) -> Option
 {
     for dep in schema.deps() {
         let (lhs, _) = sides(*dep);
-        if lhs.is_subset(scheme) && breaks(schema, scheme, form, false, lhs) {
+        if lhs.is_subset(scheme) && breaks(schema, scheme, form, false, no_part(), lhs) {
             let rhs = right_side(schema, scheme, form, lhs);
             return Some(Breach { lhs, rhs });
         }

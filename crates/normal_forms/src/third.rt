@@ -6,18 +6,19 @@ ghost use Rattle.dep_model.specs.Forms.{IsThird};
 ghost use Rattle.dep_model.specs.Keys.{IsSuperkey};
 ghost use Rattle.dep_model.specs.Schemas.{width_of, universe_of, theory_of};
 ghost use Rattle.fd_closure.specs.LeftSides.{left_sides};
+ghost use Rattle.normal_forms.specs.Beginning.{IsKnownPart};
 ghost use Rattle.normal_forms.specs.Breaking.{Breaks};
 ghost use Rattle.normal_forms.specs.Passing.{PassesOver};
 ghost use Rattle.normal_forms.specs.Violations.{DeterminesBeyond};
 ghost use Rattle.normal_forms.specs.Chosen.{IsChosenViolation};
 
+use crate::beginning::{KnownPart, closure_begun, first_few, next_part, no_part};
 use crate::forms::{Breach, Form};
 use crate::narrowing::functionally_searched_attributes;
 use crate::passing::{FEWEST_PASSED, determines_none, filled};
 use crate::primes::{Sifted, prime_or_not};
 use attr_sets::AttrSet;
 use dep_model::Schema;
-use fd_closure::closure;
 
 // The chosen violation of third normal form. Whether an attribute is prime is found out where it
 // is asked first, and kept.
@@ -32,10 +33,13 @@ pub fn third_violation(schema: &Schema, scheme: AttrSet) -> Option<Breach>
         IsSubset (attributes breach.lhs) (left_sides (theory_of schema.now))) }
 {
     let whole = functionally_searched_attributes(schema, scheme);
+    let few = first_few(whole);
+    let mut part = no_part();
     let mut primes = AttrSet::empty();
     let mut next = Some(AttrSet::empty());
     while let Some(lhs) = next {
-        let beyond = determined_beyond(schema, scheme, lhs);
+        part = next_part(schema, part, few, lhs);
+        let beyond = determined_beyond(schema, scheme, part, lhs);
         match prime_or_not(schema, scheme, whole, primes, beyond) {
             Sifted::Prime(known) => primes = known,
             Sifted::NotPrime(attribute) => {
@@ -73,8 +77,9 @@ fn passed_third(schema: &Schema, scheme: AttrSet, whole: AttrSet, set: AttrSet) 
 
 // What a left side determines of a scheme beyond itself by the functional dependencies; nothing
 // where it is a superkey.
-fn determined_beyond(schema: &Schema, scheme: AttrSet, lhs: AttrSet) -> AttrSet
+fn determined_beyond(schema: &Schema, scheme: AttrSet, part: KnownPart, lhs: AttrSet) -> AttrSet
     requires scheme { IsSubset (attributes scheme) (universe_of schema.now) }
+    requires part { IsKnownPart schema.now part }
     requires lhs { IsSubset (attributes lhs) (attributes scheme) }
     ensures beyond { (a : ℕ) → (attributes result a ≡ true)
         ↔ ((IsSuperkey (width_of schema.now) (functional_part (theory_of schema.now))
@@ -82,7 +87,7 @@ fn determined_beyond(schema: &Schema, scheme: AttrSet, lhs: AttrSet) -> AttrSet
         × DeterminesBeyond (width_of schema.now) (functional_part (theory_of schema.now))
         (attributes scheme) (attributes lhs) a) }
 {
-    let found = closure(schema.deps(), lhs);
+    let found = closure_begun(schema, part, lhs);
     if scheme.is_subset(found) {
         return AttrSet::empty();
     }

@@ -6,7 +6,8 @@ use Rattle.std.specs.List.{flat_map}
 use Rattle.attr_sets.specs.Attributes.{Attributes}
 use Rattle.attr_sets.specs.Sets.{attributes}
 use Rattle.dep_model.specs.declared.schema.Schema.{Schema}
-use Rattle.ddl_text.specs.Ddl.{column_elements, ddl_text, elements, key_elements, reference_element, reference_elements, table_text}
+use Rattle.ddl_text.specs.Ddl.{column_elements, ddl_text, elements, key_elements, keys_elements, unique_element, reference_element, reference_elements, table_text}
+use Rattle.ddl_text.specs.Designs.{known_keys}
 use Rattle.ddl_text.specs.declared.table.TableDesign.{TableDesign}
 use Rattle.table_drawing.specs.Drawing.{node_text, edge_text, edges_text, drawing_text}
 use Rattle.table_queries.specs.Queries.{StoredTable}
@@ -45,25 +46,30 @@ references_same s one other same refs =
     ap (λ (text : ℕ → List ℕ). map text refs)
     (fun_ext (found_same (reference_element s) (reference_element s) (reference_same s) one other same))
 
+keys_same : (s : Schema) (t u : TableDesign) → IsSameTable t u → keys_elements s t ≡ keys_elements s u
+keys_same s t u alike =
+    ap (λ (x : Attributes). key_elements s x ++ map (unique_element s) (known_keys t.other_keys)) alike.key
+    ∙ ap (λ (keys : List Attributes). key_elements s (attributes u.key) ++ map (unique_element s) keys) alike.other_keys
+
 elements_same : (s : Schema) (one other : List TableDesign) → AreSameTables one other → (t u : TableDesign)
     → IsSameTable t u → elements s one t ≡ elements s other u
 elements_same s one other same t u alike =
     ap (λ (x : Attributes).
-    column_elements s x ++ key_elements s (attributes t.key) ++ reference_elements s one t.refs.items) alike.columns
-    ∙ ap (λ (x : Attributes).
-    column_elements s (attributes u.scheme) ++ key_elements s x ++ reference_elements s one t.refs.items) alike.key
+    column_elements s x ++ keys_elements s t ++ reference_elements s one t.refs.items) alike.columns
+    ∙ ap (λ (keys : List (List ℕ)).
+    column_elements s (attributes u.scheme) ++ keys ++ reference_elements s one t.refs.items) (keys_same s t u alike)
     ∙ ap (λ (refs : List ℕ).
-    column_elements s (attributes u.scheme) ++ key_elements s (attributes u.key) ++ reference_elements s one refs)
+    column_elements s (attributes u.scheme) ++ keys_elements s u ++ reference_elements s one refs)
     alike.references
     ∙ ap (λ (texts : List (List ℕ)).
-    column_elements s (attributes u.scheme) ++ key_elements s (attributes u.key) ++ texts)
+    column_elements s (attributes u.scheme) ++ keys_elements s u ++ texts)
     (references_same s one other same u.refs.items)
 
 table_same : (s : Schema) (one other : List TableDesign) → AreSameTables one other → (t u : TableDesign)
     → IsSameTable t u → table_text s one t ≡ table_text s other u
 unfolding table_text
 table_same s one other same t u alike =
-    simp (elements_same s one other same t u alike) (simp (alike.name, alike.key))
+    simp (elements_same s one other same t u alike) (simp (alike.name, alike.key, alike.are_known))
 
 pub ddl_same : (s : Schema) (one other : List TableDesign) → AreSameTables one other
     → ddl_text s one ≡ ddl_text s other

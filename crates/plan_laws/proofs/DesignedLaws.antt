@@ -21,7 +21,7 @@ use Rattle.named_tables.specs.Tables.{TableValue}
 use Rattle.table_names.specs.TableNames.{table_name}
 use Rattle.desk_designs.specs.Designs.{IsSoundDesign}
 use Rattle.desk_tables.specs.Migrations.{AreTablesOf}
-use Rattle.plan_laws.specs.Designed.{AreDesignedAs, KeysHoldIn, ReferencesHoldIn}
+use Rattle.plan_laws.specs.Designed.{AreDesignedAs, KeysHoldIn, OtherKeysHoldIn, ReferencesHoldIn}
 
 -- ---- the tables of schemes
 pub tables_length : (s : Schema) (rows : Relation) (number : ℕ) (plan : List Attributes)
@@ -105,6 +105,11 @@ module _ (s : Schema) (plan : List AttrSet) (designs : List TableDesign) (rows :
   keys_hold legal k design table at here =
       subst (λ (r : Relation). KeyHolds (attributes design.scheme) r (attributes design.key))
       (sym (rows_are k design table at here)) (sound.keys_hold rows legal design (contained k design at))
+
+  pub other_keys_hold : LegalFor s rows → OtherKeysHoldIn designs tables
+  other_keys_hold legal k design table at here key named =
+      subst (λ (r : Relation). KeyHolds (attributes design.scheme) r key)
+      (sym (rows_are k design table at here)) (sound.other_keys_hold rows legal design (contained k design at) key named)
 
   pub references_hold : LegalFor s rows → ReferencesHoldIn designs tables
   references_hold legal k j design other table other_table at here refers other_at other_here =

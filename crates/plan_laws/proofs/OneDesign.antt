@@ -1,8 +1,9 @@
 -- A plan has one design, field by field: the tables of a design are settled one after the other.
-use Rattle.std.proofs.Common.{◌≡◌, ◌+◌, ◌<◌, ℕ, zero, suc, List, [], ◌∷◌, ◌++◌, length, take, get_or, append_assoc, append-nil, refl, sym, subst, ap, ◌∙◌, arith}
-use Rattle.std.specs.Prelude.{IsSomeAnd, slice_get}
+use Rattle.std.proofs.Common.{◌≡◌, ◌+◌, ◌<◌, ℕ, zero, suc, List, [], ◌∷◌, ◌++◌, length, take, filter, get_or, append_assoc, append-nil, Option, Some, None, inl, inr, refl, sym, subst, ap, ◌∙◌, arith}
+use Rattle.std.specs.Prelude.{IsSomeAnd, slice_get, is_some, not, Vec}
+use Rattle.std.specs.declared.alloc.Global.{Global}
 use Rattle.attr_sets.specs.Attributes.{Attributes, IsEmpty, IsSubset}
-use Rattle.attr_sets.specs.Sets.{attributes}
+use Rattle.attr_sets.specs.Sets.{attributes, is_same}
 use Rattle.attr_sets.specs.declared.set.AttrSet.{AttrSet}
 use Rattle.attr_sets.specs.declared.set.TheConstants.{MOST_ATTRIBUTES}
 use Rattle.attr_sets.proofs.AttributesLemmas.{attributes_below}
@@ -10,13 +11,15 @@ use Rattle.dep_model.specs.Keys.{IsGreedyKey}
 use Rattle.dep_model.specs.Plans.{schemes_of}
 use Rattle.dep_model.specs.Schemas.{width_of, theory_of}
 use Rattle.dep_model.specs.declared.schema.Schema.{Schema}
-use Rattle.ddl_text.specs.Designs.{RefersTo, IsTableOf, IsDesign}
+use Rattle.ddl_text.specs.Designs.{RefersTo, without_key, AreListedBeside, IsBeyondListing, AreOtherKeys, known_keys, IsTableOf, IsDesign}
 use Rattle.ddl_text.specs.declared.table.TableDesign.{TableDesign}
 use Rattle.design_order.specs.Order.{IsInDesignOrder}
 use Rattle.design_order.proofs.OrderLemmas.{one_order}
 use Rattle.split_forms.proofs.StepLemmas.{cons-head, cons-tail}
 use Rattle.table_names.specs.TableNames.{table_name}
-use Rattle.implication_laws.proofs.OneKey.{one_key_below}
+use Rattle.check_laws.proofs.EachLemmas.{filter-map}
+use Rattle.implication_laws.proofs.OneAnswer.{all_or_many}
+use Rattle.implication_laws.proofs.OneKey.{one_keys, one_key_below}
 use Rattle.implication_laws.proofs.OrderedLists.{HoldsAll, one_ordered_list}
 use Rattle.desk_designs.specs.Designs.{IsSoundDesign}
 use Rattle.plan_laws.specs.SameDesigns.{IsSameTable, AreSameTables}
@@ -27,6 +30,8 @@ table_back one other same = record {
   name = sym same.name;
   columns = sym same.columns;
   key = sym same.key;
+  other_keys = sym same.other_keys;
+  are_known = sym same.are_known;
   references = sym same.references;
 }
 
@@ -65,6 +70,42 @@ refers_there x y at t u same refers = record {
   within = subst (λ (key : Attributes). IsSubset key y) same.key
       (subst (λ (z : Attributes). IsSubset (attributes t.key) z) at refers.within);
 }
+
+-- ---- other keys
+-- a list without a key rests on the sets alone
+without_same : (key : Attributes) (one other : List AttrSet) → schemes_of one ≡ schemes_of other
+    → schemes_of (without_key key one) ≡ schemes_of (without_key key other)
+without_same key one other same =
+    sym (filter-map (λ (k : Attributes). not (is_same k key)) attributes one)
+    ∙ ap (filter (λ (k : Attributes). not (is_same k key))) same
+    ∙ filter-map (λ (k : Attributes). not (is_same k key)) attributes other
+
+one_listing : (s : Schema) (scheme key : Attributes) (one other : List AttrSet) → AreListedBeside s scheme key one
+    → AreListedBeside s scheme key other → schemes_of one ≡ schemes_of other
+one_listing s scheme key one other first second =
+    let all = first.all in
+    let also = second.all in
+    ap schemes_of all.3 ∙ without_same key all.0 also.0 (one_keys (width_of s) (theory_of s) scheme all.0 also.0 all.1 also.1)
+    ∙ sym (ap schemes_of also.3)
+
+listed_or_beyond : (s : Schema) (scheme key : Attributes) (keys : List AttrSet) → AreListedBeside s scheme key keys → IsBeyondListing s scheme → ⊥
+listed_or_beyond s scheme key keys listed (inl wide) = listed.narrow wide
+listed_or_beyond s scheme key keys listed (inr (found, many)) =
+    let all = listed.all in
+    all_or_many (width_of s) (theory_of s) scheme all.0 found all.1 all.2 many
+
+one_list_beside : (s : Schema) (scheme key : Attributes) (one other : Option (Vec AttrSet Global)) → AreOtherKeys s scheme key one
+    → AreOtherKeys s scheme key other → (known_keys one ≡ known_keys other) × (is_some one ≡ is_some other)
+one_list_beside s scheme key None None first second = (refl, refl)
+one_list_beside s scheme key None (Some keys) first (inl only) = absurd (first.0 only.0)
+one_list_beside s scheme key None (Some keys) first (inr listed) = absurd (listed_or_beyond s scheme key keys.items listed first.1)
+one_list_beside s scheme key (Some keys) None (inl only) second = absurd (second.0 only.0)
+one_list_beside s scheme key (Some keys) None (inr listed) second = absurd (listed_or_beyond s scheme key keys.items listed second.1)
+one_list_beside s scheme key (Some keys) (Some others) (inl only) (inl also) = (ap schemes_of (only.1 ∙ sym also.1), refl)
+one_list_beside s scheme key (Some keys) (Some others) (inl only) (inr listed) = absurd (listed.not_empty only.0)
+one_list_beside s scheme key (Some keys) (Some others) (inr listed) (inl only) = absurd (listed.not_empty only.0)
+one_list_beside s scheme key (Some keys) (Some others) (inr listed) (inr also) =
+    (one_listing s scheme key keys.items others.items listed also, refl)
 
 -- ---- one table after the other
 -- tables of schemes, after earlier ones
@@ -105,13 +146,23 @@ module _ (s : Schema) (earlier before : List TableDesign) (x y : AttrSet) (t u :
       (refers_there (attributes y) (attributes x) (sym at)) before earlier (tables_back earlier before same) j
       ((second.refs.exactly j).0 has))
 
+  same_key : attributes t.key ≡ attributes u.key
+  same_key = one_key_below MOST_ATTRIBUTES (width_of s) (theory_of s) (attributes x) (attributes t.key)
+      (attributes u.key) (attributes_below x) first.key
+      (subst (λ (z : Attributes). IsGreedyKey (width_of s) (theory_of s) z (attributes u.key)) (sym at) second.key)
+
+  same_others : (known_keys t.other_keys ≡ known_keys u.other_keys) × (is_some t.other_keys ≡ is_some u.other_keys)
+  same_others = one_list_beside s (attributes x) (attributes t.key) t.other_keys u.other_keys first.other_keys
+      (subst (λ (key : Attributes). AreOtherKeys s (attributes x) key u.other_keys) (sym same_key)
+      (subst (λ (z : Attributes). AreOtherKeys s z (attributes u.key) u.other_keys) (sym at) second.other_keys))
+
   one_table : IsSameTable t u
   one_table = record {
     name = first.name ∙ ap (λ (k : ℕ). table_name (k + 1)) (as_many earlier before same) ∙ sym second.name;
     columns = ap attributes first.columns ∙ at ∙ sym (ap attributes second.columns);
-    key = one_key_below MOST_ATTRIBUTES (width_of s) (theory_of s) (attributes x) (attributes t.key)
-        (attributes u.key) (attributes_below x) first.key
-        (subst (λ (z : Attributes). IsGreedyKey (width_of s) (theory_of s) z (attributes u.key)) (sym at) second.key);
+    key = same_key;
+    other_keys = same_others.0;
+    are_known = same_others.1;
     references = one_ordered_list (λ (k : ℕ). Unit {0}) (λ (j k : ℕ). j < k) t.refs.items u.refs.items
         (λ j k j_is k_is there back. omega (arith, there, back)) (λ i d l. tt) (λ i d l. tt) first.refs.ascending
         second.refs.ascending held held_back;

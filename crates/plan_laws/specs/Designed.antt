@@ -1,8 +1,10 @@
 -- The tables of a migration as those of a design: for the laws of `designed`. `Desk` does not cite it.
 use Rattle.std.specs.Prelude.{◌≡◌, ℕ, List, length, slice_get, Some, Contains}
+use Rattle.attr_sets.specs.Attributes.{Attributes}
 use Rattle.attr_sets.specs.Sets.{attributes}
 use Rattle.csv_migrate.specs.Migration.{column_names}
 use Rattle.dep_model.specs.declared.schema.Schema.{Schema}
+use Rattle.ddl_text.specs.Designs.{known_keys}
 use Rattle.ddl_text.specs.Holding.{KeyHolds, ReferenceHolds}
 use Rattle.ddl_text.specs.declared.table.TableDesign.{TableDesign}
 use Rattle.named_tables.specs.Tables.{TableValue}
@@ -24,6 +26,13 @@ KeysHoldIn designs tables =
     (k : ℕ) (design : TableDesign) (table : TableValue) → slice_get designs k ≡ Some design
     → slice_get tables k ≡ Some table
     → KeyHolds (attributes design.scheme) table.rows (attributes design.key)
+
+-- so does each of its other keys
+abbrev pub OtherKeysHoldIn : List TableDesign → List TableValue → Type 0
+OtherKeysHoldIn designs tables =
+    (k : ℕ) (design : TableDesign) (table : TableValue) → slice_get designs k ≡ Some design
+    → slice_get tables k ≡ Some table → (key : Attributes) → Contains (known_keys design.other_keys) key
+    → KeyHolds (attributes design.scheme) table.rows key
 
 -- each reference of a designed table holds between the table and the one that it refers to
 abbrev pub ReferencesHoldIn : List TableDesign → List TableValue → Type 0

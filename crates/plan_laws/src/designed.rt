@@ -13,7 +13,7 @@ ghost use Rattle.normal_forms.specs.declared.forms.Form.{Form};
 ghost use Rattle.desk_designs.specs.Decompositions.{IsPlanInForm};
 ghost use Rattle.desk_designs.specs.Designs.{IsSoundDesign};
 ghost use Rattle.desk_tables.specs.Migrations.{AreTablesOf};
-ghost use Rattle.plan_laws.specs.Designed.{AreDesignedAs, KeysHoldIn, ReferencesHoldIn};
+ghost use Rattle.plan_laws.specs.Designed.{AreDesignedAs, KeysHoldIn, OtherKeysHoldIn, ReferencesHoldIn};
 
 /// The tables that `migrate` makes of a plan are those that `ddl` creates for it, with their names and
 /// columns, in the same order.
@@ -29,6 +29,10 @@ pub fn migrated_tables_obey_the_design()
         (tables : List TableValue) → IsSoundDesign schema plan designs
         → AreTablesOf schema (schemes_of plan) rows tables → LegalFor schema rows
         → KeysHoldIn designs tables }
+    ensures other_keys { (schema : Schema) (plan : List AttrSet) (designs : List TableDesign) (rows : Relation)
+        (tables : List TableValue) → IsSoundDesign schema plan designs
+        → AreTablesOf schema (schemes_of plan) rows tables → LegalFor schema rows
+        → OtherKeysHoldIn designs tables }
     ensures references { (schema : Schema) (plan : List AttrSet) (designs : List TableDesign) (rows : Relation)
         (tables : List TableValue) → IsSoundDesign schema plan designs
         → AreTablesOf schema (schemes_of plan) rows tables → LegalFor schema rows

@@ -33,7 +33,8 @@ pub fn one_plan_in_form()
         → IsPlanInForm schema form other → schemes_of plan ≡ schemes_of other }
 {}
 
-/// A plan has one design: any two have the same names, columns, keys and references, table by table.
+/// A plan has one design: any two have the same names, columns, keys, other keys and references, table by
+/// table.
 pub fn one_design_of_a_plan()
     ensures law { (schema : Schema) (plan others : List AttrSet) (one other : List TableDesign)
         → schemes_of plan ≡ schemes_of others → IsSoundDesign schema plan one

@@ -86,17 +86,6 @@ impl Rows {
         self.values.value(start + position)
     }
 
-    /// Adds a row of other rows at the end.
-    pub fn push_copy(&mut self, alloc: Global, rows: &Rows, row: usize) -> Result<(), OutOfMemory>
-        requires row { row < length rows.now }
-        ensures rows { OnOk result (self.new ≡ self.old ++ row_at rows.now row ∷ []) }
-        ensures memory { OnErr result (self.new ≡ self.old) }
-    {
-        let mut values = FlatValues::new(alloc);
-        copy_row(&mut values, rows, row)?;
-        self.push(&values)
-    }
-
     /// Adds a row at the end.
     pub fn push(&mut self, row: &FlatValues) -> Result<(), OutOfMemory>
         ensures rows { OnOk result (self.new ≡ self.old ++ row.now ∷ []) }
@@ -120,18 +109,6 @@ fn take_row(values: &mut FlatValues, row: &Row) -> Result<(), OutOfMemory>
     values.clear();
     for i in 0..row.len() {
         values.push(row.value(i).bytes())?;
-    }
-    Ok(())
-}
-
-// The values become those of a row of rows.
-fn copy_row(values: &mut FlatValues, rows: &Rows, row: usize) -> Result<(), OutOfMemory>
-    requires row { row < length rows.now }
-    ensures values { OnOk result (values.new ≡ row_at rows.now row) }
-{
-    values.clear();
-    for i in 0..rows.width(row) {
-        values.push(rows.value(row, i))?;
     }
     Ok(())
 }

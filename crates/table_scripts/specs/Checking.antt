@@ -3,14 +3,13 @@
 use Rattle.std.specs.Prelude.{ℕ, Bool, true, false, if◌then◌else◌, Option, Some, None, List, [], ◌∷◌, ◌++◌, codes, All, MatchOption, ⊤}
 use Rattle.std.specs.Fmt.{decimal}
 use Rattle.std.specs.List.{flat_map, zip, range_with_len}
-use Rattle.attr_sets.specs.Attributes.{Attributes, difference}
 use Rattle.dep_model.specs.declared.column_type.ColumnType.{ColumnType}
 use Rattle.dep_model.specs.declared.column_type.ColumnType.TheVariants.{Integer}
 use Rattle.dep_model.specs.declared.naming.Naming.{Naming}
 use Rattle.dep_model.specs.declared.schema.Schema.{Schema}
 use Rattle.dep_model.specs.Dependencies.{Dependency}
 use Rattle.dep_model.specs.Projections.{members_below}
-use Rattle.dep_model.specs.Schemas.{width_of, universe_of, naming_of, nullable_of, lines_of, theory_of}
+use Rattle.dep_model.specs.Schemas.{width_of, naming_of, lines_of, theory_of}
 use Rattle.dep_model.specs.Tuples.{Relation}
 use Rattle.schema_printer.specs.Printing.{dependency_text}
 use Rattle.schema_printer.specs.Spelling.{spelling, printed_names_of}
@@ -19,17 +18,13 @@ use Rattle.sql_syntax.specs.Printing.{query_text}
 use Rattle.table_queries.specs.Queries.{breaches_of}
 use Rattle.table_queries.specs.Meanings.{GivesNone}
 use Rattle.check_queries.specs.Columns.{name_at, type_at, named_column}
-use Rattle.check_queries.specs.Checks.{missing_query, integer_query, check_query}
+use Rattle.check_queries.specs.Checks.{required_of, missing_query, integer_query, check_query}
 
 -- a query as a statement, in a line
 unfoldable pub check_line : Query → List ℕ
 check_line q = query_text q ++ codes ";\n"
 
 -- ---- values
--- the attributes of which no value may be missing
-abbrev pub required_of : Schema → Attributes
-required_of s = difference (universe_of s) (nullable_of s)
-
 -- a query for the rows in which a value of these attributes is missing, if there are some
 abbrev pub missing_text : Schema → List ℕ → List ℕ → List ℕ
 missing_text s table [] = []

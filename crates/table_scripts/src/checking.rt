@@ -3,8 +3,8 @@ ghost use Rattle.dep_model.specs.Schemas.{width_of, LegalFor};
 ghost use Rattle.dep_model.specs.Tuples.{Relation, IsOver};
 ghost use Rattle.sql_evaluation.specs.Cells.{Cell};
 ghost use Rattle.sql_evaluation.specs.Evaluation.{Engine};
-ghost use Rattle.check_laws.specs.Holding.{Holds};
-ghost use Rattle.check_laws.specs.Telling.{NothingShown};
+ghost use Rattle.check_laws.specs.Holding.{Holds, CastsIntegers};
+ghost use Rattle.check_laws.specs.Telling.{NoBreachShown, RulesHold, NothingShown};
 ghost use Rattle.table_scripts.specs.Naming.{is_table_name, quoted_table};
 ghost use Rattle.table_scripts.specs.Checking.{check_text, rules_text, NothingBreaks};
 
@@ -16,9 +16,11 @@ use dep_model::{OutOfMemory, Schema};
 use schema_printer::add;
 use std::alloc::Global;
 
-/// A script that asks a table for the rows in which a value is missing, and for what breaks each rule of a
-/// schema. Over a relation its queries for the rules give nothing exactly where the relation is legal; and in an
-/// engine that holds the relation as this table they end without an error and give no row exactly there.
+/// A script that asks a table for the rows in which a value is missing that may not be, for what is no integer
+/// in an integer column, and for what breaks each dependency of a schema. Over a relation its queries for the
+/// dependencies give nothing exactly where the relation is legal; and in an engine that holds the relation as
+/// this table they end without an error and give no row exactly there. So no query of the script gives a row,
+/// and none ends with an error, exactly where all rules hold, in each engine that casts integers.
 pub fn check_script(alloc: Global, schema: &Schema, table: &[u8]) -> Result<Vec<u8>, OutOfMemory>
     requires name { IsTrue (is_table_name table.now) }
     ensures text { IfOk result (λ text. text.items ≡ check_text schema.now (quoted_table table.now)) }
@@ -26,7 +28,10 @@ pub fn check_script(alloc: Global, schema: &Schema, table: &[u8]) -> Result<Vec<
         → LegalFor schema.now r ↔ NothingBreaks schema.now r }
     ensures tells { (e : Engine) (cell : ℕ → List ℕ → Cell) (r : Relation)
         → Holds e (quoted_table table.now) schema.now cell r → IsOver (width_of schema.now) r
-        → LegalFor schema.now r ↔ NothingShown e schema.now (quoted_table table.now) }
+        → LegalFor schema.now r ↔ NoBreachShown e schema.now (quoted_table table.now) }
+    ensures tells_all { (e : Engine) (cell : ℕ → List ℕ → Cell) (r : Relation)
+        → Holds e (quoted_table table.now) schema.now cell r → IsOver (width_of schema.now) r
+        → CastsIntegers e.cast → RulesHold schema.now cell r ↔ NothingShown e schema.now (quoted_table table.now) }
 {
     check_text(alloc, schema, table)
 }

@@ -1,9 +1,9 @@
 //! SQL scripts over a table of the user's, whose columns are the attributes of a schema.
 //!
-//! `check_script` asks for the rows in which a value is missing and for what breaks each rule,
-//! `migrate_script` makes the tables of a design from the table and compares their join with it. Each
-//! query of a script but the one for missing values is the text of a term of `table_queries`, whose
-//! laws say what it gives; nothing is claimed of an engine.
+//! `check_script` asks for the rows in which a value is missing, for what is no integer and for what breaks
+//! each rule; its queries are values of `check_queries`, and `check_laws` says what they give in an engine.
+//! `migrate_script` makes the tables of a design from the table and compares their join with it; each query is
+//! the text of a term of `table_queries`, whose laws say what it gives over a relation.
 //! `is_table_name` says the names that a script may hold.
 #![tactic(auto)]
 

@@ -5,9 +5,9 @@ ghost use Rattle.dep_model.specs.Schemas.{width_of, universe_of};
 ghost use Rattle.sql_names.specs.Names.{comma_list, quoted_name};
 ghost use Rattle.sql_syntax.specs.Printing.{selected_text, item_text};
 ghost use Rattle.check_queries.specs.Columns.{items_on};
-ghost use Rattle.check_queries.specs.Checks.{has_members};
+ghost use Rattle.check_queries.specs.Checks.{has_members, required_of};
 ghost use Rattle.table_scripts.specs.Listing.{missing_test, missing_tests};
-ghost use Rattle.table_scripts.specs.Checking.{missing_text, required_of};
+ghost use Rattle.table_scripts.specs.Checking.{missing_text};
 
 use crate::listing::{Listed, column_text, has_members, items_text};
 use crate::selecting::{line_of_query, selected_text};

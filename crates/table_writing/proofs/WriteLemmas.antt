@@ -1,37 +1,48 @@
 -- Tables one after the other, and destinations one after the other.
-use Rattle.std.proofs.Common.{◌≡◌, ◌⊎◌, inl, inr, ℕ, ◌+◌, ◌<◌, ◌≤◌, arith, List, [], ◌∷◌, ◌++◌, length, get_or, set, take, drop, refl, sym, ap, ◌∙◌, subst, append_assoc}
+use Rattle.std.proofs.Common.{◌≡◌, ◌⊎◌, inl, inr, ℕ, ◌+◌, ◌<◌, ◌≤◌, arith, List, [], ◌∷◌, ◌++◌, length, get_or, map, set, take, drop, refl, sym, ap, ◌∙◌, subst, append_assoc}
 use Rattle.std.proofs.lemmas.Bool.{cases_eq}
 use Rattle.std.proofs.lemmas.List.{map-append, take-append-drop, length-map, length-set, length_push, get_or-map, get_or-set_same, get_or-set_other, get_or_default, get_or_append_left, get_or_push, take_more}
-use Rattle.named_tables.specs.Tables.{TableValue, table_value, table_values}
-use Rattle.named_tables.specs.declared.table.NamedTable.{NamedTable}
+use Rattle.named_tables.specs.Tables.{TableValue, chosen_value, chosen_values}
+use Rattle.named_tables.specs.declared.table.ChosenTable.{ChosenTable}
+use Rattle.dep_model.specs.Tuples.{Tuple, Relation}
 use Rattle.desk_outside.specs.Begun.{Begun, MayBegin}
 use Rattle.destinations.specs.Destinations.{Finished, with_table, MayGiveUp}
 use Rattle.table_writing.specs.Writing.{AtEachPosition, with_tables, names_of, HasAll, BeginsEach, StoppedAtTable}
 
--- the rows before a position and the one that is there
-pub row_next : {X : Type 0} (rows : List X) (i : ℕ) (d : X) → i < length rows
-    → take i rows ++ get_or rows i d ∷ [] ≡ take (i + 1) rows
-row_next rows i d within = sym (take_more rows i d within)
+-- the rows of the numbers before a position, and that of the one that is there
+pub row_next : (row : ℕ → Tuple) (chosen : List ℕ) (i d : ℕ) → i < length chosen
+    → map row (take i chosen) ++ row (get_or chosen i d) ∷ [] ≡ map row (take (i + 1) chosen)
+row_next row chosen i d within =
+    sym (map-append row (take i chosen) (get_or chosen i d ∷ []))
+    ∙ ap (map row) (sym (take_more chosen i d within))
+
+-- a table of a list is one of an equal list
+pub within_listed : (listed tables : List ChosenTable) (i : ℕ) → listed ≡ tables → i < length listed → i < length tables
+within_listed listed tables i same within = omega (arith, within, ap length same)
+
+pub is_listed : (listed tables : List ChosenTable) (i : ℕ) (table : ChosenTable) → listed ≡ tables
+    → table ≡ get_or listed i table → table ≡ get_or tables i table
+is_listed listed tables i table same is = is ∙ ap (λ (ts : List ChosenTable). get_or ts i table) same
 
 -- the tables before a position and the one that is there
-pub front_next : (tables : List NamedTable) (i : ℕ) (table : NamedTable) → i < length tables
+pub front_next : (all : Relation) (tables : List ChosenTable) (i : ℕ) (table : ChosenTable) → i < length tables
     → table ≡ get_or tables i table
-    → take i (table_values tables) ++ table_value table ∷ [] ≡ take (i + 1) (table_values tables)
-front_next tables i table within is =
-    let value : table_value table ≡ get_or (table_values tables) i (table_value table) = ap table_value is
-    ∙ sym (get_or-map table_value tables i table (table_value table) within) in
-    ap (λ (v : TableValue). take i (table_values tables) ++ v ∷ []) value
-    ∙ sym (take_more (table_values tables) i (table_value table) (omega (arith, within, length-map tables table_value)))
+    → take i (chosen_values all tables) ++ chosen_value all table ∷ [] ≡ take (i + 1) (chosen_values all tables)
+front_next all tables i table within is =
+    let value : chosen_value all table ≡ get_or (chosen_values all tables) i (chosen_value all table) = ap (chosen_value all) is
+    ∙ sym (get_or-map (chosen_value all) tables i table (chosen_value all table) within) in
+    ap (λ (v : TableValue). take i (chosen_values all tables) ++ v ∷ []) value
+    ∙ sym (take_more (chosen_values all tables) i (chosen_value all table) (omega (arith, within, length-map tables (chosen_value all))))
 
 -- and those after it
-pub split_at : (tables : List NamedTable) (i : ℕ) (table : NamedTable) → i < length tables
+pub split_at : (all : Relation) (tables : List ChosenTable) (i : ℕ) (table : ChosenTable) → i < length tables
     → table ≡ get_or tables i table
-    → table_values tables ≡ take i (table_values tables) ++ table_value table ∷ drop (i + 1) (table_values tables)
-split_at tables i table within is =
-    let values = table_values tables in
+    → chosen_values all tables ≡ take i (chosen_values all tables) ++ chosen_value all table ∷ drop (i + 1) (chosen_values all tables)
+split_at all tables i table within is =
+    let values = chosen_values all tables in
     sym (take-append-drop (i + 1) values)
-    ∙ ap (λ (front : List TableValue). front ++ drop (i + 1) values) (sym (front_next tables i table within is))
-    ∙ append_assoc (take i values) (table_value table ∷ []) (drop (i + 1) values)
+    ∙ ap (λ (front : List TableValue). front ++ drop (i + 1) values) (sym (front_next all tables i table within is))
+    ∙ append_assoc (take i values) (chosen_value all table ∷ []) (drop (i + 1) values)
 
 -- one table more
 pub with_tables-more : (done front : List TableValue) (table : TableValue)
@@ -46,50 +57,50 @@ names_of-more begun front table =
     ∙ sym (append_assoc begun (names_of front) (table.name ∷ []))
 
 -- a table more is finished
-pub has_next : (tables : List NamedTable) (i : ℕ) (table : NamedTable) (done : List TableValue) → i < length tables
+pub has_next : (all : Relation) (tables : List ChosenTable) (i : ℕ) (table : ChosenTable) (done : List TableValue) → i < length tables
     → table ≡ get_or tables i table → (new : Finished)
-    → new (with_table (table_value table) (with_tables done (take i (table_values tables))))
-    → new (with_tables done (take (i + 1) (table_values tables)))
-has_next tables i table done within is new =
+    → new (with_table (chosen_value all table) (with_tables done (take i (chosen_values all tables))))
+    → new (with_tables done (take (i + 1) (chosen_values all tables)))
+has_next all tables i table done within is new =
     subst new
-    (sym (with_tables-more done (take i (table_values tables)) (table_value table))
-    ∙ ap (with_tables done) (front_next tables i table within is))
+    (sym (with_tables-more done (take i (chosen_values all tables)) (chosen_value all table))
+    ∙ ap (with_tables done) (front_next all tables i table within is))
 
 -- a name more is begun
-pub begins_next : (tables : List NamedTable) (i : ℕ) (table : NamedTable) (begun : List (List ℕ)) → i < length tables
+pub begins_next : (all : Relation) (tables : List ChosenTable) (i : ℕ) (table : ChosenTable) (begun : List (List ℕ)) → i < length tables
     → table ≡ get_or tables i table → (new : Begun)
-    → new ((begun ++ names_of (take i (table_values tables))) ++ (table_value table).name ∷ [])
-    → new (begun ++ names_of (take (i + 1) (table_values tables)))
-begins_next tables i table begun within is new =
+    → new ((begun ++ names_of (take i (chosen_values all tables))) ++ (chosen_value all table).name ∷ [])
+    → new (begun ++ names_of (take (i + 1) (chosen_values all tables)))
+begins_next all tables i table begun within is new =
     subst new
-    (sym (names_of-more begun (take i (table_values tables)) (table_value table))
-    ∙ ap (λ (front : List TableValue). begun ++ names_of front) (front_next tables i table within is))
+    (sym (names_of-more begun (take i (chosen_values all tables)) (chosen_value all table))
+    ∙ ap (λ (front : List TableValue). begun ++ names_of front) (front_next all tables i table within is))
 
 -- the writing stops at a table
-pub stops_at : (tables : List NamedTable) (i : ℕ) (table : NamedTable) → i < length tables
+pub stops_at : (all : Relation) (tables : List ChosenTable) (i : ℕ) (table : ChosenTable) → i < length tables
     → table ≡ get_or tables i table
     → (old middle new : Finished) (begun_old begun_middle begun_new : Begun)
-    → HasAll (take i (table_values tables)) old middle → MayGiveUp (table_value table).name middle new
-    → BeginsEach (names_of (take i (table_values tables))) begun_old begun_middle
-    → MayBegin (table_value table).name begun_middle begun_new
-    → StoppedAtTable (table_values tables) old new begun_old begun_new
-stops_at tables i table within is old middle new begun_old begun_middle begun_new has may_give_up begins may_begin = record {
+    → HasAll (take i (chosen_values all tables)) old middle → MayGiveUp (chosen_value all table).name middle new
+    → BeginsEach (names_of (take i (chosen_values all tables))) begun_old begun_middle
+    → MayBegin (chosen_value all table).name begun_middle begun_new
+    → StoppedAtTable (chosen_values all tables) old new begun_old begun_new
+stops_at all tables i table within is old middle new begun_old begun_middle begun_new has may_give_up begins may_begin = record {
   front = front;
-  table = table_value table;
-  rest = drop (i + 1) (table_values tables);
-  split = split_at tables i table within is;
+  table = chosen_value all table;
+  rest = drop (i + 1) (chosen_values all tables);
+  split = split_at all tables i table within is;
   has = λ done stands. may_give_up _ (has done stands);
   begins = λ begun stands. perhaps begun (may_begin _ (begins begun stands));
 }
   where
     front : List TableValue
-    front = take i (table_values tables)
+    front = take i (chosen_values all tables)
 
     perhaps : (begun : List (List ℕ))
-        → begun_new (begun ++ names_of front) ⊎ begun_new ((begun ++ names_of front) ++ (table_value table).name ∷ [])
-        → begun_new (begun ++ names_of front) ⊎ begun_new (begun ++ names_of (front ++ table_value table ∷ []))
+        → begun_new (begun ++ names_of front) ⊎ begun_new ((begun ++ names_of front) ++ (chosen_value all table).name ∷ [])
+        → begun_new (begun ++ names_of front) ⊎ begun_new (begun ++ names_of (front ++ chosen_value all table ∷ []))
     perhaps begun (inl not_begun) = inl not_begun
-    perhaps begun (inr begun_too) = inr (subst begun_new (sym (names_of-more begun front (table_value table))) begun_too)
+    perhaps begun (inr begun_too) = inr (subst begun_new (sym (names_of-more begun front (chosen_value all table))) begun_too)
 
 -- ---- destinations
 -- the values before a position are done, with a result each, and the others are as they were

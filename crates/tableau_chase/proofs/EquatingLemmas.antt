@@ -1,5 +1,5 @@
 -- Steps by functional dependencies as the code takes them: pair by pair, attribute by attribute.
-use Rattle.std.proofs.Common.{◌≡◌, ℕ, ◌+◌, ◌<◌, ◌≤◌, suc, Bool, true, false, List, [], ◌∷◌, length, get_or, refl, sym, ap, subst, ◌∙◌, inl, inr, arith}
+use Rattle.std.proofs.Common.{◌≡◌, ℕ, ◌+◌, ◌<◌, ◌≤◌, ◌⊎◌, suc, Bool, true, false, List, [], ◌∷◌, length, get_or, refl, sym, ap, subst, ◌∙◌, inl, inr, ⊎_elim, arith}
 use Rattle.std.proofs.lemmas.Bool.{cases_lt, true≢false}
 use Rattle.std.proofs.lemmas.List.{get_or-map, length-map, get_or_default}
 use Rattle.std.proofs.lemmas.List.Elements.{All-map, Contains-get_or}
@@ -15,7 +15,7 @@ use Rattle.chase_laws.specs.Steps.{replace_in_row, replace_symbol, IsFunctionalS
 use Rattle.chase_laws.proofs.TableauLemmas.{symbol_at_past, length-replace_in_row, symbol_at-replace_in_row, symbol_after, symbol_after-hit, symbol_after-miss, Same-refl}
 use Rattle.chase_laws.proofs.RoundLemmas.{functional_leads_join}
 use Rattle.tableau_chase.specs.Groups.{symbol_row_at, AreSymbolLeaders}
-use Rattle.tableau_chase.specs.Equating.{Changes, KeepsRows, IsEquatedAt, AreEquated, AgreesBy, AreGrouped, AreGroupedBy}
+use Rattle.tableau_chase.specs.Equating.{Changes, Follows, KeepsRows, IsEquatedAt, AreEquated, AgreesBy, AreGrouped, AreGroupedBy}
 
 -- ---- a replacement
 row_at-replace_symbol : (a former later : ℕ) (t : Tableau) (i : ℕ) → i < length t → symbol_row_at (replace_symbol a former later t) i ≡ replace_in_row a former later (symbol_row_at t i)
@@ -282,3 +282,40 @@ taken_same ds upto next t m s changed e up low before grouped =
 pub taken_all : (ds : List Dependency) (upto : ℕ) (t s : Tableau) (changed : Bool) → length ds ≤ upto → AreTakenUpTo ds upto t s changed → changed ≡ false → (x y : Attributes) → Contains ds (fd x y) → AgreesBy x y t
 taken_all ds upto t s changed all before none x y given =
     subst (λ (d : Dependency). HasBy t d) given.2 (before.obeyed none given.0 (omega (arith, given.1, all)) (fd x y))
+
+-- ---- steps that follow others
+pub follows_none : (ds : List Dependency) (t : Tableau) → Follows ds t t
+follows_none ds t = record { changes = inl refl; keeps = KeepsRows-refl t }
+
+changes_follow : (ds : List Dependency) (changed : Bool) (t s : Tableau) → Changes ds changed t s → (s ≡ t) ⊎ Changes ds true t s
+changes_follow ds true t s changes = inr changes
+changes_follow ds false t s same = inl same
+
+grouped_follows : (ds : List Dependency) (d : Dependency) (t s : Tableau) (changed : Bool) → Contains ds d → AreGroupedBy d t s changed → Follows ds t s
+grouped_follows ds (fd x y) t s changed given grouped = record {
+  changes = changes_follow ds changed t s (grouped.changes ds given);
+  keeps = grouped.keeps;
+}
+grouped_follows ds (mvd x y) t s changed given grouped = subst (λ (u : Tableau). Follows ds t u) (sym grouped.0) (follows_none ds t)
+
+pub changes_followed : (ds : List Dependency) (t m s : Tableau) → Changes ds true t m → Follows ds m s → Changes ds true t s
+changes_followed ds t m s one other = ⊎_elim
+    (λ same. subst (λ (u : Tableau). Changes ds true t u) (sym same) one)
+    (λ more. changes_join ds true t m s one more)
+    other.changes
+
+pub follows_more : (ds : List Dependency) (t m s : Tableau) → Follows ds t m → Follows ds m s → Follows ds t s
+follows_more ds t m s one other = record {
+  changes = ⊎_elim
+      (λ same. subst (λ (u : Tableau). (s ≡ u) ⊎ Changes ds true u s) same other.changes)
+      (λ more. inr (changes_followed ds t m s more other))
+      one.changes;
+  keeps = KeepsRows-trans t m s one.keeps other.keeps;
+}
+
+pub follows_by : (ds : List Dependency) (k : ℕ) (d : Dependency) (t m s : Tableau) (changed : Bool) → k < length ds → Follows ds t m → AreGroupedBy (get_or ds k d) m s changed → Follows ds t s
+follows_by ds k d t m s changed low before grouped =
+    follows_more ds t m s before (grouped_follows ds (get_or ds k d) m s changed (Contains-get_or ds k d low) grouped)
+
+pub changes_kept : (ds : List Dependency) (t m s : Tableau) → KeepsRows t m → Follows ds m s → KeepsRows t s
+changes_kept ds t m s one other = KeepsRows-trans t m s one other.keeps

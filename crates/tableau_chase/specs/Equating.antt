@@ -22,6 +22,11 @@ pub record KeepsRows (t s : Tableau) : Type 0 where
       → symbol_at (symbol_row_at s i) k ≡ symbol_at (symbol_row_at s j) k
   pub over : (n : ℕ) → IsTableauOver n t → IsTableauOver n s
 
+-- some steps by functional dependencies led from one tableau to another, or none
+pub record Follows (ds : List Dependency) (t s : Tableau) : Type 0 where
+  pub changes : (s ≡ t) ⊎ Changes ds true t s
+  pub keeps : KeepsRows t s
+
 -- the greater of two rows' symbols at an attribute became the smaller, unless they were equal
 abbrev pub IsEquatedAt : ℕ → ℕ → ℕ → Tableau → Tableau → Bool → Type 0
 IsEquatedAt a first second t s false =

@@ -11,13 +11,13 @@ ghost use Rattle.dep_model.specs.Projections.{members_below};
 ghost use Rattle.chase_laws.specs.Tableaux.{IsTableauOver, Tableau};
 ghost use Rattle.chase_laws.specs.Steps.{replace_symbol};
 ghost use Rattle.chase_laws.specs.Rounds.{ClosesFunctionallyTo};
-ghost use Rattle.tableau_chase.specs.Equating.{Changes, KeepsRows, AgreesBy, IsEquatedAt};
+ghost use Rattle.tableau_chase.specs.Equating.{Changes, Follows, KeepsRows, AgreesBy, IsEquatedAt};
 ghost use Rattle.tableau_chase.specs.Equating.{AreEquated, AreGroupedBy, AreGrouped, AreApart, IsKeptApart};
 
 use crate::row_groups::{leaders, members};
 use crate::symbol_row::SymbolRow;
-use attr_sets::AttrSet;
-use dep_model::{Dep, OutOfMemory};
+use attr_sets::{AttrSet, MOST_ATTRIBUTES};
+use dep_model::{Dep, OutOfMemory, sides};
 use std::alloc::Global;
 
 /// Takes steps by functional dependencies until none changes the tableau.
@@ -35,17 +35,112 @@ pub fn close_functionally(
 {
     let mut changed = true;
     while changed {
-        changed = take_steps(alloc, rows, deps, width)?;
+        changed = take_all_steps(alloc, rows, deps, width)?;
     }
     Ok(())
 }
 
-// Takes the steps of each functional dependency in turn, and says whether there were some.
+// Takes the steps of each functional dependency in turn, and then those to which they lead; says
+// whether there were some.
+fn take_all_steps(
+    alloc: Global,
+    rows: &mut [SymbolRow],
+    deps: &[Dep],
+    width: u8,
+) -> Result<bool, OutOfMemory>
+    requires width { width ≤ MOST_ATTRIBUTES }
+    requires over { IsTableauOver width rows.old }
+    requires fits_u32 { length rows.old < 2 ^ 32 }
+    ensures changes { IfOk result (λ changed. Changes (dependencies_of deps.now) changed rows.old rows.new) }
+    ensures keeps { OnOk result (KeepsRows rows.old rows.new) }
+    ensures obeyed { IfOk result
+        (λ changed. changed ≡ false → (x y : Attributes) → Contains (dependencies_of deps.now) (fd x y)
+        → AgreesBy x y rows.old) }
+{
+    let mut columns = AttrSet::empty();
+    let changed = take_steps(alloc, rows, deps, width, &mut columns)?;
+    if !changed {
+        return Ok(false);
+    }
+    follow_steps(alloc, rows, deps, width, columns)?;
+    Ok(true)
+}
+
+// Takes the steps to which changes lead, again and again, as far as the columns that changed tell. That
+// there are no more is not known of the tableau that is left.
+fn follow_steps(
+    alloc: Global,
+    rows: &mut [SymbolRow],
+    deps: &[Dep],
+    width: u8,
+    columns: AttrSet,
+) -> Result<(), OutOfMemory>
+    requires width { width ≤ MOST_ATTRIBUTES }
+    requires over { IsTableauOver width rows.old }
+    requires fits_u32 { length rows.old < 2 ^ 32 }
+    ensures follows { OnOk result (Follows (dependencies_of deps.now) rows.old rows.new) }
+{
+    let mut changed = columns;
+    for _ in 0..MOST_ATTRIBUTES {
+        if changed.is_empty() {
+            return Ok(());
+        }
+        changed = take_led_steps(alloc, rows, deps, width, changed)?;
+    }
+    Ok(())
+}
+
+// Takes the steps of each functional dependency in turn of whose left side a column changed since its
+// last turn: before, or by a dependency that had its turn here. The columns that change are the result.
+fn take_led_steps(
+    alloc: Global,
+    rows: &mut [SymbolRow],
+    deps: &[Dep],
+    width: u8,
+    before: AttrSet,
+) -> Result<AttrSet, OutOfMemory>
+    requires width { width ≤ MOST_ATTRIBUTES }
+    requires over { IsTableauOver width rows.old }
+    requires fits_u32 { length rows.old < 2 ^ 32 }
+    ensures follows { OnOk result (Follows (dependencies_of deps.now) rows.old rows.new) }
+{
+    let mut columns = AttrSet::empty();
+    let mut apart = None;
+    for dep in deps {
+        if !is_led(*dep, before.union(columns)) {
+            continue;
+        }
+        let changed = take_steps_by(alloc, rows, *dep, width, &mut apart)?;
+        columns = with_changed(columns, *dep, changed);
+    }
+    Ok(columns)
+}
+
+// Whether a functional dependency has a column of its left side among those that changed.
+fn is_led(dep: Dep, columns: AttrSet) -> bool {
+    match dep {
+        Dep::Fd { lhs, .. } => lhs.intersects(columns),
+        Dep::Mvd { .. } => false,
+    }
+}
+
+// The columns that changed, with the right side of a dependency that made changes.
+fn with_changed(columns: AttrSet, dep: Dep, changed: bool) -> AttrSet {
+    if !changed {
+        return columns;
+    }
+    let (_, rhs) = sides(dep);
+    columns.union(rhs)
+}
+
+// Takes the steps of each functional dependency in turn, and says whether there were some. The columns
+// that change are noted.
 fn take_steps(
     alloc: Global,
     rows: &mut [SymbolRow],
     deps: &[Dep],
     width: u8,
+    columns: &mut AttrSet,
 ) -> Result<bool, OutOfMemory>
     requires width { width ≤ MOST_ATTRIBUTES }
     requires over { IsTableauOver width rows.old }
@@ -61,6 +156,7 @@ fn take_steps(
     for dep in deps {
         if take_steps_by(alloc, rows, *dep, width, &mut apart)? {
             changed = true;
+            *columns = with_changed(*columns, *dep, true);
         }
     }
     Ok(changed)

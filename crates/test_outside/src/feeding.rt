@@ -1,7 +1,7 @@
 use crate::three_tables::three_tables;
 use crate::without_memory::WithoutMemory;
 use destinations::{Destination, MemoryDestination};
-use named_tables::NamedTable;
+use named_tables::ChosenTables;
 use std::alloc::Global;
 use std::process::Abort;
 use std::test::Fail;
@@ -21,7 +21,7 @@ fn end_of(failing: u64) -> (WriteOutcome, usize) {
 // Of three destinations the second fails at this call.
 fn check_fault(
     rt: &(impl Alloc<A = Global> + Abort),
-    made: &[NamedTable],
+    made: &ChosenTables,
     failing: u64,
 ) -> Result<(), Fail> {
     let alloc = rt.alloc();
@@ -47,14 +47,14 @@ fn check_fault(
 fn check_tables(
     rt: &impl Abort,
     destination: &MemoryDestination,
-    made: &[NamedTable],
+    made: &ChosenTables,
     count: usize,
 ) -> Result<(), Fail> {
     assert_eq!(rt; destination.tables().len(), count);
-    for (held, table) in destination.tables().iter().zip(made.iter()) {
-        assert_eq!(rt; held.name.bytes(), table.held.name.bytes());
-        assert_eq!(rt; held.columns.len(), table.held.columns.len());
-        assert_eq!(rt; held.rows.len(), table.held.rows.len());
+    for (held, table) in destination.tables().iter().zip(made.tables.iter()) {
+        assert_eq!(rt; held.name.bytes(), table.name.bytes());
+        assert_eq!(rt; held.columns.len(), table.columns.len());
+        assert_eq!(rt; held.rows.len(), table.chosen.len());
     }
     Ok(())
 }

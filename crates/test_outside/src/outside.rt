@@ -4,7 +4,9 @@ use dep_model::OutOfMemory;
 use desk_outside::*;
 use std::alloc::Global;
 use std::fmt::Display;
+use std::rt::Clock;
 use std::test::Fail;
+use std::time::Duration;
 use std::{fs, io};
 
 // A schema text of 31 bytes.
@@ -229,7 +231,7 @@ fn the_system_has_files(rt: HostRuntime) -> Result<(), Fail> {
 
 #[test]
 fn the_system_takes_a_text(rt: HostRuntime) -> Result<(), Fail> {
-    let mut sink = StdoutSink::new(&rt);
+    let mut sink = StdoutSink::new(&rt, ProgressLine::new(rt.alloc(), &rt));
     assert_eq!(rt;
         send(&mut sink, b"a text for the standard output\n"),
         Ok(())
@@ -259,9 +261,29 @@ impl Print for Closed {
     }
 }
 
+impl Eprint for Closed {
+    fn eprint<D: Display + Drop>(&self, _value: D) -> io::Result<()> {
+        Ok(())
+    }
+
+    fn eprintln<D: Display + Drop>(&self, _value: D) -> io::Result<()> {
+        Ok(())
+    }
+}
+
+impl Clock for Closed {
+    fn monotonic(&self) -> io::Result<Duration> {
+        Ok(Duration::ZERO)
+    }
+
+    fn since_1970(&self) -> io::Result<Duration> {
+        Ok(Duration::ZERO)
+    }
+}
+
 #[test]
 fn an_output_that_takes_nothing_failed(rt: HostRuntime) {
-    let mut sink = StdoutSink::new(Closed);
+    let mut sink = StdoutSink::new(Closed, ProgressLine::new(rt.alloc(), &rt));
     assert_eq!(rt; send(&mut sink, b"a text"), Err(CannotWrite));
 }
 

@@ -1,5 +1,7 @@
-ghost use Rattle.std.specs.Prelude.{◌≡◌, ◌∷◌, [], IfOk};
+ghost use Rattle.std.specs.Prelude.{◌≡◌, ◌≤◌, ◌<◌, ◌∷◌, [], length, Some, IfOk, OnOk};
+ghost use Rattle.row_store.specs.Rows.{row_at};
 
+use attr_sets::{AttrSet, MOST_ATTRIBUTES};
 use dep_model::{Name, OutOfMemory};
 use desk_outside::{HeldFile, MemoryFolder, OutsideFault};
 use destinations::{Destination, FileDestination, MemoryDestination, TableFormat};
@@ -37,6 +39,21 @@ fn name(bytes: &[u8]) -> Result<Name, OutsideFault> {
     }
 }
 
+// The first row of some rows, with all of its values.
+fn put_first<T: Destination>(
+    destination: &mut T,
+    rows: &Rows,
+    width: u8,
+) -> Result<(), OutsideFault>
+    requires within_limit { width ≤ MOST_ATTRIBUTES }
+    requires row { 0 < length rows.now }
+    requires values { length (row_at rows.now 0) ≡ width }
+    requires width { T.width destination.old ≡ Some width }
+    ensures width { OnOk result (T.width destination.new ≡ Some width) }
+{
+    destination.put_row(rows, 0, AttrSet::full(width))
+}
+
 // A table of one column and one row.
 fn put_table<T: Destination>(
     alloc: Global,
@@ -46,7 +63,7 @@ fn put_table<T: Destination>(
 ) -> Result<(), OutsideFault> {
     let row = single(alloc, value)?;
     destination.begin_table(&name(table)?, &[name(b"A")?])?;
-    destination.put_row(&row, 0)?;
+    put_first(destination, &row, 1)?;
     destination.end_table()
 }
 
@@ -55,8 +72,8 @@ fn put_pairs<T: Destination>(alloc: Global, destination: &mut T) -> Result<(), O
     let first = pair(alloc, b"1", b"a,\"b\"")?;
     let second = pair(alloc, b"O'Hara", b"\0")?;
     destination.begin_table(&name(b"t1")?, &[name(b"NAME")?, name(b"Note")?])?;
-    destination.put_row(&first, 0)?;
-    destination.put_row(&second, 0)?;
+    put_first(destination, &first, 2)?;
+    put_first(destination, &second, 2)?;
     destination.end_table()
 }
 
@@ -201,9 +218,9 @@ fn put_long<T: Destination>(
 ) -> Result<(), OutsideFault> {
     let row = single(alloc, value)?;
     destination.begin_table(&name(b"t1")?, &[name(b"A")?])?;
-    destination.put_row(&row, 0)?;
-    destination.put_row(&row, 0)?;
-    destination.put_row(&row, 0)?;
+    put_first(destination, &row, 1)?;
+    put_first(destination, &row, 1)?;
+    put_first(destination, &row, 1)?;
     destination.end_table()
 }
 

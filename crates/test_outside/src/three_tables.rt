@@ -1,9 +1,10 @@
-ghost use Rattle.std.specs.Prelude.{◌≡◌, length, IfOk};
+ghost use Rattle.std.specs.Prelude.{◌≡◌, All, length, IfOk};
 ghost use Rattle.dep_model.specs.Tuples.{IsOver};
+ghost use Rattle.named_tables.specs.Choices.{HasRows};
 
 use attr_sets::AttrSet;
 use dep_model::{Name, OutOfMemory, Row, Value};
-use named_tables::{HeldTable, NamedTable};
+use named_tables::{ChosenTable, ChosenTables};
 use row_store::Rows;
 use std::alloc::Global;
 
@@ -16,40 +17,69 @@ pub(crate) fn single(alloc: Global, value: &[u8]) -> Result<Row, OutOfMemory>
     Ok(Row::new(values))
 }
 
-fn table(alloc: Global, name: &[u8], rows: &[Row]) -> Result<NamedTable, OutOfMemory>
-    requires { IsOver 1 rows.now }
+// Those of these rows that are there, as a table of one column.
+#[tactic(auto, using(crate::proofs::RowLemmas::one_more))]
+fn table(
+    alloc: Global,
+    name: &[u8],
+    rows: &Rows,
+    chosen: &[u32],
+) -> Result<ChosenTable, OutOfMemory>
+    requires over { IsOver 1 rows.now }
+    ensures even { IfOk result (λ table. HasRows rows.now table) }
 {
     let (Some(name), Some(column)) = (Name::new(name), Name::new(b"A")) else {
         return Err(OutOfMemory);
     };
+    let scheme = AttrSet::single(0);
     let columns = Vec::from_slice(alloc, &[column])?;
-    let rows = Rows::of(alloc, rows)?;
-    Ok(NamedTable {
-        scheme: AttrSet::single(0),
-        held: HeldTable {
-            name,
-            columns,
-            rows,
-        },
+    let mut there = Vec::new(alloc);
+    for row in chosen {
+        if (*row as usize) < rows.len() {
+            there.push(*row)?;
+        }
+    }
+    Ok(ChosenTable {
+        name,
+        columns,
+        scheme,
+        chosen: there,
     })
 }
 
+// Rows of one value.
+#[tactic(auto, using(crate::proofs::RowLemmas::row_more))]
+fn rows_of(alloc: Global, values: &[&[u8]]) -> Result<Rows, OutOfMemory>
+    ensures over { IfOk result (λ rows. IsOver 1 rows) }
+{
+    let mut rows = Vec::new(alloc);
+    for value in values {
+        rows.push(single(alloc, value)?)?;
+    }
+    Rows::of(alloc, &rows)
+}
+
 // Three tables of one column, with two, three and three rows.
-pub(crate) fn three_tables(alloc: Global) -> Result<Vec<NamedTable>, OutOfMemory> {
+pub(crate) fn three_tables(alloc: Global) -> Result<ChosenTables, OutOfMemory> {
+    let values: [&[u8]; 8] = [b"x", b"O'Hara", b"", b"a,b", b"\xff", b"1", b"2", b"3\0"];
+    let rows = rows_of(alloc, &values)?;
+    let tables = tables_of(alloc, &rows)?;
+    Ok(ChosenTables { rows, tables })
+}
+
+#[tactic(auto, using(crate::proofs::RowLemmas::table_more))]
+fn tables_of(alloc: Global, rows: &Rows) -> Result<Vec<ChosenTable>, OutOfMemory>
+    requires over { IsOver 1 rows.now }
+    ensures even { IfOk result (λ tables. All (HasRows rows.now) tables.items) }
+{
+    let choices: [(&[u8], &[u32]); 3] = [
+        (b"t1", &[0, 1]),
+        (b"t2", &[2, 3, 4]),
+        (b"t3", &[5, 6, 7]),
+    ];
     let mut tables = Vec::new(alloc);
-    let first = [single(alloc, b"x")?, single(alloc, b"O'Hara")?];
-    tables.push(table(alloc, b"t1", &first)?)?;
-    let second = [
-        single(alloc, b"")?,
-        single(alloc, b"a,b")?,
-        single(alloc, b"\xff")?,
-    ];
-    tables.push(table(alloc, b"t2", &second)?)?;
-    let third = [
-        single(alloc, b"1")?,
-        single(alloc, b"2")?,
-        single(alloc, b"3\0")?,
-    ];
-    tables.push(table(alloc, b"t3", &third)?)?;
+    for (name, chosen) in choices {
+        tables.push(table(alloc, name, rows, chosen)?)?;
+    }
     Ok(tables)
 }

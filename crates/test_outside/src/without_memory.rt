@@ -1,6 +1,7 @@
 ghost use Rattle.std.specs.Prelude.{◌≡◌, false, None, Err, ⊤};
 ghost use Rattle.desk_outside.specs.declared.failure.OutsideFault.TheVariants.{OutOfMemory};
 
+use attr_sets::AttrSet;
 use dep_model::Name;
 use desk_outside::{HeldFile, OutsideFault};
 use destinations::Destination;
@@ -44,7 +45,7 @@ impl Destination for WithoutMemory {
         Err(OutsideFault::OutOfMemory)
     }
 
-    fn put_row(&mut self, _rows: &Rows, _row: usize) -> Result<(), OutsideFault>
+    fn put_row(&mut self, _rows: &Rows, _row: usize, _scheme: AttrSet) -> Result<(), OutsideFault>
         ensures memory { result ≡ Err OutOfMemory }
         ensures closed { self.new.columns ≡ None }
     {

@@ -3,6 +3,7 @@ use desk_cli::desk;
 use desk_outside::{Argument, HeldFile, MemoryFiles, MemorySink};
 use desk_responses::Status;
 use destinations::{Destination, MemoryDestination};
+use row_store::Hashing;
 use std::alloc::Global;
 
 // A name, and the text of the file of that name.
@@ -41,7 +42,7 @@ pub(crate) fn call(
     destinations: &mut Vec<Box<dyn Destination>>,
 ) -> Result<Status, OutOfMemory> {
     let words = words_of(alloc, words)?;
-    desk(alloc, &words, source, sink, destinations)
+    desk(alloc, Hashing::Fixed, &words, source, sink, destinations)
 }
 
 // A sink that takes a byte at a time, so many in all.

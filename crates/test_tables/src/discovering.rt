@@ -1,6 +1,7 @@
 use attr_sets::AttrSet;
 use dep_model::{Dep, Failure};
 use fd_discovery::{DiscoverRefusal, discover, read_headed};
+use row_store::Hashing;
 use std::alloc::Global;
 use std::process::Abort;
 use std::test::Fail;
@@ -8,7 +9,12 @@ use std::test::Fail;
 // The dependencies of the rows of a text.
 fn discover_text(alloc: Global, text: &[u8]) -> Result<Vec<Dep>, Failure<DiscoverRefusal>> {
     let headed = read_headed(alloc, text)?;
-    let deps = discover(alloc, headed.names.len() as u8, &headed.rows)?;
+    let deps = discover(
+        alloc,
+        Hashing::Fixed,
+        headed.names.len() as u8,
+        &headed.rows,
+    )?;
     Ok(deps)
 }
 

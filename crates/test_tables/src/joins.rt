@@ -4,6 +4,7 @@ ghost use Rattle.table_join.specs.Tables.{IsTable, tables_of};
 
 use csv_rows::{PartialRows, print_rows, read_part};
 use dep_model::{Failure, Schema};
+use row_store::Hashing;
 use schema_reader::{MOST_TEXT_BYTES, read_schema};
 use std::alloc::Global;
 use std::process::Abort;
@@ -33,7 +34,7 @@ fn check(rt: &(impl Alloc<A = Global> + Abort), case: Case) -> Result<(), Fail> 
     let schema = read_schema(alloc, schema.as_bytes()).expect(rt, "a schema");
     let parts = read_parts(alloc, &schema, texts)?;
     assert!(rt; parts.len() < 10);
-    let rows = join(alloc, &schema, &parts, 200_000).expect(rt, "rows");
+    let rows = join(alloc, Hashing::Fixed, &schema, &parts, 200_000).expect(rt, "rows");
     let text = print_rows(alloc, &schema, &rows)?;
     assert_eq!(rt; text.as_slice(), want.as_bytes());
     Ok(())
@@ -124,7 +125,7 @@ fn check_refused(rt: &(impl Alloc<A = Global> + Abort), case: Refused) -> Result
     let schema = read_schema(alloc, schema.as_bytes()).expect(rt, "a schema");
     let parts = read_parts(alloc, &schema, texts)?;
     assert!(rt; parts.len() < 10);
-    let failure = join(alloc, &schema, &parts, limit).err();
+    let failure = join(alloc, Hashing::Fixed, &schema, &parts, limit).err();
     assert_eq!(rt; failure, Some(Failure::Refused(want)));
     Ok(())
 }
@@ -189,7 +190,7 @@ fn as_many_as_the_limit(rt: HostRuntime) -> Result<(), Fail> {
     let schema = read_schema(alloc, b"attributes A B\n").expect(&rt, "a schema");
     let parts = read_parts(alloc, &schema, &["A\n1\n2\n3\n", "B\n1\n2\n"])?;
     assert!(rt; parts.len() < 10);
-    let rows = join(alloc, &schema, &parts, 6).expect(&rt, "rows");
+    let rows = join(alloc, Hashing::Fixed, &schema, &parts, 6).expect(&rt, "rows");
     assert_eq!(rt; rows.len(), 6);
     Ok(())
 }

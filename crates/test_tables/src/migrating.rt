@@ -1,8 +1,9 @@
 use csv_migrate::tables;
 use csv_rows::read_rows;
 use dep_model::OutOfMemory;
-use named_tables::NamedTable;
+use named_tables::ChosenTable;
 use plan_reader::{MOST_PLAN_BYTES, read_plan};
+use row_store::{FlatValues, Hashing, Rows, project_row};
 use schema_reader::{MOST_TEXT_BYTES, read_schema};
 use std::alloc::Global;
 use std::process::Abort;
@@ -10,22 +11,31 @@ use std::test::Fail;
 use test_data::{ADDRESS, TIMETABLE, TIMETABLE_PLAN, TIMETABLE_ROWS};
 
 // A table on one line: its name, its columns, and each row after a bar.
-fn line_of(alloc: Global, table: &NamedTable) -> Result<Vec<u8>, OutOfMemory> {
+fn line_of(alloc: Global, rows: &Rows, table: &ChosenTable) -> Result<Vec<u8>, OutOfMemory> {
     let mut line = Vec::new(alloc);
-    line.extend_from_slice(table.held.name.bytes())?;
-    for column in &table.held.columns {
+    line.extend_from_slice(table.name.bytes())?;
+    for column in &table.columns {
         line.push(b' ')?;
         line.extend_from_slice(column.bytes())?;
     }
-    let rows = &table.held.rows;
-    for row in 0..rows.len() {
-        line.push(b'|')?;
-        for i in 0..rows.width(row) {
-            line.push(b'<')?;
-            line.extend_from_slice(rows.value(row, i))?;
+    let mut values = FlatValues::new(alloc);
+    for row in &table.chosen {
+        if (*row as usize) < rows.len() {
+            project_row(&mut values, table.scheme, rows, *row as usize)?;
+            add_row(&mut line, &values)?;
         }
     }
     Ok(line)
+}
+
+// A bar, and then each value after a sign.
+fn add_row(line: &mut Vec<u8>, values: &FlatValues) -> Result<(), OutOfMemory> {
+    line.push(b'|')?;
+    for i in 0..values.len() {
+        line.push(b'<')?;
+        line.extend_from_slice(values.value(i))?;
+    }
+    Ok(())
 }
 
 // A schema, a plan, rows, and each table as a line.
@@ -41,13 +51,13 @@ fn check(rt: &(impl Alloc<A = Global> + Abort), case: Case) -> Result<(), Fail> 
     let rows = read_rows(alloc, &schema, text.as_bytes()).expect(rt, "rows");
     assert!(rt; rows.len() < 10);
     assert!(rt; plan.schemes().len() < 10);
-    let made = tables(alloc, &schema, &plan, &rows)?;
-    assert_eq!(rt; made.len(), want.len());
-    for (table, want) in made.iter().zip(want.iter()) {
-        let line = line_of(alloc, table)?;
+    let made = tables(alloc, Hashing::Fixed, &schema, &plan, rows)?;
+    assert_eq!(rt; made.tables.len(), want.len());
+    for (table, want) in made.tables.iter().zip(want.iter()) {
+        let line = line_of(alloc, &made.rows, table)?;
         assert_eq!(rt; line.as_slice(), want.as_bytes());
     }
-    for (table, scheme) in made.iter().zip(plan.schemes().iter()) {
+    for (table, scheme) in made.tables.iter().zip(plan.schemes().iter()) {
         assert_eq!(rt; table.scheme, *scheme);
     }
     Ok(())

@@ -1,5 +1,6 @@
 use csv_rows::read_rows;
 use legality::{Offence, offences};
+use row_store::Hashing;
 use schema_reader::{MOST_TEXT_BYTES, read_schema};
 use std::alloc::Global;
 use std::process::Abort;
@@ -20,7 +21,7 @@ fn check(
     let schema = read_schema(alloc, schema.as_bytes()).expect(rt, "a schema");
     let rows = read_rows(alloc, &schema, text.as_bytes()).expect(rt, "rows");
     assert!(rt; rows.len() < 10);
-    let found = offences(alloc, &schema, &rows)?;
+    let found = offences(alloc, Hashing::Fixed, &schema, &rows)?;
     assert_eq!(rt; found.as_slice(), want);
     Ok(())
 }

@@ -88,19 +88,21 @@ CREATE TABLE \"t2\" (
 );
 ",
         ),
-        // of two keys the one with the first attributes
+        // of two keys the one with the first attributes, and then the other
         (
             b"attributes A B\nA -> B\nB -> A",
             b"scheme A B\nscheme A B",
             b"CREATE TABLE \"t1\" (
   \"A\" TEXT NOT NULL,
   \"B\" TEXT NOT NULL,
-  PRIMARY KEY (\"A\")
+  PRIMARY KEY (\"A\"),
+  UNIQUE (\"B\")
 );
 CREATE TABLE \"t2\" (
   \"A\" TEXT NOT NULL,
   \"B\" TEXT NOT NULL,
   PRIMARY KEY (\"A\"),
+  UNIQUE (\"B\"),
   FOREIGN KEY (\"A\") REFERENCES \"t1\" (\"A\")
 );
 ",

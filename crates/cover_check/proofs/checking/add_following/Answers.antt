@@ -5,9 +5,9 @@ use Rattle.attr_sets.specs.declared.set.TheConstants.{MOST_ATTRIBUTES}
 use Rattle.dep_model.specs.declared.dep.Dep.{Dep}
 use Rattle.dep_model.specs.declared.dep.Dep.TheVariants.{Fd}
 use Rattle.dep_model.specs.Schemas.{deps_of, width_of, theory_of}
-use Rattle.cover_check.specs.declared.complaint.Complaint.{Complaint}
-use Rattle.cover_check.specs.declared.complaint.Complaint.TheVariants.{Follows}
-use Rattle.cover_check.specs.Gathering.{AreComplaintsBefore}
+use Rattle.cover_check.specs.declared.diagnostic.CoverDiagnostic.{CoverDiagnostic}
+use Rattle.cover_check.specs.declared.diagnostic.CoverDiagnostic.TheVariants.{Follows}
+use Rattle.cover_check.specs.Gathering.{AreCoverDiagnosticsBefore}
 use Rattle.cover_check.proofs.GatheringLemmas.{schema_within, schema_narrow, read_at, no_following, gather_push, gather_skip, gather_next}
 use Rattle.cover_check.proofs.checking.add_following.Goals as goal
 
@@ -39,7 +39,7 @@ returns c =
     let follows = c.in_ok-follows_from_others.ensures.follows _ read in
     record {
       before = gather_next n ds k c.push.new.self.items (schema_narrow s) (schema_within s)
-          (subst (λ (items : List Complaint). AreComplaintsBefore n ds k (2 + MOST_ATTRIBUTES) items) (sym c.in_ok-push.ensures.items)
+          (subst (λ (items : List CoverDiagnostic). AreCoverDiagnosticsBefore n ds k (2 + MOST_ATTRIBUTES) items) (sym c.in_ok-push.ensures.items)
           (gather_push n ds k (1 + MOST_ATTRIBUTES) c.args.found.now.items (Follows k) (schema_narrow s) (schema_within s) c.requires.before
           (_, read, follows.0 c.if-not-branch.false) refl refl));
     }

@@ -5,9 +5,9 @@ use Rattle.std.proofs.lemmas.Bool.{false≢true}
 use Rattle.dep_model.specs.declared.dep.Dep.{Dep}
 use Rattle.dep_model.specs.declared.dep.Dep.TheVariants.{Fd}
 use Rattle.dep_model.specs.Schemas.{width_of, theory_of}
-use Rattle.cover_check.specs.declared.complaint.Complaint.{Complaint}
-use Rattle.cover_check.specs.declared.complaint.Complaint.TheVariants.{NotNeeded}
-use Rattle.cover_check.specs.Gathering.{AreComplaintsBefore}
+use Rattle.cover_check.specs.declared.diagnostic.CoverDiagnostic.{CoverDiagnostic}
+use Rattle.cover_check.specs.declared.diagnostic.CoverDiagnostic.TheVariants.{NotNeeded}
+use Rattle.cover_check.specs.Gathering.{AreCoverDiagnosticsBefore}
 use Rattle.cover_check.proofs.GatheringLemmas.{schema_within, schema_narrow, read_at, within_at, no_such_left, gather_push, gather_skip}
 use Rattle.cover_check.proofs.checking.add_not_needed.Goals.{then-is_not_needed+in_ok-push, else-is_not_needed}
 use Rattle.cover_check.proofs.checking.add_not_needed.Goals as goal
@@ -31,13 +31,13 @@ loop-attribute-preserved c =
     elim c.if-is_not_needed.branch [
       | then-is_not_needed+in_ok-push w ↦
           let pushed = ap (λ v. v.items) w.found-is ∙ w.in_ok-push.ensures.items in
-          subst (λ (r : ℕ). AreComplaintsBefore n ds k r c.if-is_not_needed.found.items) later
-          (subst (λ (items : List Complaint). AreComplaintsBefore n ds k ((1 + a) + 1) items) (sym pushed)
+          subst (λ (r : ℕ). AreCoverDiagnosticsBefore n ds k r c.if-is_not_needed.found.items) later
+          (subst (λ (items : List CoverDiagnostic). AreCoverDiagnosticsBefore n ds k ((1 + a) + 1) items) (sym pushed)
           (gather_push n ds k (1 + a) c.loop-attribute.found.items (NotNeeded k a) (schema_narrow s) (schema_within s) c.loop-attribute.invariant
           (_, read, c.is_not_needed.ensures.not_needed.0 w.if-is_not_needed.true) refl refl))
       | else-is_not_needed w ↦
-          subst (λ (r : ℕ). AreComplaintsBefore n ds k r c.if-is_not_needed.found.items) later
-          (subst (λ (items : List Complaint). AreComplaintsBefore n ds k ((1 + a) + 1) items) (sym (ap (λ v. v.items) w.found-is))
+          subst (λ (r : ℕ). AreCoverDiagnosticsBefore n ds k r c.if-is_not_needed.found.items) later
+          (subst (λ (items : List CoverDiagnostic). AreCoverDiagnosticsBefore n ds k ((1 + a) + 1) items) (sym (ap (λ v. v.items) w.found-is))
           (gather_skip n ds k (1 + a) c.loop-attribute.found.items c.loop-attribute.invariant
           (no_such_left n ds k a _ c.loop-attribute-test.true read
           (λ is. false≢true (sym w.if-is_not_needed.false ∙ c.is_not_needed.ensures.not_needed.1 is)))))

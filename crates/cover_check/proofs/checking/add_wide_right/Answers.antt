@@ -4,9 +4,9 @@ use Rattle.std.proofs.lemmas.Bool.{false≢true}
 use Rattle.dep_model.specs.declared.dep.Dep.{Dep}
 use Rattle.dep_model.specs.declared.dep.Dep.TheVariants.{Fd}
 use Rattle.dep_model.specs.Schemas.{width_of, theory_of}
-use Rattle.cover_check.specs.declared.complaint.Complaint.{Complaint}
-use Rattle.cover_check.specs.declared.complaint.Complaint.TheVariants.{WideRight}
-use Rattle.cover_check.specs.Gathering.{AreComplaintsBefore}
+use Rattle.cover_check.specs.declared.diagnostic.CoverDiagnostic.{CoverDiagnostic}
+use Rattle.cover_check.specs.declared.diagnostic.CoverDiagnostic.TheVariants.{WideRight}
+use Rattle.cover_check.specs.Gathering.{AreCoverDiagnosticsBefore}
 use Rattle.cover_check.proofs.GatheringLemmas.{schema_within, schema_narrow, read_at, no_wide_right, gather_push, gather_skip}
 use Rattle.cover_check.proofs.checking.add_wide_right.Goals as goal
 
@@ -32,7 +32,7 @@ returns c =
     let k = c.args.k in
     let read = read_at s c.deps.result.now k first c.deps.ensures.deps c.requires.position in
     record {
-      before = subst (λ (items : List Complaint). AreComplaintsBefore n ds k 1 items) (sym c.in_ok-push.ensures.items)
+      before = subst (λ (items : List CoverDiagnostic). AreCoverDiagnosticsBefore n ds k 1 items) (sym c.in_ok-push.ensures.items)
           (gather_push n ds k 0 c.args.found.now.items (WideRight k) (schema_narrow s) (schema_within s) c.requires.before
           (_, read, c.has_wide_right.ensures.wide.0 c.if-not-has_wide_right.false) refl refl);
     }

@@ -8,7 +8,7 @@ use Rattle.dep_model.specs.declared.dep.Dep.{Dep}
 use Rattle.dep_model.specs.Dependencies.{Dependency}
 use Rattle.dep_model.specs.Deps.{dependency_of, dependencies_of, IsDepWithin}
 use Rattle.dep_model.specs.Schemas.{deps_of, width_of, universe_of, theory_of}
-use Rattle.cover_check.specs.Complaints.{FollowsFrom}
+use Rattle.cover_check.specs.CoverDiagnostics.{FollowsFrom}
 use Rattle.cover_check.proofs.CoverLemmas.{remove_map, remove_all}
 use Rattle.cover_check.proofs.GatheringLemmas.{read_at, within_at}
 use Rattle.cover_check.proofs.checking.follows_from_others.Goals as goal

@@ -1,5 +1,5 @@
--- What is left to prove of `table`: its clause `value` and the invariant of its type, by
--- `MigrationLemmas` and `ProjectionLemmas`.
+-- What is left to prove of `table`: its clauses `value` and `even`, by `MigrationLemmas` and
+-- `ProjectionLemmas`.
 use Rattle.attr_sets.specs.Sets.{attributes}
 use Rattle.dep_model.specs.Schemas.{names_of, width_of}
 use Rattle.csv_rows.specs.Interning.{groups_of, firsts_of}
@@ -7,26 +7,22 @@ use Rattle.csv_migrate.proofs.ProjectionLemmas.{table_rows, table_even}
 use Rattle.csv_migrate.proofs.MigrationLemmas.{same_table}
 use Rattle.csv_migrate.proofs.migration.table.Goals as goal
 
-pub invariant_of-result : goal.invariant_of-result
-invariant_of-result c =
+pub returns-clause-even : goal.returns-clause-even
+returns-clause-even c =
     let n = width_of c.args.schema.now in
-    record {
-      even =
-          table_even (names_of c.args.schema.now) c.args.rows.now (attributes c.args.scheme)
-          (groups_of c.in_ok-groups.groups) (firsts_of c.in_ok-groups.groups) c.firsts.result.now
-          c.in_ok-columns.columns.items c.in_ok-rows.rows c.requires.over
-          (c.in_ok-groups.ensures.groups n c.args.rows.now c.requires.codes)
-          (c.in_ok-groups.ensures.firsts n c.args.rows.now c.requires.codes)
-          c.firsts.ensures.firsts c.in_ok-columns.ensures.names c.in_ok-rows.ensures.rows;
-    }
+    table_even (names_of c.args.schema.now) c.args.rows.now (attributes c.args.scheme)
+    (groups_of c.in_ok-groups.groups) (firsts_of c.in_ok-groups.groups) c.into_firsts.result.items
+    c.in_ok-columns.columns.items c.requires.over
+    (c.in_ok-groups.ensures.groups n c.args.rows.now c.requires.codes)
+    (c.in_ok-groups.ensures.firsts n c.args.rows.now c.requires.codes)
+    c.into_firsts.ensures.firsts c.in_ok-columns.ensures.names
 
 pub returns-clause-value : goal.returns-clause-value
 returns-clause-value c =
     let n = width_of c.args.schema.now in
     same_table _ _ _ _ _ _ c.table_name-name.ensures.name c.in_ok-columns.ensures.names
     (table_rows n c.args.rows.now (attributes c.args.scheme) (groups_of c.in_ok-groups.groups)
-    (firsts_of c.in_ok-groups.groups) c.firsts.result.now
-    c.in_ok-rows.rows c.requires.over
+    (firsts_of c.in_ok-groups.groups) c.into_firsts.result.items c.requires.over
     (c.in_ok-groups.ensures.groups n c.args.rows.now c.requires.codes)
     (c.in_ok-groups.ensures.firsts n c.args.rows.now c.requires.codes)
-    c.firsts.ensures.firsts c.in_ok-rows.ensures.rows)
+    c.into_firsts.ensures.firsts)

@@ -2,7 +2,7 @@
 use Rattle.std.proofs.Common.{◌≡◌, ◌++◌, List, ℕ, subst}
 use Rattle.std.specs.Prelude.{OnOk}
 use Rattle.attr_sets.specs.Sets.{attributes}
-use Rattle.ddl_text.specs.Ddl.{column_elements, key_elements, reference_elements, element_lines}
+use Rattle.ddl_text.specs.Ddl.{column_elements, keys_elements, reference_elements, element_lines}
 use Rattle.ddl_text.proofs.TextLemmas.{elements_added}
 use Rattle.ddl_text.proofs.elements.add_elements.Goals as goal
 
@@ -16,11 +16,11 @@ returns c =
     let references = reference_elements s tables table.refs.items in
     record {
       added = elements_added c.add_references.result (column_elements s (attributes table.scheme))
-          (key_elements s (attributes table.key)) references one two
-          c.args.text.now.items c.add_columns.new.text.items c.add_key.new.text.items c.add_references.new.text.items
+          (keys_elements s table) references one two
+          c.args.text.now.items c.add_columns.new.text.items c.add_keys.new.text.items c.add_references.new.text.items
           c.in_ok-any_before.ensures.added c.in_ok-any_before.ensures.any_written c.in_ok-any_before-2.ensures.added c.in_ok-any_before-2.ensures.any_written
           (subst (λ (refs : List ℕ). OnOk c.add_references.result
-          (c.add_references.new.text.items ≡ c.add_key.new.text.items ++ element_lines two
+          (c.add_references.new.text.items ≡ c.add_keys.new.text.items ++ element_lines two
           (reference_elements s tables refs)))
           c.deref.ensures.value c.add_references.ensures.added);
     }

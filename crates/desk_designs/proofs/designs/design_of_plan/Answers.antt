@@ -9,6 +9,7 @@ returns c = record {
     order = c.in_ok-ordered.ensures.order;
     design = c.in_ok-design.ensures.design;
     keys_hold = c.in_ok-design.ensures.keys_hold;
+    other_keys_hold = c.in_ok-design.ensures.other_keys_hold;
     references_hold = c.in_ok-design.ensures.references_hold;
   };
 }

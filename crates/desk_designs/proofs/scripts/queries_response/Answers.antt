@@ -1,7 +1,7 @@
 -- What is left to prove of `queries_response`: its clause `response`, by what `check_script` tells.
 use Rattle.std.proofs.Common.{◌↔◌, ℕ, List, sym, ap, subst, ◌∙◌}
 use Rattle.check_laws.specs.Holding.{Holds}
-use Rattle.check_laws.specs.Telling.{NothingShown}
+use Rattle.check_laws.specs.Telling.{NoBreachShown, RulesHold, NothingShown}
 use Rattle.dep_model.specs.Schemas.{LegalFor}
 use Rattle.table_scripts.specs.Checking.{check_text}
 use Rattle.table_scripts.specs.Naming.{quoted_table}
@@ -20,8 +20,11 @@ returns c =
         record {
           terms = script.ensures.exact;
           queries = λ e cell r holds over.
-              subst (λ (t : List ℕ). LegalFor s r ↔ NothingShown e s (quoted_table t)) same
+              subst (λ (t : List ℕ). LegalFor s r ↔ NoBreachShown e s (quoted_table t)) same
               (script.ensures.tells e cell r (subst (λ (t : List ℕ). Holds e (quoted_table t) s cell r) (sym same) holds) over);
+          script = λ e cell r holds over casts.
+              subst (λ (t : List ℕ). RulesHold s cell r ↔ NothingShown e s (quoted_table t)) same
+              (script.ensures.tells_all e cell r (subst (λ (t : List ℕ). Holds e (quoted_table t) s cell r) (sym same) holds) over casts);
         },
         subst (λ (text : List ℕ). Says Yes text (response_value c.with_text.result))
             (script.ensures.text ∙ ap (λ (t : List ℕ). check_text s (quoted_table t)) same) c.with_text.ensures.says,

@@ -28,19 +28,7 @@ sets_response-requires c =
           (λ k key. key.superkey.within.0) c.in-Ok.keys.items c.in-Ok.ensures.keys.each);
     }
 
-pub returns-in-Err-Refused-TooWide : goal.returns-in-Err-Refused-TooWide
-returns-in-Err-Refused-TooWide c =
-    let s = c.args.schema.now in
-    let all : attributes c.full.result ≡ universe_of s = c.full.ensures.members ∙ ap below c.width.ensures.count in
-    let listed = subst (λ (failure : Failure KeyRefusal). IsRefusedListing s failure) c.in-Err-Refused-TooWide.field-0-is c.in-Err-Refused-TooWide.ensures.refused in
-    let wide = subst (λ (refusal : KeyRefusal). IsRefusedListing s (failed.Refused refusal)) c.in-Err-Refused-TooWide.field-0-0-is listed in
-    record {
-      response = λ response is. inr (inl (wide, subst (λ (x : Attributes). Says Refused (too_wide_text (printed_names_of s) x) (response_value response)) all (c.too_wide_exit.ensures.says response is)));
-    }
-
-pub returns-in-Err-Refused-TooManyKeys : goal.returns-in-Err-Refused-TooManyKeys
-returns-in-Err-Refused-TooManyKeys c =
-    let s = c.args.schema.now in
-    let listed = subst (λ (failure : Failure KeyRefusal). IsRefusedListing s failure) c.in-Err-Refused-TooManyKeys.field-0-is c.in-Err-Refused-TooManyKeys.ensures.refused in
-    let many = subst (λ (refusal : KeyRefusal). IsRefusedListing s (failed.Refused refusal)) c.in-Err-Refused-TooManyKeys.field-0-0-is listed in
-    record { response = λ response is. inr (inr (many.0, (_, many.1), c.too_many_keys_exit.ensures.says response is)) }
+pub keys_exit-requires : goal.keys_exit-requires
+keys_exit-requires c = record {
+  refused = subst (λ (failure : Failure KeyRefusal). IsRefusedListing c.args.schema.now failure) c.in-Err-Refused.field-0-is c.in-Err-Refused.ensures.refused;
+}

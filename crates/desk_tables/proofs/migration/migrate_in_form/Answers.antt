@@ -13,6 +13,6 @@ returns c =
     let s = c.args.schema.now in
     let form = c.args.form in
     record {
-      response = With-found (FormStops s form) (IsPlanInForm s form) (λ (plan : List AttrSet). MigratesRows s (schemes_of plan) c.args.rows.now)
+      response = With-found (FormStops s form) (IsPlanInForm s form) (λ (plan : List AttrSet). MigratesRows s (schemes_of plan) c.args.rows)
           (scheme_sets c.in-Ok.plan) c.migrate_rows.result c.in-Ok.ensures.ok c.migrate_rows.ensures.response;
     }

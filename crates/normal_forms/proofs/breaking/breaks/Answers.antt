@@ -8,7 +8,6 @@ use Rattle.dep_model.specs.Dependencies.{Dependency, IsWithin}
 use Rattle.dep_model.specs.Keys.{InClosure}
 use Rattle.dep_model.specs.Schemas.{width_of, theory_of, deps_of}
 use Rattle.dep_model.proofs.DepLemmas.{dependencies_all-from}
-use Rattle.fd_closure.proofs.SchemaLemmas.{closure_of_schema}
 use Rattle.normal_forms.specs.declared.forms.Form.{Form}
 use Rattle.normal_forms.specs.declared.forms.Form.TheVariants.{Fourth}
 use Rattle.normal_forms.specs.Breaking.{Breaks}
@@ -21,9 +20,9 @@ returns-then-functional c =
     let n = width_of s in
     let x = attributes c.args.lhs in
     let scheme = attributes c.args.scheme in
-    let closed = attributes c.closure.result in
+    let closed = attributes c.closure_begun.result in
     let same = c.requires.functional c.if-functional.true in
-    let by_part = closure_of_schema s c.deps.result.now c.deps.ensures.deps x closed (λ k m. c.requires.scheme k (c.requires.lhs k m)) c.closure.ensures.closure in
+    let by_part = c.closure_begun.ensures.closure in
     let exact = subst (λ (ds : List Dependency). (a : ℕ) → (closed a ≡ true) ↔ InClosure n ds x a) same by_part in
     let fact = c.determines_some.ensures.breaks n (theory_of s) c.requires.scheme exact in
     let both = functional_breaks n (theory_of s) c.args.form scheme x c.requires.form (dependencies_all-from (IsWithin (below n)) (deps_of s) s.valid.deps_within) same c.requires.scheme in

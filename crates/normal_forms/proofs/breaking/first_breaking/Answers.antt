@@ -17,12 +17,20 @@ use Rattle.normal_forms.proofs.breaking.first_breaking.Goals.{In-Some}
 searched : (c : In-Some) → IsSearched (Breaks (width_of c.args.schema.now) (theory_of c.args.schema.now) c.args.form (attributes c.args.scheme)) (attributes c.args.whole) (Some c.in-Some.set)
 searched c =
     let s = c.args.schema.now in
-    subst (λ (o : Option AttrSet). IsSearched (Breaks (width_of s) (theory_of s) c.args.form (attributes c.args.scheme)) (attributes c.args.whole) o) c.in-Some.is c.loop-next.invariant
+    subst (λ (o : Option AttrSet). IsSearched (Breaks (width_of s) (theory_of s) c.args.form (attributes c.args.scheme)) (attributes c.args.whole) o) c.in-Some.is c.loop-next.invariant.searched
 
 pub loop-next-init : goal.loop-next-init
 loop-next-init c =
     let s = c.args.schema.now in
-    search_start (Breaks (width_of s) (theory_of s) c.args.form (attributes c.args.scheme)) (attributes c.args.whole) c.empty.result c.empty.ensures.members
+    record {
+      part = c.no_part-part.ensures.known s;
+      searched = search_start (Breaks (width_of s) (theory_of s) c.args.form (attributes c.args.scheme)) (attributes c.args.whole) c.empty.result c.empty.ensures.members;
+    }
+
+pub next_part-part-requires-clause-set : goal.next_part-part-requires-clause-set
+next_part-part-requires-clause-set c k m =
+    let before = searched (goal.at.next_part-part-requires-clause-set c).In-Some in
+    c.requires.scheme k (c.requires.within_scheme k (before.within k m))
 
 pub breaks-requires-clause-lhs : goal.breaks-requires-clause-lhs
 breaks-requires-clause-lhs c k m =
@@ -55,10 +63,13 @@ loop-next-preserved c =
     let low : IsSubset (attributes c.args.whole) (below (width_of s)) = λ k m. c.requires.scheme k (c.requires.within_scheme k m) in
     let past = search_past (width_of s) P (attributes c.args.whole) c.in-Some.set c.passed.result low before
     (λ breaks. false≢true (sym c.if-breaks.false ∙ c.breaks.ensures.breaks.1 breaks)) c.passed.ensures.holds c.passed.ensures.within c.passed.ensures.passed in
-    search_on (width_of s) P (attributes c.args.whole) c.passed.result c.next_subset-next.result low past.0 past.1 c.next_subset-next.ensures.none.0 c.next_subset-next.ensures.next
+    record {
+      part = c.next_part-part.ensures.known;
+      searched = search_on (width_of s) P (attributes c.args.whole) c.passed.result c.next_subset-next.result low past.0 past.1 c.next_subset-next.ensures.none.0 c.next_subset-next.ensures.next;
+    }
 
 pub returns-clause-none : goal.returns-clause-none
 returns-clause-none c = λ _.
     let s = c.args.schema.now in
     let P = Breaks (width_of s) (theory_of s) c.args.form (attributes c.args.scheme) in
-    search_end P (attributes c.args.whole) (subst (λ (o : Option AttrSet). IsSearched P (attributes c.args.whole) o) c.in_default.is c.loop-next.invariant)
+    search_end P (attributes c.args.whole) (subst (λ (o : Option AttrSet). IsSearched P (attributes c.args.whole) o) c.in_default.is c.loop-next.invariant.searched)

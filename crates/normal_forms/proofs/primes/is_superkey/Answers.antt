@@ -8,6 +8,7 @@ use Rattle.dep_model.specs.Implication.{Implies}
 use Rattle.dep_model.specs.Schemas.{width_of, theory_of}
 use Rattle.dep_model.proofs.KeyLemmas.{superkey-from, fd_on-to}
 use Rattle.fd_closure.proofs.SchemaLemmas.{of_functional_part}
+use Rattle.normal_forms.proofs.BeginLemmas.{implied_begun}
 use Rattle.normal_forms.proofs.primes.is_superkey.Goals as goal
 
 pub returns : goal.returns
@@ -17,6 +18,10 @@ returns c =
     let fs = functional_part (theory_of s) in
     let scheme = attributes c.args.scheme in
     let x = attributes c.args.set in
-    let decides = of_functional_part s c.deps.result.now c.deps.ensures.deps (λ m ds. IsSubset x (below m) → IsSubset scheme (below m) → IsTrue c.follows.result ↔ Implies m ds (fd x scheme))
-    c.follows.ensures.implied (λ k m. c.requires.scheme k (c.requires.set k m)) c.requires.scheme in
+    let b = attributes c.begun.result in
+    let begun = c.begun.ensures.begun s c.requires.part (λ k m. c.requires.scheme k (c.requires.set k m)) in
+    let by_begun = of_functional_part s c.deps.result.now c.deps.ensures.deps (λ m ds. IsSubset b (below m) → IsSubset scheme (below m) → IsTrue c.follows.result ↔ Implies m ds (fd b scheme))
+    c.follows.ensures.implied begun.within c.requires.scheme in
+    let same = implied_begun n fs x b scheme begun.holds begun.determined in
+    let decides : IsTrue c.follows.result ↔ Implies n fs (fd x scheme) = ((λ e. same.0 (by_begun.0 e)), (λ h. by_begun.1 (same.1 h))) in
     record { superkey = ((λ e. superkey-from n fs scheme x c.requires.set (decides.0 e)), (λ superkey. decides.1 (fd_on-to n fs scheme x scheme superkey))) }

@@ -30,7 +30,7 @@ BecomesWithRest c y = Becomes c (union y (attributes c.without-rest.result))
 
 -- the subsets before the one that is tried
 searched : (c : In-Some) → IsSearched (BecomesWithRest c) (attributes c.without-others.result) (Some c.in-Some.set)
-searched c = subst (λ (o : Option AttrSet). IsSearched (BecomesWithRest c) (attributes c.without-others.result) o) c.in-Some.is c.loop-next.invariant
+searched c = subst (λ (o : Option AttrSet). IsSearched (BecomesWithRest c) (attributes c.without-others.result) o) c.in-Some.is c.loop-next.invariant.searched
 
 -- the rest is the scheme without the whole and the attribute
 rest_is : (c : In-Some) → attributes c.without-rest.result ≡ difference (difference (attributes c.args.scheme) (attributes c.args.whole)) (only c.args.attribute)
@@ -47,7 +47,14 @@ pub loop-next-init : goal.loop-next-init
 loop-next-init c =
     let s = c.args.schema.now in
     let P = λ (y : Attributes). BecomesSuperkeyBy (width_of s) (functional_part (theory_of s)) (attributes c.args.scheme) (union y (attributes c.without-rest.result)) c.args.attribute in
-    search_start P (attributes c.without-others.result) c.empty.result c.empty.ensures.members
+    record {
+      part = c.no_part-part.ensures.known s;
+      searched = search_start P (attributes c.without-others.result) c.empty.result c.empty.ensures.members;
+    }
+
+pub next_part-part-requires-clause-set : goal.next_part-part-requires-clause-set
+next_part-part-requires-clause-set c k m =
+    c.requires.scheme k (tried_in (goal.at.next_part-part-requires-clause-set c).In-Some k (sym (same_at c.union-before.ensures.members k) ∙ m))
 
 pub becomes_superkey_by-requires-clause-set : goal.becomes_superkey_by-requires-clause-set
 becomes_superkey_by-requires-clause-set c k m = tried_in (goal.at.becomes_superkey_by-requires-clause-set c).In-Some k (sym (same_at c.union-before.ensures.members k) ∙ m)
@@ -99,8 +106,11 @@ loop-next-preserved c =
     let past = search_past (width_of c.args.schema.now) (BecomesWithRest at) others c.in-Some.set c.passed_keys.result low (searched at)
     (λ becomes_superkey. false≢true (sym c.if-becomes_superkey_by.false ∙ c.becomes_superkey_by.ensures.becomes_superkey.1 (subst (Becomes at) (sym c.union-before.ensures.members) becomes_superkey)))
     c.passed_keys.ensures.holds c.passed_keys.ensures.within c.passed_keys.ensures.passed in
-    search_on (width_of c.args.schema.now) (BecomesWithRest at) others c.passed_keys.result c.next_subset-next.result low past.0 past.1
-    c.next_subset-next.ensures.none.0 c.next_subset-next.ensures.next
+    record {
+      part = c.next_part-part.ensures.known;
+      searched = search_on (width_of c.args.schema.now) (BecomesWithRest at) others c.passed_keys.result c.next_subset-next.result low past.0 past.1
+          c.next_subset-next.ensures.none.0 c.next_subset-next.ensures.next;
+    }
 
 pub returns-clause-none : goal.returns-clause-none
 returns-clause-none c = λ _.
@@ -114,4 +124,4 @@ returns-clause-none c = λ _.
     let P = λ (y : Attributes). BecomesSuperkeyBy n fs scheme (union y rest) a in
     let is : rest ≡ difference (difference scheme (attributes c.args.whole)) (only a) = fun_ext (λ j. grind (arith, same_at c.without-rest.ensures.members j, same_at c.difference.ensures.members j)) in
     not_prime n fs scheme (attributes c.args.whole) others rest a c.requires.scheme c.requires.added c.without-others.ensures.members is c.requires.within_scheme
-    (search_end P others (subst (λ (o : Option AttrSet). IsSearched P others o) c.in_default.is c.loop-next.invariant))
+    (search_end P others (subst (λ (o : Option AttrSet). IsSearched P others o) c.in_default.is c.loop-next.invariant.searched))

@@ -92,3 +92,6 @@ returns-clause-none c =
       (λ _. subst (λ (es : List Dependency). All (IsNoViolation (width_of s) ds c.args.form (attributes c.args.scheme)) es) (take_all c.loop-dep.dep-index ds past) c.loop-dep.invariant),
       (λ _. refl),
     )
+
+pub breaks-requires-clause-part : goal.breaks-requires-clause-part
+breaks-requires-clause-part c = c.no_part.ensures.known c.args.schema.now

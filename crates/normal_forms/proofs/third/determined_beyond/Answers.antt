@@ -6,17 +6,15 @@ use Rattle.dep_model.specs.Dependencies.{functional_part}
 use Rattle.dep_model.specs.Keys.{InClosure}
 use Rattle.dep_model.specs.Schemas.{width_of, theory_of}
 use Rattle.attr_sets.proofs.AttributesLemmas.{same_at}
-use Rattle.fd_closure.proofs.SchemaLemmas.{closure_of_schema}
 use Rattle.normal_forms.proofs.BreakLemmas.{superkey_closed, closed_superkey, right_side_at}
 use Rattle.normal_forms.proofs.third.determined_beyond.Goals as goal
-use Rattle.normal_forms.proofs.third.determined_beyond.Goals.{After-closure-found}
+use Rattle.normal_forms.proofs.third.determined_beyond.Goals.{After-closure_begun-found}
 
 -- what was found is the closure of the left side
-found_is : (c : After-closure-found) → (a : ℕ) → (attributes c.closure-found.result a ≡ true)
+found_is : (c : After-closure_begun-found) → (a : ℕ) → (attributes c.closure_begun-found.result a ≡ true)
     ↔ InClosure (width_of c.args.schema.now) (functional_part (theory_of c.args.schema.now)) (attributes c.args.lhs) a
 found_is c =
-    closure_of_schema c.args.schema.now c.deps.result.now c.deps.ensures.deps (attributes c.args.lhs) (attributes c.closure-found.result) (λ k m. c.requires.scheme k (c.requires.lhs k m))
-    c.closure-found.ensures.closure
+    c.closure_begun-found.ensures.closure
 
 pub returns-then-is_subset : goal.returns-then-is_subset
 returns-then-is_subset c =
@@ -25,8 +23,8 @@ returns-then-is_subset c =
     let fs = functional_part (theory_of s) in
     let scheme = attributes c.args.scheme in
     let x = attributes c.args.lhs in
-    let closed = attributes c.closure-found.result in
-    let exact = found_is (goal.at.returns-then-is_subset c).After-closure-found in
+    let closed = attributes c.closure_begun-found.result in
+    let exact = found_is (goal.at.returns-then-is_subset c).After-closure_begun-found in
     record {
       beyond = λ a. (
         (λ m. absurd (true≢false (sym m ∙ same_at c.empty.ensures.members a))),
@@ -41,8 +39,8 @@ returns c =
     let fs = functional_part (theory_of s) in
     let scheme = attributes c.args.scheme in
     let x = attributes c.args.lhs in
-    let closed = attributes c.closure-found.result in
-    let exact = found_is (goal.at.returns c).After-closure-found in
+    let closed = attributes c.closure_begun-found.result in
+    let exact = found_is (goal.at.returns c).After-closure_begun-found in
     let right = right_side_at n fs scheme x closed (attributes c.intersection.result) (attributes c.difference.result) c.requires.scheme c.requires.lhs exact c.intersection.ensures.members c.difference.ensures.members in
     record {
       beyond = λ a. (

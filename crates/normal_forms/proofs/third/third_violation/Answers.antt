@@ -34,10 +34,15 @@ pub loop-next-init : goal.loop-next-init
 loop-next-init c =
     let s = c.args.schema.now in
     record {
+      part = c.no_part-part.ensures.known s;
       prime = λ a m. absurd (true≢false (sym m ∙ same_at c.empty-primes.ensures.members a));
       searched = search_start (MayViolateThird (width_of s) (functional_part (theory_of s)) (attributes c.args.scheme) (attributes c.empty-primes.result)) (attributes c.functionally_searched_attributes-whole.result)
           c.empty.result c.empty.ensures.members;
     }
+
+pub next_part-part-requires-clause-set : goal.next_part-part-requires-clause-set
+next_part-part-requires-clause-set c k m =
+    c.requires.scheme k (c.functionally_searched_attributes-whole.ensures.within k ((searched (goal.at.next_part-part-requires-clause-set c).In-Some).within k m))
 
 pub determined_beyond-beyond-requires-clause-lhs : goal.determined_beyond-beyond-requires-clause-lhs
 determined_beyond-beyond-requires-clause-lhs c k m =
@@ -107,6 +112,7 @@ loop-next-preserved c =
     (λ u. true≢false (sym (sifted.1 u.1.0 ((c.determined_beyond-beyond.ensures.beyond u.1.0).1 (u.0, u.1.1))) ∙ u.1.2))
     c.passed_third.ensures.holds c.passed_third.ensures.within passes in
     record {
+      part = c.next_part-part.ensures.known;
       prime = sifted.0;
       searched = search_on n (MayViolate at known) whole c.passed_third.result c.next_subset-next.result low past.0 past.1
           c.next_subset-next.ensures.none.0 c.next_subset-next.ensures.next;

@@ -1,6 +1,7 @@
--- What is left to prove of `check_script`: its clauses `exact` and `tells`, by `nothing_breaks` and
--- `legal_told`.
+-- What is left to prove of `check_script`: its clauses `exact`, `tells` and `tells_all`, by `nothing_breaks`,
+-- `legal_told` and `rules_told`.
 use Rattle.check_laws.proofs.LawLemmas.{legal_told}
+use Rattle.check_laws.proofs.ScriptLemmas.{rules_told}
 use Rattle.table_scripts.specs.Naming.{quoted_table}
 use Rattle.table_scripts.proofs.ScriptLemmas.{nothing_breaks}
 use Rattle.table_scripts.proofs.checking.check_script.Goals as goal
@@ -10,3 +11,6 @@ returns-clause-exact c = nothing_breaks c.args.schema.now
 
 pub returns-clause-tells : goal.returns-clause-tells
 returns-clause-tells c e = legal_told e (quoted_table c.args.table.now) c.args.schema.now
+
+pub returns-clause-tells_all : goal.returns-clause-tells_all
+returns-clause-tells_all c e = rules_told e (quoted_table c.args.table.now) c.args.schema.now

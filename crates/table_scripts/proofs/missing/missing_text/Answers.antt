@@ -5,7 +5,8 @@ use Rattle.attr_sets.specs.Attributes.{Attributes, below, difference}
 use Rattle.attr_sets.specs.Sets.{attributes}
 use Rattle.dep_model.specs.Projections.{members_below}
 use Rattle.dep_model.specs.Schemas.{width_of, universe_of}
-use Rattle.table_scripts.specs.Checking.{missing_text, required_of}
+use Rattle.check_queries.specs.Checks.{required_of}
+use Rattle.table_scripts.specs.Checking.{missing_text}
 use Rattle.table_scripts.proofs.ListingLemmas.{missing_line}
 use Rattle.table_scripts.proofs.missing.missing_text.Goals as goal
 

@@ -12,7 +12,7 @@ loop-changed-init c = functional_closing_first c.args.width (dependencies_of c.a
 
 pub loop-changed-preserved : goal.loop-changed-preserved
 loop-changed-preserved c =
-    functional_closing_next c.args.width (dependencies_of c.args.deps.now) c.args.rows.now c.loop-changed.rows c.take_steps.new.rows c.loop-changed.changed c.in_ok-changed.changed c.loop-changed.invariant
+    functional_closing_next c.args.width (dependencies_of c.args.deps.now) c.args.rows.now c.loop-changed.rows c.take_all_steps.new.rows c.loop-changed.changed c.in_ok-changed.changed c.loop-changed.invariant
     c.in_ok-changed.ensures.changes c.in_ok-changed.ensures.keeps c.in_ok-changed.ensures.obeyed
 
 pub loop-changed-smaller : goal.loop-changed-smaller
@@ -21,7 +21,7 @@ loop-changed-smaller c =
     let ds = dependencies_of c.args.deps.now in
     let t = c.args.rows.now in
     let m = c.loop-changed.rows in
-    let s = c.take_steps.new.rows in
+    let s = c.take_all_steps.new.rows in
     let here = c.loop-changed-test.true in
     subst (λ (b : Bool). symbols_in_use n (suc (tableau_total t)) s + cond c.in_ok-changed.changed 1 0 < symbols_in_use n (suc (tableau_total t)) m + cond b 1 0) (sym here)
     (functional_closing_lower n ds t m s c.in_ok-changed.changed c.requires.over (subst (λ (b : Bool). IsClosingFunctionally n ds t m b) here c.loop-changed.invariant) c.in_ok-changed.ensures.changes)

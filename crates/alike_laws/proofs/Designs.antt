@@ -1,0 +1,350 @@
+-- The answers of `ddl`, `draw`, `sql check` and `sql migrate` move to a schema that is built again.
+use Rattle.std.proofs.Common.{◌≡◌, ◌↔◌, ◌⊎◌, ◌≤◌, ℕ, List, [], ◌++◌, map, All, Contains, MatchOption, Some, codes, slice_get, slice_index_or, take, false, true, Option, None, Vec, length, is_some, decimal, refl, sym, subst, ap, ap₂, ◌∙◌, inl, inr}
+use Rattle.std.specs.Prelude.{⊤}
+use Rattle.std.specs.List.{flat_map, range_with_len, zip}
+use Rattle.std.specs.declared.alloc.Global.{Global}
+use Rattle.attr_sets.specs.Attributes.{Attributes, difference}
+use Rattle.attr_sets.specs.Sets.{attributes}
+use Rattle.attr_sets.specs.declared.set.AttrSet.{AttrSet}
+use Rattle.check_laws.specs.Holding.{Holds}
+use Rattle.check_laws.specs.Telling.{NoBreachShown, NothingShown, RulesHold, ShowsNothing}
+use Rattle.check_queries.specs.Checks.{check_query, missing_among, missing_query, required_of, values_query, groups_of_several, count_of_several, counts_query, three_counts, groups_of_unpaired, count_of_unpaired}
+use Rattle.ddl_text.specs.Ddl.{column_element, column_type, comment, ddl_text, element_lines, key_element, keys_elements, unique_element, reference_element, reference_elements, table_text}
+use Rattle.ddl_text.specs.Designs.{AreOtherKeys, IsDesign, IsTableOf, known_keys, without_key}
+use Rattle.ddl_text.specs.Holding.{KeyHolds, ReferenceHolds}
+use Rattle.ddl_text.specs.Laws.{KeysHold, OtherKeysHold, ReferencesHold, rows_on}
+use Rattle.ddl_text.specs.declared.table.TableDesign.{TableDesign}
+use Rattle.dep_model.specs.Dependencies.{Dependency}
+use Rattle.dep_model.specs.Implication.{IsLegal}
+use Rattle.dep_model.specs.Keys.{IsGreedyKey}
+use Rattle.dep_model.specs.Plans.{schemes_of}
+use Rattle.dep_model.specs.Projections.{IsLossless, members_below, ordered_projection}
+use Rattle.dep_model.specs.Schemas.{width_of, names_of, types_of, theory_of, lines_of, universe_of}
+use Rattle.dep_model.specs.Tuples.{value_at, Relation, Tuple}
+use Rattle.dep_model.specs.declared.column_type.ColumnType.TheVariants.{Text}
+use Rattle.dep_model.specs.declared.schema.Schema.{Schema}
+use Rattle.design_order.specs.Order.{IsInDesignOrder}
+use Rattle.desk_designs.specs.Designs.{IsSoundDesign, WritesForm, WritesPlan, WritesSchemes, WritesTables}
+use Rattle.desk_designs.specs.Drawings.{DrawsForm, DrawsSchemes, DrawsTables}
+use Rattle.desk_designs.specs.Scripts.{AsksTable, IsSoundScript, MakesSchemes, MakesTables, ScriptsCheck, ScriptsMigration, ScriptsMigrationByPlan, TellLegal, WithTableName}
+use Rattle.desk_responses.specs.ResponseValues.{Allowed, ResponseValue, text_only}
+use Rattle.desk_responses.specs.declared.status.Status.TheVariants.{Yes}
+use Rattle.fd_closure.specs.LeftSides.{IsWide}
+use Rattle.key_listing.specs.Listing.{AreAllKeys, AreManyKeys}
+use Rattle.key_listing.specs.declared.refusal.TheConstants.{MOST_KEYS}
+use Rattle.normal_forms.specs.declared.forms.Form.{Form}
+use Rattle.schema_printer.specs.Printing.{dependency_text}
+use Rattle.schema_printer.specs.Spelling.{printed_names_of}
+use Rattle.sql_evaluation.specs.Cells.{Cell, is_none}
+use Rattle.sql_evaluation.specs.Evaluation.{Engine}
+use Rattle.sql_names.specs.Names.{quoted_name}
+use Rattle.sql_syntax.specs.Syntax.{Query}
+use Rattle.table_drawing.specs.Drawing.{drawing_text, edge_text, node_text, row_text}
+use Rattle.table_queries.specs.Meanings.{IsGiven, GivesNone}
+use Rattle.table_queries.specs.Queries.{breaches_of, rows_of}
+use Rattle.table_scripts.specs.Checking.{breaches_text, check_text, missing_text, rule_text, rules_text, value_text}
+use Rattle.table_scripts.specs.Migrating.{FillsTables, ViewIs, ViewIsTable, difference_queries_text, fill_text, migrate_text, stored_of, view_text}
+use Rattle.table_scripts.specs.Naming.{quoted_table}
+use Rattle.table_scripts.specs.QueryTexts.{column_item, link_text}
+use Rattle.alike_laws.proofs.Derivations.{said, said_back}
+use Rattle.alike_laws.proofs.Keys.{wide_back}
+use Rattle.alike_laws.proofs.Plans.{with_plan_moved, without_loss_moved}
+use Rattle.alike_laws.proofs.Rebuilt.{Frame, rebuilt}
+
+module _ (s : Schema) (f : Frame s) where
+  abbrev built : Schema
+  built = rebuilt s f
+
+  -- ---- designs
+  other_keys_moved : (scheme key : Attributes) (others : Option (Vec AttrSet Global)) → AreOtherKeys s scheme key others
+      → AreOtherKeys built scheme key others
+  other_keys_moved scheme key None (not_empty, beyond) = (
+    not_empty,
+    said s f (λ ds. IsWide ds scheme ⊎ ((found : List AttrSet) × AreManyKeys (width_of s) ds scheme found)) beyond,
+  )
+  other_keys_moved scheme key (Some keys) (inl alone) = inl alone
+  other_keys_moved scheme key (Some keys) (inr listed) =
+      inr (record {
+        not_empty = listed.not_empty;
+        narrow = λ wide. listed.narrow (wide_back s f scheme wide);
+        all = said s f (λ ds. (all : List AttrSet) × AreAllKeys (width_of s) ds scheme all × (length all ≤ MOST_KEYS)
+            × (keys.items ≡ without_key key all)) listed.all;
+      })
+
+  table_moved : (earlier : List TableDesign) (scheme : AttrSet) (table : TableDesign)
+      → IsTableOf s earlier scheme table → IsTableOf built earlier scheme table
+  table_moved earlier scheme table is = record {
+    name = is.name;
+    columns = is.columns;
+    key = said s f (λ ds. IsGreedyKey (width_of s) ds (attributes scheme) (attributes table.key)) is.key;
+    refs = is.refs;
+    other_keys = other_keys_moved (attributes scheme) (attributes table.key) table.other_keys is.other_keys;
+  }
+
+  design_moved : (schemes : List AttrSet) (tables : List TableDesign) → IsDesign s schemes tables
+      → IsDesign built schemes tables
+  design_moved schemes tables is = record {
+    one_each = is.one_each;
+    each = λ k low scheme table.
+        table_moved (take k tables) (slice_index_or schemes k scheme) (slice_index_or tables k table)
+        (is.each k low scheme table);
+  }
+
+  keys_hold_moved : (tables : List TableDesign) → KeysHold s tables → KeysHold built tables
+  keys_hold_moved tables =
+      said s f (λ ds. (r : Relation) → IsLegal (width_of s) ds r → (table : TableDesign) → Contains tables table
+      → KeyHolds (attributes table.scheme) (rows_on table r) (attributes table.key))
+
+  other_keys_hold_moved : (tables : List TableDesign) → OtherKeysHold s tables → OtherKeysHold built tables
+  other_keys_hold_moved tables =
+      said s f (λ ds. (r : Relation) → IsLegal (width_of s) ds r → (table : TableDesign) → Contains tables table
+      → (key : Attributes) → Contains (known_keys table.other_keys) key
+      → KeyHolds (attributes table.scheme) (rows_on table r) key)
+
+  references_hold_moved : (tables : List TableDesign) → ReferencesHold s tables → ReferencesHold built tables
+  references_hold_moved tables =
+      said s f (λ ds. (r : Relation) → IsLegal (width_of s) ds r → (table other : TableDesign) (j : ℕ)
+      → Contains tables table → Contains table.refs.items j → slice_get tables j ≡ Some other
+      → ReferenceHolds (attributes table.scheme) (rows_on table r) (attributes other.scheme) (rows_on other r)
+      (attributes other.key))
+
+  sound_design_moved : (plan : List AttrSet) (tables : List TableDesign) → IsSoundDesign s plan tables
+      → IsSoundDesign built plan tables
+  sound_design_moved plan tables is = record {
+    ordered = is.ordered;
+    order = said s f (λ ds. IsInDesignOrder (width_of s) ds (schemes_of plan) (schemes_of is.ordered)) is.order;
+    design = design_moved is.ordered tables is.design;
+    keys_hold = keys_hold_moved tables is.keys_hold;
+    other_keys_hold = other_keys_hold_moved tables is.other_keys_hold;
+    references_hold = references_hold_moved tables is.references_hold;
+  }
+
+  -- ---- `ddl`
+  column_moved : (k : ℕ) → column_element s k ≡ column_element built k
+  unfolding column_element
+  column_moved k =
+      ap (λ (nullable : Attributes).
+      quoted_name (slice_index_or (names_of s) k []) ++ column_type (slice_index_or (types_of s) k Text) (nullable k))
+      f.nullable
+
+  table_text_moved : (tables : List TableDesign) (table : TableDesign)
+      → table_text s tables table ≡ table_text built tables table
+  unfolding table_text key_element unique_element reference_element
+  table_text_moved tables table =
+      ap (λ (text : ℕ → List ℕ).
+      comment (attributes table.key) (is_some table.other_keys) ++ codes "CREATE TABLE " ++ quoted_name table.name ++ codes " (\n"
+      ++ element_lines false (map text (members_below (width_of s) (attributes table.scheme))
+      ++ keys_elements s table ++ reference_elements s tables table.refs.items) ++ codes "\n);\n")
+      (λ i k. column_moved k i)
+
+  pub ddl_text_moved : (tables : List TableDesign) → ddl_text s tables ≡ ddl_text built tables
+  ddl_text_moved tables =
+      ap (λ (text : TableDesign → List ℕ). flat_map text tables) (λ i table. table_text_moved tables table i)
+
+  tables_written_moved : (plan : List AttrSet) (response : ResponseValue) → WritesTables s plan response
+      → WritesTables built plan response
+  tables_written_moved plan response (tables, sound, says) =
+      (tables, sound_design_moved plan tables sound, says ∙ ap (text_only Yes) (ddl_text_moved tables))
+
+  pub form_written_moved : (form : Form) (response : ResponseValue) → WritesForm s form response
+      → WritesForm built form response
+  form_written_moved form = with_plan_moved s f form (WritesTables s) (WritesTables built) tables_written_moved
+
+  schemes_written_moved : (plan : List Attributes) (response : ResponseValue) → WritesSchemes s plan response
+      → WritesSchemes built plan response
+  schemes_written_moved plan response (schemes, same, written) =
+      (schemes, same, tables_written_moved schemes response written)
+
+  pub plan_written_moved : (plan : List Attributes) (response : ResponseValue) → WritesPlan s plan response
+      → WritesPlan built plan response
+  plan_written_moved plan =
+      without_loss_moved s f plan (WritesSchemes s plan) (WritesSchemes built plan) (schemes_written_moved plan)
+
+  -- ---- `draw`
+  drawing_moved : (tables : List TableDesign) → drawing_text s tables ≡ drawing_text built tables
+  unfolding node_text edge_text row_text printed_names_of
+  drawing_moved tables = refl
+
+  tables_drawn_moved : (plan : List AttrSet) (response : ResponseValue) → DrawsTables s plan response
+      → DrawsTables built plan response
+  tables_drawn_moved plan response (tables, sound, says) =
+      (tables, sound_design_moved plan tables sound, says ∙ ap (text_only Yes) (drawing_moved tables))
+
+  pub form_drawn_moved : (form : Form) (response : ResponseValue) → DrawsForm s form response
+      → DrawsForm built form response
+  form_drawn_moved form = with_plan_moved s f form (DrawsTables s) (DrawsTables built) tables_drawn_moved
+
+  pub plan_drawn_moved : (plan : List Attributes) (response : ResponseValue) → DrawsSchemes s plan response
+      → DrawsSchemes built plan response
+  plan_drawn_moved plan response (schemes, same, drawn) = (schemes, same, tables_drawn_moved schemes response drawn)
+
+  -- ---- `sql check`
+  query_moved : (table : List ℕ) (d : Dependency) → check_query s table d ≡ check_query built table d
+  unfolding values_query groups_of_several count_of_several counts_query three_counts groups_of_unpaired
+      count_of_unpaired
+  query_moved table d = refl
+
+  holds_back : (e : Engine) (table : List ℕ) (cell : ℕ → List ℕ → Cell) (r : Relation) → Holds e table built cell r
+      → Holds e table s cell r
+  holds_back e table cell r holds =
+      record { given = holds.given; known = holds.known; held = holds.held; apart = holds.apart }
+
+  breach_shown_moved : (e : Engine) (table : List ℕ) → NoBreachShown e s table ≡ NoBreachShown e built table
+  breach_shown_moved e table =
+      ap (λ (ds : List Dependency). All (λ d. ShowsNothing e (check_query s table d)) ds) f.theory
+      ∙ ap (λ (query : Dependency → Option Query). All (λ d. ShowsNothing e (query d)) (theory_of built))
+      (λ i d. query_moved table d i)
+
+  -- what is said of the attributes of which no value may be missing
+  required_moved : (P : Attributes → Type 0) → P (required_of s) → P (required_of built)
+  required_moved P is = subst (λ (nullable : Attributes). P (difference (universe_of s) nullable)) f.nullable is
+
+  required_back : (P : Attributes → Type 0) → P (required_of built) → P (required_of s)
+  required_back P is =
+      subst (λ (nullable : Attributes). P (difference (universe_of s) nullable)) (sym f.nullable) is
+
+  abbrev NoneMissingOf : (ℕ → List ℕ → Cell) → Relation → Attributes → Type 0
+  NoneMissingOf cell r required =
+      (k : ℕ) → required k ≡ true → (t : Tuple) → Contains r t → is_none (cell k (value_at t k)) ≡ false
+
+  rules_hold_moved : (cell : ℕ → List ℕ → Cell) (r : Relation) → RulesHold s cell r → RulesHold built cell r
+  rules_hold_moved cell r holds = record {
+    none_missing = required_moved (NoneMissingOf cell r) holds.none_missing;
+    integers = holds.integers;
+    legal = said s f (λ ds. IsLegal (width_of s) ds r) holds.legal;
+  }
+
+  rules_hold_back : (cell : ℕ → List ℕ → Cell) (r : Relation) → RulesHold built cell r → RulesHold s cell r
+  rules_hold_back cell r holds = record {
+    none_missing = required_back (NoneMissingOf cell r) holds.none_missing;
+    integers = holds.integers;
+    legal = said_back s f (λ ds. IsLegal (width_of s) ds r) holds.legal;
+  }
+
+  abbrev NoneMissingShown : Engine → List ℕ → Attributes → Type 0
+  NoneMissingShown e table required = ShowsNothing e (missing_among s table (members_below (width_of s) required))
+
+  nothing_shown_moved : (e : Engine) (table : List ℕ) → NothingShown e s table → NothingShown e built table
+  unfolding missing_query
+  nothing_shown_moved e table shown = record {
+    none_missing = required_moved (NoneMissingShown e table) shown.none_missing;
+    integers = shown.integers;
+    legal = subst (λ (breaches : Type 0). breaches) (breach_shown_moved e table) shown.legal;
+  }
+
+  nothing_shown_back : (e : Engine) (table : List ℕ) → NothingShown e built table → NothingShown e s table
+  unfolding missing_query
+  nothing_shown_back e table shown = record {
+    none_missing = required_back (NoneMissingShown e table) shown.none_missing;
+    integers = shown.integers;
+    legal = subst (λ (breaches : Type 0). breaches) (sym (breach_shown_moved e table)) shown.legal;
+  }
+
+  tell_moved : (table : List ℕ) → TellLegal s table → TellLegal built table
+  tell_moved table tell = record {
+    terms = λ r over. said s f (λ ds. IsLegal (width_of s) ds r
+        ↔ All (λ d. MatchOption (breaches_of (width_of s) d) ⊤ (λ q. GivesNone (width_of s) q r)) ds)
+        (tell.terms r over);
+    queries = λ e cell r holds over.
+        subst (λ (breaches : Type 0). IsLegal (width_of s) (theory_of built) r ↔ breaches) (breach_shown_moved e table)
+        (said s f (λ ds. IsLegal (width_of s) ds r ↔ NoBreachShown e s table)
+        (tell.queries e cell r (holds_back e table cell r holds) over));
+    script = λ e cell r holds over casts.
+        let told = tell.script e cell r (holds_back e table cell r holds) over casts in (
+          λ rules. nothing_shown_moved e table (told.0 (rules_hold_back cell r rules)),
+          λ shown. rules_hold_moved cell r (told.1 (nothing_shown_back e table shown)),
+        );
+  }
+
+  rule_moved : (table : List ℕ) (line : ℕ) (d : Dependency) → rule_text s table line d ≡ rule_text built table line d
+  unfolding rule_text printed_names_of
+  rule_moved table line d =
+      ap (λ (query : Option Query).
+      codes "-- line " ++ decimal line ++ codes ": " ++ dependency_text (printed_names_of s) d ++ breaches_text query)
+      (query_moved table d)
+
+  rules_moved : (table : List ℕ) → rules_text s table ≡ rules_text built table
+  rules_moved table =
+      ap (λ (ds : List Dependency). flat_map (λ rule. rule_text s table rule.0 rule.1) (zip (lines_of s) ds)) f.theory
+      ∙ ap (λ (text : ℕ → Dependency → List ℕ).
+      flat_map (λ rule. text rule.0 rule.1) (zip (lines_of s) (theory_of built)))
+      (λ i line d. rule_moved table line d i)
+
+  check_text_moved : (table : List ℕ) → check_text s table ≡ check_text built table
+  unfolding missing_query
+  check_text_moved table =
+      ap₂ (λ (nullable : Attributes) (rules : List ℕ).
+      codes "-- where all rules hold, no query gives a row\n"
+      ++ missing_text s table (members_below (width_of s) (difference (universe_of s) nullable))
+      ++ flat_map (value_text s table) (range_with_len 0 (width_of s)) ++ rules)
+      f.nullable (rules_moved table)
+
+  asked_moved : (name : List ℕ) (response : ResponseValue) → AsksTable s name response → AsksTable built name response
+  asked_moved name response (tell, says) =
+      (tell_moved (quoted_table name) tell, says ∙ ap (text_only Yes) (check_text_moved (quoted_table name)))
+
+  with_name_moved : (name : List ℕ) (rest after : Allowed)
+      → ((response : ResponseValue) → rest response → after response)
+      → (response : ResponseValue) → WithTableName name rest response → WithTableName name after response
+  with_name_moved name rest after moves response (inl stops) = inl stops
+  with_name_moved name rest after moves response (inr (named, answers)) = inr (named, moves response answers)
+
+  pub check_scripted_moved : (name : List ℕ) (response : ResponseValue) → ScriptsCheck s name response
+      → ScriptsCheck built name response
+  check_scripted_moved name = with_name_moved name (AsksTable s name) (AsksTable built name) (asked_moved name)
+
+  -- ---- `sql migrate`
+  fills_moved : (tables : List TableDesign) → FillsTables s tables → FillsTables built tables
+  fills_moved tables =
+      said s f (λ ds. (r : Relation) → IsLegal (width_of s) ds r → (design : TableDesign) → Contains tables design
+      → (u : Tuple) → IsGiven (width_of s) (rows_of (stored_of design)) r u
+      ↔ Contains (ordered_projection (attributes design.scheme) r) u)
+
+  view_moved : (tables : List TableDesign) (r : Relation) → ViewIs s tables r → ViewIs built tables r
+  view_moved tables r is =
+      record { rows = is.rows; table_lacks = is.table_lacks; view_lacks = is.view_lacks }
+
+  view_is_moved : (tables : List TableDesign) → ViewIsTable s tables → ViewIsTable built tables
+  view_is_moved tables is lossless r legal =
+      view_moved tables r
+      (said s f (λ ds. IsLossless (width_of s) ds (map (λ design. attributes design.scheme) tables)
+      → (r : Relation) → IsLegal (width_of s) ds r → ViewIs s tables r) is lossless r legal)
+
+  script_moved : (tables : List TableDesign) → IsSoundScript s tables → IsSoundScript built tables
+  script_moved tables is =
+      record { fills = fills_moved tables is.fills; view = view_is_moved tables is.view }
+
+  migrate_text_moved : (table : List ℕ) (tables : List TableDesign)
+      → migrate_text s table tables ≡ migrate_text built table tables
+  unfolding fill_text view_text difference_queries_text column_item link_text values_query groups_of_several
+      count_of_several counts_query three_counts groups_of_unpaired count_of_unpaired
+  migrate_text_moved table tables =
+      ap (λ (ddl : List ℕ).
+      ddl ++ flat_map (fill_text s table) tables ++ view_text s table tables
+      ++ difference_queries_text s table tables) (ddl_text_moved tables)
+
+  tables_made_moved : (name : List ℕ) (plan : List AttrSet) (response : ResponseValue)
+      → MakesTables s name plan response → MakesTables built name plan response
+  tables_made_moved name plan response (tables, sound, script, says) = (
+    tables,
+    sound_design_moved plan tables sound,
+    script_moved tables script,
+    says ∙ ap (text_only Yes) (migrate_text_moved (quoted_table name) tables),
+  )
+
+  pub form_scripted_moved : (form : Form) (name : List ℕ) (response : ResponseValue)
+      → ScriptsMigration s form name response → ScriptsMigration built form name response
+  form_scripted_moved form name =
+      with_name_moved name _ _
+      (with_plan_moved s f form (MakesTables s name) (MakesTables built name) (tables_made_moved name))
+
+  schemes_made_moved : (name : List ℕ) (plan : List Attributes) (response : ResponseValue)
+      → MakesSchemes s name plan response → MakesSchemes built name plan response
+  schemes_made_moved name plan response (schemes, same, made) =
+      (schemes, same, tables_made_moved name schemes response made)
+
+  pub plan_scripted_moved : (plan : List Attributes) (name : List ℕ) (response : ResponseValue)
+      → ScriptsMigrationByPlan s plan name response → ScriptsMigrationByPlan built plan name response
+  plan_scripted_moved plan name =
+      with_name_moved name _ _
+      (without_loss_moved s f plan (MakesSchemes s name plan) (MakesSchemes built name plan) (schemes_made_moved name plan))

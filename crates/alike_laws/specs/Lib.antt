@@ -1,0 +1,2 @@
+-- The definitions of alike_laws: when two schemas declare the same.
+pub mod SameDeclarations

@@ -1,0 +1,3 @@
+pub mod PlaceLemmas
+pub mod MemberLemmas
+pub mod PartLemmas

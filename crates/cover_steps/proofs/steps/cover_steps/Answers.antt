@@ -1,0 +1,62 @@
+-- What is left to prove of `cover_steps`: what `part_from` requires of the multivalued dependencies, and its
+-- clause.
+use Rattle.std.proofs.Common.{◌≡◌, List, [], ◌++◌, length, map, drop, sym, ap, subst, ◌∙◌, arith}
+use Rattle.std.specs.Prelude.{All, filter}
+use Rattle.std.specs.List.{flat_map}
+use Rattle.attr_sets.specs.Attributes.{below}
+use Rattle.dep_model.specs.Schemas.{width_of, theory_of}
+use Rattle.cover_steps.specs.declared.shortening.ShortMember.{ShortMember}
+use Rattle.cover_steps.specs.declared.thinning.PlacedDep.{PlacedDep}
+use Rattle.cover_steps.specs.Steps.{AreShortMembers, IsParted, Placed, places_of, placed_from, placed_members, is_multivalued, short_of, shortened_list}
+use Rattle.cover_steps.specs.Gathering.{IsPlacedWithin}
+use Rattle.cover_steps.proofs.PlaceLemmas.{multivalued_after, stands_after}
+use Rattle.cover_steps.proofs.steps.cover_steps.Goals as goal
+
+pub part_from-requires-clause-within : goal.part_from-requires-clause-within
+part_from-requires-clause-within c =
+    let n = width_of c.args.schema.now in
+    let list_in : All (IsPlacedWithin (below n)) c.deref-3.result.now =
+    subst (λ (ps : List PlacedDep). All (IsPlacedWithin (below n)) ps) (sym c.deref-3.ensures.value) c.in_ok-list.ensures.within in
+    let all = c.in_ok-add_multivalued.ensures.within n c.in_ok-rest.ensures.within list_in in
+    rw (c.width.ensures.count, c.deref-4.ensures.value) all
+
+pub part_from-requires-clause-kinds : goal.part_from-requires-clause-kinds
+part_from-requires-clause-kinds c =
+    let rest = c.in_ok-rest.rest.items in
+    let from_is : length rest ≡ c.len-from.result = omega (arith, c.len-from.ensures, c.in_ok-rest.rest.ok.0) in
+    let kinds = multivalued_after rest c.add_multivalued.new.others.items (places_of c.deref-3.result.now) c.in_ok-add_multivalued.ensures.added in
+    rw c.deref-4.ensures.value (rw (sym from_is) kinds)
+
+pub returns : goal.returns
+returns c =
+    let s = c.args.schema.now in
+    let n = width_of s in
+    let ds = theory_of s in
+    let list = c.in_ok-list.list.items in
+    let rest = c.in_ok-rest.rest.items in
+    let all = c.add_multivalued.new.others.items in
+    let members = c.in_ok-members.members.items in
+    let first = c.in_ok-rest.ensures.parted in
+    let second = rw (c.width.ensures.count, c.deref-4.ensures.value) at c.in_ok-part_from.ensures.parted in
+    let from_is : c.len-from.result ≡ length rest = omega (arith, c.len-from.ensures, c.in_ok-rest.rest.ok.0) in
+    let later : places_of (drop (length rest) all) ≡ filter is_multivalued (placed_from 0 ds) =
+    stands_after rest all (filter is_multivalued (places_of c.deref-3.result.now)) c.in_ok-add_multivalued.ensures.added
+    ∙ ap (λ (ps : List PlacedDep). filter is_multivalued (places_of ps)) c.deref-3.ensures.value
+    ∙ ap (λ (ps : List Placed). filter is_multivalued ps) c.in_ok-list.ensures.placed in
+    let firsts : places_of c.deref.result.now ≡ placed_from 0 ds =
+    ap (λ (ps : List PlacedDep). places_of ps) c.deref.ensures.value ∙ c.in_ok-list.ensures.placed in
+    record {
+      steps = record {
+        shortened = subst (λ (ps : List Placed). AreShortMembers n ds (flat_map (placed_members n) ps) (shortened_list members)) firsts c.in_ok-members.ensures.members;
+        cover = places_of rest;
+        gone_members = first.0;
+        thinned = subst (λ (ms : List ShortMember). IsParted n [] (map short_of (shortened_list ms)) (places_of rest) first.0) c.deref-2.ensures.value first.2;
+        whole = places_of c.in_ok-part_from.field-0.items;
+        gone_later = second.0;
+        multivalued =
+            subst (λ (ps : List Placed). IsParted n (places_of rest) ps (places_of c.in_ok-part_from.field-0.items) second.0) later
+            (subst (λ (ps : List PlacedDep). IsParted n (places_of ps) (places_of (drop (length rest) all)) (places_of c.in_ok-part_from.field-0.items) second.0) c.in_ok-add_multivalued.ensures.front
+            (rw from_is at second.2));
+        all = second.1 ∙ ap (λ (ps : List Placed). ps ++ second.0) (first.1 ∙ ap (λ (ps : List PlacedDep). places_of ps ++ first.0) c.new-gone.ensures.items);
+      };
+    }

@@ -1,0 +1,103 @@
+ghost use Rattle.std.specs.Prelude.{◌≡◌, ◌++◌, ◌<◌, ℕ, List, map, All, IfOk};
+ghost use Rattle.std.specs.List.{flat_map};
+ghost use Rattle.attr_sets.specs.Attributes.{below, IsSubset};
+ghost use Rattle.attr_sets.specs.Sets.{attributes};
+ghost use Rattle.dep_model.specs.Dependencies.{fd};
+ghost use Rattle.dep_model.specs.Deps.{dependencies_of, IsDepWithin};
+ghost use Rattle.dep_model.specs.Schemas.{width_of, theory_of, universe_of};
+ghost use Rattle.min_cover.specs.Members.{IsLeftReduced};
+ghost use Rattle.cover_steps.specs.Steps.{Placed, AreShortMembers, placed, placed_members, places_of, shortened_list};
+ghost use Rattle.cover_steps.specs.Gathering.{IsMemberWithin, IsPlacedWithin};
+
+use crate::thinning::PlacedDep;
+use attr_sets::{AttrSet, MOST_ATTRIBUTES};
+use dep_model::{Dep, OutOfMemory, Schema};
+use fd_closure::follows;
+use std::alloc::Global;
+
+/// A member of the functional dependency at a position of a schema, from 0: its left side, what is left
+/// of that, and the attribute on its right.
+#[derive(Clone, Copy, Debug)]
+pub struct ShortMember {
+    pub position: u16,
+    pub whole: AttrSet,
+    pub left: AttrSet,
+    pub right: AttrSet,
+}
+
+// The members of the functional dependencies, in order, each with its left side shortened.
+pub fn short_members(
+    alloc: Global,
+    schema: &Schema,
+    list: &[PlacedDep],
+) -> Result<Vec<ShortMember>, OutOfMemory>
+    requires within { All (IsPlacedWithin (universe_of schema.now)) list.now }
+    ensures members { IfOk result (λ members. AreShortMembers (width_of schema.now)
+        (theory_of schema.now)
+        (flat_map (placed_members (width_of schema.now)) (places_of list.now))
+        (shortened_list members.items)) }
+    ensures within { IfOk result (λ members. All (IsMemberWithin (universe_of schema.now)) members.items) }
+{
+    let mut members = Vec::new(alloc);
+    for one in list {
+        if let Dep::Fd { lhs, rhs } = one.dep {
+            add_members(schema, one.position, lhs, rhs, &mut members)?;
+        }
+    }
+    Ok(members)
+}
+
+// Adds the members of a functional dependency.
+fn add_members(
+    schema: &Schema,
+    position: u16,
+    lhs: AttrSet,
+    rhs: AttrSet,
+    members: &mut Vec<ShortMember>,
+) -> Result<(), OutOfMemory>
+    requires lhs { IsSubset (attributes lhs) (universe_of schema.now) }
+    requires rhs { IsSubset (attributes rhs) (universe_of schema.now) }
+    ensures members { (firsts : List Placed)
+        → AreShortMembers (width_of schema.now) (theory_of schema.now) firsts
+        (shortened_list members.old.items)
+        → IfOk result (λ _. AreShortMembers (width_of schema.now) (theory_of schema.now)
+        (firsts ++ placed_members (width_of schema.now)
+        (placed position (fd (attributes lhs) (attributes rhs))))
+        (shortened_list members.new.items)) }
+    ensures within { All (IsMemberWithin (universe_of schema.now)) members.old.items
+        → IfOk result (λ _. All (IsMemberWithin (universe_of schema.now)) members.new.items) }
+{
+    let beyond = rhs.difference(lhs);
+    for a in 0..schema.width() {
+        if beyond.contains(a) {
+            let right = AttrSet::single(a);
+            members.push(ShortMember {
+                position,
+                whole: lhs,
+                left: left_reduced(schema.deps(), lhs, right),
+                right,
+            })?;
+        }
+    }
+    Ok(())
+}
+
+// What is left of a left side where each attribute, from the first to the last, is left out if the rest
+// still determines the right side.
+fn left_reduced(deps: &[Dep], lhs: AttrSet, rhs: AttrSet) -> AttrSet
+    ensures left_reduced { (n : ℕ) → All (IsDepWithin (below n)) deps.now
+        → IsSubset (attributes lhs) (below n) → IsSubset (attributes rhs) (below n)
+        → IsLeftReduced n (dependencies_of deps.now) (attributes lhs) (attributes rhs)
+        (attributes result) }
+{
+    let mut short = lhs;
+    for i in 0..MOST_ATTRIBUTES {
+        if lhs.contains(i) {
+            let rest = short.without(i);
+            if follows(deps, rest, rhs) {
+                short = rest;
+            }
+        }
+    }
+    short
+}

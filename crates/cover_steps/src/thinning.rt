@@ -1,0 +1,140 @@
+ghost use Rattle.std.specs.Prelude.{◌≡◌, ◌≤◌, ◌⊎◌, ◌↔◌, ℕ, true, false, List, ◌++◌, length, map, take, drop, filter, IsTrue, IfOk, All};
+ghost use Rattle.attr_sets.specs.Attributes.{below};
+ghost use Rattle.attr_sets.specs.declared.set.TheConstants.{MOST_ATTRIBUTES};
+ghost use Rattle.dep_model.specs.Tuples.{Relation};
+ghost use Rattle.dep_model.specs.Dependencies.{is_fd, Obeys};
+ghost use Rattle.dep_model.specs.Deps.{dependency_of, dependencies_of, IsDepWithin};
+ghost use Rattle.dep_model.specs.Implication.{Implies};
+ghost use Rattle.dep_model.specs.Schemas.{theory_of, universe_of};
+ghost use Rattle.cover_steps.specs.Steps.{Placed, IsParted, placed_from, places_of, is_multivalued};
+ghost use Rattle.cover_steps.specs.Gathering.{AreOfOneKind, IsPlacedWithin, deps_of_places};
+
+use attr_sets::AttrSet;
+use dep_basis::{Decision, decide_by};
+use dep_model::{Dep, OutOfMemory, Schema};
+use fd_closure::follows;
+use std::alloc::Global;
+
+/// A dependency that comes of the one at a position of a schema, from 0.
+#[derive(Clone, Copy, Debug)]
+pub struct PlacedDep {
+    pub position: u16,
+    pub dep: Dep,
+}
+
+// The dependencies of a schema with their positions.
+pub fn placed_deps(alloc: Global, schema: &Schema) -> Result<Vec<PlacedDep>, OutOfMemory>
+    ensures placed { IfOk result (λ list. places_of list.items ≡ placed_from 0 (theory_of schema.now)) }
+    ensures within { IfOk result (λ list. All (IsPlacedWithin (universe_of schema.now)) list.items) }
+{
+    let mut list = Vec::new(alloc);
+    for (k, dep) in schema.deps().iter().enumerate() {
+        list.push(PlacedDep {
+            position: k as u16,
+            dep: *dep,
+        })?;
+    }
+    Ok(list)
+}
+
+// Adds the multivalued dependencies of a list to others.
+pub fn add_multivalued(list: &[PlacedDep], others: &mut Vec<PlacedDep>) -> Result<(), OutOfMemory>
+    ensures added { IfOk result (λ _. places_of others.new.items
+        ≡ places_of others.old.items ++ filter is_multivalued (places_of list.now)) }
+    ensures front { IfOk result (λ _. take (length others.old.items) others.new.items ≡ others.old.items) }
+    ensures within { (n : ℕ) → All (IsPlacedWithin (below n)) others.old.items
+        → All (IsPlacedWithin (below n)) list.now
+        → IfOk result (λ _. All (IsPlacedWithin (below n)) others.new.items) }
+{
+    for one in list {
+        if let Dep::Mvd { .. } = one.dep {
+            others.push(*one)?;
+        }
+    }
+    Ok(())
+}
+
+// What is left of a list where, from a position on, each dependency goes that the others imply; those that
+// go are added to others.
+pub fn part_from(
+    alloc: Global,
+    width: u8,
+    list: &[PlacedDep],
+    from: usize,
+    gone: &mut Vec<PlacedDep>,
+) -> Result<Vec<PlacedDep>, OutOfMemory>
+    requires width { width ≤ MOST_ATTRIBUTES }
+    requires from { from ≤ length list.now }
+    requires within { All (IsPlacedWithin (below width)) list.now }
+    requires kinds { AreOfOneKind (deps_of_places list.now) from }
+    ensures parted { IfOk result (λ kept. (out : List Placed)
+        × (places_of gone.new.items ≡ places_of gone.old.items ++ out)
+        × IsParted width (places_of (take from list.now)) (places_of (drop from list.now))
+        (places_of kept.items) out) }
+    ensures within { IfOk result (λ kept. All (IsPlacedWithin (below width)) kept.items) }
+{
+    let mut others = deps_alone(alloc, list)?;
+    let mut kept = Vec::from_slice(alloc, &list[..from])?;
+    for k in from..list.len() {
+        let one = list[k];
+        others[k] = trivial_dependency();
+        if is_implied(&others, width, one.dep) {
+            gone.push(one)?;
+        } else {
+            others[k] = one.dep;
+            kept.push(one)?;
+        }
+    }
+    Ok(kept)
+}
+
+// The dependencies of a list, without their positions.
+fn deps_alone(alloc: Global, list: &[PlacedDep]) -> Result<Vec<Dep>, OutOfMemory>
+    ensures deps { IfOk result (λ deps. deps.items ≡ deps_of_places list.now) }
+{
+    let mut deps = Vec::new(alloc);
+    for one in list {
+        deps.push(one.dep)?;
+    }
+    Ok(deps)
+}
+
+// A dependency that every relation obeys, which stands where one was left out.
+fn trivial_dependency() -> Dep
+    ensures functional { is_fd (dependency_of result) ≡ true }
+    ensures within { (n : ℕ) → IsDepWithin (below n) result }
+    ensures obeyed { (n : ℕ) (r : Relation) → Obeys n (dependency_of result) r }
+{
+    Dep::Fd {
+        lhs: AttrSet::empty(),
+        rhs: AttrSet::empty(),
+    }
+}
+
+// Whether dependencies imply one more. A functional one is asked of functional ones alone.
+fn is_implied(deps: &[Dep], width: u8, dep: Dep) -> bool
+    requires width { width ≤ MOST_ATTRIBUTES }
+    requires deps { All (IsDepWithin (below width)) deps.now }
+    requires within { IsDepWithin (below width) dep }
+    requires kind { is_fd (dependency_of dep) ≡ true
+        → All (λ d. is_fd (dependency_of d) ≡ true) deps.now }
+    ensures implied { IsTrue result ↔ Implies width (dependencies_of deps.now) (dependency_of dep) }
+{
+    match dep {
+        Dep::Fd { lhs, rhs } => follows(deps, lhs, rhs),
+        Dep::Mvd { .. } => is_implied_by_blocks(deps, width, dep),
+    }
+}
+
+// Whether dependencies imply one more, by the blocks of its left side.
+fn is_implied_by_blocks(deps: &[Dep], width: u8, dep: Dep) -> bool
+    requires width { width ≤ MOST_ATTRIBUTES }
+    requires deps { All (IsDepWithin (below width)) deps.now }
+    requires within { IsDepWithin (below width) dep }
+    ensures implied { IsTrue result ↔ Implies width (dependencies_of deps.now) (dependency_of dep) }
+{
+    match decide_by(deps, width, dep) {
+        Decision::Implied => true,
+        Decision::Broken { .. } => false,
+    }
+}

@@ -1,0 +1,119 @@
+ghost use Rattle.std.specs.Prelude.{◌≡◌, All, IfOk};
+ghost use Rattle.attr_sets.specs.Attributes.{IsSubset, IsEmpty};
+ghost use Rattle.attr_sets.specs.Sets.{attributes};
+ghost use Rattle.dep_model.specs.Deps.{dependencies_of, IsDepWithin};
+ghost use Rattle.dep_model.specs.Schemas.{width_of, universe_of, theory_of};
+ghost use Rattle.desk_implication.specs.Projections.{Projects, ProjectsSet, RefusesProjection, empty_set_text, too_many_dependencies_text, overlong_text, projection_text};
+ghost use Rattle.fd_projection.specs.Refusals.{IsRefusedProjection};
+ghost use Rattle.desk_responses.specs.ResponseValues.{Says};
+ghost use Rattle.desk_responses.specs.Responses.{response_value, RespondsAs, ExitsAs};
+
+use crate::set::set_of;
+use attr_sets::AttrSet;
+use dep_model::{Dep, Failure, MOST_DEPENDENCIES, OutOfMemory, Schema};
+use desk_outside::Argument;
+use desk_responses::{EarlyExit, Response, Status, too_wide_exit};
+use desk_texts::line_of;
+use fd_projection::{ProjectionRefusal, project};
+use schema_parts::print_part;
+use schema_printer::add;
+use std::alloc::Global;
+
+/// The functional dependencies inside a set, as a schema of its attributes.
+pub fn give_projection(
+    alloc: Global,
+    schema: &Schema,
+    set: &Argument,
+) -> Result<Response, EarlyExit>
+    ensures response { RespondsAs (Projects schema.now set.now) result }
+{
+    let within = match set_of(alloc, schema, set) {
+        Ok(within) => within,
+        Err(exit) => return Err(exit),
+    };
+    project_set(alloc, schema, within)
+}
+
+// The functional dependencies inside a set of attributes.
+fn project_set(alloc: Global, schema: &Schema, set: AttrSet) -> Result<Response, EarlyExit>
+    requires within { IsSubset (attributes set) (universe_of schema.now) }
+    ensures response { RespondsAs (ProjectsSet schema.now (attributes set)) result }
+{
+    if set.is_empty() {
+        return Err(empty_set_exit(alloc));
+    }
+    match project(alloc, schema, set) {
+        Ok(rules) => Ok(projection_response(alloc, schema, set, &rules)?),
+        Err(Failure::Refused(refusal)) => Err(refused_exit(alloc, schema, set, refusal)),
+        Err(Failure::OutOfMemory) => Err(EarlyExit::OutOfMemory),
+    }
+}
+
+// The attributes of a set and dependencies over them, as a schema text.
+fn projection_response(
+    alloc: Global,
+    schema: &Schema,
+    set: AttrSet,
+    rules: &[Dep],
+) -> Result<Response, OutOfMemory>
+    requires within { IsSubset (attributes set) (universe_of schema.now) }
+    requires not_empty { IsEmpty (attributes set) → ⊥ }
+    requires rules { All (IsDepWithin (universe_of schema.now)) rules.now }
+    ensures says { IfOk result (λ response. Says Status.Yes
+        (projection_text schema.now (attributes set) (dependencies_of rules.now))
+        (response_value response)) }
+{
+    let mut text = overlong_comment(alloc, rules)?;
+    add(&mut text, &print_part(alloc, schema, set, rules)?)?;
+    Ok(Response::with_text(Status::Yes, text))
+}
+
+// A comment where there are more dependencies than a schema file takes.
+fn overlong_comment(alloc: Global, rules: &[Dep]) -> Result<Vec<u8>, OutOfMemory>
+    ensures comment { IfOk result (λ text. text.items ≡ overlong_text (dependencies_of rules.now)) }
+{
+    if rules.len() > MOST_DEPENDENCIES {
+        let comment = b"# more than 4096 dependencies: no schema file takes so many";
+        return line_of(alloc, comment, b"", b"");
+    }
+    Ok(Vec::new(alloc))
+}
+
+// Why the dependencies inside a set are not listed.
+fn refused_exit(
+    alloc: Global,
+    schema: &Schema,
+    set: AttrSet,
+    refusal: ProjectionRefusal,
+) -> EarlyExit
+    requires within { IsSubset (attributes set) (universe_of schema.now) }
+    requires not_empty { IsEmpty (attributes set) → ⊥ }
+    requires refused { IsRefusedProjection (width_of schema.now) (theory_of schema.now) (attributes set)
+        refusal }
+    ensures says { ExitsAs (RefusesProjection schema.now (attributes set)) result }
+{
+    match refusal {
+        ProjectionRefusal::TooWide => too_wide_exit(alloc, schema, set),
+        ProjectionRefusal::TooMany => too_many_exit(alloc),
+    }
+}
+
+// The set has no attribute.
+fn empty_set_exit(alloc: Global) -> EarlyExit
+    ensures says { ExitsAs (Says Status.Refused empty_set_text) result }
+{
+    EarlyExit::with_text(
+        Status::Refused,
+        line_of(alloc, b"refused: set is empty", b"", b""),
+    )
+}
+
+// More dependencies than are listed have a least left side.
+fn too_many_exit(alloc: Global) -> EarlyExit
+    ensures says { ExitsAs (Says Status.Refused too_many_dependencies_text) result }
+{
+    EarlyExit::with_text(
+        Status::Refused,
+        line_of(alloc, b"refused: too many dependencies", b"", b""),
+    )
+}

@@ -1,0 +1,231 @@
+-- Words that form `sample` name a number of persons within the limit.
+use Rattle.std.proofs.Common.{◌≡◌, ◌≤◌, ℕ, Bool, true, false, List, [], ◌∷◌, Option, Some, None, subst, if◌then◌else◌, codes}
+use Rattle.std.proofs.lemmas.Bool.{and_parts, cond_both, leb-true}
+use Rattle.std.specs.Option.{option_and_then}
+use Rattle.std.specs.Str.{bytes_eq}
+use Rattle.lexer.specs.Bytes.{number_of}
+use Rattle.normal_forms.specs.declared.forms.Form.{Form}
+use Rattle.sample_rows.specs.declared.rows.TheConstants.{MOST_PERSONS}
+use Rattle.desk_words.specs.Forms as form
+use Rattle.desk_words.specs.Forms.{CommandForm, PlanQuestion, RowsQuestion, SchemaQuestion, Task, after_check, after_check_form, after_ddl, after_draw, after_explain, after_keys, after_migrate, after_split, after_sql, after_sql_migrate, are_one_to_64, form_of, form_over_schema, no_more_arguments, normal_form, persons_alone, schema_alone, schema_and_plan, schema_and_plan_and_word, schema_and_rows, schema_and_several, schema_and_two, schema_and_word, two_schemas, word_alone}
+use Rattle.desk_words.specs.Numbers.{is_count}
+
+-- if a form is that of `sample`, its number is within the limit
+abbrev IsFew : CommandForm → Type 0
+IsFew (form.sample persons) = persons ≤ MOST_PERSONS
+IsFew (form.over_schema file task) = Unit {0}
+IsFew (form.discover file) = Unit {0}
+IsFew form.help = Unit {0}
+IsFew form.version = Unit {0}
+
+abbrev AreFew : Option CommandForm → Type 0
+AreFew None = Unit {0}
+AreFew (Some command) = IsFew command
+
+few_if : (b : Bool) (x y : Option CommandForm) → AreFew x → AreFew y → AreFew (if b then x else y)
+few_if true x y few other = few
+few_if false x y few other = other
+
+few_then : (f : Form → Option CommandForm) (o : Option Form) → ((normal : Form) → AreFew (f normal))
+    → AreFew (option_and_then f o)
+few_then f None each = tt
+few_then f (Some normal) each = each normal
+
+-- ---- words after those of a command
+few_alone : (question : SchemaQuestion) (words : List (List ℕ)) → AreFew (schema_alone question words)
+unfolding schema_alone
+few_alone question [] = tt
+few_alone question (a ∷ []) = tt
+few_alone question (a ∷ b ∷ words) = tt
+
+few_and_word : (question : List ℕ → SchemaQuestion) (words : List (List ℕ)) → AreFew (schema_and_word question words)
+unfolding schema_and_word
+few_and_word question [] = tt
+few_and_word question (a ∷ []) = tt
+few_and_word question (a ∷ b ∷ []) = tt
+few_and_word question (a ∷ b ∷ d ∷ words) = tt
+
+few_and_plan : (question : PlanQuestion) (words : List (List ℕ)) → AreFew (schema_and_plan question words)
+unfolding schema_and_plan
+few_and_plan question [] = tt
+few_and_plan question (a ∷ []) = tt
+few_and_plan question (a ∷ b ∷ []) = tt
+few_and_plan question (a ∷ b ∷ d ∷ words) = tt
+
+few_and_plan_and_word : (question : List ℕ → PlanQuestion) (words : List (List ℕ))
+    → AreFew (schema_and_plan_and_word question words)
+unfolding schema_and_plan_and_word
+few_and_plan_and_word question [] = tt
+few_and_plan_and_word question (a ∷ []) = tt
+few_and_plan_and_word question (a ∷ b ∷ []) = tt
+few_and_plan_and_word question (a ∷ b ∷ d ∷ []) = tt
+few_and_plan_and_word question (a ∷ b ∷ d ∷ e ∷ words) = tt
+
+few_and_rows : (question : RowsQuestion) (words : List (List ℕ)) → AreFew (schema_and_rows question words)
+unfolding schema_and_rows
+few_and_rows question [] = tt
+few_and_rows question (a ∷ []) = tt
+few_and_rows question (a ∷ b ∷ []) = tt
+few_and_rows question (a ∷ b ∷ d ∷ words) = tt
+
+few_and_two : (task : List ℕ → List ℕ → Task) (words : List (List ℕ)) → AreFew (schema_and_two task words)
+unfolding schema_and_two
+few_and_two task [] = tt
+few_and_two task (a ∷ []) = tt
+few_and_two task (a ∷ b ∷ []) = tt
+few_and_two task (a ∷ b ∷ d ∷ []) = tt
+few_and_two task (a ∷ b ∷ d ∷ e ∷ words) = tt
+
+few_schemas : (task : List ℕ → List ℕ → Task) (words : List (List ℕ)) → AreFew (two_schemas task words)
+unfolding two_schemas
+few_schemas task [] = tt
+few_schemas task (a ∷ []) = tt
+few_schemas task (a ∷ b ∷ []) = tt
+few_schemas task (a ∷ b ∷ d ∷ words) = tt
+
+few_and_several : (task : List (List ℕ) → Task) (words : List (List ℕ)) → AreFew (schema_and_several task words)
+unfolding schema_and_several
+few_and_several task [] = tt
+few_and_several task (schema ∷ words) =
+    few_if (are_one_to_64 words) (Some (form.over_schema schema (task words))) None tt tt
+
+few_word : (words : List (List ℕ)) → AreFew (word_alone form.discover words)
+unfolding word_alone
+few_word [] = tt
+few_word (a ∷ []) = tt
+few_word (a ∷ b ∷ words) = tt
+
+few_help : (words : List (List ℕ)) → AreFew (no_more_arguments form.help words)
+unfolding no_more_arguments
+few_help [] = tt
+few_help (a ∷ words) = tt
+
+few_version : (words : List (List ℕ)) → AreFew (no_more_arguments form.version words)
+unfolding no_more_arguments
+few_version [] = tt
+few_version (a ∷ words) = tt
+
+-- a count is within the limit
+count_within : (word : List ℕ) → is_count word ≡ true → number_of word ≤ MOST_PERSONS
+unfolding is_count
+count_within word counts =
+    leb-true (number_of word) MOST_PERSONS (and_parts _ _ (and_parts _ _ counts).1).1
+
+few_persons : (words : List (List ℕ)) → AreFew (persons_alone words)
+unfolding persons_alone
+few_persons [] = tt
+few_persons (word ∷ []) =
+    cond_both (is_count word) (Some (form.sample (number_of word))) None AreFew (λ counts. count_within word counts)
+    (λ other. tt)
+few_persons (a ∷ b ∷ words) = tt
+
+-- ---- the words of a command
+few_check_form : (words : List (List ℕ)) → AreFew (after_check_form words)
+unfolding after_check_form
+few_check_form [] = tt
+few_check_form (what ∷ rest) = few_then _ (normal_form what) (λ normal. few_and_plan (form.check_form normal) rest)
+
+few_check : (words : List (List ℕ)) → AreFew (after_check words)
+unfolding after_check
+few_check [] = tt
+few_check (what ∷ rest) =
+    few_if (bytes_eq what (codes "proof")) _ _ (few_and_two form.check_proof rest)
+    (few_if (bytes_eq what (codes "rows")) _ _ (few_and_rows form.check_rows rest)
+    (few_if (bytes_eq what (codes "key")) _ _ (few_and_word form.check_key rest)
+    (few_if (bytes_eq what (codes "join")) _ _ (few_and_plan form.check_join rest)
+    (few_if (bytes_eq what (codes "form")) _ _ (few_check_form rest)
+    (few_if (bytes_eq what (codes "keeps")) _ _ (few_and_plan form.check_keeps rest)
+    (few_if (bytes_eq what (codes "same")) _ _ (few_schemas form.check_same rest)
+    (few_if (bytes_eq what (codes "cover")) _ _ (few_schemas form.check_cover rest) tt)))))))
+
+few_keys : (words : List (List ℕ)) → AreFew (after_keys words)
+unfolding after_keys
+few_keys [] = tt
+few_keys (a ∷ []) = tt
+few_keys (a ∷ b ∷ []) = tt
+few_keys (a ∷ b ∷ d ∷ words) = tt
+
+few_split : (words : List (List ℕ)) → AreFew (after_split words)
+unfolding after_split
+few_split [] = tt
+few_split (what ∷ rest) =
+    few_if (bytes_eq what (codes "bcnf")) _ _ (few_alone _ rest)
+    (few_if (bytes_eq what (codes "4nf")) _ _ (few_alone _ rest)
+    (few_if (bytes_eq what (codes "wide-bcnf")) _ _ (few_alone form.split_wide rest) tt))
+
+few_explain : (words : List (List ℕ)) → AreFew (after_explain words)
+unfolding after_explain
+few_explain [] = tt
+few_explain (what ∷ rest) =
+    few_if (bytes_eq what (codes "cover")) _ _ (few_alone form.explain_cover rest)
+    (few_if (bytes_eq what (codes "keys")) _ _ (few_alone form.explain_keys rest) tt)
+
+few_ddl : (words : List (List ℕ)) → AreFew (after_ddl words)
+unfolding after_ddl
+few_ddl [] = tt
+few_ddl (what ∷ rest) =
+    few_if (bytes_eq what (codes "plan")) _ _ (few_and_plan form.ddl_plan rest)
+    (few_then _ (normal_form what) (λ normal. few_alone (form.ddl normal) rest))
+
+few_migrate : (words : List (List ℕ)) → AreFew (after_migrate words)
+unfolding after_migrate
+few_migrate [] = tt
+few_migrate (what ∷ rest) =
+    few_if (bytes_eq what (codes "plan")) _ _ (few_and_two form.migrate_plan rest)
+    (few_then _ (normal_form what) (λ normal. few_and_rows (form.migrate normal) rest))
+
+few_sql_migrate : (words : List (List ℕ)) → AreFew (after_sql_migrate words)
+unfolding after_sql_migrate
+few_sql_migrate [] = tt
+few_sql_migrate (what ∷ rest) =
+    few_if (bytes_eq what (codes "plan")) _ _ (few_and_plan_and_word form.sql_migrate_plan rest)
+    (few_then _ (normal_form what) (λ normal. few_and_word (form.sql_migrate normal) rest))
+
+few_sql : (words : List (List ℕ)) → AreFew (after_sql words)
+unfolding after_sql
+few_sql [] = tt
+few_sql (what ∷ rest) =
+    few_if (bytes_eq what (codes "check")) _ _ (few_and_word form.sql_check rest)
+    (few_if (bytes_eq what (codes "migrate")) _ _ (few_sql_migrate rest) tt)
+
+few_draw : (words : List (List ℕ)) → AreFew (after_draw words)
+unfolding after_draw
+few_draw [] = tt
+few_draw (what ∷ rest) =
+    few_if (bytes_eq what (codes "plan")) _ _ (few_and_plan form.draw_plan rest)
+    (few_then _ (normal_form what) (λ normal. few_alone (form.draw normal) rest))
+
+few_over_schema : (verb : List ℕ) (rest : List (List ℕ)) → AreFew (form_over_schema verb rest)
+unfolding form_over_schema
+few_over_schema verb rest =
+    few_if (bytes_eq verb (codes "implies")) _ _ (few_and_word form.implies rest)
+    (few_if (bytes_eq verb (codes "check")) _ _ (few_check rest)
+    (few_if (bytes_eq verb (codes "cover")) _ _ (few_alone form.cover rest)
+    (few_if (bytes_eq verb (codes "basis")) _ _ (few_and_word form.basis rest)
+    (few_if (bytes_eq verb (codes "closure")) _ _ (few_and_word form.closure rest)
+    (few_if (bytes_eq verb (codes "project")) _ _ (few_and_word form.project rest)
+    (few_if (bytes_eq verb (codes "keys")) _ _ (few_keys rest)
+    (few_if (bytes_eq verb (codes "synthesize")) _ _ (few_alone form.synthesize rest)
+    (few_if (bytes_eq verb (codes "split")) _ _ (few_split rest)
+    (few_if (bytes_eq verb (codes "exhibit")) _ _ (few_alone form.exhibit rest)
+    (few_if (bytes_eq verb (codes "explain")) _ _ (few_explain rest)
+    (few_if (bytes_eq verb (codes "ddl")) _ _ (few_ddl rest)
+    (few_if (bytes_eq verb (codes "migrate")) _ _ (few_migrate rest)
+    (few_if (bytes_eq verb (codes "rejoin")) _ _ (few_and_several form.rejoin rest)
+    (few_if (bytes_eq verb (codes "sql")) _ _ (few_sql rest)
+    (few_if (bytes_eq verb (codes "draw")) _ _ (few_draw rest) tt)))))))))))))))
+
+few_form : (words : List (List ℕ)) → AreFew (form_of words)
+unfolding form_of
+few_form [] = tt
+few_form (verb ∷ rest) =
+    few_if (bytes_eq verb (codes "discover")) _ _ (few_word rest)
+    (few_if (bytes_eq verb (codes "sample")) _ _ (few_persons rest)
+    (few_if (bytes_eq verb (codes "help")) _ _ (few_help rest)
+    (few_if (bytes_eq verb (codes "--help")) _ _ (few_help rest)
+    (few_if (bytes_eq verb (codes "-h")) _ _ (few_help rest)
+    (few_if (bytes_eq verb (codes "--version")) _ _ (few_version rest) (few_over_schema verb rest))))))
+
+pub sample_within : (words : List (List ℕ)) (persons : ℕ) → form_of words ≡ Some (form.sample persons)
+    → persons ≤ MOST_PERSONS
+sample_within words persons forms = subst AreFew forms (few_form words)

@@ -1,0 +1,20 @@
+-- What is left to prove of `tables_response`: the text speaks of the rows that go along with the tables.
+use Rattle.std.proofs.Common.{List, ℕ, ap, ◌∙◌}
+use Rattle.dep_model.specs.Tuples.{Relation}
+use Rattle.named_tables.specs.Tables.{table_values}
+use Rattle.desk_responses.specs.ResponseValues.{yes_with_tables}
+use Rattle.desk_tables.specs.Migrations.{migrated_text}
+use Rattle.desk_tables.proofs.migration.tables_response.Goals as goal
+
+pub returns : goal.returns
+returns c =
+    let tables = table_values c.in_ok-tables.tables in
+    record {
+      response = (
+        tables,
+        c.in_ok-tables.ensures.tables,
+        c.with_tables.ensures.gives
+            ∙ ap (λ (text : List ℕ). yes_with_tables text tables)
+            (c.in_ok-text.ensures.text ∙ ap (λ (rows : Relation). migrated_text rows tables) c.in_ok-tables.ensures.rows),
+      );
+    }

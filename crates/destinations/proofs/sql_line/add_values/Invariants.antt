@@ -1,0 +1,9 @@
+-- What the loop of `add_values` keeps, in terms of `sql_value` and `comma_list`.
+use Rattle.std.proofs.Common.{◌≡◌, ◌++◌, take}
+use Rattle.destinations.specs.Sql.{sql_value}
+use Rattle.sql_names.specs.Names.{comma_list}
+use Rattle.destinations.proofs.sql_line.add_values.Given as goal
+
+-- the values so far
+abbrev pub invariant-loop-i : goal.invariant-loop-i
+invariant-loop-i l = l.text.items ≡ l.fn.text.items ++ comma_list sql_value (take l.i l.row)

@@ -1,0 +1,4 @@
+pub mod MinimalLemmas
+pub mod PartLemmas
+pub mod FoundLemmas
+pub mod ProjectionLemmas

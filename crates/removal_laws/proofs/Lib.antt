@@ -1,0 +1,4 @@
+pub mod CountLemmas
+pub mod StayingLemmas
+pub mod LargestLemmas
+pub mod ChangeLemmas

@@ -1,0 +1,4 @@
+-- The definitions of removal_laws, in reading order: how few rows must go or change, and the largest class of
+-- a group.
+pub mod Removals
+pub mod Classes

@@ -1,0 +1,28 @@
+//! How few rows must go, or change, so that rows obey a functional dependency.
+//!
+//! Of each group of rows that agree on the left side the largest class stays, which agrees on the right side
+//! too. The laws say that the other rows are a least removal, and that it is enough, and needed, to change as
+//! many (Kivinen and Mannila 1995).
+#![tactic(auto)]
+
+ghost use Rattle.std.specs.Prelude.{◌≡◌, ℕ, List};
+ghost use Rattle.attr_sets.specs.Attributes.{Attributes, union};
+ghost use Rattle.csv_rows.specs.Numberings.{AreGroups};
+ghost use Rattle.dep_model.specs.Dependencies.{fd};
+ghost use Rattle.dep_model.specs.Tuples.{Relation, IsOver};
+ghost use Rattle.removal_laws.specs.Classes.{AreLargestClasses, in_chosen};
+ghost use Rattle.removal_laws.specs.Removals.{IsLeastChange, IsLeastRemoval};
+
+/// The rows outside the largest class of their group are a least removal.
+pub fn largest_classes_stay()
+    ensures law { (n : ℕ) (x y : Attributes) (r : Relation) (groups classes chosen : List ℕ)
+        → AreGroups r x groups → AreGroups r (union x y) classes → AreLargestClasses groups classes chosen
+        → IsLeastRemoval n (fd x y) r (in_chosen groups classes chosen) }
+{}
+
+/// As many rows must have other values outside the left side, and that is enough.
+pub fn least_change_is_least_removal()
+    ensures law { (n : ℕ) (x y : Attributes) (r : Relation) (groups classes chosen : List ℕ) → IsOver n r
+        → AreGroups r x groups → AreGroups r (union x y) classes → AreLargestClasses groups classes chosen
+        → IsLeastChange n x y r (in_chosen groups classes chosen) }
+{}

@@ -1,8 +1,0 @@
--- What the loop of `copy_row` keeps, in terms of `row_at`.
-use Rattle.std.proofs.Common.{◌≡◌, take}
-use Rattle.row_store.specs.Rows.{row_at}
-use Rattle.row_store.proofs.rows.copy_row.Given as goal
-
--- the values so far
-abbrev pub invariant-loop-i : goal.invariant-loop-i
-invariant-loop-i l = record { values : l.values ≡ take l.i (row_at l.rows l.row) }

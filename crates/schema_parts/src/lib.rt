@@ -1,0 +1,7 @@
+//! Parts of schemas: what a schema has of a set of attributes, printed as a schema.
+#![tactic(auto)]
+
+mod parts;
+mod printing;
+
+pub use printing::print_part;
