@@ -10,8 +10,8 @@ use Rattle.dep_model.specs.Implication.{IsLegal, Implies}
 use Rattle.dep_model.specs.Schemas.{width_of, theory_of, lines_of}
 use Rattle.dep_model.specs.Tuples.{Relation, IsOver}
 use Rattle.dep_model.specs.declared.schema.Schema.{Schema}
-use Rattle.desk_implication.specs.CoverChecks.{ChecksCover, TestsCover, TestsMinimal, diagnostic_text, placed_dep_text}
-use Rattle.desk_implication.specs.Sameness.{ChecksSame, Compares, Differ, SayTheSame, WithSameNames, difference_text, differences_text, different_text}
+use Rattle.desk_covers.specs.CoverChecks.{ChecksCover, TestsCover, TestsMinimal, diagnostic_text, placed_dep_text}
+use Rattle.desk_covers.specs.Sameness.{ChecksSame, Compares, Differ, SayTheSame, WithSameNames, difference_text, differences_text, different_text}
 use Rattle.desk_responses.specs.Lines.{line_number_text}
 use Rattle.desk_responses.specs.ResponseValues.{Allowed, ResponseValue, text_only}
 use Rattle.desk_responses.specs.declared.status.Status.TheVariants.{No}

@@ -13,8 +13,8 @@ use Rattle.derivation.specs.Derivs.{tree_of}
 use Rattle.derivation.specs.Trees.{Tree}
 use Rattle.desk_implication.specs.Bases.{GivesBasis, TellsBasis}
 use Rattle.desk_implication.specs.Certificates.{Checked, ChecksProof}
-use Rattle.desk_implication.specs.Covering.{GivesCover}
-use Rattle.desk_implication.specs.Goals.{GoalStops, IsGoal, SetStops, WithGoal, WithSet}
+use Rattle.desk_covers.specs.Covering.{GivesCover}
+use Rattle.desk_arguments.specs.Goals.{GoalStops, IsGoal, SetStops, WithGoal, WithSet}
 use Rattle.desk_implication.specs.Implication.{Decided, DecidesGoal}
 use Rattle.desk_responses.specs.Lines.{dep_text}
 use Rattle.desk_responses.specs.ResponseValues.{Allowed, ResponseValue, text_only}

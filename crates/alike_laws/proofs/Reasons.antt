@@ -5,11 +5,11 @@ use Rattle.cover_steps.specs.Steps.{AreCoverSteps}
 use Rattle.dep_model.specs.Keys.{IsKey, IsPrime}
 use Rattle.dep_model.specs.Schemas.{universe_of, width_of}
 use Rattle.dep_model.specs.declared.schema.Schema.{Schema}
-use Rattle.desk_implication.specs.CoverReasons.{AreCoverReasons, ExplainsCover}
-use Rattle.desk_implication.specs.Covering.{GivesCover}
-use Rattle.desk_implication.specs.KeyReasons.{AreKeyReasons, ExplainsKeys}
-use Rattle.desk_implication.specs.Keys.{ListsKeys}
-use Rattle.desk_implication.specs.Reasons.{Explained}
+use Rattle.desk_covers.specs.CoverReasons.{AreCoverReasons, ExplainsCover}
+use Rattle.desk_covers.specs.Covering.{GivesCover}
+use Rattle.desk_keys.specs.KeyReasons.{AreKeyReasons, ExplainsKeys}
+use Rattle.desk_keys.specs.Keys.{ListsKeys}
+use Rattle.desk_responses.specs.Reasons.{Explained}
 use Rattle.desk_responses.specs.ResponseValues.{Allowed, ResponseValue}
 use Rattle.schema_printer.specs.Spelling.{printed_names_of}
 use Rattle.alike_laws.proofs.Derivations.{said}

@@ -26,7 +26,7 @@ use Rattle.armstrong_rel.specs.Parts.{IsClosedPart, IsLacking, in_no_left_side, 
 use Rattle.armstrong_rel.specs.Searching.{AreFound, AreFoundSets, HasPartBefore, HasPartUpTo}
 use Rattle.armstrong_rel.specs.Refusals.{AreTooMany}
 use Rattle.armstrong_rel.proofs.ClosedLemmas.{closure_member, closure_holds}
-use Rattle.armstrong_rel.proofs.PermutationLemmas.{AllPairs-permutation, Any-permutation, Any-map}
+use Rattle.dep_model.proofs.PermutationLemmas.{AllPairs-permutation, Any-permutation, Any-map}
 use Rattle.armstrong_rel.proofs.PartLemmas.{left_sides_low, filled_part, filled_irreducible, irreducible_filled}
 
 -- ---- sets that were found of those that were tried

@@ -3,7 +3,6 @@ pub mod ClosedLemmas
 pub mod KnownLemmas
 pub mod PartLemmas
 pub mod SharedLemmas
-pub mod PermutationLemmas
 pub mod FoundLemmas
 pub mod TupleLemmas
 pub mod ExactLemmas

@@ -1,5 +1,5 @@
 -- What a chase ends with, as a relation: for the laws of chase_laws, `chase` of tableau_chase and
--- `check join` (`desk_cli/Joins`).
+-- `check join` (`desk_designs/Joins`).
 use Rattle.std.specs.Prelude.{◌≡◌, ℕ, ◌≤◌, List, length, map, AllPairs, Contains, decimal}
 use Rattle.std.specs.Ordering.{nat_cmp}
 use Rattle.std.specs.declared.cmp.Ordering.TheVariants.{Less}

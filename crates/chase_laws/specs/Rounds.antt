@@ -1,5 +1,5 @@
 -- The chase in rounds, and where it ends: for the laws of chase_laws, `chase` of tableau_chase and
--- `check join` (`desk_cli/Joins`).
+-- `check join` (`desk_designs/Joins`).
 use Rattle.std.specs.Prelude.{◌≡◌, ℕ, ◌<◌, ◌↔◌, ◌⊎◌, zero, suc, List, length, All, AllPairs, Contains}
 use Rattle.attr_sets.specs.Attributes.{Attributes, union}
 use Rattle.dep_model.specs.Dependencies.{Dependency, mvd}

@@ -1,18 +1,16 @@
-ghost use Rattle.std.specs.Prelude.{◌≡◌, ◌++◌, ◌<◌, ℕ, List, map, All, IfOk};
+ghost use Rattle.std.specs.Prelude.{◌++◌, ◌<◌, List, All, IfOk};
 ghost use Rattle.std.specs.List.{flat_map};
-ghost use Rattle.attr_sets.specs.Attributes.{below, IsSubset};
+ghost use Rattle.attr_sets.specs.Attributes.{IsSubset};
 ghost use Rattle.attr_sets.specs.Sets.{attributes};
 ghost use Rattle.dep_model.specs.Dependencies.{fd};
-ghost use Rattle.dep_model.specs.Deps.{dependencies_of, IsDepWithin};
 ghost use Rattle.dep_model.specs.Schemas.{width_of, theory_of, universe_of};
-ghost use Rattle.min_cover.specs.Members.{IsLeftReduced};
 ghost use Rattle.cover_steps.specs.Steps.{Placed, AreShortMembers, placed, placed_members, places_of, shortened_list};
 ghost use Rattle.cover_steps.specs.Gathering.{IsMemberWithin, IsPlacedWithin};
 
 use crate::thinning::PlacedDep;
-use attr_sets::{AttrSet, MOST_ATTRIBUTES};
+use attr_sets::AttrSet;
 use dep_model::{Dep, OutOfMemory, Schema};
-use fd_closure::follows;
+use min_cover::left_reduced;
 use std::alloc::Global;
 
 /// A member of the functional dependency at a position of a schema, from 0: its left side, what is left
@@ -80,24 +78,4 @@ fn add_members(
         }
     }
     Ok(())
-}
-
-// What is left of a left side where each attribute, from the first to the last, is left out if the rest
-// still determines the right side.
-fn left_reduced(deps: &[Dep], lhs: AttrSet, rhs: AttrSet) -> AttrSet
-    ensures left_reduced { (n : ℕ) → All (IsDepWithin (below n)) deps.now
-        → IsSubset (attributes lhs) (below n) → IsSubset (attributes rhs) (below n)
-        → IsLeftReduced n (dependencies_of deps.now) (attributes lhs) (attributes rhs)
-        (attributes result) }
-{
-    let mut short = lhs;
-    for i in 0..MOST_ATTRIBUTES {
-        if lhs.contains(i) {
-            let rest = short.without(i);
-            if follows(deps, rest, rhs) {
-                short = rest;
-            }
-        }
-    }
-    short
 }

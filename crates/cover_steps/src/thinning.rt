@@ -1,18 +1,12 @@
-ghost use Rattle.std.specs.Prelude.{◌≡◌, ◌≤◌, ◌⊎◌, ◌↔◌, ℕ, true, false, List, ◌++◌, length, map, take, drop, filter, IsTrue, IfOk, All};
+ghost use Rattle.std.specs.Prelude.{◌≡◌, ◌≤◌, ℕ, List, ◌++◌, length, take, drop, filter, IfOk, All};
 ghost use Rattle.attr_sets.specs.Attributes.{below};
 ghost use Rattle.attr_sets.specs.declared.set.TheConstants.{MOST_ATTRIBUTES};
-ghost use Rattle.dep_model.specs.Tuples.{Relation};
-ghost use Rattle.dep_model.specs.Dependencies.{is_fd, Obeys};
-ghost use Rattle.dep_model.specs.Deps.{dependency_of, dependencies_of, IsDepWithin};
-ghost use Rattle.dep_model.specs.Implication.{Implies};
 ghost use Rattle.dep_model.specs.Schemas.{theory_of, universe_of};
 ghost use Rattle.cover_steps.specs.Steps.{Placed, IsParted, placed_from, places_of, is_multivalued};
 ghost use Rattle.cover_steps.specs.Gathering.{AreOfOneKind, IsPlacedWithin, deps_of_places};
 
-use attr_sets::AttrSet;
-use dep_basis::{Decision, decide_by};
 use dep_model::{Dep, OutOfMemory, Schema};
-use fd_closure::follows;
+use min_cover::{is_implied, trivial_dependency};
 use std::alloc::Global;
 
 /// A dependency that comes of the one at a position of a schema, from 0.
@@ -97,44 +91,4 @@ fn deps_alone(alloc: Global, list: &[PlacedDep]) -> Result<Vec<Dep>, OutOfMemory
         deps.push(one.dep)?;
     }
     Ok(deps)
-}
-
-// A dependency that every relation obeys, which stands where one was left out.
-fn trivial_dependency() -> Dep
-    ensures functional { is_fd (dependency_of result) ≡ true }
-    ensures within { (n : ℕ) → IsDepWithin (below n) result }
-    ensures obeyed { (n : ℕ) (r : Relation) → Obeys n (dependency_of result) r }
-{
-    Dep::Fd {
-        lhs: AttrSet::empty(),
-        rhs: AttrSet::empty(),
-    }
-}
-
-// Whether dependencies imply one more. A functional one is asked of functional ones alone.
-fn is_implied(deps: &[Dep], width: u8, dep: Dep) -> bool
-    requires width { width ≤ MOST_ATTRIBUTES }
-    requires deps { All (IsDepWithin (below width)) deps.now }
-    requires within { IsDepWithin (below width) dep }
-    requires kind { is_fd (dependency_of dep) ≡ true
-        → All (λ d. is_fd (dependency_of d) ≡ true) deps.now }
-    ensures implied { IsTrue result ↔ Implies width (dependencies_of deps.now) (dependency_of dep) }
-{
-    match dep {
-        Dep::Fd { lhs, rhs } => follows(deps, lhs, rhs),
-        Dep::Mvd { .. } => is_implied_by_blocks(deps, width, dep),
-    }
-}
-
-// Whether dependencies imply one more, by the blocks of its left side.
-fn is_implied_by_blocks(deps: &[Dep], width: u8, dep: Dep) -> bool
-    requires width { width ≤ MOST_ATTRIBUTES }
-    requires deps { All (IsDepWithin (below width)) deps.now }
-    requires within { IsDepWithin (below width) dep }
-    ensures implied { IsTrue result ↔ Implies width (dependencies_of deps.now) (dependency_of dep) }
-{
-    match decide_by(deps, width, dep) {
-        Decision::Implied => true,
-        Decision::Broken { .. } => false,
-    }
 }

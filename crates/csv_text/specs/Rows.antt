@@ -1,5 +1,5 @@
 -- The CSV text of rows: for `print_rows`, and for the commands that print rows (`desk_texts/Texts`,
--- `desk_cli/Rejoining`).
+-- `desk_tables/Rejoining`).
 use Rattle.std.specs.Prelude.{◌≡◌, ℕ, false, Option, Some, List, ◌∷◌, ◌++◌}
 use Rattle.std.specs.List.{flat_map}
 use Rattle.csv.specs.Writing.{row_text, default_writer, writer_setup, fields_written, has_written, text_written}

@@ -1,4 +1,4 @@
--- A design as SQL: for `print_ddl` and the command `ddl` (`desk_cli/Designs`), and for the
+-- A design as SQL: for `print_ddl` and the command `ddl` (`desk_designs/Designs`), and for the
 -- statements of `sql migrate`.
 use Rattle.std.specs.Prelude.{ℕ, Bool, true, false, if◌then◌else◌, List, [], ◌∷◌, ◌++◌, map, codes, decimal, slice_get, slice_index_or, unwrap_or, option_map, is_some}
 use Rattle.std.specs.List.{flat_map}
@@ -93,7 +93,8 @@ comment key are_known =
 -- the statement that creates a table
 unfoldable pub table_text : Schema → List TableDesign → TableDesign → List ℕ
 table_text s tables table =
-    comment (attributes table.key) (is_some table.other_keys) ++ codes "CREATE TABLE " ++ quoted_name table.name ++ codes " (\n"
+    comment (attributes table.key) (is_some table.other_keys)
+    ++ codes "CREATE TABLE " ++ quoted_name table.name ++ codes " (\n"
     ++ element_lines false (elements s tables table) ++ codes "\n);\n"
 
 -- the statements that create the tables of a design, in order

@@ -1,5 +1,5 @@
 -- The design of tables for the schemes of a plan: for `design` and the commands `ddl`, `draw` and
--- `sql migrate` (`desk_cli/Designs`).
+-- `sql migrate` (`desk_designs/Designs`).
 use Rattle.std.specs.Prelude.{◌≡◌, ℕ, ◌+◌, ◌<◌, ◌≤◌, ◌↔◌, ◌⊎◌, not, List, [], length, take, filter, slice_get, slice_index_or, Option, Some, None, IsSomeAnd, All, AllPairs, Contains, Vec}
 use Rattle.std.specs.declared.alloc.Global.{Global}
 use Rattle.attr_sets.specs.Attributes.{Attributes, IsSubset, IsEmpty}

@@ -1,5 +1,5 @@
 -- What a design promises of the tables of a legal relation: for `design` and the command `ddl`
--- (`desk_cli/Designs`).
+-- (`desk_designs/Designs`).
 use Rattle.std.specs.Prelude.{◌≡◌, ℕ, List, slice_get, Some, Contains}
 use Rattle.attr_sets.specs.Attributes.{Attributes}
 use Rattle.attr_sets.specs.Sets.{attributes}

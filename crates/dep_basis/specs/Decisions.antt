@@ -1,5 +1,5 @@
 -- When a dependency is rightly said to be implied, or to be broken by two rows: for `decide`,
--- `prove` and `implies` (`desk_cli/Implication`).
+-- `prove` and `implies` (`desk_implication/Implication`).
 use Rattle.attr_sets.specs.Attributes.{Attributes, below, difference}
 use Rattle.std.specs.Prelude.{List, ℕ, ◌≡◌}
 use Rattle.attr_sets.specs.Sets.{attributes}

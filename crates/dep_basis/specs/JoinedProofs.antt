@@ -1,5 +1,5 @@
 -- A derivation within the limits of a certificate: for `prove` and `implies`
--- (`desk_cli/Implication`). The rest is for the functions that put right sides together.
+-- (`desk_implication/Implication`). The rest is for the functions that put right sides together.
 use Rattle.std.specs.Prelude.{◌≡◌, ℕ, ◌+◌, ◌*◌, ◌≤◌, true}
 use Rattle.attr_sets.specs.Attributes.{Attributes, IsSubset, Disjoint, count_below}
 use Rattle.attr_sets.specs.Sets.{attributes}

@@ -1,5 +1,5 @@
--- When an answer of `prove` is right. Of this `implies` (`desk_cli/Implication`) cites that its
--- derivation is the functional chain, where there is one.
+-- When an answer of `prove` is right. Of this `implies` (`desk_implication/Implication`) cites that
+-- its derivation is the functional chain, where there is one.
 use Rattle.std.specs.Prelude.{◌≡◌, ℕ, ◌<◌, Some, slice_get}
 use Rattle.attr_sets.specs.Sets.{attributes}
 use Rattle.dep_model.specs.declared.schema.Schema.{Schema}

@@ -1,5 +1,5 @@
 -- The blocks that code holds, and their traces on a scheme: for `basis` and `trace_basis`, by
--- `Bases`, and for the command `basis` (`desk_cli/Bases`).
+-- `Bases`, and for the command `basis` (`desk_implication/Bases`).
 use Rattle.std.specs.Prelude.{◌≡◌, ℕ, ◌<◌, ◌≤◌, ◌↔◌, ◌⊎◌, true, List, All, AllPairs, Any, take, drop}
 use Rattle.attr_sets.specs.Attributes.{Attributes, intersection, IsEmpty, Disjoint, IsFirstFrom}
 use Rattle.attr_sets.specs.declared.set.AttrSet.{AttrSet}

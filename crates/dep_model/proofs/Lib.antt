@@ -12,6 +12,7 @@ pub mod ListLemmas
 pub mod NameLemmas
 pub mod NumeralLemmas
 pub mod PartLemmas
+pub mod PermutationLemmas
 pub mod PreservationLemmas
 pub mod RuleLemmas
 pub mod SchemeLemmas

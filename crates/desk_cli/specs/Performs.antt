@@ -9,14 +9,14 @@ use Rattle.desk_responses.specs.ResponseValues.{Allowed, Says}
 use Rattle.desk_implication.specs.Bases.{GivesBasis}
 use Rattle.desk_implication.specs.Certificates.{ChecksProof}
 use Rattle.desk_implication.specs.Closures.{GivesClosure}
-use Rattle.desk_implication.specs.CoverChecks.{ChecksCover}
-use Rattle.desk_implication.specs.CoverReasons.{ExplainsCover}
-use Rattle.desk_implication.specs.Covering.{GivesCover}
+use Rattle.desk_covers.specs.CoverChecks.{ChecksCover}
+use Rattle.desk_covers.specs.CoverReasons.{ExplainsCover}
+use Rattle.desk_covers.specs.Covering.{GivesCover}
 use Rattle.desk_designs.specs.Decompositions.{Splits, SplitsWide}
 use Rattle.desk_designs.specs.Designs.{WritesForm, WritesPlan}
-use Rattle.desk_implication.specs.Discoveries.{FindsRules}
+use Rattle.desk_discovery.specs.Discoveries.{FindsRules}
 use Rattle.desk_designs.specs.Drawings.{DrawsForm, DrawsSchemes}
-use Rattle.desk_implication.specs.Exhibits.{Exhibits}
+use Rattle.desk_discovery.specs.Exhibits.{Exhibits}
 use Rattle.desk_words.specs.Forms as form
 use Rattle.desk_words.specs.Forms.{CommandForm, PlanQuestion, RowsQuestion, SchemaQuestion, Task, form_of}
 use Rattle.desk_inputs.specs.FileKinds.{WithFile}
@@ -26,9 +26,9 @@ use Rattle.desk_implication.specs.Implication.{DecidesGoal}
 use Rattle.desk_inputs.specs.Inputs.{proof_file, schema_file}
 use Rattle.desk_designs.specs.Joins.{JudgesJoin}
 use Rattle.desk_designs.specs.Keeping.{JudgesKeeping}
-use Rattle.desk_implication.specs.KeyChecks.{ChecksKey}
-use Rattle.desk_implication.specs.KeyReasons.{ExplainsKeys}
-use Rattle.desk_implication.specs.Keys.{ListsKeys, ListsKeysOfPlan}
+use Rattle.desk_keys.specs.KeyChecks.{ChecksKey}
+use Rattle.desk_keys.specs.KeyReasons.{ExplainsKeys}
+use Rattle.desk_keys.specs.Keys.{ListsKeys, ListsKeysOfPlan}
 use Rattle.desk_tables.specs.Legality.{JudgesRows}
 use Rattle.desk_tables.specs.Migrations.{Migrates, MigratesPlan, Samples}
 use Rattle.desk_designs.specs.NormalForms.{JudgesForm}
@@ -38,7 +38,7 @@ use Rattle.desk_inputs.specs.Plans.{plan_file}
 use Rattle.desk_inputs.specs.Readings.{Reading}
 use Rattle.desk_tables.specs.Rejoining.{JoinsTables}
 use Rattle.desk_inputs.specs.Rows.{rows_file}
-use Rattle.desk_implication.specs.Sameness.{ChecksSame}
+use Rattle.desk_covers.specs.Sameness.{ChecksSame}
 use Rattle.desk_designs.specs.Scripts.{ScriptsCheck, ScriptsMigration, ScriptsMigrationByPlan}
 use Rattle.desk_designs.specs.Synthesis.{Synthesizes}
 use Rattle.desk_texts.specs.Texts.{unknown_words_text}

@@ -10,15 +10,15 @@ ghost use Rattle.desk_cli.specs.Performs.{AnswersPlan, AnswersRows, AnswersSchem
 ghost use Rattle.desk_responses.specs.Responses.{RespondsAs};
 
 use dep_model::Schema;
+use desk_covers::{cover, explain_cover};
 use desk_designs::{
     check_form, check_join, check_keeps, draw_form, draw_plan, script_check, script_migration,
     script_migration_by_plan, split_by_pairs, split_in_form, synthesize_plan, write_form,
     write_plan,
 };
-use desk_implication::{
-    check_key, cover, exhibit_relation, explain_cover, explain_keys, give_basis, give_closure,
-    give_projection, implies, list_keys, list_keys_of_plan,
-};
+use desk_discovery::exhibit_relation;
+use desk_implication::{give_basis, give_closure, give_projection, implies};
+use desk_keys::{check_key, explain_keys, list_keys, list_keys_of_plan};
 use desk_responses::{EarlyExit, Response};
 use desk_tables::{check_rows, migrate_in_form};
 use desk_words::{PlanQuestion, RowsQuestion, SchemaQuestion};

@@ -1,4 +1,1 @@
-pub mod KeyLemmas
-pub mod RuleLemmas
-pub mod SamenessLemmas
 pub mod ProjectionLemmas

@@ -8,7 +8,7 @@ use Rattle.derivation.specs.Conclusions.{Proves}
 use Rattle.derivation.specs.Trees.{Tree}
 use Rattle.desk_responses.specs.declared.status.Status.TheVariants.{Yes, No}
 use Rattle.desk_responses.specs.ResponseValues.{Allowed, Says}
-use Rattle.desk_implication.specs.Goals.{WithGoal}
+use Rattle.desk_arguments.specs.Goals.{WithGoal}
 use Rattle.desk_texts.specs.ProofTexts.{checked_text, concludes_text}
 
 -- yes exactly where the certificate concludes the goal, which is then implied; else no, with both

@@ -14,7 +14,7 @@ use Rattle.schema_printer.specs.Spelling.{printed_names_of}
 use Rattle.desk_responses.specs.declared.status.Status.TheVariants.{Yes, Refused}
 use Rattle.desk_responses.specs.ResponseValues.{Allowed, Says}
 use Rattle.desk_responses.specs.Lines.{too_wide_text}
-use Rattle.desk_implication.specs.Goals.{WithSet}
+use Rattle.desk_arguments.specs.Goals.{WithSet}
 use Rattle.desk_texts.specs.Texts.{line}
 
 -- ---- texts

@@ -6,7 +6,7 @@ ghost use Rattle.schema_printer.specs.Spelling.{printed_names_of};
 ghost use Rattle.desk_implication.specs.Bases.{GivesBasis, TellsBasis, basis_text, blocks_text};
 ghost use Rattle.desk_responses.specs.Responses.{response_value, RespondsAs};
 
-use crate::set::set_of;
+use desk_arguments::set_of;
 use attr_sets::AttrSet;
 use dep_basis::basis;
 use dep_model::{OutOfMemory, Schema};

@@ -7,7 +7,7 @@ ghost use Rattle.schema_printer.specs.Spelling.{printed_names_of};
 ghost use Rattle.desk_implication.specs.Closures.{GivesClosure, TellsClosure, ComesAbout, IsBesideText, closure_text, step_text, steps_text};
 ghost use Rattle.desk_responses.specs.Responses.{response_value, RespondsAs};
 
-use crate::set::set_of;
+use desk_arguments::set_of;
 use attr_sets::AttrSet;
 use closure_steps::{ClosureStep, closure_steps};
 use dep_basis::closure_of;

@@ -12,7 +12,7 @@ ghost use Rattle.desk_implication.specs.Implication.{Decided, DecidesGoal};
 ghost use Rattle.desk_responses.specs.Responses.{response_value, RespondsAs};
 ghost use Rattle.desk_texts.specs.Texts.{yes_text, no_text};
 
-use crate::goal::goal_of;
+use desk_arguments::goal_of;
 use attr_sets::AttrSet;
 use csv_rows::print_rows;
 use dep_basis::{Proof, witness};

@@ -8,7 +8,7 @@ ghost use Rattle.fd_projection.specs.Refusals.{IsRefusedProjection};
 ghost use Rattle.desk_responses.specs.ResponseValues.{Says};
 ghost use Rattle.desk_responses.specs.Responses.{response_value, RespondsAs, ExitsAs};
 
-use crate::set::set_of;
+use desk_arguments::set_of;
 use attr_sets::AttrSet;
 use dep_model::{Dep, Failure, MOST_DEPENDENCIES, OutOfMemory, Schema};
 use desk_outside::Argument;

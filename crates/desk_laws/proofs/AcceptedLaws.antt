@@ -34,7 +34,7 @@ use Rattle.desk_words.specs.Forms.{form_of, after_check, schema_and_two, form_ov
 use Rattle.desk_implication.specs.Implication.{Decided}
 use Rattle.desk_inputs.specs.FileKinds.{WithFile}
 use Rattle.desk_inputs.specs.Inputs.{schema_file, proof_file}
-use Rattle.desk_implication.specs.Goals.{WithGoal}
+use Rattle.desk_arguments.specs.Goals.{WithGoal}
 use Rattle.desk_cli.specs.Performs.{Answers, Performs, Does, AnswersSchema}
 use Rattle.desk_inputs.specs.Readings.{known_files}
 use Rattle.desk_texts.specs.Texts.{yes_text}

@@ -39,16 +39,16 @@ use Rattle.desk_inputs.specs.declared.rows.TheConstants.{MOST_CSV_BYTES}
 use Rattle.desk_responses.specs.declared.status.Status.{Status}
 use Rattle.desk_responses.specs.ResponseValues.{ResponseValue, Allowed}
 use Rattle.desk_implication.specs.Certificates.{Checked}
-use Rattle.desk_implication.specs.Covering.{GivesCover}
+use Rattle.desk_covers.specs.Covering.{GivesCover}
 use Rattle.desk_cli.specs.Desk.{Desk, FileSourceInCall, SinkInCall}
 use Rattle.desk_delivery.specs.Outcomes.{DestinationsInCall}
 use Rattle.desk_words.specs.Forms.{form_of, after_check, schema_alone, schema_and_two, no_more_arguments, form_over_schema, after_keys, schema_and_word, schema_and_plan, schema_and_rows}
 use Rattle.desk_implication.specs.Implication.{Decided}
 use Rattle.desk_inputs.specs.FileKinds.{IsFile, WithFile}
 use Rattle.desk_inputs.specs.Inputs.{schema_file, proof_file}
-use Rattle.desk_implication.specs.Goals.{WithGoal, IsGoal}
+use Rattle.desk_arguments.specs.Goals.{WithGoal, IsGoal}
 use Rattle.desk_designs.specs.Joins.{JudgesJoin, IsTooLarge}
-use Rattle.desk_implication.specs.Keys.{ListsKeys, HasManyKeys}
+use Rattle.desk_keys.specs.Keys.{ListsKeys, HasManyKeys}
 use Rattle.desk_tables.specs.Legality.{JudgesRows}
 use Rattle.desk_cli.specs.Performs.{Answers, Performs, Does, AnswersSchema, AnswersPlan, AnswersRows}
 use Rattle.desk_inputs.specs.Plans.{plan_file}

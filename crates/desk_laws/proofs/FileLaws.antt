@@ -24,7 +24,7 @@ use Rattle.desk_outside.specs.Files.{Files}
 use Rattle.desk_tables.specs.declared.rejoining.TheConstants.{MOST_JOINED_ROWS}
 use Rattle.desk_inputs.specs.declared.rows.TheConstants.{MOST_CSV_BYTES}
 use Rattle.desk_responses.specs.ResponseValues.{ResponseValue, Allowed}
-use Rattle.desk_implication.specs.Discoveries.{FindsRules}
+use Rattle.desk_discovery.specs.Discoveries.{FindsRules}
 use Rattle.desk_inputs.specs.FileKinds.{FileStops, IsFile, WithFile}
 use Rattle.desk_inputs.specs.Headed.{headed_file}
 use Rattle.desk_words.specs.Forms.{form_of, form_over_schema, schema_and_several, word_alone, are_one_to_64}

@@ -41,9 +41,9 @@ use Rattle.plan_laws.proofs.SplitAnswers.{one_split_answer, one_wide_answer}
 use Rattle.plan_laws.proofs.UniqueLaws.{one_form, one_join, one_keeping}
 use Rattle.desk_cli.specs.Performs.{AnswersPlan, AnswersRows, AnswersSchema, Does}
 use Rattle.desk_implication.specs.Certificates.{ChecksProof}
-use Rattle.desk_implication.specs.CoverChecks.{ChecksCover}
+use Rattle.desk_covers.specs.CoverChecks.{ChecksCover}
 use Rattle.desk_implication.specs.Implication.{DecidesGoal}
-use Rattle.desk_implication.specs.Sameness.{ChecksSame}
+use Rattle.desk_covers.specs.Sameness.{ChecksSame}
 use Rattle.desk_inputs.specs.FileKinds.{IsFile, WithFile}
 use Rattle.desk_inputs.specs.Inputs.{proof_file, schema_file}
 use Rattle.desk_inputs.specs.Parts.{WithParts}

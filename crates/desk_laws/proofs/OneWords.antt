@@ -10,7 +10,7 @@ use Rattle.sample_rows.specs.declared.rows.TheConstants.{MOST_PERSONS}
 use Rattle.implication_laws.proofs.OneAnswer.{one_rules_answer}
 use Rattle.plan_laws.proofs.SampleAnswers.{one_sampled}
 use Rattle.desk_cli.specs.Performs.{Answers, Does, Performs}
-use Rattle.desk_implication.specs.Discoveries.{AreRulesOf, FindsRules, found_text}
+use Rattle.desk_discovery.specs.Discoveries.{AreRulesOf, FindsRules, found_text}
 use Rattle.desk_inputs.specs.FileKinds.{IsFile}
 use Rattle.desk_inputs.specs.Inputs.{schema_file}
 use Rattle.desk_inputs.specs.Readings.{known_files}

@@ -21,16 +21,16 @@ use Rattle.desk_implication.specs.Bases.{TellsBasis}
 use Rattle.desk_words.specs.Forms.{form_of, form_over_schema, after_check, after_keys, two_schemas, schema_and_word}
 use Rattle.desk_inputs.specs.FileKinds.{IsFile, WithFile}
 use Rattle.desk_inputs.specs.Inputs.{schema_file}
-use Rattle.desk_implication.specs.Goals.{WithSet, SetStops, IsSetText}
+use Rattle.desk_arguments.specs.Goals.{WithSet, SetStops, IsSetText}
 use Rattle.desk_implication.specs.Closures.{TellsClosure}
-use Rattle.desk_implication.specs.CoverChecks.{TestsCover}
-use Rattle.desk_implication.specs.KeyChecks.{TestsKey}
+use Rattle.desk_covers.specs.CoverChecks.{TestsCover}
+use Rattle.desk_keys.specs.KeyChecks.{TestsKey}
 use Rattle.desk_implication.specs.Projections.{ProjectsSet}
-use Rattle.desk_implication.specs.Keys.{ListsKeysOfPlan}
+use Rattle.desk_keys.specs.Keys.{ListsKeysOfPlan}
 use Rattle.desk_cli.specs.Performs.{Answers, Performs, Does, AnswersSchema, AnswersPlan}
 use Rattle.desk_inputs.specs.Plans.{plan_file}
 use Rattle.desk_inputs.specs.Readings.{known_files}
-use Rattle.desk_implication.specs.Sameness.{WithSameNames, Compares, LacksName}
+use Rattle.desk_covers.specs.Sameness.{WithSameNames, Compares, LacksName}
 use Rattle.implication_laws.proofs.OneAnswer.{one_set}
 use Rattle.desk_laws.specs.Completeness.{IsYesOrNo, IsAnswered}
 use Rattle.desk_laws.proofs.CompleteLaws.{AreSame, names_same, after_schema, after_plan}

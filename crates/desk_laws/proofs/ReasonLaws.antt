@@ -4,15 +4,15 @@ use Rattle.std.specs.Prelude.{codes}
 use Rattle.dep_model.specs.declared.schema.Schema.{Schema}
 use Rattle.key_listing.specs.Refusals.{IsTooWide}
 use Rattle.desk_cli.specs.Performs.{Answers, Performs, Does, AnswersSchema}
-use Rattle.desk_implication.specs.CoverReasons.{AreCoverReasons, ExplainsCover}
-use Rattle.desk_implication.specs.Covering.{GivesCover}
-use Rattle.desk_implication.specs.KeyReasons.{AreKeyReasons, ExplainsKeys}
-use Rattle.desk_implication.specs.Keys.{HasManyKeys, ListsKeys}
+use Rattle.desk_covers.specs.CoverReasons.{AreCoverReasons, ExplainsCover}
+use Rattle.desk_covers.specs.Covering.{GivesCover}
+use Rattle.desk_keys.specs.KeyReasons.{AreKeyReasons, ExplainsKeys}
+use Rattle.desk_keys.specs.Keys.{HasManyKeys, ListsKeys}
 use Rattle.desk_inputs.specs.FileKinds.{IsFile, WithFile}
 use Rattle.desk_inputs.specs.Inputs.{schema_file}
 use Rattle.desk_inputs.specs.Readings.{known_files}
 use Rattle.desk_outside.specs.Files.{Files}
-use Rattle.desk_implication.specs.Reasons.{Explained}
+use Rattle.desk_responses.specs.Reasons.{Explained}
 use Rattle.desk_responses.specs.ResponseValues.{ResponseValue, Allowed}
 use Rattle.desk_responses.specs.declared.status.Status.{Status}
 use Rattle.desk_words.specs.Forms.{form_of, form_over_schema, after_explain, schema_alone}

@@ -26,7 +26,7 @@ use Rattle.desk_inputs.specs.Readings.{Reading, known_files}
 use Rattle.desk_responses.specs.ResponseValues.{ResponseValue}
 use Rattle.desk_inputs.specs.FileKinds.{FileStops, LoadStops}
 use Rattle.desk_inputs.specs.Inputs.{schema_file, proof_file}
-use Rattle.desk_implication.specs.Goals.{GoalStops}
+use Rattle.desk_arguments.specs.Goals.{GoalStops}
 
 -- ---- no way to stop says yes
 refused_says : (response : ResponseValue) → response.status ≡ Yes → response.status ≡ Refused → ⊥

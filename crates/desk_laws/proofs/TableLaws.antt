@@ -25,7 +25,7 @@ use Rattle.desk_designs.specs.declared.decomposition.TheConstants.{MOST_SPLIT_SC
 use Rattle.desk_responses.specs.ResponseValues.{ResponseValue, Allowed}
 use Rattle.desk_designs.specs.Decompositions.{SplitStops, WithPlanInForm, ShowsPlan, SplitsWide}
 use Rattle.desk_designs.specs.Designs.{WritesTables, WritesSchemes}
-use Rattle.desk_implication.specs.Exhibits.{Exhibits}
+use Rattle.desk_discovery.specs.Exhibits.{Exhibits}
 use Rattle.desk_words.specs.Forms.{form_of, form_over_schema, after_check, after_check_form, after_split, after_ddl, after_migrate, normal_form, schema_alone, schema_and_two, persons_alone, schema_and_plan, schema_and_rows}
 use Rattle.desk_inputs.specs.FileKinds.{IsFile, WithFile}
 use Rattle.desk_inputs.specs.Inputs.{schema_file}

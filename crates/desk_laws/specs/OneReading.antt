@@ -4,7 +4,7 @@ use Rattle.dep_model.specs.Dependencies.{Dependency}
 use Rattle.dep_model.specs.Schemas.{ImpliedBy}
 use Rattle.dep_model.specs.declared.schema.Schema.{Schema}
 use Rattle.implication_laws.specs.OneAnswer.{HasFixedProof}
-use Rattle.desk_implication.specs.Goals.{IsGoal}
+use Rattle.desk_arguments.specs.Goals.{IsGoal}
 use Rattle.desk_inputs.specs.FileKinds.{IsFile}
 use Rattle.desk_inputs.specs.Inputs.{schema_file}
 use Rattle.desk_inputs.specs.Readings.{known_files}

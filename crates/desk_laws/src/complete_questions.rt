@@ -15,7 +15,7 @@ ghost use Rattle.schema_match.specs.Columns.{SameNames};
 ghost use Rattle.desk_outside.specs.Files.{Files};
 ghost use Rattle.desk_inputs.specs.FileKinds.{IsFile};
 ghost use Rattle.desk_inputs.specs.Inputs.{schema_file};
-ghost use Rattle.desk_implication.specs.Goals.{IsSetText};
+ghost use Rattle.desk_arguments.specs.Goals.{IsSetText};
 ghost use Rattle.desk_inputs.specs.Plans.{plan_file};
 ghost use Rattle.desk_inputs.specs.Readings.{known_files};
 ghost use Rattle.desk_laws.specs.Completeness.{IsAnswered};

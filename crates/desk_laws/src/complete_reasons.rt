@@ -8,7 +8,7 @@ ghost use Rattle.desk_outside.specs.Files.{Files};
 ghost use Rattle.desk_inputs.specs.FileKinds.{IsFile};
 ghost use Rattle.desk_inputs.specs.Inputs.{schema_file};
 ghost use Rattle.desk_inputs.specs.Readings.{known_files};
-ghost use Rattle.desk_implication.specs.Keys.{HasManyKeys};
+ghost use Rattle.desk_keys.specs.Keys.{HasManyKeys};
 ghost use Rattle.desk_laws.specs.Completeness.{IsAnswered};
 
 /// `explain cover` is answered where the schema file means a schema.

@@ -1,5 +1,5 @@
 -- The minimal functional dependencies of rows, in order: for `discover` and the command of that
--- name (`desk_cli/Discoveries`).
+-- name (`desk_discovery/Discoveries`).
 use Rattle.std.specs.Prelude.{◌≡◌, ◌<◌, ◌⊎◌, ℕ, false, List, All, AllPairs, Contains}
 use Rattle.attr_sets.specs.Attributes.{Attributes, below, only, IsSubset, IsBefore}
 use Rattle.dep_model.specs.Tuples.{Relation}

@@ -8,8 +8,8 @@ use Rattle.min_cover.specs.Covers.{HaveSameLegal}
 use Rattle.schema_match.specs.Columns.{IsDeclaredBy, SameNames}
 use Rattle.desk_responses.specs.ResponseValues.{ResponseValue}
 use Rattle.desk_responses.specs.declared.status.Status.TheVariants.{Yes}
-use Rattle.desk_implication.specs.Sameness.{LacksName, NameStops, SayTheSame, Compares, ChecksSame}
-use Rattle.desk_implication.proofs.SamenessLemmas.{say_the_same}
+use Rattle.desk_covers.specs.Sameness.{LacksName, NameStops, SayTheSame, Compares, ChecksSame}
+use Rattle.desk_covers.proofs.SamenessLemmas.{say_the_same}
 use Rattle.implication_laws.specs.Alike.{AnswerAlike, AnswersAlikeWith}
 use Rattle.implication_laws.specs.Rewriting.{HaveSameDependencies}
 use Rattle.implication_laws.proofs.GoalLemmas.{says-status}

@@ -3,7 +3,7 @@ use Rattle.std.proofs.Common.{List}
 use Rattle.dep_model.specs.Dependencies.{Dependency}
 use Rattle.dep_model.specs.declared.schema.Schema.{Schema}
 use Rattle.schema_printer.specs.Printing.{schema_text}
-use Rattle.desk_implication.specs.Covering.{GivesCover}
+use Rattle.desk_covers.specs.Covering.{GivesCover}
 use Rattle.desk_responses.specs.ResponseValues.{ResponseValue, Says}
 use Rattle.desk_responses.specs.declared.status.Status.TheVariants.{Yes}
 use Rattle.implication_laws.specs.Alike.{AnswersAlikeWith}

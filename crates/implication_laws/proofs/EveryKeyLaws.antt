@@ -9,7 +9,7 @@ use Rattle.dep_model.specs.Schemas.{width_of, theory_of, universe_of}
 use Rattle.dep_model.specs.declared.schema.Schema.{Schema}
 use Rattle.dep_model.proofs.KeyLemmas.{superkey_more}
 use Rattle.key_listing.proofs.NarrowingLemmas.{in_every_key_in_superkey}
-use Rattle.desk_implication.specs.KeyReasons.{InEveryKey}
+use Rattle.desk_keys.specs.KeyReasons.{InEveryKey}
 
 -- no refutation of a case distinction
 distinguish : (P : Type 0) → ((P ⊎ (P → ⊥)) → ⊥) → ⊥

@@ -19,9 +19,9 @@ use Rattle.fd_discovery.specs.Headings.{names_under, rows_under}
 use Rattle.fd_discovery.specs.declared.headed_rows.Headed.{Headed}
 use Rattle.min_cover.specs.Covers.{HaveSameLegal}
 use Rattle.schema_match.proofs.MatchLemmas.{theory_within}
-use Rattle.desk_implication.specs.Discoveries.{AreRulesOf, FindsRules, found_text}
-use Rattle.desk_implication.specs.Exhibits.{IsExample, Exhibits}
-use Rattle.desk_implication.specs.Goals.{IsGoal}
+use Rattle.desk_discovery.specs.Discoveries.{AreRulesOf, FindsRules, found_text}
+use Rattle.desk_discovery.specs.Exhibits.{IsExample, Exhibits}
+use Rattle.desk_arguments.specs.Goals.{IsGoal}
 use Rattle.desk_implication.specs.Implication.{Decided, DecidesGoal}
 use Rattle.desk_tables.specs.Legality.{JudgesRows}
 use Rattle.desk_responses.specs.ResponseValues.{ResponseValue, Says}

@@ -21,7 +21,7 @@ use Rattle.schema_grammar.proofs.OneTextRefusal.{goal-refusal-law}
 use Rattle.desk_responses.specs.ResponseValues.{ResponseValue, Says}
 use Rattle.desk_responses.specs.declared.status.Status.{Status}
 use Rattle.desk_responses.specs.declared.status.Status.TheVariants.{Refused}
-use Rattle.desk_implication.specs.Goals.{IsGoal, GoalStops}
+use Rattle.desk_arguments.specs.Goals.{IsGoal, GoalStops}
 
 -- ---- statuses
 pub says-status : (s : Status) (text : List ℕ) (response : ResponseValue) → Says s text response → response.status ≡ s

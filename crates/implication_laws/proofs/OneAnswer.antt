@@ -43,12 +43,12 @@ use Rattle.desk_texts.specs.ProofTexts.{concludes_text}
 use Rattle.desk_texts.specs.Texts.{line, set_line, goal_refusal_text, set_refusal_text}
 use Rattle.desk_implication.specs.Bases.{TellsBasis, GivesBasis, blocks_text}
 use Rattle.desk_implication.specs.Certificates.{Checked, ChecksProof}
-use Rattle.desk_implication.specs.Covering.{GivesCover}
-use Rattle.desk_implication.specs.Discoveries.{FindsRules, found_text}
-use Rattle.desk_implication.specs.Exhibits.{Exhibits, IsExample, multivalued_text}
-use Rattle.desk_implication.specs.Goals.{GoalStops, IsGoal, SetStops, IsSetText, WithGoal}
-use Rattle.desk_implication.specs.Keys.{ListsKeys}
-use Rattle.desk_implication.specs.Sameness.{LacksName, NameStops, Compares, ChecksSame, different_text, not_in_text}
+use Rattle.desk_covers.specs.Covering.{GivesCover}
+use Rattle.desk_discovery.specs.Discoveries.{FindsRules, found_text}
+use Rattle.desk_discovery.specs.Exhibits.{Exhibits, IsExample, multivalued_text}
+use Rattle.desk_arguments.specs.Goals.{GoalStops, IsGoal, SetStops, IsSetText, WithGoal}
+use Rattle.desk_keys.specs.Keys.{ListsKeys}
+use Rattle.desk_covers.specs.Sameness.{LacksName, NameStops, Compares, ChecksSame, different_text, not_in_text}
 use Rattle.implication_laws.specs.OneAnswer.{AllowsOne}
 use Rattle.implication_laws.proofs.AlikeLaws.{none_lacking, names_go}
 use Rattle.implication_laws.proofs.GoalLemmas.{one_goal, goal_goes}

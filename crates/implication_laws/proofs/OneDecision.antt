@@ -13,7 +13,7 @@ use Rattle.proof_grammar.specs.Printing.{canonical_certificate}
 use Rattle.desk_responses.specs.ResponseValues.{ResponseValue}
 use Rattle.desk_responses.specs.declared.status.Status.TheVariants.{Yes, No}
 use Rattle.desk_texts.specs.Texts.{yes_text, no_text}
-use Rattle.desk_implication.specs.Goals.{IsGoal}
+use Rattle.desk_arguments.specs.Goals.{IsGoal}
 use Rattle.desk_implication.specs.Implication.{Decided, DecidesGoal}
 use Rattle.implication_laws.specs.OneAnswer.{HasFixedProof}
 use Rattle.implication_laws.proofs.GoalLemmas.{says-status, one_goal, goal_goes}

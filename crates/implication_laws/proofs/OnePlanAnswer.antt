@@ -13,7 +13,7 @@ use Rattle.split_forms.proofs.StepLemmas.{split_at_first-unique}
 use Rattle.desk_responses.specs.ResponseValues.{ResponseValue, IsFirstFailing}
 use Rattle.desk_responses.specs.declared.status.Status.TheVariants.{Yes}
 use Rattle.desk_texts.specs.Texts.{set_line}
-use Rattle.desk_implication.specs.Keys.{KeyedScheme, HasKeys, IsListed, EndsKeys, ListsKeysOfPlan, keyed_text, keys_text}
+use Rattle.desk_keys.specs.Keys.{KeyedScheme, HasKeys, IsListed, EndsKeys, ListsKeysOfPlan, keyed_text, keys_text}
 use Rattle.implication_laws.specs.OneAnswer.{AllowsOne}
 use Rattle.implication_laws.proofs.OneAnswer.{all_or_many}
 use Rattle.implication_laws.proofs.OneKey.{one_keys}

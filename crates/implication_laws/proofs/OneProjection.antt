@@ -9,7 +9,7 @@ use Rattle.dep_model.specs.declared.schema.Schema.{Schema}
 use Rattle.fd_projection.specs.Projections.{IsMinimalFd, Precedes, AreMinimalWithin, IsProjection}
 use Rattle.fd_projection.specs.Refusals.{AreTooMany}
 use Rattle.min_cover.specs.Covers.{IsThinned}
-use Rattle.desk_implication.specs.Goals.{SetStops, IsSetText}
+use Rattle.desk_arguments.specs.Goals.{SetStops, IsSetText}
 use Rattle.desk_implication.specs.Projections.{ProjectsSet, Projects, projection_text}
 use Rattle.desk_responses.specs.declared.status.Status.TheVariants.{Yes}
 use Rattle.implication_laws.specs.OneAnswer.{AllowsOne}

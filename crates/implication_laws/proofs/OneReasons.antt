@@ -7,11 +7,11 @@ use Rattle.cover_steps.proofs.MemberLemmas.{one_account_members, one_account_gon
 use Rattle.dep_model.specs.Schemas.{width_of, theory_of}
 use Rattle.dep_model.specs.declared.schema.Schema.{Schema}
 use Rattle.schema_printer.specs.Spelling.{printed_names_of}
-use Rattle.desk_implication.specs.CoverReasons.{AreCoverReasons, ExplainsCover, members_text, all_gone_text}
-use Rattle.desk_implication.specs.Covering.{GivesCover}
-use Rattle.desk_implication.specs.KeyReasons.{AreKeyReasons, ExplainsKeys}
-use Rattle.desk_implication.specs.Keys.{ListsKeys}
-use Rattle.desk_implication.specs.Reasons.{Explained, below_text}
+use Rattle.desk_covers.specs.CoverReasons.{AreCoverReasons, ExplainsCover, members_text, all_gone_text}
+use Rattle.desk_covers.specs.Covering.{GivesCover}
+use Rattle.desk_keys.specs.KeyReasons.{AreKeyReasons, ExplainsKeys}
+use Rattle.desk_keys.specs.Keys.{ListsKeys}
+use Rattle.desk_responses.specs.Reasons.{Explained, below_text}
 use Rattle.desk_responses.specs.ResponseValues.{ResponseValue, Allowed}
 use Rattle.desk_responses.specs.declared.status.Status.{Status}
 use Rattle.desk_responses.specs.declared.status.Status.TheVariants.{Yes}

@@ -24,10 +24,10 @@ use Rattle.schema_match.specs.Columns.{SameNames}
 use Rattle.schema_printer.specs.Printing.{set_text}
 use Rattle.schema_printer.specs.Spelling.{printed_names_of}
 use Rattle.desk_implication.specs.Closures.{IsBesideText, ComesAbout, TellsClosure, GivesClosure, closure_text}
-use Rattle.desk_implication.specs.CoverChecks.{TestsMinimal, TestsCover, ChecksCover, diagnostics_text}
-use Rattle.desk_implication.specs.Goals.{SetStops, IsSetText}
-use Rattle.desk_implication.specs.KeyChecks.{IsKeyText, IsKeyShown, IsNoSuperkey, HasKeyWithin, TestsKey, ChecksKey, is_key_text, key_within_text, no_superkey_text, without_text}
-use Rattle.desk_implication.specs.Sameness.{NameStops, different_text}
+use Rattle.desk_covers.specs.CoverChecks.{TestsMinimal, TestsCover, ChecksCover, diagnostics_text}
+use Rattle.desk_arguments.specs.Goals.{SetStops, IsSetText}
+use Rattle.desk_keys.specs.KeyChecks.{IsKeyText, IsKeyShown, IsNoSuperkey, HasKeyWithin, TestsKey, ChecksKey, is_key_text, key_within_text, no_superkey_text, without_text}
+use Rattle.desk_covers.specs.Sameness.{NameStops, different_text}
 use Rattle.desk_responses.specs.ResponseValues.{ResponseValue}
 use Rattle.desk_responses.specs.declared.status.Status.TheVariants.{Yes, No}
 use Rattle.desk_texts.specs.Texts.{line, set_line}

@@ -4,7 +4,7 @@ use Rattle.std.specs.Prelude.{◌≡◌, ℕ, List}
 use Rattle.dep_model.specs.Dependencies.{Dependency}
 use Rattle.dep_model.specs.declared.schema.Schema.{Schema}
 use Rattle.desk_implication.specs.Implication.{DecidesGoal}
-use Rattle.desk_implication.specs.Sameness.{SayTheSame, ChecksSame}
+use Rattle.desk_covers.specs.Sameness.{SayTheSame, ChecksSame}
 use Rattle.desk_responses.specs.ResponseValues.{ResponseValue}
 use Rattle.desk_responses.specs.declared.status.Status.TheVariants.{Yes}
 use Rattle.implication_laws.specs.Rewriting.{IsSchemaWith}

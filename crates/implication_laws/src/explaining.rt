@@ -5,7 +5,7 @@ ghost use Rattle.attr_sets.specs.Attributes.{only, difference};
 ghost use Rattle.dep_model.specs.Keys.{IsSuperkey};
 ghost use Rattle.dep_model.specs.Schemas.{width_of, theory_of, universe_of};
 ghost use Rattle.dep_model.specs.declared.schema.Schema.{Schema};
-ghost use Rattle.desk_implication.specs.KeyReasons.{InEveryKey};
+ghost use Rattle.desk_keys.specs.KeyReasons.{InEveryKey};
 
 /// What is in every key of a schema are exactly the attributes that all others do not determine.
 pub fn undetermined_attributes_are_in_every_key()

@@ -6,7 +6,7 @@ ghost use Rattle.dep_model.specs.Schemas.{names_of, width_of, theory_of};
 ghost use Rattle.dep_model.specs.declared.schema.Schema.{Schema};
 ghost use Rattle.min_cover.specs.Covers.{HaveSameLegal};
 ghost use Rattle.schema_printer.specs.Printing.{schema_text};
-ghost use Rattle.desk_implication.specs.Covering.{GivesCover};
+ghost use Rattle.desk_covers.specs.Covering.{GivesCover};
 ghost use Rattle.desk_responses.specs.ResponseValues.{ResponseValue, Says};
 ghost use Rattle.desk_responses.specs.declared.status.Status.TheVariants.{Yes};
 ghost use Rattle.implication_laws.specs.Alike.{AnswerAlike, AnswersAlikeWith};

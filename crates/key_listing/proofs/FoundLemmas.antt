@@ -26,7 +26,8 @@ use Rattle.key_listing.specs.Listing.{HoldsAny, HoldsAnyUnlessMany, AreSomeKeys,
 use Rattle.fd_closure.specs.KeyLists.{HoldsOne, IsExchanged}
 use Rattle.fd_closure.proofs.AllKeys.{all_keys}
 use Rattle.fd_closure.proofs.ClosedSets.{all_functional}
-use Rattle.key_listing.proofs.ListLemmas.{Any-map, Any-grows, Any-permutation, AllPairs-permutation, grows_longer}
+use Rattle.dep_model.proofs.PermutationLemmas.{Any-map, Any-permutation, AllPairs-permutation}
+use Rattle.key_listing.proofs.ListLemmas.{Any-grows, grows_longer}
 
 -- what a dependency makes of a key is a superkey
 pub exchanged_superkey : (n : ℕ) (ds : List Dependency) (scheme x y k : Attributes) → Contains ds (fd x y) → IsSubset x scheme → IsSuperkey n ds scheme k → IsSuperkey n ds scheme (exchanged_key (fd x y) k)

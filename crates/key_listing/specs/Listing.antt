@@ -1,5 +1,5 @@
 -- All keys of a scheme in order, or one more than are listed: for `keys`, `keys_of_scheme` and the
--- command `keys` (`desk_implication/Keys`); the rest is for the search.
+-- command `keys` (`desk_keys/Keys`); the rest is for the search.
 use Rattle.std.specs.Prelude.{◌≡◌, ℕ, ◌+◌, ◌^◌, ◌<◌, ◌≤◌, List, length, All, AllPairs, Any}
 use Rattle.attr_sets.specs.Attributes.{Attributes, union, difference, IsSubset, IsBefore}
 use Rattle.attr_sets.specs.declared.set.AttrSet.{AttrSet}

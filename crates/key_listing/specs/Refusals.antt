@@ -1,5 +1,5 @@
 -- Why the keys of a schema or of a scheme are not listed: for `keys`, `keys_of_scheme` and the
--- command `keys` (`desk_implication/Keys`).
+-- command `keys` (`desk_keys/Keys`).
 use Rattle.std.specs.Prelude.{◌≡◌, false, Any}
 use Rattle.attr_sets.specs.Attributes.{Attributes}
 use Rattle.dep_model.specs.Dependencies.{is_fd}

@@ -1,5 +1,5 @@
 -- Minimal covers and whole covers, and the ones that a fixed order leaves: for `minimal_cover`,
--- `whole_cover`, `synthesize` and the command `cover` (`desk_cli/Covering`).
+-- `whole_cover`, `synthesize` and the command `cover` (`desk_covers/Covering`).
 use Rattle.std.specs.Prelude.{◌≡◌, ℕ, ◌⊎◌, ◌↔◌, true, false, not, List, [], ◌∷◌, ◌++◌, filter, All, Contains}
 use Rattle.std.specs.List.{AllZip, flat_map}
 use Rattle.attr_sets.specs.Attributes.{Attributes, only, difference}

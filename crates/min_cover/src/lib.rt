@@ -3,7 +3,8 @@
 //! `minimal_cover` gives a minimal cover of the functional dependencies, the one that a fixed order of
 //! trying leaves (Ullman 1982; Maier 1983 has it as a canonical cover). `whole_cover` adds the
 //! multivalued dependencies that the others do not imply; it says all that the schema says.
-//! `nonredundant_from` leaves out of any list what the others imply.
+//! `nonredundant_from` leaves out of any list what the others imply. `left_reduced` shortens one left
+//! side, and `is_implied` asks of one dependency.
 #![tactic(auto)]
 
 mod covering;
@@ -11,4 +12,5 @@ mod shortening;
 mod thinning;
 
 pub use covering::{minimal_cover, whole_cover};
-pub use thinning::nonredundant_from;
+pub use shortening::left_reduced;
+pub use thinning::{is_implied, nonredundant_from, trivial_dependency};

@@ -1,4 +1,4 @@
-ghost use Rattle.std.specs.Prelude.{ℕ, List, [], ◌++◌, IfOk, All};
+ghost use Rattle.std.specs.Prelude.{ℕ, List, ◌++◌, IfOk, All};
 ghost use Rattle.std.specs.List.{flat_map};
 ghost use Rattle.attr_sets.specs.Attributes.{below, IsSubset};
 ghost use Rattle.attr_sets.specs.Sets.{attributes};
@@ -55,9 +55,9 @@ fn add_members(
     Ok(())
 }
 
-// What is left of a left side where each attribute, from the first to the last, is left out if the rest
-// still determines the right side.
-fn left_reduced(deps: &[Dep], lhs: AttrSet, rhs: AttrSet) -> AttrSet
+/// What is left of a left side where each attribute, from the first to the last, is left out if the rest
+/// still determines the right side.
+pub fn left_reduced(deps: &[Dep], lhs: AttrSet, rhs: AttrSet) -> AttrSet
     ensures left_reduced { (n : ℕ) → All (IsDepWithin (below n)) deps.now
         → IsSubset (attributes lhs) (below n) → IsSubset (attributes rhs) (below n)
         → IsLeftReduced n (dependencies_of deps.now) (attributes lhs) (attributes rhs)

@@ -13,8 +13,8 @@ use dep_model::{Dep, OutOfMemory};
 use fd_closure::follows;
 use std::alloc::Global;
 
-// A dependency that every relation obeys, which stands where one was left out.
-fn trivial_dependency() -> Dep
+/// A dependency that every relation obeys, which stands where one was left out.
+pub fn trivial_dependency() -> Dep
     ensures functional { is_fd (dependency_of result) ≡ true }
     ensures within { (n : ℕ) → IsDepWithin (below n) result }
     ensures obeyed { (n : ℕ) (r : Relation) → Obeys n (dependency_of result) r }
@@ -25,9 +25,9 @@ fn trivial_dependency() -> Dep
     }
 }
 
-// Whether dependencies imply one more. A functional one is asked of functional ones alone, since their
-// closures are found sooner than blocks.
-fn is_implied(deps: &[Dep], width: u8, dep: Dep) -> bool
+/// Whether dependencies imply one more. A functional one is asked of functional ones alone, since their
+/// closures are found sooner than blocks.
+pub fn is_implied(deps: &[Dep], width: u8, dep: Dep) -> bool
     requires width { width ≤ MOST_ATTRIBUTES }
     requires deps { All (IsDepWithin (below width)) deps.now }
     requires within { IsDepWithin (below width) dep }
@@ -54,8 +54,9 @@ fn is_implied_by_blocks(deps: &[Dep], width: u8, dep: Dep) -> bool
     }
 }
 
-/// What is left of a list where, from a position on, each dependency is left out that the others imply: those kept
-/// before it and all after it. From that position on all are multivalued, or all of the list are functional.
+/// What is left of a list where, from a position on, each dependency is left out that the others imply:
+/// those kept before it and all after it. From that position on all are multivalued, or all of the list
+/// are functional.
 pub fn nonredundant_from(
     alloc: Global,
     width: u8,

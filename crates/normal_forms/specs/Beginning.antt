@@ -10,7 +10,8 @@ use Rattle.normal_forms.specs.declared.beginning.KnownPart.{KnownPart}
 -- a set determines, by the functional dependencies, what is known to be determined by it
 pub record IsKnownPart (s : Schema) (part : KnownPart) : Type 0 where
   pub within : IsSubset (attributes part.closed) (universe_of s)
-  pub determined : Implies (width_of s) (functional_part (theory_of s)) (fd (attributes part.set) (attributes part.closed))
+  pub determined : Implies (width_of s) (functional_part (theory_of s))
+    (fd (attributes part.set) (attributes part.closed))
 
 -- a closure may begin with a set in place of x: it holds x, and x determines it
 pub record IsBegun (s : Schema) (x begun : Attributes) : Type 0 where

@@ -1,5 +1,5 @@
 -- What is wrong with a plan text, and which refusal is the first: for `read_plan` and the commands
--- that read plans (`desk_cli/Plans`).
+-- that read plans (`desk_inputs/Plans`).
 use Rattle.std.specs.Prelude.{◌≡◌, ◌≤◌, ◌⊎◌, ℕ, ◌+◌, zero, suc, Bool, true, false, not, ◌&&◌, if◌then◌else◌, List, [], ◌∷◌, length, Option, Some, None}
 use Rattle.std.specs.List.{list_any}
 use Rattle.attr_sets.specs.Attributes.{Attributes, below, IsFirstFrom}

@@ -1,5 +1,5 @@
 -- What schemes a plan text means: for `read_plan` and the commands that read plans
--- (`desk_cli/Plans`).
+-- (`desk_inputs/Plans`).
 use Rattle.std.specs.Prelude.{◌≡◌, ◌<◌, ◌≤◌, ◌⊎◌, ℕ, Bool, true, false, List, [], ◌∷◌, length, All, codes}
 use Rattle.std.specs.Str.{bytes_eq}
 use Rattle.attr_sets.specs.Attributes.{Attributes}

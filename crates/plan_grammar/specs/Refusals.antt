@@ -1,5 +1,5 @@
--- The kind of diagnostic that a refusal of a plan text is: for which refusal is the first, and for what is
--- printed of it (`desk_cli/Plans`).
+-- The kind of diagnostic that a refusal of a plan text is: for which refusal is the first, and for
+-- what is printed of it (`desk_inputs/Plans`).
 use Rattle.schema_grammar.specs.DiagnosticKinds.{DiagnosticKind, empty_scheme, not_covered, too_many_schemes, diagnostic_kind}
 use Rattle.plan_grammar.specs.declared.refusal.PlanRefusal.{PlanRefusal}
 use Rattle.plan_grammar.specs.declared.refusal.PlanRefusal.TheVariants as plan

@@ -1,5 +1,5 @@
 -- The text of a plan: for `print_plan`, and for the commands that print plans
--- (`desk_cli/Synthesis`, `desk_cli/Decompositions`).
+-- (`desk_designs/Synthesis`, `desk_designs/Decompositions`).
 use Rattle.std.specs.Prelude.{ℕ, List, ◌++◌, map, codes}
 use Rattle.attr_sets.specs.Attributes.{Attributes}
 use Rattle.schema_printer.specs.Printing.{words_text, members_from, lines_text}

@@ -1,5 +1,5 @@
 -- What a plan keeps of the functional dependencies: for `losses` and `check keeps`
--- (`desk_cli/Keeping`).
+-- (`desk_designs/Keeping`).
 use Rattle.std.specs.Prelude.{◌≡◌, ◌⊎◌, ◌↔◌, ◌+◌, ◌<◌, ℕ, true, List, [], ◌∷◌, Any}
 use Rattle.attr_sets.specs.Attributes.{Attributes, union, only, IsSubset}
 use Rattle.dep_model.specs.Tuples.{Relation, IsOver}

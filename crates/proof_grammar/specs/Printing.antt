@@ -1,5 +1,5 @@
 -- The one certificate in which a tree is printed: for `print_proof` and `implies`
--- (`desk_cli/Implication`).
+-- (`desk_implication/Implication`).
 use Rattle.std.specs.Prelude.{ℕ, ◌+◌, List, [], ◌∷◌, ◌++◌, codes, decimal, Result, Ok, Err}
 use Rattle.std.specs.List.{flat_map}
 use Rattle.attr_sets.specs.Attributes.{Attributes, IsSubset}

@@ -1,5 +1,5 @@
 -- Why a certificate is refused, and at which line of the text: for `read_proof` and the commands
--- that read one (`desk_cli/Inputs`).
+-- that read one (`desk_inputs/Inputs`).
 use Rattle.std.specs.Prelude.{List, [], length, ℕ, ◌++◌, ◌+◌, ◌<◌, ◌∷◌, ◌≡◌, ◌⊎◌}
 use Rattle.dep_model.specs.declared.schema.Schema.{Schema}
 use Rattle.dep_model.specs.Schemas.{names_of}

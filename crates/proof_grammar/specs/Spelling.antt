@@ -1,5 +1,5 @@
 -- What a certificate spells: its lines are the nodes of a tree. For `read_proof` and `check proof`
--- (`desk_cli/Inputs`).
+-- (`desk_inputs/Inputs`).
 use Rattle.std.specs.Prelude.{◌≡◌, ◌<◌, ◌≤◌, ℕ, ◌+◌, List, [], ◌∷◌, ◌++◌, length, filter, nat_eq, slice_get, Some}
 use Rattle.std.specs.List.{flat_map}
 use Rattle.dep_model.specs.declared.schema.Schema.{Schema}

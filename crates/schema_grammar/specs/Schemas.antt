@@ -1,5 +1,5 @@
 -- What a schema text means, and which refusal is its first: for `read_schema` and all commands that
--- read a schema (`desk_cli/Inputs`).
+-- read a schema (`desk_inputs/Inputs`).
 use Rattle.std.specs.Prelude.{◌≡◌, ◌<◌, ◌⊎◌, ℕ, ◌+◌, ◌-◌, Result, Ok, Err, Bool, true, false, List, [], ◌∷◌, ◌++◌, length, Option, Some, None, All, slice_get, ◌==◌}
 use Rattle.attr_sets.specs.declared.set.TheConstants.{MOST_ATTRIBUTES}
 use Rattle.dep_model.specs.declared.column_type.ColumnType.{ColumnType}

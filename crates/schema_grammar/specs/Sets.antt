@@ -1,5 +1,5 @@
 -- A set of attributes as a text of its own, as the right side of a goal: what it means, how it is
--- refused and how it is read. For `read_set` and the command `basis` (`desk_cli/Inputs`).
+-- refused and how it is read. For `read_set` and the command `basis` (`desk_inputs/Inputs`).
 use Rattle.std.specs.Prelude.{◌≡◌, ◌⊎◌, ℕ, zero, suc, false, List, [], length, Option, Some, None, Result, Ok, Err, slice_get}
 use Rattle.attr_sets.specs.Attributes.{Attributes, none}
 use Rattle.dep_model.specs.Dependencies.{right_of}

@@ -1,5 +1,5 @@
 -- Dependencies carried over to another schema by names, and when they follow there: for
--- `differences` and `check same` (`desk_cli/Sameness`).
+-- `differences` and `check same` (`desk_covers/Sameness`).
 use Rattle.std.specs.Prelude.{◌&&◌, nat_lt, ◌↔◌, false, All, option_map, unwrap_or}
 use Rattle.attr_sets.specs.Attributes.{Attributes}
 use Rattle.dep_model.specs.declared.schema.Schema.{Schema}

@@ -1,5 +1,5 @@
--- Attributes and columns of two schemas, matched by names: for `first_undeclared`, `differences` and
--- `check same` (`desk_cli/Sameness`).
+-- Attributes and columns of two schemas, matched by names: for `first_undeclared`, `differences`
+-- and `check same` (`desk_covers/Sameness`).
 use Rattle.std.specs.Prelude.{ℕ, ◌&&◌, nat_lt, List, [], map, slice_index_or}
 use Rattle.std.specs.Prelude.{Option, is_none, option_map, unwrap_or}
 use Rattle.attr_sets.specs.Attributes.{Attributes, IsEmpty}

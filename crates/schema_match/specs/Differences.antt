@@ -1,5 +1,5 @@
 -- The dependencies of a schema that another does not imply: for `differences` and `check same`
--- (`desk_cli/Sameness`).
+-- (`desk_covers/Sameness`).
 use Rattle.std.specs.Prelude.{◌≡◌, ℕ, ◌<◌, ◌⊎◌, List, AllPairs, Contains, slice_get, Some}
 use Rattle.dep_model.specs.declared.schema.Schema.{Schema}
 use Rattle.dep_model.specs.Dependencies.{Dependency}

@@ -52,7 +52,8 @@ group_view columns looks key = record {
 abbrev pub group_views : List Column → List Look → Option (List View)
 group_views [] looks = Some (record { own = key_cell [] []; rows = Some looks } ∷ [])
 group_views (c ∷ cs) looks =
-    option_map (λ keys. map (group_view (c ∷ cs) looks) (unique_keys same_row keys)) (each (λ look. each look (c ∷ cs)) looks)
+    option_map (λ keys. map (group_view (c ∷ cs) looks) (unique_keys same_row keys))
+    (each (λ look. each look (c ∷ cs)) looks)
 
 abbrev pub having_true : (List ℕ → Option ℤ) → Option Condition → List View → Option (List View)
 having_true cast None views = Some views

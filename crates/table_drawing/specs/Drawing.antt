@@ -1,4 +1,4 @@
--- A design as a Graphviz text: for `draw` (`desk_cli/Drawings`).
+-- A design as a Graphviz text: for `draw` (`desk_designs/Drawings`).
 use Rattle.std.specs.Prelude.{ℕ, Bool, if◌then◌else◌, List, [], ◌++◌, codes, slice_get, slice_index_or, unwrap_or, option_map}
 use Rattle.std.specs.List.{flat_map}
 use Rattle.attr_sets.specs.Attributes.{Attributes}

@@ -1,5 +1,5 @@
 -- The script that asks for what breaks the rules of a schema: for `check_script` and `sql check`
--- (`desk_cli/Scripts`).
+-- (`desk_designs/Scripts`).
 use Rattle.std.specs.Prelude.{ℕ, Bool, true, false, if◌then◌else◌, Option, Some, None, List, [], ◌∷◌, ◌++◌, codes, All, MatchOption, ⊤}
 use Rattle.std.specs.Fmt.{decimal}
 use Rattle.std.specs.List.{flat_map, zip, range_with_len}

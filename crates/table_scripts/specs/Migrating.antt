@@ -1,5 +1,5 @@
 -- The script that makes the tables of a plan from the user's table: for `migrate_script` and `sql
--- migrate` (`desk_cli/Scripts`).
+-- migrate` (`desk_designs/Scripts`).
 use Rattle.std.specs.Prelude.{◌↔◌, ℕ, List, ◌++◌, map, codes, Contains}
 use Rattle.std.specs.List.{flat_map}
 use Rattle.attr_sets.specs.Sets.{attributes}

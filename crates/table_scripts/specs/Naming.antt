@@ -1,4 +1,4 @@
--- The name of a user's table: for `sql check` and `sql migrate` (`desk_cli/Scripts`).
+-- The name of a user's table: for `sql check` and `sql migrate` (`desk_designs/Scripts`).
 use Rattle.std.specs.Prelude.{ℕ, Bool, ◌&&◌, ◌||◌, ◌==◌, ◌-◌, not, nat_lt, nat_le, if◌then◌else◌, List, [], ◌∷◌, ◌++◌, length, take, drop, codes, slice_index, slice_index_or}
 use Rattle.std.specs.Char.{is_ascii_alphabetic, is_ascii_digit}
 use Rattle.std.specs.List.{flat_map, list_all}

@@ -1,5 +1,5 @@
 -- The decomposition by pairs in Boyce-Codd form: for `split_wide`, the laws of wide_bcnf and `split
--- wide-bcnf` (`desk_cli/Decompositions`).
+-- wide-bcnf` (`desk_designs/Decompositions`).
 use Rattle.std.specs.Prelude.{◌≡◌, ℕ, ◌⊎◌, zero, suc, List, [], ◌∷◌}
 use Rattle.attr_sets.specs.declared.set.AttrSet.{AttrSet}
 use Rattle.attr_sets.specs.Attributes.{Attributes, below, only, difference}

@@ -2,7 +2,7 @@
 use Rattle.dep_model.specs.declared.schema.Schema.{Schema}
 use Rattle.desk_inputs.specs.FileKinds.{FileStops, IsFile}
 use Rattle.desk_inputs.specs.Inputs.{schema_file}
-use Rattle.desk_implication.specs.CoverChecks.{ChecksCover}
+use Rattle.desk_covers.specs.CoverChecks.{ChecksCover}
 use Rattle.desk_responses.proofs.StepLemmas.{With-found}
 use Rattle.desk_cli.proofs.tasks.of_cover.Goals as goal
 

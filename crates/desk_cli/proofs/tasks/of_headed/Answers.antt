@@ -1,5 +1,5 @@
 -- What is left to prove of `of_headed`: its clause `response`.
-use Rattle.desk_implication.specs.Discoveries.{FindsRules}
+use Rattle.desk_discovery.specs.Discoveries.{FindsRules}
 use Rattle.desk_inputs.specs.FileKinds.{FileStops, IsFile}
 use Rattle.desk_inputs.specs.Headed.{headed_file}
 use Rattle.desk_responses.proofs.StepLemmas.{With-found}

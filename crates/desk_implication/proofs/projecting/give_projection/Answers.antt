@@ -1,7 +1,7 @@
 -- What is left to prove of `give_projection`: its clause `response`, where the set was read.
 use Rattle.attr_sets.specs.Sets.{attributes}
 use Rattle.desk_responses.proofs.StepLemmas.{With-found}
-use Rattle.desk_implication.specs.Goals.{SetStops, IsSetText}
+use Rattle.desk_arguments.specs.Goals.{SetStops, IsSetText}
 use Rattle.desk_implication.specs.Projections.{ProjectsSet}
 use Rattle.desk_implication.proofs.projecting.give_projection.Goals as goal
 

@@ -1,0 +1,24 @@
+ghost use Rattle.std.specs.Prelude.{IfOk};
+ghost use Rattle.desk_covers.specs.Covering.{GivesCover};
+ghost use Rattle.desk_responses.specs.Responses.{response_value, RespondsAs};
+
+use dep_model::{OutOfMemory, Schema};
+use desk_responses::{EarlyExit, Response, Status};
+use min_cover::whole_cover;
+use schema_printer::print_deps;
+use std::alloc::Global;
+
+/// A cover of a schema: what says the same, in which no functional dependency follows from the other
+/// functional ones, and no multivalued one from the rest.
+pub fn cover(alloc: Global, schema: &Schema) -> Result<Response, EarlyExit>
+    ensures response { RespondsAs (GivesCover schema.now) result }
+{
+    Ok(cover_response(alloc, schema)?)
+}
+
+fn cover_response(alloc: Global, schema: &Schema) -> Result<Response, OutOfMemory>
+    ensures response { IfOk result (λ response. GivesCover schema.now (response_value response)) }
+{
+    let whole = whole_cover(alloc, schema)?;
+    Ok(Response::with_text(Status::Yes, print_deps(alloc, schema, &whole)?))
+}

@@ -1,0 +1,14 @@
+//! The answers about schemas that say the same: whether two do, and the cover of one.
+//!
+//! Each is a pure function of values, with the one clause that its response is allowed.
+#![tactic(auto)]
+
+mod cover_checks;
+mod cover_reasons;
+mod covers;
+mod sameness;
+
+pub use cover_checks::check_cover;
+pub use cover_reasons::explain_cover;
+pub use covers::cover;
+pub use sameness::check_same;

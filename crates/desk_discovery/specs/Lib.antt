@@ -1,0 +1,3 @@
+-- The definitions of desk_discovery: a file for each command.
+pub mod Exhibits
+pub mod Discoveries

@@ -1,0 +1,81 @@
+ghost use Rattle.std.specs.Prelude.{◌≡◌, ◌<◌, IfOk};
+ghost use Rattle.dep_model.specs.Schemas.{names_of, width_of};
+ghost use Rattle.dep_model.specs.Tuples.{IsOver};
+ghost use Rattle.csv_text.specs.Rows.{rows_text};
+ghost use Rattle.desk_responses.specs.ResponseValues.{Says};
+ghost use Rattle.desk_discovery.specs.Exhibits.{Exhibits, multivalued_text, too_many_rows_text};
+ghost use Rattle.desk_responses.specs.Responses.{response_value, RespondsAs, ExitsAs};
+
+use armstrong_rel::{ExhibitRefusal, exhibit};
+use attr_sets::AttrSet;
+use csv_rows::print_rows;
+use dep_model::{Failure, OutOfMemory, Row, Schema};
+use desk_responses::{EarlyExit, Response, Status, put_line, too_wide_exit};
+use row_store::Rows;
+use schema_printer::add;
+use std::alloc::Global;
+
+/// A relation that obeys just the functional dependencies that follow from a schema.
+pub fn exhibit_relation(alloc: Global, schema: &Schema) -> Result<Response, EarlyExit>
+    ensures response { RespondsAs (Exhibits schema.now) result }
+{
+    match exhibit(alloc, schema) {
+        Ok(rows) => Ok(response_of(alloc, schema, &rows)?),
+        Err(Failure::Refused(refusal)) => match refusal {
+            ExhibitRefusal::NotFunctional { dep } => Err(multivalued_exit(alloc, schema, dep)),
+            ExhibitRefusal::TooWide => Err(too_wide_exit(
+                alloc,
+                schema,
+                AttrSet::full(schema.width()),
+            )),
+            ExhibitRefusal::TooManyRows => Err(too_many_rows_exit(alloc)),
+        },
+        Err(Failure::OutOfMemory) => Err(EarlyExit::OutOfMemory),
+    }
+}
+
+// Rows as CSV.
+fn response_of(alloc: Global, schema: &Schema, rows: &[Row]) -> Result<Response, OutOfMemory>
+    requires over { IsOver (width_of schema.now) rows.now }
+    ensures says { IfOk result
+        (λ response. Says Status.Yes (rows_text (names_of schema.now) rows.now)
+        (response_value response)) }
+{
+    Ok(Response::with_text(
+        Status::Yes,
+        print_rows(alloc, schema, &Rows::of(alloc, rows)?)?,
+    ))
+}
+
+// A multivalued dependency is given.
+fn multivalued_exit(alloc: Global, schema: &Schema, dep: u16) -> EarlyExit
+    ensures says { ExitsAs (Says Status.Refused (multivalued_text schema.now dep)) result }
+{
+    EarlyExit::with_text(Status::Refused, multivalued_line(alloc, schema, dep))
+}
+
+fn multivalued_line(alloc: Global, schema: &Schema, dep: u16) -> Result<Vec<u8>, OutOfMemory>
+    ensures line { IfOk result (λ text. text.items ≡ multivalued_text schema.now dep) }
+{
+    let mut text = Vec::new(alloc);
+    add(&mut text, b"refused: line ")?;
+    put_line(alloc, &mut text, schema, dep as usize)?;
+    add(&mut text, b" is multivalued")?;
+    add(&mut text, b"\n")?;
+    Ok(text)
+}
+
+// The relation would have more rows than are printed.
+fn too_many_rows_exit(alloc: Global) -> EarlyExit
+    ensures says { ExitsAs (Says Status.Refused too_many_rows_text) result }
+{
+    EarlyExit::with_text(Status::Refused, too_many_rows_line(alloc))
+}
+
+fn too_many_rows_line(alloc: Global) -> Result<Vec<u8>, OutOfMemory>
+    ensures line { IfOk result (λ text. text.items ≡ too_many_rows_text) }
+{
+    let mut text = Vec::new(alloc);
+    add(&mut text, b"refused: too many rows\n")?;
+    Ok(text)
+}

@@ -1,5 +1,0 @@
--- What is left to prove of `too_many_keys_exit`: its clause `says`.
-use Rattle.desk_implication.proofs.keys.too_many_keys_exit.Goals as goal
-
-pub returns : goal.returns
-returns c = record { says = λ response is. c.with_text.ensures.says _ c.too_many_keys_line.ensures.line response is }

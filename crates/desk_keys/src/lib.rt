@@ -1,0 +1,15 @@
+//! The answers about keys: those of a schema and of the schemes of a plan, what they have in common, and
+//! whether a set is one.
+//!
+//! Each is a pure function of values, with the one clause that its response is allowed.
+#![tactic(auto)]
+
+mod key_checks;
+mod key_reasons;
+mod keys;
+mod scheme_keys;
+
+pub use key_checks::check_key;
+pub use key_reasons::explain_keys;
+pub use keys::list_keys;
+pub use scheme_keys::list_keys_of_plan;
