@@ -8,8 +8,8 @@ ghost use Rattle.desk_implication.specs.Certificates.{Checked, ChecksProof};
 ghost use Rattle.desk_texts.specs.ProofTexts.{checked_text, concludes_text};
 ghost use Rattle.desk_responses.specs.Responses.{response_value, RespondsAs};
 
-use desk_arguments::goal_of;
 use dep_model::{Dep, OutOfMemory, Schema};
+use desk_arguments::goal_of;
 use desk_outside::Argument;
 use desk_responses::{EarlyExit, Response, Status};
 use desk_texts::line_of;

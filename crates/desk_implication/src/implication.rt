@@ -12,12 +12,12 @@ ghost use Rattle.desk_implication.specs.Implication.{Decided, DecidesGoal};
 ghost use Rattle.desk_responses.specs.Responses.{response_value, RespondsAs};
 ghost use Rattle.desk_texts.specs.Texts.{yes_text, no_text};
 
-use desk_arguments::goal_of;
 use attr_sets::AttrSet;
 use csv_rows::print_rows;
 use dep_basis::{Proof, witness};
 use dep_model::{Dep, OutOfMemory, Schema};
 use derivation::{Deriv, MOST_LEVELS, MOST_NODES};
+use desk_arguments::goal_of;
 use desk_outside::Argument;
 use desk_responses::{EarlyExit, Response, Status};
 use desk_texts::line_of;

@@ -8,9 +8,9 @@ ghost use Rattle.fd_projection.specs.Refusals.{IsRefusedProjection};
 ghost use Rattle.desk_responses.specs.ResponseValues.{Says};
 ghost use Rattle.desk_responses.specs.Responses.{response_value, RespondsAs, ExitsAs};
 
-use desk_arguments::set_of;
 use attr_sets::AttrSet;
 use dep_model::{Dep, Failure, MOST_DEPENDENCIES, OutOfMemory, Schema};
+use desk_arguments::set_of;
 use desk_outside::Argument;
 use desk_responses::{EarlyExit, Response, Status, too_wide_exit};
 use desk_texts::line_of;

@@ -11,12 +11,12 @@ ghost use Rattle.schema_printer.specs.Spelling.{printed_names_of};
 ghost use Rattle.desk_keys.specs.KeyChecks.{ChecksKey, TestsKey, IsKeyText, IsNoSuperkey, key_within_text, no_superkey_text, without_text};
 ghost use Rattle.desk_responses.specs.Responses.{response_value, RespondsAs};
 
-use desk_arguments::set_of;
 use attr_sets::AttrSet;
 use closure_steps::{Without, closures_without};
 use csv_rows::print_rows;
 use dep_basis::{Decision, closure_of, decide, witness};
 use dep_model::{Dep, OutOfMemory, Schema};
+use desk_arguments::set_of;
 use desk_outside::Argument;
 use desk_responses::{EarlyExit, Response, Status};
 use key_listing::one_key;

@@ -11,7 +11,7 @@ use Rattle.normal_forms.specs.declared.beginning.KnownPart.{KnownPart}
 pub record IsKnownPart (s : Schema) (part : KnownPart) : Type 0 where
   pub within : IsSubset (attributes part.closed) (universe_of s)
   pub determined : Implies (width_of s) (functional_part (theory_of s))
-    (fd (attributes part.set) (attributes part.closed))
+      (fd (attributes part.set) (attributes part.closed))
 
 -- a closure may begin with a set in place of x: it holds x, and x determines it
 pub record IsBegun (s : Schema) (x begun : Attributes) : Type 0 where
