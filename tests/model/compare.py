@@ -237,21 +237,24 @@ def f_schema(m):
     return ["cover", "s"] if m.r.random() < .5 else ["implies", "s", m.goal(s[0])[1]], {"s": m.mutated(m.schema_text(s), PIECES)}
 
 
-def certificate(m, schema):
-    """A random certificate: many valid steps, some broken ones."""
+def certificate(m, schema, rules=model.RULES, often=False):
+    """A random certificate, or where a line may be used often a derivation: many valid steps, some broken ones."""
     r = m.r
     names, columns, deps = schema
     s = model.Schema([n.encode() for n in names], columns, deps, list(range(len(deps))))
     nodes, free = [], []
     for _ in range(r.randint(1, 12)):
-        rule = r.choice(list(model.RULES))
-        shape = model.RULES[rule]
+        rule = r.choice(list(rules))
+        shape = rules[rule]
         want = sum(c in "pq" for c in shape)
         if len(free) < want:
             rule, shape, want = r.choice(((b"given", "k", 0), (b"reflexivity", "", 0), (b"mreflexivity", "", 0)))
-        premises = r.sample(free, want)
+        premises = r.choices(free, k=want) if often else r.sample(free, want)
         x = m.some(len(names))
         y = x & r.randrange(1 << len(names)) if r.random() < .9 else m.some(len(names))
+        if rule == b"decomposition" and r.random() < .9:
+            kind, x, whole = nodes[premises[0]][0]
+            y = whole & r.randrange(1 << len(names))
         args = [r.randint(1, max(1, len(deps)))] if shape == "k" else [x] if shape == "ps" else [x, y] if shape == "pss" else []
         stated = (FD, x, y)
         try:
@@ -262,12 +265,13 @@ def certificate(m, schema):
         if r.random() < .02:
             stated = (r.choice((FD, MVD)), stated[1], m.some(len(names)))
         for p in premises:
-            free.remove(p)
+            if not often:
+                free.remove(p)
         nodes.append((stated, rule, premises, args))
         free.append(len(nodes) - 1)
     if not nodes:
         nodes.append(((FD, 0, 0), b"reflexivity", [], []))
-    if r.random() < .7:
+    if r.random() < .7 and not often:
         while len(free) > 1 and nodes:           # keep only the tree of the last line
             keep, stack = set(), [len(nodes) - 1]
             while stack:
@@ -300,6 +304,15 @@ def f_proof(m):
     return ["check", "proof", "s", "p", goal], {"s": m.schema_text(s), "p": text}
 
 
+def f_derivation(m):
+    s = m.schema(1, 5)
+    d, text = certificate(m, s, model.FURTHER_RULES, True) if m.r.random() < .9 else certificate(m, s)
+    if m.r.random() < .3:
+        text = m.mutated(text, PIECES + [b" union 1 2", b" difference 1 2", b" decomposition 1", b" pseudotransitivity "])
+    goal = m.dep(s[0], d) if m.r.random() < .7 else m.goal(s[0])[1]
+    return ["check", "derivation", "s", "d", goal], {"s": m.schema_text(s), "d": text}
+
+
 def f_keys(m):
     s = m.schema(1, 8)
     return ["keys", "s"], {"s": m.schema_text(s)}
@@ -325,9 +338,19 @@ def f_synthesize(m):
     return ["synthesize", "s"], {"s": m.schema_text(s)}
 
 
+def f_explain_synthesize(m):
+    s = m.schema(1, 8, deps=m.r.randint(0, 12))
+    return ["explain", "synthesize", "s"], {"s": m.schema_text(s)}
+
+
 def f_split(m):
     s = m.schema(1, 8)
     return ["split", m.r.choice(("bcnf", "4nf")), "s"], {"s": m.schema_text(s)}
+
+
+def f_explain_split(m):
+    words, files = (f_wide_split if m.r.random() < .2 else f_split)(m)
+    return ["explain", *words], files
 
 
 def wide(m, deps):
@@ -418,6 +441,30 @@ def f_draw(m):
 def f_rows(m):
     s = m.schema(1, 5)
     return ["check", "rows", "s", "r"], {"s": m.schema_text(s), "r": m.csv(s[0], m.rows(s, m.r.choice((4, 8, 16))))}
+
+
+def dirty(m, words, mvd=None):
+    """Rows that break some rules, in values of few columns, with repeated rows and values of another type."""
+    s = m.schema(1, 5, mvd=mvd)
+    rows = m.rows(s, m.r.choice((3, 8, 16, 40)), m.r.choice((0, 0, .5)))
+    rows += [m.r.choice(rows) for _ in range(m.r.choice((0, 0, 3)) if rows else 0)]
+    return [*words, "s", "r"], {"s": m.schema_text(s), "r": m.csv(s[0], rows, noise=.03)}
+
+
+def f_measure(m):
+    return dirty(m, ["measure"])
+
+
+def f_offences(m):
+    return dirty(m, ["offences"])
+
+
+def f_offences_rows(m):
+    return dirty(m, ["offences", "rows"])
+
+
+def f_kept(m):
+    return dirty(m, ["kept"], 0 if m.r.random() < .9 else None)
 
 
 def f_csv(m):
@@ -549,7 +596,7 @@ def f_sql(m):
 
 
 ALL_WORDS = ["implies", "keys", "cover", "synthesize", "split", "bcnf", "4nf", "3nf", "wide-bcnf", "ddl", "plan", "check", "proof", "join", "form",
-             "rows", "same", "keeps", "migrate", "sample", "exhibit", "discover", "rejoin", "basis", "closure", "project", "key", "explain", "sql", "draw", "help", "--help", "-h", "--version",
+             "rows", "same", "keeps", "migrate", "sample", "exhibit", "discover", "rejoin", "basis", "closure", "project", "key", "explain", "sql", "draw", "measure", "offences", "kept", "help", "--help", "-h", "--version",
              "s", "p", "r", "A -> B", "1", "missing", "", "Keys", "table"]
 
 

@@ -17,7 +17,7 @@ use Rattle.derivation.specs.declared.fault.Fault.{Fault}
 use Rattle.proof_grammar.specs.Lines.{Line, by_step, by_pair}
 use Rattle.proof_grammar.specs.Printing.{canonical_certificate, certificate_lines_text, leaf_body, node_line, node_lines_after}
 use Rattle.schema_printer.specs.Spelling.{printed_names_of}
-use Rattle.short_proofs.specs.Short.{IsListed, IsShort}
+use Rattle.short_proofs.specs.Short.{IsListed, IsShort, IsJoined, IsJoinedFrom, IsJoinedBy, start}
 use Rattle.alike_laws.proofs.Alike.{leaf_alike, proves_alike}
 use Rattle.alike_laws.proofs.Rebuilt.{Frame, rebuilt}
 use Rattle.alike_laws.specs.SameDeclarations.{AreAlike}
@@ -126,12 +126,28 @@ module _ (s : Schema) (f : Frame s) where
     whole = is.whole;
   }
 
+  joined_by_back : (d : Dependency) (first : Tree) (w : Attributes) (j : ℕ) (t : Tree) → IsJoinedBy built d first w j t
+      → IsJoinedBy s d first w j t
+  joined_by_back d first w j t (e, at, fit, is) =
+      (e, said_back (λ ds. slice_get ds j ≡ Some e) at, fit, is)
+
+  joined_from_back : (d : Dependency) (first t : Tree) → IsJoinedFrom built d first t → IsJoinedFrom s d first t
+  joined_from_back d first t (v, w, proves, inside, (j, is)) =
+      (v, w, proves_back first (mvd v w) proves, inside, (j, joined_by_back d first w j t is))
+
+  joined_back : (d : Dependency) (t : Tree) → IsJoined built d t → IsJoined s d t
+  joined_back d t (k, (r, c, is)) = (k, (r, c, joined_from_back d (start k r c) t is))
+
   listed_back : (d : Dependency) (t : Tree) → IsListed built d t → IsListed s d t
-  listed_back (fd x y) t is = is
+  listed_back (fd x y) t (no_chain, is) = (
+    λ functional. no_chain (said (λ ds. Implies (width_of s) (functional_part ds) (fd x y)) functional),
+    joined_back (fd x y) t is,
+  )
   listed_back (mvd x y) t (inl shape) = inl shape
   listed_back (mvd x y) t (inr (inl (chain, is, same))) = inr (inl (chain, chain_back x y chain is, same))
-  listed_back (mvd x y) t (inr (inr (chain, is, same))) =
-      inr (inr (chain, chain_back x (difference (universe_of s) (union x y)) chain is, same))
+  listed_back (mvd x y) t (inr (inr (inl (chain, is, shared, same)))) =
+      inr (inr (inl (chain, chain_back x (difference (universe_of s) (union x y)) chain is, shared, same)))
+  listed_back (mvd x y) t (inr (inr (inr is))) = inr (inr (inr (joined_back (mvd x y) t is)))
 
   pub shortness_moved : (d : Dependency) (t : Tree) → IsShort s d t → IsShort built d t
   shortness_moved d t short u listed proves = short u (listed_back d u listed) (proves_back u d proves)

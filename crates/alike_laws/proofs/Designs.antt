@@ -1,5 +1,5 @@
 -- The answers of `ddl`, `draw`, `sql check` and `sql migrate` move to a schema that is built again.
-use Rattle.std.proofs.Common.{◌≡◌, ◌↔◌, ◌⊎◌, ◌≤◌, ℕ, List, [], ◌++◌, map, All, Contains, MatchOption, Some, codes, slice_get, slice_index_or, take, false, true, Option, None, Vec, length, is_some, decimal, refl, sym, subst, ap, ap₂, ◌∙◌, inl, inr}
+use Rattle.std.proofs.Common.{◌≡◌, ◌↔◌, ◌⊎◌, ◌≤◌, ℕ, List, [], ◌∷◌, ◌++◌, map, All, Contains, MatchOption, Some, codes, slice_get, slice_index_or, take, false, true, Option, None, Vec, length, is_some, decimal, refl, sym, subst, ap, ap₂, ◌∙◌, inl, inr}
 use Rattle.std.specs.Prelude.{⊤}
 use Rattle.std.specs.List.{flat_map, range_with_len, zip}
 use Rattle.std.specs.declared.alloc.Global.{Global}
@@ -8,8 +8,9 @@ use Rattle.attr_sets.specs.Sets.{attributes}
 use Rattle.attr_sets.specs.declared.set.AttrSet.{AttrSet}
 use Rattle.check_laws.specs.Holding.{Holds}
 use Rattle.check_laws.specs.Telling.{NoBreachShown, NothingShown, RulesHold, ShowsNothing}
+use Rattle.check_queries.specs.Columns.{name_at, type_at}
 use Rattle.check_queries.specs.Checks.{check_query, missing_among, missing_query, required_of, values_query, groups_of_several, count_of_several, counts_query, three_counts, groups_of_unpaired, count_of_unpaired}
-use Rattle.ddl_text.specs.Ddl.{column_element, column_type, comment, ddl_text, element_lines, key_element, keys_elements, unique_element, reference_element, reference_elements, table_text}
+use Rattle.ddl_text.specs.Ddl.{column_element, column_type, comment, ddl_text, sql_type, element_lines, key_element, keys_elements, unique_element, reference_element, reference_elements, table_text}
 use Rattle.ddl_text.specs.Designs.{AreOtherKeys, IsDesign, IsTableOf, known_keys, without_key}
 use Rattle.ddl_text.specs.Holding.{KeyHolds, ReferenceHolds}
 use Rattle.ddl_text.specs.Laws.{KeysHold, OtherKeysHold, ReferencesHold, rows_on}
@@ -37,15 +38,19 @@ use Rattle.schema_printer.specs.Printing.{dependency_text}
 use Rattle.schema_printer.specs.Spelling.{printed_names_of}
 use Rattle.sql_evaluation.specs.Cells.{Cell, is_none}
 use Rattle.sql_evaluation.specs.Evaluation.{Engine}
+use Rattle.sql_evaluation.specs.Running.{State, Cast, engine_at, outcome}
+use Rattle.migrate_queries.specs.Created.{column_made, keys_made, references_made, remarks_made, table_made}
+use Rattle.migrate_queries.specs.Script.{copy_name, view_name, copy_query, fill_query, fill, view_query, copied_rows, viewed_rows, testing, migration}
+use Rattle.migrate_laws.specs.Moved.{HasMoved}
 use Rattle.sql_names.specs.Names.{quoted_name}
-use Rattle.sql_syntax.specs.Syntax.{Query}
+use Rattle.sql_syntax.specs.Syntax.{Query, attribute}
+use Rattle.sql_syntax.specs.Statements.{Element, column_of, Statement, remark, begin, commit, create_table, create_from, create_view, script_text}
 use Rattle.table_drawing.specs.Drawing.{drawing_text, edge_text, node_text, row_text}
 use Rattle.table_queries.specs.Meanings.{IsGiven, GivesNone}
 use Rattle.table_queries.specs.Queries.{breaches_of, rows_of}
 use Rattle.table_scripts.specs.Checking.{breaches_text, check_text, missing_text, rule_text, rules_text, value_text}
-use Rattle.table_scripts.specs.Migrating.{FillsTables, ViewIs, ViewIsTable, difference_queries_text, fill_text, migrate_text, stored_of, view_text}
+use Rattle.table_scripts.specs.Migrating.{FillsTables, ViewIs, ViewIsTable, migrate_text, stored_of}
 use Rattle.table_scripts.specs.Naming.{quoted_table}
-use Rattle.table_scripts.specs.QueryTexts.{column_item, link_text}
 use Rattle.alike_laws.proofs.Derivations.{said, said_back}
 use Rattle.alike_laws.proofs.Keys.{wide_back}
 use Rattle.alike_laws.proofs.Plans.{with_plan_moved, without_loss_moved}
@@ -310,25 +315,70 @@ module _ (s : Schema) (f : Frame s) where
       (said s f (λ ds. IsLossless (width_of s) ds (map (λ design. attributes design.scheme) tables)
       → (r : Relation) → IsLegal (width_of s) ds r → ViewIs s tables r) is lossless r legal)
 
-  script_moved : (tables : List TableDesign) → IsSoundScript s tables → IsSoundScript built tables
-  script_moved tables is =
-      record { fills = fills_moved tables is.fills; view = view_is_moved tables is.view }
+  -- the statements
+  column_made_moved : (k : ℕ) → column_made s k ≡ column_made built k
+  column_made_moved k =
+      ap (λ (nullable : Attributes). column_of (attribute (name_at s k)) (sql_type (type_at s k)) (nullable k)) f.nullable
+
+  table_made_moved : (tables : List TableDesign) (table : TableDesign)
+      → table_made s tables table ≡ table_made built tables table
+  table_made_moved tables table =
+      ap (λ (column : ℕ → Element).
+      remarks_made (attributes table.key) (is_some table.other_keys)
+      ++ create_table (quoted_name table.name) (map column (members_below (width_of s) (attributes table.scheme))
+      ++ keys_made s table ++ references_made s tables table) ∷ [])
+      (λ i k. column_made_moved k i)
+
+  migration_moved : (name : List ℕ) (tables : List TableDesign) → migration s name tables ≡ migration built name tables
+  unfolding copy_query fill_query fill view_query copied_rows viewed_rows
+  migration_moved name tables =
+      ap (λ (made : TableDesign → List Statement).
+      remark (codes "all of it or nothing, where the first error ends it: psql -v ON_ERROR_STOP=1, sqlite3 -bail")
+      ∷ begin ∷ ((create_from copy_name (copy_query s name) ∷ (flat_map made tables ++ (map (fill s) tables
+      ++ (create_view view_name (view_query s tables) ∷ testing s)))) ++ commit ∷ []))
+      (λ i table. table_made_moved tables table i)
+
+  -- what an engine has after a run
+  has_moved_moved : (cast : Cast) (cell : ℕ → List ℕ → Cell) (r : Relation) (tables : List TableDesign) (last : State)
+      → HasMoved s cast cell r tables last → HasMoved built cast cell r tables last
+  unfolding viewed_rows
+  has_moved_moved cast cell r tables last is = record {
+    tables = λ design h. let held = is.tables design h in record {
+      found = held.found;
+      held = held.held;
+      projection = record { all = held.projection.all; no_more = held.projection.no_more };
+    };
+    view = record {
+      found = is.view.found;
+      evaluates = is.view.evaluates;
+      all = is.view.all;
+      no_more = is.view.no_more;
+    };
+  }
+
+  script_moved : (name : List ℕ) (tables : List TableDesign) → IsSoundScript s name tables → IsSoundScript built name tables
+  script_moved name tables is = record {
+    fills = fills_moved tables is.fills;
+    view = view_is_moved tables is.view;
+    moves = λ fails cast cell r start last holds ends.
+        has_moved_moved cast cell r tables last
+        (is.moves fails cast cell r start last (holds_back (engine_at cast start) name cell r holds)
+        (ap (λ (script : List Statement). outcome fails cast script start) (migration_moved name tables) ∙ ends));
+    undoes = λ fails cast start kept stops.
+        is.undoes fails cast start kept
+        (ap (λ (script : List Statement). outcome fails cast script start) (migration_moved name tables) ∙ stops);
+  }
 
   migrate_text_moved : (table : List ℕ) (tables : List TableDesign)
       → migrate_text s table tables ≡ migrate_text built table tables
-  unfolding fill_text view_text difference_queries_text column_item link_text values_query groups_of_several
-      count_of_several counts_query three_counts groups_of_unpaired count_of_unpaired
-  migrate_text_moved table tables =
-      ap (λ (ddl : List ℕ).
-      ddl ++ flat_map (fill_text s table) tables ++ view_text s table tables
-      ++ difference_queries_text s table tables) (ddl_text_moved tables)
+  migrate_text_moved table tables = ap script_text (migration_moved table tables)
 
   tables_made_moved : (name : List ℕ) (plan : List AttrSet) (response : ResponseValue)
       → MakesTables s name plan response → MakesTables built name plan response
   tables_made_moved name plan response (tables, sound, script, says) = (
     tables,
     sound_design_moved plan tables sound,
-    script_moved tables script,
+    script_moved (quoted_table name) tables script,
     says ∙ ap (text_only Yes) (migrate_text_moved (quoted_table name) tables),
   )
 

@@ -65,7 +65,7 @@ module _ (s : Schema) (f : Frame s) where
   goal_stops_moved goal response (inr (why, is, says)) =
       inr (why, record { within_limit = is.within_limit; refused = is.refused }, says)
 
-  with_goal_moved : (goal : List ℕ) (rest after : Dependency → Allowed)
+  pub with_goal_moved : (goal : List ℕ) (rest after : Dependency → Allowed)
       → ((d : Dependency) (response : ResponseValue) → rest d response → after d response)
       → (response : ResponseValue) → WithGoal s goal rest response → WithGoal built goal after response
   with_goal_moved goal rest after moves response (inl stops) = inl (goal_stops_moved goal response stops)

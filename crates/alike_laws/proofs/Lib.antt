@@ -1,6 +1,7 @@
 pub mod Rebuilt
 pub mod Alike
 mod DeclarationLaws
+pub mod DerivationTexts
 pub mod Derivations
 pub mod Implication
 pub mod Keys
@@ -8,6 +9,9 @@ pub mod Projections
 pub mod Reasons
 pub mod Comparisons
 pub mod Plans
+pub mod PlanReasons
 pub mod Designs
 pub mod Rows
+pub mod KeptFiles
+pub mod RowMeasures
 pub mod Files

@@ -17,7 +17,7 @@ use Rattle.alike_laws.proofs.Implication.{cover_moved}
 use Rattle.alike_laws.proofs.Keys.{keys_moved}
 use Rattle.alike_laws.proofs.Rebuilt.{Frame, rebuilt}
 
-explained_moved : (reasons others : List ℕ → Type 0) (answers after : Allowed)
+pub explained_moved : (reasons others : List ℕ → Type 0) (answers after : Allowed)
     → ((text : List ℕ) → reasons text → others text)
     → ((response : ResponseValue) → answers response → after response)
     → (response : ResponseValue) → Explained reasons answers response → Explained others after response

@@ -81,7 +81,7 @@ module _ (s : Schema) (f : Frame s) where
     joins = are.joins;
   }
 
-  migrated_moved : (plan : List Attributes) (rows : Relation) (response : ResponseValue)
+  pub migrated_moved : (plan : List Attributes) (rows : Relation) (response : ResponseValue)
       → MigratesRows s plan rows response → MigratesRows built plan rows response
   migrated_moved plan rows =
       with_legal_moved rows (GivesTables s plan rows) (GivesTables built plan rows)

@@ -5,7 +5,7 @@ ghost use Rattle.armstrong_rel.specs.Refusals.{IsFirstMvd};
 
 use dep_model::Dep;
 
-// The first multivalued dependency, from 0.
+/// The first multivalued dependency, from 0.
 pub fn first_mvd(deps: &[Dep]) -> Option<usize>
     ensures none { IsNone result
         → functional_part (dependencies_of deps.now) ≡ dependencies_of deps.now }

@@ -15,4 +15,5 @@ mod refusal;
 mod rows;
 
 pub use exhibiting::exhibit;
+pub use kinds::first_mvd;
 pub use refusal::{ExhibitRefusal, MOST_EXHIBITED_ROWS, WIDEST_EXHIBITED};

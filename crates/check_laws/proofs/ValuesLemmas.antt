@@ -66,7 +66,7 @@ row-known s cast cell w names row t held =
     (λ k h. item-known s cast cell names row t k (is_plain_type (type_at s k)) (held k (member-low (width_of s) w k h)))
 
 -- ---- all rows
-rows-known : (s : Schema) (cast : List ℕ → Option ℤ) (cell : ℕ → List ℕ → Cell) (w : Attributes) (names : List (List ℕ)) (rows : List (List Cell)) (r : Relation)
+pub rows-known : (s : Schema) (cast : List ℕ → Option ℤ) (cell : ℕ → List ℕ → Cell) (w : Attributes) (names : List (List ℕ)) (rows : List (List Cell)) (r : Relation)
     → AreHeld s cell names rows r
     → each (λ v. each (item_value cast v) (compared_on s w)) (map row_view (map (look_at (codes "r") names) rows)) ≡ Some (map (cells_on s cell w) r)
 rows-known s cast cell w names [] [] held = refl
@@ -79,7 +79,7 @@ rows-known s cast cell w names (row ∷ rows) (t ∷ r) held =
     (row-known s cast cell w names row t held.0)
     ∙ ap (option_map (λ (ys : List (List Cell)). cells_on s cell w t ∷ ys)) rest
 
-compared-name : (plain : Bool) (name : List ℕ) (c : Column) → bytes_of c.name ≡ name → item_name (compared plain name c) ≡ name
+pub compared-name : (plain : Bool) (name : List ℕ) (c : Column) → bytes_of c.name ≡ name → item_name (compared plain name c) ≡ name
 compared-name true name c is = refl
 compared-name false name c is = is
 

@@ -1,25 +1,37 @@
 ghost use Rattle.std.specs.Prelude.{◌≡◌, ◌++◌, [], List, All, IfOk, map};
+ghost use Rattle.dep_model.specs.Dependencies.{functional_part};
+ghost use Rattle.dep_model.specs.Deps.{dependencies_of, IsDepWithin};
 ghost use Rattle.dep_model.specs.Schemas.{width_of, theory_of, universe_of};
+ghost use Rattle.min_cover.specs.Covers.{IsFixedWholeCover, IsMinimalCover, IsWholeCover};
 ghost use Rattle.cover_steps.specs.Steps.{AreCoverSteps, IsParted, Placed, places_of, short_of, shortened_list};
 ghost use Rattle.cover_steps.specs.Gathering.{IsMemberWithin, IsPlacedWithin, short_dep};
 
 use crate::shortening::{ShortMember, short_members};
-use crate::thinning::{PlacedDep, add_multivalued, part_from, placed_deps};
+use crate::thinning::{PlacedDep, add_multivalued, deps_alone, part_from, placed_deps};
 use dep_model::{Dep, OutOfMemory, Schema};
 use std::alloc::Global;
 
 /// How a cover comes about: the members of the functional dependencies, each with what is left of its left
-/// side, and those members and multivalued dependencies that go since the others imply them.
+/// side, those members and multivalued dependencies that go since the others imply them, and the cover,
+/// which is left.
 #[derive(Debug, Drop)]
 pub struct CoverSteps {
     pub members: Vec<ShortMember>,
     pub gone: Vec<PlacedDep>,
+    pub whole: Vec<Dep>,
 }
 
 /// How the fixed whole cover of a schema comes about.
 pub fn cover_steps(alloc: Global, schema: &Schema) -> Result<CoverSteps, OutOfMemory>
     ensures steps { IfOk result (λ steps. AreCoverSteps (width_of schema.now) (theory_of schema.now)
         (shortened_list steps.members.items) (places_of steps.gone.items)) }
+    ensures fixed { IfOk result (λ steps. IsFixedWholeCover (width_of schema.now) (theory_of schema.now)
+        (dependencies_of steps.whole.items)) }
+    ensures minimal { IfOk result (λ steps. IsMinimalCover (width_of schema.now) (theory_of schema.now)
+        (functional_part (dependencies_of steps.whole.items))) }
+    ensures whole_cover { IfOk result (λ steps. IsWholeCover (width_of schema.now)
+        (theory_of schema.now) (dependencies_of steps.whole.items)) }
+    ensures within { IfOk result (λ steps. All (IsDepWithin (universe_of schema.now)) steps.whole.items) }
 {
     let list = placed_deps(alloc, schema)?;
     let members = short_members(alloc, schema, &list)?;
@@ -27,8 +39,13 @@ pub fn cover_steps(alloc: Global, schema: &Schema) -> Result<CoverSteps, OutOfMe
     let mut rest = thinned_members(alloc, schema, &members, &mut gone)?;
     let from = rest.len();
     add_multivalued(&list, &mut rest)?;
-    part_from(alloc, schema.width(), &rest, from, &mut gone)?;
-    Ok(CoverSteps { members, gone })
+    let kept = part_from(alloc, schema.width(), &rest, from, &mut gone)?;
+    let whole = deps_alone(alloc, &kept)?;
+    Ok(CoverSteps {
+        members,
+        gone,
+        whole,
+    })
 }
 
 // The shortened members without those that the others imply, which are added to others.

@@ -83,7 +83,7 @@ pub fn part_from(
 }
 
 // The dependencies of a list, without their positions.
-fn deps_alone(alloc: Global, list: &[PlacedDep]) -> Result<Vec<Dep>, OutOfMemory>
+pub fn deps_alone(alloc: Global, list: &[PlacedDep]) -> Result<Vec<Dep>, OutOfMemory>
     ensures deps { IfOk result (λ deps. deps.items ≡ deps_of_places list.now) }
 {
     let mut deps = Vec::new(alloc);

@@ -97,7 +97,7 @@ SameBelow-refl : (n : ℕ) (x : Attributes) → SameBelow n x x
 SameBelow-refl n x k low = refl
 
 -- ---- each rule, on any sets
-leaf_sound : (s : Schema) (r : Relation) → LegalFor s r → (rule : Leaf) (d : Dependency) → leaf_conclusion s rule ≡ Ok d → Obeys (width_of s) d r
+pub leaf_sound : (s : Schema) (r : Relation) → LegalFor s r → (rule : Leaf) (d : Dependency) → leaf_conclusion s rule ≡ Ok d → Obeys (width_of s) d r
 leaf_sound s r legal (given k) d h =
     let found = some_of_ok (slice_get (theory_of s) k) NoSuchGiven d h in
     All-contains (λ (e : Dependency). Obeys (width_of s) e r) (theory_of s) d legal.obeys
@@ -122,7 +122,7 @@ maugmentation_sound n r x y w z within_limit over narrow obeys =
     (λ k low. ap (λ b. y k || b) (restrict_below-back n z k low))
     (maugmentation_obeyed (below n) x y (restrict_below n w) (restrict_below n z) r (is_within-restrict_below n z w within_limit narrow) (restrict_below-within n w) obeys)
 
-step_sound : (s : Schema) (r : Relation) → LegalFor s r → (rule : Step) (x d : Dependency) → Obeys (width_of s) x r → step_conclusion s rule x ≡ Ok d → Obeys (width_of s) d r
+pub step_sound : (s : Schema) (r : Relation) → LegalFor s r → (rule : Step) (x d : Dependency) → Obeys (width_of s) x r → step_conclusion s rule x ≡ Ok d → Obeys (width_of s) d r
 step_sound s r legal (augmentation z) (fd x y) d obeys h =
     let P : Dependency → Type 0 = λ e. Obeys (width_of s) e r in
     subst P (cond-ok (is_subset z (universe_of s)) NotWithin (fd (union x z) (union y z)) d h).1 (augmentation_obeyed x y z r obeys)
@@ -159,7 +159,7 @@ coalescence_sound n r x y z w within_limit over inside apart first second =
     (mvd_below n x y x (restrict_below n y) r over (SameBelow-refl n x) (restrict_below-same n y) first)
     (fd_same n z w (restrict_below n z) (restrict_below n w) r over (restrict_below-same n z) (restrict_below-same n w) second))
 
-pair_sound : (s : Schema) (r : Relation) → LegalFor s r → (rule : Pair) (x y d : Dependency) → Obeys (width_of s) x r → Obeys (width_of s) y r → pair_conclusion rule x y ≡ Ok d → Obeys (width_of s) d r
+pub pair_sound : (s : Schema) (r : Relation) → LegalFor s r → (rule : Pair) (x y d : Dependency) → Obeys (width_of s) x r → Obeys (width_of s) y r → pair_conclusion rule x y ≡ Ok d → Obeys (width_of s) d r
 pair_sound s r legal transitivity (fd x y) (fd v z) d first second h =
     let passed = cond-ok (is_same y v) MiddleDiffers (fd x z) d h in
     let P : Dependency → Type 0 = λ e. Obeys (width_of s) e r in

@@ -9,8 +9,11 @@ abbrev pub files_of_task : Task → List (List ℕ)
 files_of_task (form.of_schema question) = []
 files_of_task (form.of_plan file question) = file ∷ []
 files_of_task (form.of_rows file question) = file ∷ []
-files_of_task (form.migrate_plan planned file) = planned ∷ file ∷ []
+files_of_task (form.measure file) = file ∷ []
+files_of_task (form.migrate own file normal) = file ∷ []
+files_of_task (form.migrate_plan own planned file) = planned ∷ file ∷ []
 files_of_task (form.check_proof file goal) = file ∷ []
+files_of_task (form.check_derivation file goal) = file ∷ []
 files_of_task (form.check_same file other_file) = other_file ∷ []
 files_of_task (form.check_cover file other_file) = other_file ∷ []
 files_of_task (form.rejoin files) = files

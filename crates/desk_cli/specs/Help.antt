@@ -3,13 +3,15 @@ use Rattle.std.specs.Prelude.{ℕ, List, ◌++◌, codes}
 use Rattle.desk_texts.specs.Texts.{line}
 
 abbrev pub version_text : List ℕ
-version_text = line (codes "desk 0.4.0")
+version_text = line (codes "desk 0.5.0")
 
 abbrev pub help_text : List ℕ
 help_text =
     line (codes "desk implies SCHEMA GOAL              "
     ++ codes "whether the schema implies the goal, with a proof or two rows against it")
     ++ line (codes "desk check proof SCHEMA FILE GOAL     whether the certificate in FILE proves the goal")
+    ++ line (codes "desk check derivation SCHEMA FILE GOAL  "
+    ++ codes "whether the derivation in FILE, by more rules, proves the goal")
     ++ line (codes "desk check rows SCHEMA CSV            "
     ++ codes "whether the rows in CSV are legal, and which break what")
     ++ line (codes "desk check key SCHEMA SET             whether the set of attributes is a key, and why")
@@ -34,7 +36,11 @@ help_text =
     ++ line (codes "desk split wide-bcnf SCHEMA           a plan in Boyce-Codd normal form, at any width")
     ++ line (codes "desk exhibit SCHEMA                   rows that obey just what follows from the schema")
     ++ line (codes "desk explain COMMAND                  "
-    ++ codes "reasons above what COMMAND prints: cover SCHEMA or keys SCHEMA")
+    ++ codes "reasons above what COMMAND prints: cover, keys, synthesize, split bcnf or split 4nf")
+    ++ line (codes "desk measure SCHEMA CSV               how far the rows in CSV are from legal")
+    ++ line (codes "desk offences SCHEMA CSV              which rows are at odds, as CSV, a line for each class")
+    ++ line (codes "desk offences rows SCHEMA CSV         the same row by row")
+    ++ line (codes "desk kept SCHEMA CSV                  the rows that break no rule, as CSV")
     ++ line (codes "desk ddl FORM SCHEMA                  SQL tables in the form")
     ++ line (codes "desk ddl plan SCHEMA PLAN             SQL tables of the plan")
     ++ line (codes "desk migrate FORM SCHEMA CSV          "

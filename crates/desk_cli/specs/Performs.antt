@@ -1,5 +1,5 @@
 -- Which answers a command allows, and the words that form it: for `desk`, by `Desk`.
-use Rattle.std.specs.Prelude.{ℕ, List, MatchOption}
+use Rattle.std.specs.Prelude.{ℕ, List, [], ◌∷◌, MatchOption}
 use Rattle.attr_sets.specs.Attributes.{Attributes}
 use Rattle.dep_model.specs.Tuples.{Relation}
 use Rattle.dep_model.specs.declared.schema.Schema.{Schema}
@@ -15,6 +15,7 @@ use Rattle.desk_covers.specs.Covering.{GivesCover}
 use Rattle.desk_designs.specs.Decompositions.{Splits, SplitsWide}
 use Rattle.desk_designs.specs.Designs.{WritesForm, WritesPlan}
 use Rattle.desk_discovery.specs.Discoveries.{FindsRules}
+use Rattle.desk_derivations.specs.Derivations.{ChecksDerivation}
 use Rattle.desk_designs.specs.Drawings.{DrawsForm, DrawsSchemes}
 use Rattle.desk_discovery.specs.Exhibits.{Exhibits}
 use Rattle.desk_words.specs.Forms as form
@@ -23,14 +24,21 @@ use Rattle.desk_inputs.specs.FileKinds.{WithFile}
 use Rattle.desk_inputs.specs.Headed.{headed_file}
 use Rattle.desk_cli.specs.Help.{help_text, version_text}
 use Rattle.desk_implication.specs.Implication.{DecidesGoal}
-use Rattle.desk_inputs.specs.Inputs.{proof_file, schema_file}
+use Rattle.desk_inputs.specs.Inputs.{derivation_file, proof_file, schema_file}
 use Rattle.desk_designs.specs.Joins.{JudgesJoin}
 use Rattle.desk_designs.specs.Keeping.{JudgesKeeping}
 use Rattle.desk_keys.specs.KeyChecks.{ChecksKey}
 use Rattle.desk_keys.specs.KeyReasons.{ExplainsKeys}
 use Rattle.desk_keys.specs.Keys.{ListsKeys, ListsKeysOfPlan}
 use Rattle.desk_tables.specs.Legality.{JudgesRows}
-use Rattle.desk_tables.specs.Migrations.{Migrates, MigratesPlan, Samples}
+use Rattle.desk_measures.specs.Keeping.{KeepsRows}
+use Rattle.desk_measures.specs.Measures.{MeasuresRows}
+use Rattle.desk_measures.specs.Offences.{ListsOffences, ListsOffencesByRow}
+use Rattle.desk_measures.specs.Untyped.{HasTextsAlone}
+use Rattle.desk_reasons.specs.SplitReasons.{ExplainsSplit}
+use Rattle.desk_reasons.specs.SynthesisReasons.{ExplainsSynthesis}
+use Rattle.desk_tables.specs.Migrations.{Samples}
+use Rattle.desk_tables.specs.Overwriting.{MigratesHere, MigratesPlanHere}
 use Rattle.desk_designs.specs.NormalForms.{JudgesForm}
 use Rattle.desk_inputs.specs.Parts.{WithParts}
 use Rattle.desk_implication.specs.Projections.{Projects}
@@ -58,6 +66,8 @@ AnswersSchema schema form.split_wide = SplitsWide schema
 AnswersSchema schema form.exhibit = Exhibits schema
 AnswersSchema schema form.explain_cover = ExplainsCover schema
 AnswersSchema schema form.explain_keys = ExplainsKeys schema
+AnswersSchema schema form.explain_synthesize = ExplainsSynthesis schema
+AnswersSchema schema (form.explain_split normal) = ExplainsSplit schema normal
 AnswersSchema schema (form.ddl normal) = WritesForm schema normal
 AnswersSchema schema (form.sql_check name) = ScriptsCheck schema name
 AnswersSchema schema (form.sql_migrate normal name) = ScriptsMigration schema normal name
@@ -76,7 +86,14 @@ AnswersPlan schema plan form.draw_plan = DrawsSchemes schema plan
 -- what is asked of a schema and rows
 unfoldable pub AnswersRows : Schema → Relation → RowsQuestion → Allowed
 AnswersRows schema rows form.check_rows = JudgesRows schema rows
-AnswersRows schema rows (form.migrate normal) = Migrates schema normal rows
+AnswersRows schema rows form.offences = ListsOffences schema rows
+AnswersRows schema rows form.offences_by_row = ListsOffencesByRow schema rows
+AnswersRows schema rows form.kept = KeepsRows schema rows
+
+-- the rows of a file are read whatever their values are, and then the rest follows
+unfoldable pub WithValues : Reading → Schema → List ℕ → (Relation → Allowed) → Allowed
+WithValues r schema file rest response =
+    (texts : Schema) × HasTextsAlone schema texts × WithFile (rows_file texts) r file rest response
 
 -- what is asked of a schema: the files after its own are read in their order, and then it is answered
 unfoldable pub Does : Reading → Schema → Task → Allowed
@@ -85,11 +102,16 @@ Does r schema (form.of_plan file question) =
     WithFile (plan_file schema) r file (λ plan. AnswersPlan schema plan question)
 Does r schema (form.of_rows file question) =
     WithFile (rows_file schema) r file (λ rows. AnswersRows schema rows question)
-Does r schema (form.migrate_plan planned file) =
+Does r schema (form.measure file) = WithValues r schema file (MeasuresRows schema)
+Does r schema (form.migrate own file normal) =
+    WithFile (rows_file schema) r file (MigratesHere schema normal (own ∷ file ∷ []))
+Does r schema (form.migrate_plan own planned file) =
     WithFile (plan_file schema) r planned
-    (λ plan. WithFile (rows_file schema) r file (λ rows. MigratesPlan schema plan rows))
+    (λ plan. WithFile (rows_file schema) r file (MigratesPlanHere schema plan (own ∷ planned ∷ file ∷ [])))
 Does r schema (form.check_proof file goal) =
     WithFile (proof_file schema) r file (λ tree. ChecksProof schema tree goal)
+Does r schema (form.check_derivation file goal) =
+    WithFile (derivation_file schema) r file (λ derived. ChecksDerivation schema derived goal)
 Does r schema (form.check_same file other_file) =
     WithFile schema_file r other_file (λ other. ChecksSame schema other file other_file)
 Does r schema (form.check_cover file other_file) =

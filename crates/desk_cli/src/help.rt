@@ -8,6 +8,7 @@ use std::alloc::Global;
 const HELP: &[u8] =
     b"desk implies SCHEMA GOAL              whether the schema implies the goal, with a proof or two rows against it
 desk check proof SCHEMA FILE GOAL     whether the certificate in FILE proves the goal
+desk check derivation SCHEMA FILE GOAL  whether the derivation in FILE, by more rules, proves the goal
 desk check rows SCHEMA CSV            whether the rows in CSV are legal, and which break what
 desk check key SCHEMA SET             whether the set of attributes is a key, and why
 desk check join SCHEMA PLAN           whether the plan in PLAN loses nothing
@@ -26,7 +27,11 @@ desk split bcnf SCHEMA                a plan in Boyce-Codd normal form
 desk split 4nf SCHEMA                 a plan in fourth normal form
 desk split wide-bcnf SCHEMA           a plan in Boyce-Codd normal form, at any width
 desk exhibit SCHEMA                   rows that obey just what follows from the schema
-desk explain COMMAND                  reasons above what COMMAND prints: cover SCHEMA or keys SCHEMA
+desk explain COMMAND                  reasons above what COMMAND prints: cover, keys, synthesize, split bcnf or split 4nf
+desk measure SCHEMA CSV               how far the rows in CSV are from legal
+desk offences SCHEMA CSV              which rows are at odds, as CSV, a line for each class
+desk offences rows SCHEMA CSV         the same row by row
+desk kept SCHEMA CSV                  the rows that break no rule, as CSV
 desk ddl FORM SCHEMA                  SQL tables in the form
 desk ddl plan SCHEMA PLAN             SQL tables of the plan
 desk migrate FORM SCHEMA CSV          the rows in CSV as tables in the form, in files t1.csv, t1.sql and so on
@@ -59,7 +64,7 @@ pub fn help(alloc: Global) -> Result<Response, EarlyExit>
 pub fn version(alloc: Global) -> Result<Response, EarlyExit>
     ensures response { RespondsAs (Says Status.Yes version_text) result }
 {
-    match Vec::from_slice(alloc, b"desk 0.4.0\n") {
+    match Vec::from_slice(alloc, b"desk 0.5.0\n") {
         Ok(text) => Ok(Response::with_text(Status::Yes, text)),
         Err(_) => Err(EarlyExit::OutOfMemory),
     }

@@ -19,8 +19,10 @@ use desk_designs::{
 use desk_discovery::exhibit_relation;
 use desk_implication::{give_basis, give_closure, give_projection, implies};
 use desk_keys::{check_key, explain_keys, list_keys, list_keys_of_plan};
+use desk_measures::{keep_rows, list_offences, list_offences_by_row};
+use desk_reasons::{explain_split, explain_synthesis};
 use desk_responses::{EarlyExit, Response};
-use desk_tables::{check_rows, migrate_in_form};
+use desk_tables::check_rows;
 use desk_words::{PlanQuestion, RowsQuestion, SchemaQuestion};
 use plan_reader::MOST_SCHEMES;
 use plans::Plan;
@@ -50,6 +52,8 @@ pub fn answer_schema(
         SchemaQuestion::Exhibit => exhibit_relation(alloc, schema),
         SchemaQuestion::ExplainCover => explain_cover(alloc, schema),
         SchemaQuestion::ExplainKeys => explain_keys(alloc, schema),
+        SchemaQuestion::ExplainSynthesize => explain_synthesis(alloc, schema),
+        SchemaQuestion::ExplainSplit { form } => explain_split(alloc, schema, form),
         SchemaQuestion::Ddl { form } => write_form(alloc, schema, form),
         SchemaQuestion::SqlCheck { name } => script_check(alloc, schema, name),
         SchemaQuestion::SqlMigrate { form, name } => script_migration(alloc, schema, form, name),
@@ -88,15 +92,17 @@ pub fn answer_rows(
     alloc: Global,
     hashing: Hashing,
     schema: &Schema,
-    rows: Rows,
+    rows: &Rows,
     question: RowsQuestion,
 ) -> Result<Response, EarlyExit>
-    requires over { IsOver (width_of schema.now) rows }
-    requires fits_u32 { length rows < 2 ^ 32 }
-    ensures response { RespondsAs (AnswersRows schema.now rows (rows_question question)) result }
+    requires over { IsOver (width_of schema.now) rows.now }
+    requires fits_u32 { length rows.now < 2 ^ 32 }
+    ensures response { RespondsAs (AnswersRows schema.now rows.now (rows_question question)) result }
 {
     match question {
-        RowsQuestion::CheckRows => check_rows(alloc, hashing, schema, &rows),
-        RowsQuestion::Migrate { form } => migrate_in_form(alloc, hashing, schema, form, rows),
+        RowsQuestion::CheckRows => check_rows(alloc, hashing, schema, rows),
+        RowsQuestion::Offences => list_offences(alloc, hashing, schema, rows),
+        RowsQuestion::OffencesByRow => list_offences_by_row(alloc, hashing, schema, rows),
+        RowsQuestion::Kept => keep_rows(alloc, hashing, schema, rows),
     }
 }

@@ -10,11 +10,13 @@ ghost use Rattle.desk_discovery.specs.Discoveries.{FindsRules};
 ghost use Rattle.desk_inputs.specs.FileKinds.{WithFile};
 ghost use Rattle.desk_inputs.specs.FilesBegun.{BeginsFront};
 ghost use Rattle.desk_inputs.specs.Headed.{headed_file};
-ghost use Rattle.desk_inputs.specs.Inputs.{proof_file, schema_file};
-ghost use Rattle.desk_tables.specs.Migrations.{MigratesPlan};
+ghost use Rattle.desk_derivations.specs.Derivations.{ChecksDerivation};
+ghost use Rattle.desk_inputs.specs.Inputs.{derivation_file, proof_file, schema_file};
+ghost use Rattle.desk_tables.specs.Overwriting.{MigratesHere, MigratesPlanHere};
 ghost use Rattle.desk_inputs.specs.Parts.{WithParts};
 ghost use Rattle.desk_cli.specs.FilesRead.{files_of_task};
-ghost use Rattle.desk_cli.specs.Performs.{AnswersPlan, AnswersRows, Does};
+ghost use Rattle.desk_cli.specs.Performs.{AnswersPlan, AnswersRows, Does, WithValues};
+ghost use Rattle.desk_measures.specs.Measures.{MeasuresRows};
 ghost use Rattle.desk_inputs.specs.Plans.{plan_file};
 ghost use Rattle.desk_inputs.specs.Readings.{Reading, Shows};
 ghost use Rattle.desk_tables.specs.Rejoining.{JoinsTables};
@@ -25,13 +27,18 @@ ghost use Rattle.desk_covers.specs.Sameness.{ChecksSame};
 use crate::questions::{answer_plan, answer_rows, answer_schema};
 use dep_model::Schema;
 use desk_covers::{check_cover, check_same};
+use desk_derivations::check_derivation;
 use desk_discovery::discover_rules;
 use desk_implication::check_proof;
-use desk_inputs::{open_headed, open_parts, open_plan, open_proof, open_rows, open_schema};
+use desk_inputs::{
+    open_derivation, open_headed, open_parts, open_plan, open_proof, open_rows, open_schema,
+};
+use desk_measures::{measure_rows, text_columns_alone};
 use desk_outside::{Argument, FileSource};
 use desk_responses::{EarlyExit, Response};
-use desk_tables::{migrate_by_plan, rejoin};
+use desk_tables::{migrate_form_here, migrate_plan_here, rejoin};
 use desk_words::{MOST_FILES, PlanQuestion, RowsQuestion, Task};
+use normal_forms::Form;
 use row_store::Hashing;
 use std::alloc::Global;
 
@@ -77,10 +84,19 @@ fn perform_task<F: FileSource>(
         Task::OfSchema { question } => answer_schema(alloc, schema, question),
         Task::OfPlan { plan, question } => of_plan(alloc, source, schema, plan, question),
         Task::OfRows { file, question } => of_rows(alloc, hashing, source, schema, file, question),
-        Task::MigratePlan { plan, file } => of_plan_and_rows(
-            alloc, hashing, source, schema, plan, file,
-        ),
+        Task::Measure { file } => of_values(alloc, hashing, source, schema, file),
+        Task::Migrate {
+            schema: own,
+            file,
+            form,
+        } => of_rows_in_form(alloc, hashing, source, schema, own, file, form),
+        Task::MigratePlan {
+            schema: own,
+            plan,
+            file,
+        } => of_plan_and_rows(alloc, hashing, source, schema, own, plan, file),
         Task::CheckProof { file, goal } => of_proof(alloc, source, schema, file, goal),
+        Task::CheckDerivation { file, goal } => of_derivation(alloc, source, schema, file, goal),
         Task::CheckSame { file, other } => of_schemas(alloc, source, schema, file, other),
         Task::CheckCover { file, other } => of_cover(alloc, source, schema, file, other),
         Task::Rejoin { files } => of_parts(alloc, hashing, source, schema, files),
@@ -131,7 +147,66 @@ fn of_rows<F: FileSource>(
         Ok(rows) => rows,
         Err(exit) => return Err(exit),
     };
-    answer_rows(alloc, hashing, schema, rows, question)
+    answer_rows(alloc, hashing, schema, &rows, question)
+}
+
+// How far the rows of a file are from legal, whatever their values are.
+fn of_values<F: FileSource>(
+    alloc: Global,
+    hashing: Hashing,
+    source: &mut F,
+    schema: &Schema,
+    file: &Argument,
+) -> Result<Response, EarlyExit>
+    ensures files { F.files source.new ≡ F.files source.old }
+    ensures later { F.faults source.old ≤ F.faults source.new }
+    ensures reads { BeginsFront (file.now ∷ [])
+        (F.begun source.old) (F.begun source.new) }
+    ensures response { (r : Reading) → Shows F.files F.faults F.taken F.begun source.old source.new r
+        → RespondsAs (WithValues r schema.now file.now (MeasuresRows schema.now)) result }
+{
+    let texts = match text_columns_alone(alloc, schema) {
+        Ok(texts) => texts,
+        Err(_) => return Err(EarlyExit::OutOfMemory),
+    };
+    let rows = match open_rows(alloc, source, &texts, file) {
+        Ok(rows) => rows,
+        Err(exit) => return Err(exit),
+    };
+    measure_rows(alloc, hashing, schema, &rows)
+}
+
+// The rows of a file, as tables in a normal form of the schema, which is in its own file.
+fn of_rows_in_form<F: FileSource>(
+    alloc: Global,
+    hashing: Hashing,
+    source: &mut F,
+    schema: &Schema,
+    own: &Argument,
+    file: &Argument,
+    form: Form,
+) -> Result<Response, EarlyExit>
+    ensures files { F.files source.new ≡ F.files source.old }
+    ensures later { F.faults source.old ≤ F.faults source.new }
+    ensures reads { BeginsFront (file.now ∷ [])
+        (F.begun source.old) (F.begun source.new) }
+    ensures response { (r : Reading) → Shows F.files F.faults F.taken F.begun source.old source.new r
+        → RespondsAs (WithFile (rows_file schema.now) r file.now
+        (MigratesHere schema.now form (own.now ∷ file.now ∷ []))) result }
+{
+    let rows = match open_rows(alloc, source, schema, file) {
+        Ok(rows) => rows,
+        Err(exit) => return Err(exit),
+    };
+    migrate_form_here(
+        alloc,
+        hashing,
+        schema,
+        form,
+        own.bytes(),
+        file.bytes(),
+        rows,
+    )
 }
 
 // The rows of a file, as tables of the plan of another.
@@ -140,18 +215,20 @@ fn of_plan_and_rows<F: FileSource>(
     hashing: Hashing,
     source: &mut F,
     schema: &Schema,
-    plan: &Argument,
+    own: &Argument,
+    planned: &Argument,
     file: &Argument,
 ) -> Result<Response, EarlyExit>
     ensures files { F.files source.new ≡ F.files source.old }
     ensures later { F.faults source.old ≤ F.faults source.new }
-    ensures reads { BeginsFront (plan.now ∷ file.now ∷ [])
+    ensures reads { BeginsFront (planned.now ∷ file.now ∷ [])
         (F.begun source.old) (F.begun source.new) }
     ensures response { (r : Reading) → Shows F.files F.faults F.taken F.begun source.old source.new r
-        → RespondsAs (WithFile (plan_file schema.now) r plan.now
-        (λ plan. WithFile (rows_file schema.now) r file.now (λ rows. MigratesPlan schema.now plan rows))) result }
+        → RespondsAs (WithFile (plan_file schema.now) r planned.now
+        (λ plan. WithFile (rows_file schema.now) r file.now
+        (MigratesPlanHere schema.now plan (own.now ∷ planned.now ∷ file.now ∷ [])))) result }
 {
-    let plan = match open_plan(alloc, source, schema, plan) {
+    let plan = match open_plan(alloc, source, schema, planned) {
         Ok(plan) => plan,
         Err(exit) => return Err(exit),
     };
@@ -159,7 +236,16 @@ fn of_plan_and_rows<F: FileSource>(
         Ok(rows) => rows,
         Err(exit) => return Err(exit),
     };
-    migrate_by_plan(alloc, hashing, schema, &plan, rows)
+    migrate_plan_here(
+        alloc,
+        hashing,
+        schema,
+        &plan,
+        own.bytes(),
+        planned.bytes(),
+        file.bytes(),
+        rows,
+    )
 }
 
 // Whether the certificate of a file proves a goal.
@@ -183,6 +269,29 @@ fn of_proof<F: FileSource>(
         Err(exit) => return Err(exit),
     };
     check_proof(alloc, schema, read.dep, goal)
+}
+
+// Whether the derivation of a file ends with a goal.
+fn of_derivation<F: FileSource>(
+    alloc: Global,
+    source: &mut F,
+    schema: &Schema,
+    file: &Argument,
+    goal: &Argument,
+) -> Result<Response, EarlyExit>
+    ensures files { F.files source.new ≡ F.files source.old }
+    ensures later { F.faults source.old ≤ F.faults source.new }
+    ensures reads { BeginsFront (file.now ∷ [])
+        (F.begun source.old) (F.begun source.new) }
+    ensures response { (r : Reading) → Shows F.files F.faults F.taken F.begun source.old source.new r
+        → RespondsAs (WithFile (derivation_file schema.now) r file.now
+        (λ derived. ChecksDerivation schema.now derived goal.now)) result }
+{
+    let derived = match open_derivation(alloc, source, schema, file) {
+        Ok(derived) => derived,
+        Err(exit) => return Err(exit),
+    };
+    check_derivation(alloc, schema, derived, goal)
 }
 
 // Whether the schema of a file says the same as that of another.

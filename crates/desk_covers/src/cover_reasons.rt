@@ -3,14 +3,13 @@ ghost use Rattle.attr_sets.specs.Attributes.{difference};
 ghost use Rattle.attr_sets.specs.Sets.{attributes};
 ghost use Rattle.attr_sets.specs.declared.set.TheConstants.{MOST_ATTRIBUTES};
 ghost use Rattle.cover_steps.specs.Steps.{place_of, places_of, shortened_list, shortened_of};
-ghost use Rattle.desk_covers.specs.CoverReasons.{AreCoverReasons, ExplainsCover, all_gone_text, gone_text, member_before, member_text, members_text, needless_text, placed_text};
+ghost use Rattle.desk_covers.specs.CoverReasons.{ExplainsCover, all_gone_text, gone_text, member_before, member_text, members_text, needless_text, placed_text};
 ghost use Rattle.desk_responses.specs.Responses.{response_value, RespondsAs};
 
 use attr_sets::AttrSet;
 use cover_steps::{PlacedDep, ShortMember, cover_steps};
 use dep_model::{Dep, OutOfMemory, Schema};
 use desk_responses::{EarlyExit, Response, Status, put_line};
-use min_cover::whole_cover;
 use schema_printer::{add, add_dep, add_set, print_deps};
 use std::alloc::Global;
 
@@ -25,22 +24,14 @@ pub fn explain_cover(alloc: Global, schema: &Schema) -> Result<Response, EarlyEx
 fn explained_cover(alloc: Global, schema: &Schema) -> Result<Response, OutOfMemory>
     ensures response { IfOk result (λ response. ExplainsCover schema.now (response_value response)) }
 {
-    let mut text = reason_lines(alloc, schema)?;
-    let whole = whole_cover(alloc, schema)?;
-    let plain = print_deps(alloc, schema, &whole)?;
+    let steps = cover_steps(alloc, schema)?;
+    let mut text = print_reasons(alloc, schema, &steps.members, &steps.gone)?;
+    let plain = print_deps(alloc, schema, &steps.whole)?;
     add(&mut text, &plain)?;
     Ok(Response::with_text(Status::Yes, text))
 }
 
 // How the cover comes about.
-fn reason_lines(alloc: Global, schema: &Schema) -> Result<Vec<u8>, OutOfMemory>
-    ensures text { IfOk result (λ text. AreCoverReasons schema.now text.items) }
-{
-    let steps = cover_steps(alloc, schema)?;
-    let text = print_reasons(alloc, schema, &steps.members, &steps.gone)?;
-    Ok(text)
-}
-
 fn print_reasons(
     alloc: Global,
     schema: &Schema,

@@ -10,6 +10,9 @@ use Rattle.ddl_text.specs.declared.table.TableDesign.{TableDesign}
 use Rattle.normal_forms.specs.declared.forms.Form.{Form}
 use Rattle.sql_evaluation.specs.Cells.{Cell}
 use Rattle.sql_evaluation.specs.Evaluation.{Engine}
+use Rattle.sql_evaluation.specs.Running.{State, Cast, Fails, engine_at, ended, stopped, outcome}
+use Rattle.migrate_queries.specs.Script.{migration}
+use Rattle.migrate_laws.specs.Moved.{HasMoved}
 use Rattle.check_laws.specs.Holding.{Holds, CastsIntegers}
 use Rattle.check_laws.specs.Telling.{NoBreachShown, RulesHold, NothingShown}
 use Rattle.table_scripts.specs.Checking.{check_text, NothingBreaks}
@@ -55,15 +58,24 @@ abbrev pub ScriptsCheck : Schema → List ℕ → Allowed
 ScriptsCheck schema name = WithTableName name (AsksTable schema name)
 
 -- ---- migrating
--- what the queries of a script that makes tables give
-pub record IsSoundScript (schema : Schema) (tables : List TableDesign) : Type 0 where
+-- what a script that makes tables does. In an engine that holds a relation as this table, whatever it refuses,
+-- a run without an error has moved the relation into the tables, and any other run has changed nothing. Over a
+-- legal relation what fills each table is its ordered projection, and where the plan loses nothing the join of
+-- the tables is the relation
+pub record IsSoundScript (schema : Schema) (table : List ℕ) (tables : List TableDesign) : Type 0 where
   pub fills : FillsTables schema tables
   pub view : ViewIsTable schema tables
+  pub moves : (fails : Fails) (cast : Cast) (cell : ℕ → List ℕ → Cell) (r : Relation) (start last : State)
+      → Holds (engine_at cast start) table schema cell r
+      → outcome fails cast (migration schema table tables) start ≡ ended last
+      → HasMoved schema cast cell r tables last
+  pub undoes : (fails : Fails) (cast : Cast) (start kept : State)
+      → outcome fails cast (migration schema table tables) start ≡ stopped kept → kept ≡ start
 
 -- yes, with the statements that make the tables of a plan from the user's
 abbrev pub MakesTables : Schema → List ℕ → List AttrSet → Allowed
 MakesTables schema name plan response =
-    (tables : List TableDesign) × IsSoundDesign schema plan tables × IsSoundScript schema tables
+    (tables : List TableDesign) × IsSoundDesign schema plan tables × IsSoundScript schema (quoted_table name) tables
     × Says Yes (migrate_text schema (quoted_table name) tables) response
 
 -- the same of the plan of a normal form

@@ -1,5 +1,7 @@
 ghost use Rattle.std.specs.Prelude.{◌≡◌, IfOk, IfErr};
+ghost use Rattle.dep_model.specs.Schemas.{width_of, theory_of};
 ghost use Rattle.schema_printer.specs.Spelling.{printed_names_of};
+ghost use Rattle.split_forms.specs.Refusals.{IsRefusedSplit};
 ghost use Rattle.plans.specs.Plans.{IsPlanOver, plan_of, scheme_sets};
 ghost use Rattle.normal_forms.specs.declared.forms.Form.TheVariants as forms;
 ghost use Rattle.desk_responses.specs.ResponseValues.{Says};
@@ -51,11 +53,22 @@ fn split_plan(alloc: Global, schema: &Schema, form: Form) -> Result<Plan, EarlyE
 {
     match split(alloc, schema, form, MOST_SPLIT_SCHEMES) {
         Ok(plan) => Ok(plan),
-        Err(Failure::Refused(refusal)) => match refusal {
-            SplitRefusal::TooWide { scheme } => Err(too_wide_exit(alloc, schema, scheme)),
-            SplitRefusal::TooManySchemes => Err(too_many_schemes_exit(alloc)),
-        },
+        Err(Failure::Refused(refusal)) => Err(split_exit(alloc, schema, refusal)),
         Err(Failure::OutOfMemory) => Err(EarlyExit::OutOfMemory),
+    }
+}
+
+/// A split in Boyce-Codd or fourth normal form is refused.
+pub fn split_exit(alloc: Global, schema: &Schema, refusal: SplitRefusal) -> EarlyExit
+    requires refused { (form : Form) × (form ≡ forms.Third → ⊥)
+        × IsRefusedSplit (width_of schema.now) (theory_of schema.now) form MOST_SPLIT_SCHEMES refusal }
+    ensures exit { (form : Form)
+        → IsRefusedSplit (width_of schema.now) (theory_of schema.now) form MOST_SPLIT_SCHEMES refusal
+        → ExitsAs (SplitStops schema.now form) result }
+{
+    match refusal {
+        SplitRefusal::TooWide { scheme } => too_wide_exit(alloc, schema, scheme),
+        SplitRefusal::TooManySchemes => too_many_schemes_exit(alloc),
     }
 }
 

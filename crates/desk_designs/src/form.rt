@@ -96,8 +96,8 @@ fn in_form_response(alloc: Global, form: Form) -> Result<Response, OutOfMemory>
     ))
 }
 
-// The word of a normal form.
-fn word_of(form: Form) -> &'static [u8]
+/// The word of a normal form.
+pub fn word_of(form: Form) -> &'static [u8]
     ensures word { result.now ≡ form_word form }
 {
     match form {
@@ -170,8 +170,8 @@ fn breach_line(
     Ok(text)
 }
 
-// A violation, as a dependency.
-fn violation_dependency(form: Form, breach: Breach) -> Dep
+/// A violation, as a dependency.
+pub fn violation_dependency(form: Form, breach: Breach) -> Dep
     ensures dep { dependency_of result
         ≡ violation_of form (attributes breach.lhs) (attributes breach.rhs) }
 {

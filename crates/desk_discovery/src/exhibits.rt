@@ -47,8 +47,8 @@ fn response_of(alloc: Global, schema: &Schema, rows: &[Row]) -> Result<Response,
     ))
 }
 
-// A multivalued dependency is given.
-fn multivalued_exit(alloc: Global, schema: &Schema, dep: u16) -> EarlyExit
+/// A multivalued dependency is given.
+pub fn multivalued_exit(alloc: Global, schema: &Schema, dep: u16) -> EarlyExit
     ensures says { ExitsAs (Says Status.Refused (multivalued_text schema.now dep)) result }
 {
     EarlyExit::with_text(Status::Refused, multivalued_line(alloc, schema, dep))

@@ -8,4 +8,4 @@ mod discovering;
 mod exhibits;
 
 pub use discovering::discover_rules;
-pub use exhibits::exhibit_relation;
+pub use exhibits::{exhibit_relation, multivalued_exit};

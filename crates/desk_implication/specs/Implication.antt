@@ -19,8 +19,8 @@ use Rattle.desk_texts.specs.Texts.{yes_text, no_text}
 
 -- yes exactly where every relation that obeys the schema's dependencies obeys the goal, with a derivation
 -- of the goal, which is the functional chain where the functional part alone implies it, and else a direct
--- one, of a multivalued goal no longer than the listed ones; else no, with two tuples that obey the
--- dependencies and break the goal
+-- one, no longer than the listed ones; else no, with two tuples that obey the dependencies and break the
+-- goal
 abbrev pub Decided : Schema → Dependency → Allowed
 Decided schema goal response =
     (ImpliedBy schema goal

@@ -1,20 +1,17 @@
 ghost use Rattle.std.specs.Prelude.{◌≡◌, IfOk};
 ghost use Rattle.dep_model.specs.Deps.{dependency_of, IsDepWithin};
 ghost use Rattle.dep_model.specs.Schemas.{universe_of};
-ghost use Rattle.schema_printer.specs.Spelling.{printed_names_of};
 ghost use Rattle.derivation.specs.Conclusions.{Proves};
 ghost use Rattle.derivation.specs.Trees.{Tree};
 ghost use Rattle.desk_implication.specs.Certificates.{Checked, ChecksProof};
-ghost use Rattle.desk_texts.specs.ProofTexts.{checked_text, concludes_text};
 ghost use Rattle.desk_responses.specs.Responses.{response_value, RespondsAs};
 
 use dep_model::{Dep, OutOfMemory, Schema};
 use desk_arguments::goal_of;
 use desk_outside::Argument;
 use desk_responses::{EarlyExit, Response, Status};
-use desk_texts::line_of;
+use desk_texts::{checked_line, concludes_lines};
 use proof_text::same_dependency;
-use schema_printer::{add, print_dep};
 use std::alloc::Global;
 
 /// Whether a certificate that concludes this dependency, by the rules alone, proves a goal over a schema.
@@ -52,34 +49,4 @@ fn proof_response(
         return Ok(Response::with_text(Status::Yes, checked_line(alloc, schema, dep)?));
     }
     Ok(Response::with_text(Status::No, concludes_lines(alloc, schema, concluded, dep)?))
-}
-
-fn checked_line(alloc: Global, schema: &Schema, dep: Dep) -> Result<Vec<u8>, OutOfMemory>
-    requires { IsDepWithin (universe_of schema.now) dep }
-    ensures text { IfOk result (λ text. text.items ≡ checked_text (printed_names_of schema.now) (dependency_of dep)) }
-{
-    line_of(alloc, b"checked ", &print_dep(alloc, schema, dep)?, b"")
-}
-
-fn concludes_lines(
-    alloc: Global,
-    schema: &Schema,
-    concluded: Dep,
-    goal: Dep,
-) -> Result<Vec<u8>, OutOfMemory>
-    requires concluded { IsDepWithin (universe_of schema.now) concluded }
-    requires goal { IsDepWithin (universe_of schema.now) goal }
-    ensures text { IfOk result
-        (λ text. text.items ≡ concludes_text (printed_names_of schema.now) (dependency_of concluded)
-        (dependency_of goal)) }
-{
-    let mut text = line_of(
-        alloc,
-        b"concludes ",
-        &print_dep(alloc, schema, concluded)?,
-        b"",
-    )?;
-    let goal = line_of(alloc, b"asked ", &print_dep(alloc, schema, goal)?, b"")?;
-    add(&mut text, &goal)?;
-    Ok(text)
 }

@@ -1,9 +1,10 @@
--- The kinds of files that are texts of their own grammars: schemas and certificates.
+-- The kinds of files that are texts of their own grammars: schemas, certificates and derivations.
 use Rattle.std.specs.Prelude.{◌≡◌, ℕ, List, codes}
 use Rattle.dep_model.specs.Schemas.{naming_of}
 use Rattle.dep_model.specs.declared.naming.Naming.TheVariants.{Bare}
 use Rattle.dep_model.specs.declared.schema.Schema.{Schema}
 use Rattle.schema_printer.specs.Spelling.{printed_names_of}
+use Rattle.dep_model.specs.Dependencies.{Dependency}
 use Rattle.derivation.specs.Trees.{Tree}
 use Rattle.schema_reader.specs.declared.text.TheConstants.{MOST_TEXT_BYTES}
 use Rattle.schema_grammar.specs.declared.refusal.SchemaRefusal.{SchemaRefusal}
@@ -13,8 +14,10 @@ use Rattle.proof_text.specs.declared.text.TheConstants.{MOST_PROOF_BYTES}
 use Rattle.proof_grammar.specs.Diagnostics.{LineDiagnostic}
 use Rattle.proof_grammar.specs.Spelling.{SpellsWithin}
 use Rattle.proof_grammar.specs.Refusals.{IsRefusedCertificate}
+use Rattle.derivation_grammar.specs.Derivations.{Derives}
+use Rattle.derivation_grammar.specs.Refusals.{IsRefusedDerivation}
 use Rattle.desk_inputs.specs.FileKinds.{FileKind}
-use Rattle.desk_texts.specs.ProofTexts.{proof_refusal_text}
+use Rattle.desk_texts.specs.ProofTexts.{proof_refusal_text, derivation_refusal_text}
 use Rattle.desk_texts.specs.Texts.{refusal_text}
 
 -- a text means this schema, which is one of bare names
@@ -38,4 +41,13 @@ proof_file schema = record {
   means = SpellsWithin schema;
   refuses = IsRefusedCertificate schema;
   refusal_text = proof_refusal_text (printed_names_of schema);
+}
+
+-- derivations over a schema, as what they derive
+abbrev pub derivation_file : Schema → FileKind Dependency LineDiagnostic
+derivation_file schema = record {
+  limit = MOST_PROOF_BYTES;
+  means = Derives schema;
+  refuses = IsRefusedDerivation schema;
+  refusal_text = derivation_refusal_text (printed_names_of schema);
 }

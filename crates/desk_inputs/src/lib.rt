@@ -4,6 +4,7 @@
 //! promises the value under every reading that the file source shows, or how the command ends.
 #![tactic(auto)]
 
+mod derived;
 mod headed;
 mod parts;
 mod plan;
@@ -11,6 +12,7 @@ mod read;
 mod row_refusals;
 mod rows;
 
+pub use derived::open_derivation;
 pub use headed::open_headed;
 pub use parts::open_parts;
 pub use plan::open_plan;

@@ -96,7 +96,7 @@ after_schema files name s rest response file go (inr (r, is, more)) =
     go r same more
 
 -- ---- goals
-after_goal : (s r : Schema) (goal : List ℕ) (dep : Dependency) (rest : Dependency → Allowed) (response : ResponseValue)
+pub after_goal : (s r : Schema) (goal : List ℕ) (dep : Dependency) (rest : Dependency → Allowed) (response : ResponseValue)
     → AreSame s r → IsGoal s goal dep
     → ((d : Dependency) → rest d response → IsYesOrNo response.status) → WithGoal r goal rest response
     → IsYesOrNo response.status

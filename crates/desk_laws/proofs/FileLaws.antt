@@ -27,7 +27,7 @@ use Rattle.desk_responses.specs.ResponseValues.{ResponseValue, Allowed}
 use Rattle.desk_discovery.specs.Discoveries.{FindsRules}
 use Rattle.desk_inputs.specs.FileKinds.{FileStops, IsFile, WithFile}
 use Rattle.desk_inputs.specs.Headed.{headed_file}
-use Rattle.desk_words.specs.Forms.{form_of, form_over_schema, schema_and_several, word_alone, are_one_to_64}
+use Rattle.desk_words.specs.Forms.{form_of, form_over_rows, form_over_schema, schema_and_several, word_alone, are_one_to_64}
 use Rattle.desk_inputs.specs.Inputs.{schema_file}
 use Rattle.desk_cli.specs.Performs.{Answers, Performs, Does}
 use Rattle.desk_inputs.specs.Readings.{known_files}
@@ -179,7 +179,7 @@ joins_tables n r tables response width covers small (inr (TooManyRows k, large, 
 rejoin_asks : (files : Files) (name : List ℕ) (names : List (List ℕ)) (response : ResponseValue) → are_one_to_64 names ≡ true
     → Answers (known_files files) (codes "rejoin" ∷ name ∷ names) response
     → WithFile schema_file (known_files files) name (λ r. WithParts (known_files files) r names (λ parts. JoinsTables r (tables_of parts))) response
-unfolding form_of form_over_schema schema_and_several Performs Does
+unfolding form_of form_over_schema form_over_rows schema_and_several Performs Does
 rejoin_asks files name names response within_limit answered = (rw within_limit at answered)
 
 pub rejoin_answered : (files : Files) (name : List ℕ) (names : List (List ℕ)) (schema : Schema) (parts : List PartialRows)

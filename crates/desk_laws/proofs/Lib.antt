@@ -6,11 +6,13 @@ pub mod TableLaws
 pub mod FileLaws
 pub mod QuestionLaws
 mod ReasonLaws
+mod MeasureLaws
 pub mod ScriptLaws
 pub mod BegunLaws
 mod OneText
 mod OneFile
 mod OneInput
 mod OneTask
+mod DerivationLaws
 mod SampleWords
 mod OneWords

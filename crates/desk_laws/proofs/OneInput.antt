@@ -4,11 +4,13 @@ use Rattle.std.specs.Prelude.{slice_get}
 use Rattle.std.specs.List.{AllZip}
 use Rattle.attr_sets.specs.Attributes.{Attributes}
 use Rattle.csv_rows.specs.declared.part.PartialRows.{PartialRows}
+use Rattle.dep_model.specs.Dependencies.{Dependency}
 use Rattle.dep_model.specs.Plans.{IsPlan}
 use Rattle.dep_model.specs.Schemas.{names_of, naming_of, width_of}
 use Rattle.dep_model.specs.Tuples.{Relation}
 use Rattle.dep_model.specs.declared.schema.Schema.{Schema}
 use Rattle.derivation.specs.Trees.{Tree}
+use Rattle.derivation_grammar.specs.Derivations.{Derives}
 use Rattle.desk_outside.specs.Files.{Files}
 use Rattle.fd_discovery.specs.declared.headed_rows.Headed.{Headed}
 use Rattle.implication_laws.specs.OneAnswer.{AllowsOne}
@@ -25,12 +27,12 @@ use Rattle.desk_responses.specs.ResponseValues.{ResponseValue, Allowed}
 use Rattle.csv_rows.specs.Reading.{RowsOf}
 use Rattle.desk_inputs.specs.FileKinds.{FileStops, IsFile, WithFile}
 use Rattle.desk_inputs.specs.Headed.{headed_file}
-use Rattle.desk_inputs.specs.Inputs.{proof_file, schema_file}
+use Rattle.desk_inputs.specs.Inputs.{derivation_file, proof_file, schema_file}
 use Rattle.desk_inputs.specs.Parts.{ArePartFiles, PartsStop, WithParts, part_file}
 use Rattle.desk_inputs.specs.Plans.{plan_file}
 use Rattle.desk_inputs.specs.Rows.{rows_file}
 use Rattle.desk_laws.proofs.OneFile.{goes, one_after, one_stop, one_view}
-use Rattle.desk_laws.proofs.OneText.{headed_text_once, names_and_rows, part_text_once, plan_text_once, proof_text_once, rows_text_once, schema_text_once, MeansNamesAndRows, MeansTable}
+use Rattle.desk_laws.proofs.OneText.{derivation_text_once, headed_text_once, names_and_rows, part_text_once, plan_text_once, proof_text_once, rows_text_once, schema_text_once, MeansNamesAndRows, MeansTable}
 
 -- ---- files
 module _ (files : Files) where
@@ -81,6 +83,14 @@ module _ (files : Files) where
       (λ text tree means. means) rest
       (λ tree others one other is also same first second.
       each tree one other first (subst (λ (t : Tree). rest t other) (sym same) second))
+
+  pub one_after_derivation : (s : Schema) (name : List ℕ) (rest : Dependency → Allowed)
+      → ((d : Dependency) → AllowsOne (rest d)) → AllowsOne (WithFile (derivation_file s) known name rest)
+  one_after_derivation s name rest each =
+      one_after files name (derivation_file s) (λ (d : Dependency). d) (Derives s) (derivation_text_once s)
+      (λ text d means. means) rest
+      (λ d others one other is also same first second.
+      each d one other first (subst (λ (e : Dependency). rest e other) (sym same) second))
 
   pub one_after_headed : (name : List ℕ) (rest : Headed → Allowed)
       → ((h k : Headed) (one other : ResponseValue) → names_and_rows h ≡ names_and_rows k → rest h one

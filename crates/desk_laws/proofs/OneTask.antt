@@ -1,12 +1,13 @@
 -- What is asked of a schema has one answer, which rests on what the schema declares alone: both answers move to
 -- one schema that is built again (`alike_laws`), and of that one there is one answer.
-use Rattle.std.proofs.Common.{◌≡◌, ℕ, List, refl, sym, ap, ◌∙◌, inl, inr}
+use Rattle.std.proofs.Common.{◌≡◌, ℕ, List, [], ◌∷◌, length, replicate, refl, sym, ap, ◌∙◌, inl, inr}
 use Rattle.attr_sets.specs.Attributes.{Attributes}
 use Rattle.dep_model.specs.Dependencies.{Dependency, fd, mvd, functional_part}
 use Rattle.dep_model.specs.Implication.{Implies}
 use Rattle.dep_model.specs.Plans.{IsPlan}
 use Rattle.dep_model.specs.Schemas.{width_of}
 use Rattle.dep_model.specs.Tuples.{Relation}
+use Rattle.dep_model.specs.declared.column_type.ColumnType.TheVariants.{Text}
 use Rattle.dep_model.specs.declared.schema.Schema.{Schema}
 use Rattle.desk_outside.specs.Files.{Files}
 use Rattle.schema_grammar.specs.Declarations.{Declarations}
@@ -15,18 +16,23 @@ use Rattle.schema_grammar.specs.Texts.{declarations_of}
 use Rattle.table_join.specs.Tables.{tables_of}
 use Rattle.alike_laws.proofs.Comparisons.{cover_check_moved, sameness_moved}
 use Rattle.alike_laws.proofs.Derivations.{first_given_moved, said}
+use Rattle.alike_laws.proofs.DerivationTexts.{derivation_answer_moved, with_derivation_moved}
 use Rattle.alike_laws.proofs.Designs.{check_scripted_moved, form_drawn_moved, form_scripted_moved, form_written_moved, plan_drawn_moved, plan_scripted_moved, plan_written_moved}
 use Rattle.alike_laws.proofs.Files.{with_parts_moved, with_plan_file_moved, with_proof_moved, with_rows_moved}
 use Rattle.alike_laws.proofs.Implication.{basis_moved, cover_moved, goal_answer_moved, implied_back, proof_answer_moved}
 use Rattle.alike_laws.proofs.Keys.{closure_moved, exhibit_moved, key_moved, keys_moved, plan_keys_moved}
 use Rattle.alike_laws.proofs.Projections.{projects_moved}
+use Rattle.alike_laws.proofs.KeptFiles.{form_placed_moved, plan_placed_moved}
+use Rattle.alike_laws.proofs.PlanReasons.{explained_split_moved, explained_synthesis_moved}
 use Rattle.alike_laws.proofs.Plans.{form_moved, join_moved, keeping_moved, splits_moved, synthesis_moved, wide_split_moved}
 use Rattle.alike_laws.proofs.Reasons.{explained_cover_moved, explained_keys_moved}
 use Rattle.alike_laws.proofs.Rebuilt.{Frame, carried, own_frame, rebuilt}
-use Rattle.alike_laws.proofs.Rows.{form_migrated_moved, plan_migrated_moved, rejoined_moved, rows_moved}
+use Rattle.alike_laws.proofs.RowMeasures.{kept_moved, measured_moved, offences_by_row_moved, offences_moved}
+use Rattle.alike_laws.proofs.Rows.{rejoined_moved, rows_moved}
 use Rattle.alike_laws.specs.SameDeclarations.{DeclareTheSame}
 use Rattle.implication_laws.specs.OneAnswer.{AllowsOne, HasFixedProof}
 use Rattle.implication_laws.proofs.OneAnswer.{one_basis_answer, one_certificate_answer, one_cover_answer, one_exhibit_answer, one_goal_stop, one_keys_answer, one_same_answer}
+use Rattle.implication_laws.proofs.OneDerivation.{one_derivation_answer}
 use Rattle.implication_laws.proofs.OneDecision.{one_decision}
 use Rattle.implication_laws.proofs.OneProjection.{one_projection_answer}
 use Rattle.implication_laws.proofs.OneReasons.{one_explained_cover, one_explained_keys}
@@ -34,36 +40,42 @@ use Rattle.implication_laws.proofs.OneStepsAnswer.{one_closure_answer, one_cover
 use Rattle.implication_laws.proofs.GoalLemmas.{goal_goes, says-status}
 use Rattle.implication_laws.proofs.ImplyingLaws.{no_not_yes}
 use Rattle.implication_laws.proofs.OnePlanAnswer.{one_plan_answer}
+use Rattle.measure_laws.proofs.OneMeasure.{one_kept, one_list_by_row, one_list_of_classes, one_measured}
 use Rattle.plan_laws.proofs.DesignAnswers.{one_check_scripted, one_form_drawn, one_form_scripted, one_form_written, one_plan_drawn, one_plan_scripted, one_plan_written}
 use Rattle.plan_laws.proofs.FormTables.{one_synthesis}
-use Rattle.plan_laws.proofs.RowAnswers.{one_form_migrated, one_plan_migrated, one_rejoined, one_rows_answer}
+use Rattle.plan_laws.proofs.PlacedAnswers.{one_form_placed, one_plan_placed}
+use Rattle.plan_laws.proofs.ReasonAnswers.{one_explained_split, one_explained_synthesis}
+use Rattle.plan_laws.proofs.RowAnswers.{one_rejoined, one_rows_answer}
 use Rattle.plan_laws.proofs.SplitAnswers.{one_split_answer, one_wide_answer}
 use Rattle.plan_laws.proofs.UniqueLaws.{one_form, one_join, one_keeping}
-use Rattle.desk_cli.specs.Performs.{AnswersPlan, AnswersRows, AnswersSchema, Does}
+use Rattle.desk_cli.specs.Performs.{AnswersPlan, AnswersRows, AnswersSchema, Does, WithValues}
+use Rattle.desk_measures.specs.Measures.{MeasuresRows}
+use Rattle.desk_measures.specs.Untyped.{HasTextsAlone}
 use Rattle.desk_implication.specs.Certificates.{ChecksProof}
+use Rattle.desk_derivations.specs.Derivations.{ChecksDerivation}
 use Rattle.desk_covers.specs.CoverChecks.{ChecksCover}
 use Rattle.desk_implication.specs.Implication.{DecidesGoal}
 use Rattle.desk_covers.specs.Sameness.{ChecksSame}
 use Rattle.desk_inputs.specs.FileKinds.{IsFile, WithFile}
-use Rattle.desk_inputs.specs.Inputs.{proof_file, schema_file}
+use Rattle.desk_inputs.specs.Inputs.{derivation_file, proof_file, schema_file}
 use Rattle.desk_inputs.specs.Parts.{WithParts}
 use Rattle.desk_inputs.specs.Plans.{plan_file}
 use Rattle.desk_inputs.specs.Readings.{known_files}
 use Rattle.desk_inputs.specs.Rows.{rows_file}
 use Rattle.desk_laws.proofs.OneFile.{goes, one_stop, one_view}
-use Rattle.desk_laws.proofs.OneInput.{one_after_parts, one_after_plan, one_after_proof, one_after_rows}
+use Rattle.desk_laws.proofs.OneInput.{one_after_derivation, one_after_parts, one_after_plan, one_after_proof, one_after_rows}
 use Rattle.desk_laws.proofs.OneText.{schema_text_once}
 use Rattle.desk_laws.specs.OneReading.{IsOneButForProof}
 use Rattle.desk_responses.specs.ResponseValues.{Allowed, ResponseValue}
 use Rattle.desk_responses.specs.declared.status.Status.TheVariants.{Yes, No}
-use Rattle.desk_tables.specs.Migrations.{MigratesPlan}
+use Rattle.desk_tables.specs.Overwriting.{MigratesHere, MigratesPlanHere}
 use Rattle.desk_tables.specs.Rejoining.{JoinsTables}
 use Rattle.desk_words.specs.Forms as form
 use Rattle.desk_words.specs.Forms.{PlanQuestion, RowsQuestion, SchemaQuestion, Task}
 
 -- ---- schemas of one file
 -- two schemas of one file declare the same
-declare_the_same : (files : Files) (name : List ℕ) (s t : Schema) → IsFile schema_file (known_files files) name s
+pub declare_the_same : (files : Files) (name : List ℕ) (s t : Schema) → IsFile schema_file (known_files files) name s
     → IsFile schema_file (known_files files) name t → DeclareTheSame s t
 declare_the_same files name s t is also =
     let same : declarations_of s ≡ declarations_of t =
@@ -207,6 +219,11 @@ one_schema_answer form.explain_cover s t same one other first second =
     inl (alike _ explained_cover_moved one_explained_cover s t same one other first second)
 one_schema_answer form.explain_keys s t same one other first second =
     inl (alike _ explained_keys_moved one_explained_keys s t same one other first second)
+one_schema_answer form.explain_synthesize s t same one other first second =
+    inl (alike _ explained_synthesis_moved one_explained_synthesis s t same one other first second)
+one_schema_answer (form.explain_split normal) s t same one other first second =
+    inl (alike _ (λ s f. explained_split_moved s f normal) (λ s. one_explained_split s normal) s t same one other
+    first second)
 one_schema_answer (form.ddl normal) s t same one other first second =
     inl (alike _ (λ s f. form_written_moved s f normal) (λ s. one_form_written s normal) s t same one other first second)
 one_schema_answer (form.sql_check name) s t same one other first second =
@@ -244,13 +261,40 @@ pub one_answer_of_rows : (s : Schema) (rows : Relation) (question : RowsQuestion
     → AllowsOne (AnswersRows s rows question)
 unfolding AnswersRows
 one_answer_of_rows s rows form.check_rows one other = one_rows_answer s rows one other
-one_answer_of_rows s rows (form.migrate normal) one other = one_form_migrated s normal rows one other
+one_answer_of_rows s rows form.offences one other = one_list_of_classes s rows one other
+one_answer_of_rows s rows form.offences_by_row one other = one_list_by_row s rows one other
+one_answer_of_rows s rows form.kept one other = one_kept s rows one other
 
 rows_answer_moved : (s : Schema) (f : Frame s) (question : RowsQuestion) (rows : Relation) (response : ResponseValue)
     → AnswersRows s rows question response → AnswersRows (rebuilt s f) rows question response
 unfolding AnswersRows
 rows_answer_moved s f form.check_rows rows response answers = rows_moved s f rows response answers
-rows_answer_moved s f (form.migrate normal) rows response answers = form_migrated_moved s f normal rows response answers
+rows_answer_moved s f form.offences rows response answers = offences_moved s f rows response answers
+rows_answer_moved s f form.offences_by_row rows response answers = offences_by_row_moved s f rows response answers
+rows_answer_moved s f form.kept rows response answers = kept_moved s f rows response answers
+
+-- text columns alone of two schemas that declare the same
+texts_alike : (s t a b : Schema) → DeclareTheSame s t → HasTextsAlone s a → HasTextsAlone t b → DeclareTheSame a b
+texts_alike s t a b same first second = record {
+  naming = first.naming ∙ same.naming ∙ sym second.naming;
+  names = first.names ∙ same.names ∙ sym second.names;
+  types = first.types ∙ ap (λ (names : List (List ℕ)). replicate (length names) Text) same.names ∙ sym second.types;
+  nullable = first.nullable ∙ same.nullable ∙ sym second.nullable;
+  theory = first.theory ∙ same.theory ∙ sym second.theory;
+  lines = first.lines ∙ same.lines ∙ sym second.lines;
+}
+
+-- what is asked of rows of whatever values has one answer
+one_of_values : (files : Files) (s t : Schema) (file : List ℕ) (one other : ResponseValue) → DeclareTheSame s t
+    → WithValues (known_files files) s file (MeasuresRows s) one
+    → WithValues (known_files files) t file (MeasuresRows t) other → one ≡ other
+unfolding WithValues
+one_of_values files s t file one other same (a, first, found) (b, second, also) =
+    alike_of_two (λ (u texts : Schema). WithFile (rows_file texts) (known_files files) file (MeasuresRows u))
+    (λ u texts f g. with_rows_moved texts g (known_files files) file (MeasuresRows u) (MeasuresRows (rebuilt u f))
+    (λ rows. measured_moved u f rows))
+    (λ u texts. one_after_rows files texts file (MeasuresRows u) (λ rows. one_measured u rows))
+    s t a b same (texts_alike s t a b same first second) one other found also
 
 -- ---- tasks
 pub one_task : (files : Files) (s t : Schema) (task : Task) (one other : ResponseValue) → DeclareTheSame s t
@@ -274,19 +318,35 @@ one_task files s t (form.of_rows file question) one other same first second =
     (λ u. one_after_rows files u file (λ rows. AnswersRows u rows question)
     (λ rows. one_answer_of_rows u rows question))
     s t same one other first second)
-one_task files s t (form.migrate_plan planned file) one other same first second =
+one_task files s t (form.measure file) one other same first second =
+    inl (one_of_values files s t file one other same first second)
+one_task files s t (form.migrate own file normal) one other same first second =
+    inl (alike
+    (λ (u : Schema). WithFile (rows_file u) (known_files files) file (MigratesHere u normal (own ∷ file ∷ [])))
+    (λ u f. with_rows_moved u f (known_files files) file (MigratesHere u normal (own ∷ file ∷ []))
+    (MigratesHere (rebuilt u f) normal (own ∷ file ∷ []))
+    (λ rows. form_placed_moved u f normal (own ∷ file ∷ []) rows))
+    (λ u. one_after_rows files u file (MigratesHere u normal (own ∷ file ∷ []))
+    (λ rows. one_form_placed u normal (own ∷ file ∷ []) rows))
+    s t same one other first second)
+one_task files s t (form.migrate_plan own planned file) one other same first second =
     inl (alike
     (λ (u : Schema). WithFile (plan_file u) (known_files files) planned
-    (λ plan. WithFile (rows_file u) (known_files files) file (λ rows. MigratesPlan u plan rows)))
+    (λ plan. WithFile (rows_file u) (known_files files) file
+    (MigratesPlanHere u plan (own ∷ planned ∷ file ∷ []))))
     (λ u f. with_plan_file_moved u f (known_files files) planned
-    (λ plan. WithFile (rows_file u) (known_files files) file (λ rows. MigratesPlan u plan rows))
-    (λ plan. WithFile (rows_file (rebuilt u f)) (known_files files) file (λ rows. MigratesPlan (rebuilt u f) plan rows))
-    (λ plan. with_rows_moved u f (known_files files) file (λ rows. MigratesPlan u plan rows)
-    (λ rows. MigratesPlan (rebuilt u f) plan rows) (λ rows. plan_migrated_moved u f plan rows)))
+    (λ plan. WithFile (rows_file u) (known_files files) file
+    (MigratesPlanHere u plan (own ∷ planned ∷ file ∷ [])))
+    (λ plan. WithFile (rows_file (rebuilt u f)) (known_files files) file
+    (MigratesPlanHere (rebuilt u f) plan (own ∷ planned ∷ file ∷ [])))
+    (λ plan. with_rows_moved u f (known_files files) file (MigratesPlanHere u plan (own ∷ planned ∷ file ∷ []))
+    (MigratesPlanHere (rebuilt u f) plan (own ∷ planned ∷ file ∷ []))
+    (λ rows. plan_placed_moved u f plan (own ∷ planned ∷ file ∷ []) rows)))
     (λ u. one_after_plan files u planned
-    (λ plan. WithFile (rows_file u) (known_files files) file (λ rows. MigratesPlan u plan rows))
-    (λ plan valid. one_after_rows files u file (λ rows. MigratesPlan u plan rows)
-    (λ rows. one_plan_migrated u plan rows)))
+    (λ plan. WithFile (rows_file u) (known_files files) file
+    (MigratesPlanHere u plan (own ∷ planned ∷ file ∷ [])))
+    (λ plan valid. one_after_rows files u file (MigratesPlanHere u plan (own ∷ planned ∷ file ∷ []))
+    (λ rows. one_plan_placed u plan (own ∷ planned ∷ file ∷ []) rows)))
     s t same one other first second)
 one_task files s t (form.check_proof file goal) one other same first second =
     inl (alike
@@ -295,6 +355,14 @@ one_task files s t (form.check_proof file goal) one other same first second =
     (λ tree. ChecksProof (rebuilt u f) tree goal) (λ tree. proof_answer_moved u f tree goal))
     (λ u. one_after_proof files u file (λ tree. ChecksProof u tree goal)
     (λ tree. one_certificate_answer u tree goal))
+    s t same one other first second)
+one_task files s t (form.check_derivation file goal) one other same first second =
+    inl (alike
+    (λ (u : Schema). WithFile (derivation_file u) (known_files files) file (λ derived. ChecksDerivation u derived goal))
+    (λ u f. with_derivation_moved u f (known_files files) file (λ derived. ChecksDerivation u derived goal)
+    (λ derived. ChecksDerivation (rebuilt u f) derived goal) (λ derived. derivation_answer_moved u f derived goal))
+    (λ u. one_after_derivation files u file (λ derived. ChecksDerivation u derived goal)
+    (λ derived. one_derivation_answer u derived goal))
     s t same one other first second)
 one_task files s t (form.check_same file other_file) one other same first second =
     inl (after_schema files other_file (λ one other. one ≡ other) (λ u. ChecksSame s u file other_file)

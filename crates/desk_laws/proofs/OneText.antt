@@ -13,6 +13,10 @@ use Rattle.dep_model.specs.Schemas.{names_of, width_of}
 use Rattle.dep_model.specs.Tuples.{Relation}
 use Rattle.dep_model.specs.declared.schema.Schema.{Schema}
 use Rattle.derivation.proofs.RuleTableLemmas.{the_ok}
+use Rattle.derivation_grammar.proofs.TextLaws.{reading_law, refusal_law}
+use Rattle.derivation_grammar.specs.Derivations.{Derives}
+use Rattle.derivation_grammar.specs.Refusals.{IsRefusedDerivation}
+use Rattle.derivation_grammar.specs.Texts.{read_derivation}
 use Rattle.fd_discovery.proofs.UniqueHeaded.{names_same, rows_same, refused_same, never_both}
 use Rattle.fd_discovery.specs.Headings.{IsHeaded, IsRefusedDiscovery, names_under, rows_under}
 use Rattle.fd_discovery.specs.declared.headed_rows.Headed.{Headed}
@@ -55,6 +59,11 @@ pub proof_text_once : (s : Schema) (text : List ℕ) → HasOneReading (SpellsWi
 proof_text_once s text =
     read_once (read_proof s text) (SpellsWithin s text) (IsRefusedCertificate s text) (spelled_back s text)
     (refused_back s text)
+
+pub derivation_text_once : (s : Schema) (text : List ℕ) → HasOneReading (Derives s text) (IsRefusedDerivation s text)
+derivation_text_once s text =
+    read_once (read_derivation s text) (Derives s text) (IsRefusedDerivation s text)
+    (λ d derives. (reading_law s text d).1 derives) (λ e refused. (refusal_law s text e).1 refused)
 
 pub plan_text_once : (names : List (List ℕ)) (text : List ℕ)
     → HasOneReading (MeansPlan names text) (RefusesPlan names text)

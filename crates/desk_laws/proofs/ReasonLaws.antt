@@ -12,12 +12,19 @@ use Rattle.desk_inputs.specs.FileKinds.{IsFile, WithFile}
 use Rattle.desk_inputs.specs.Inputs.{schema_file}
 use Rattle.desk_inputs.specs.Readings.{known_files}
 use Rattle.desk_outside.specs.Files.{Files}
+use Rattle.desk_designs.specs.Decompositions.{IsSplitInForm, SplitStops, ShowsPlan, WithPlanInForm}
+use Rattle.desk_designs.specs.Synthesis.{Synthesizes}
+use Rattle.desk_reasons.specs.SplitReasons.{AreSplitReasons, ExplainsCuts}
+use Rattle.desk_reasons.specs.SynthesisReasons.{AreSynthesisReasons, ExplainsSynthesis}
 use Rattle.desk_responses.specs.Reasons.{Explained}
-use Rattle.desk_responses.specs.ResponseValues.{ResponseValue, Allowed}
+use Rattle.desk_responses.specs.ResponseValues.{ResponseValue, Allowed, With}
+use Rattle.normal_forms.specs.declared.forms.Form.{Form}
+use Rattle.normal_forms.specs.declared.forms.Form.TheVariants.{Bcnf, Fourth}
 use Rattle.desk_responses.specs.declared.status.Status.{Status}
-use Rattle.desk_words.specs.Forms.{form_of, form_over_schema, after_explain, schema_alone}
-use Rattle.desk_laws.specs.Completeness.{IsYesOrNo, IsAnswered}
-use Rattle.desk_laws.proofs.CompleteLaws.{after_schema, narrow_same, not_many_same, lists_keys}
+use Rattle.desk_words.specs.Forms.{form_of, form_over_schema, after_explain, after_explain_split, schema_alone}
+use Rattle.desk_laws.specs.Completeness.{IsYesOrNo, IsAnswered, HasPlanInForm}
+use Rattle.desk_laws.proofs.CompleteLaws.{AreSame, after_schema, narrow_same, not_many_same, lists_keys}
+use Rattle.desk_laws.proofs.TableLaws.{after_form}
 
 Explained-yes_or_no : (AreReasons : List ℕ → Type 0) (answers : Allowed) (response : ResponseValue)
     → ((plain : ResponseValue) → answers plain → IsYesOrNo plain.status)
@@ -55,3 +62,57 @@ keys_explained files name schema file narrow within_limit response answered =
     (λ r same found. Explained-yes_or_no (AreKeyReasons r) (ListsKeys r) response
     (λ plain is. lists_keys r plain (narrow_same schema r same narrow) (not_many_same schema r same within_limit) is) found)
     (keys_asks files name response answered)
+
+synthesis_asks : (files : Files) (name : List ℕ) (response : ResponseValue)
+    → Answers (known_files files) (codes "explain" ∷ codes "synthesize" ∷ name ∷ []) response
+    → WithFile schema_file (known_files files) name ExplainsSynthesis response
+unfolding form_of form_over_schema after_explain schema_alone Performs Does AnswersSchema
+synthesis_asks files name response answered = answered
+
+pub synthesis_explained : (files : Files) (name : List ℕ) (schema : Schema)
+    → IsFile schema_file (known_files files) name schema
+    → IsAnswered files (codes "explain" ∷ codes "synthesize" ∷ name ∷ [])
+synthesis_explained files name schema file response answered =
+    after_schema files name schema ExplainsSynthesis response file
+    (λ r same found. Explained-yes_or_no (AreSynthesisReasons r) (Synthesizes r) response
+    (λ plain is. inl (ap (λ (a : ResponseValue). a.status) is.2)) found)
+    (synthesis_asks files name response answered)
+
+-- a split of a form below how it comes about, where splitting meets no limit
+cuts_said : (r schema : Schema) (form : Form) (response : ResponseValue) → AreSame schema r
+    → HasPlanInForm schema form
+    → ((response : ResponseValue) → With (SplitStops r form) (IsSplitInForm r form) (ShowsPlan r) response
+    → WithPlanInForm r form (ShowsPlan r) response)
+    → ExplainsCuts r form response → IsYesOrNo response.status
+cuts_said r schema form response same can splits found =
+    Explained-yes_or_no (AreSplitReasons r form) (With (SplitStops r form) (IsSplitInForm r form) (ShowsPlan r)) response
+    (λ plain is. after_form schema r form (ShowsPlan r) plain same can
+    (λ plan says. inl (ap (λ (a : ResponseValue). a.status) says)) (splits plain is)) found
+
+bcnf_asks : (files : Files) (name : List ℕ) (response : ResponseValue)
+    → Answers (known_files files) (codes "explain" ∷ codes "split" ∷ codes "bcnf" ∷ name ∷ []) response
+    → WithFile schema_file (known_files files) name (λ r. ExplainsCuts r Bcnf) response
+unfolding form_of form_over_schema after_explain after_explain_split schema_alone Performs Does AnswersSchema
+bcnf_asks files name response answered = answered
+
+pub bcnf_explained : (files : Files) (name : List ℕ) (schema : Schema)
+    → IsFile schema_file (known_files files) name schema → HasPlanInForm schema Bcnf
+    → IsAnswered files (codes "explain" ∷ codes "split" ∷ codes "bcnf" ∷ name ∷ [])
+bcnf_explained files name schema file can response answered =
+    after_schema files name schema (λ r. ExplainsCuts r Bcnf) response file
+    (λ r same found. cuts_said r schema Bcnf response same can (λ plain is. is) found)
+    (bcnf_asks files name response answered)
+
+fourth_asks : (files : Files) (name : List ℕ) (response : ResponseValue)
+    → Answers (known_files files) (codes "explain" ∷ codes "split" ∷ codes "4nf" ∷ name ∷ []) response
+    → WithFile schema_file (known_files files) name (λ r. ExplainsCuts r Fourth) response
+unfolding form_of form_over_schema after_explain after_explain_split schema_alone Performs Does AnswersSchema
+fourth_asks files name response answered = answered
+
+pub fourth_explained : (files : Files) (name : List ℕ) (schema : Schema)
+    → IsFile schema_file (known_files files) name schema → HasPlanInForm schema Fourth
+    → IsAnswered files (codes "explain" ∷ codes "split" ∷ codes "4nf" ∷ name ∷ [])
+fourth_explained files name schema file can response answered =
+    after_schema files name schema (λ r. ExplainsCuts r Fourth) response file
+    (λ r same found. cuts_said r schema Fourth response same can (λ plain is. is) found)
+    (fourth_asks files name response answered)

@@ -7,7 +7,7 @@ use Rattle.lexer.specs.Bytes.{number_of}
 use Rattle.normal_forms.specs.declared.forms.Form.{Form}
 use Rattle.sample_rows.specs.declared.rows.TheConstants.{MOST_PERSONS}
 use Rattle.desk_words.specs.Forms as form
-use Rattle.desk_words.specs.Forms.{CommandForm, PlanQuestion, RowsQuestion, SchemaQuestion, Task, after_check, after_check_form, after_ddl, after_draw, after_explain, after_keys, after_migrate, after_split, after_sql, after_sql_migrate, are_one_to_64, form_of, form_over_schema, no_more_arguments, normal_form, persons_alone, schema_alone, schema_and_plan, schema_and_plan_and_word, schema_and_rows, schema_and_several, schema_and_two, schema_and_word, two_schemas, word_alone}
+use Rattle.desk_words.specs.Forms.{CommandForm, PlanQuestion, RowsQuestion, SchemaQuestion, Task, after_check, after_check_form, after_ddl, after_draw, after_explain, after_explain_split, after_keys, after_migrate, after_migrate_form, after_migrate_plan, after_offences, after_split, after_sql, after_sql_migrate, are_one_to_64, form_of, form_over_rows, form_over_schema, no_more_arguments, normal_form, persons_alone, schema_alone, schema_and_file, schema_and_plan, schema_and_plan_and_word, schema_and_rows, schema_and_several, schema_and_two, schema_and_word, two_schemas, word_alone}
 use Rattle.desk_words.specs.Numbers.{is_count}
 
 -- if a form is that of `sample`, its number is within the limit
@@ -67,6 +67,13 @@ few_and_rows question [] = tt
 few_and_rows question (a ∷ []) = tt
 few_and_rows question (a ∷ b ∷ []) = tt
 few_and_rows question (a ∷ b ∷ d ∷ words) = tt
+
+few_and_file : (task : List ℕ → Task) (words : List (List ℕ)) → AreFew (schema_and_file task words)
+unfolding schema_and_file
+few_and_file task [] = tt
+few_and_file task (a ∷ []) = tt
+few_and_file task (a ∷ b ∷ []) = tt
+few_and_file task (a ∷ b ∷ d ∷ words) = tt
 
 few_and_two : (task : List ℕ → List ℕ → Task) (words : List (List ℕ)) → AreFew (schema_and_two task words)
 unfolding schema_and_two
@@ -130,13 +137,14 @@ unfolding after_check
 few_check [] = tt
 few_check (what ∷ rest) =
     few_if (bytes_eq what (codes "proof")) _ _ (few_and_two form.check_proof rest)
+    (few_if (bytes_eq what (codes "derivation")) _ _ (few_and_two form.check_derivation rest)
     (few_if (bytes_eq what (codes "rows")) _ _ (few_and_rows form.check_rows rest)
     (few_if (bytes_eq what (codes "key")) _ _ (few_and_word form.check_key rest)
     (few_if (bytes_eq what (codes "join")) _ _ (few_and_plan form.check_join rest)
     (few_if (bytes_eq what (codes "form")) _ _ (few_check_form rest)
     (few_if (bytes_eq what (codes "keeps")) _ _ (few_and_plan form.check_keeps rest)
     (few_if (bytes_eq what (codes "same")) _ _ (few_schemas form.check_same rest)
-    (few_if (bytes_eq what (codes "cover")) _ _ (few_schemas form.check_cover rest) tt)))))))
+    (few_if (bytes_eq what (codes "cover")) _ _ (few_schemas form.check_cover rest) tt))))))))
 
 few_keys : (words : List (List ℕ)) → AreFew (after_keys words)
 unfolding after_keys
@@ -153,12 +161,21 @@ few_split (what ∷ rest) =
     (few_if (bytes_eq what (codes "4nf")) _ _ (few_alone _ rest)
     (few_if (bytes_eq what (codes "wide-bcnf")) _ _ (few_alone form.split_wide rest) tt))
 
+few_explain_split : (words : List (List ℕ)) → AreFew (after_explain_split words)
+unfolding after_explain_split
+few_explain_split [] = tt
+few_explain_split (what ∷ rest) =
+    few_if (bytes_eq what (codes "bcnf")) _ _ (few_alone _ rest)
+    (few_if (bytes_eq what (codes "4nf")) _ _ (few_alone _ rest) tt)
+
 few_explain : (words : List (List ℕ)) → AreFew (after_explain words)
 unfolding after_explain
 few_explain [] = tt
 few_explain (what ∷ rest) =
     few_if (bytes_eq what (codes "cover")) _ _ (few_alone form.explain_cover rest)
-    (few_if (bytes_eq what (codes "keys")) _ _ (few_alone form.explain_keys rest) tt)
+    (few_if (bytes_eq what (codes "keys")) _ _ (few_alone form.explain_keys rest)
+    (few_if (bytes_eq what (codes "synthesize")) _ _ (few_alone form.explain_synthesize rest)
+    (few_if (bytes_eq what (codes "split")) _ _ (few_explain_split rest) tt)))
 
 few_ddl : (words : List (List ℕ)) → AreFew (after_ddl words)
 unfolding after_ddl
@@ -167,12 +184,44 @@ few_ddl (what ∷ rest) =
     few_if (bytes_eq what (codes "plan")) _ _ (few_and_plan form.ddl_plan rest)
     (few_then _ (normal_form what) (λ normal. few_alone (form.ddl normal) rest))
 
+few_migrate_plan : (words : List (List ℕ)) → AreFew (after_migrate_plan words)
+unfolding after_migrate_plan
+few_migrate_plan [] = tt
+few_migrate_plan (a ∷ []) = tt
+few_migrate_plan (a ∷ b ∷ []) = tt
+few_migrate_plan (a ∷ b ∷ d ∷ []) = tt
+few_migrate_plan (a ∷ b ∷ d ∷ e ∷ words) = tt
+
+few_migrate_form : (normal : Form) (words : List (List ℕ)) → AreFew (after_migrate_form normal words)
+unfolding after_migrate_form
+few_migrate_form normal [] = tt
+few_migrate_form normal (a ∷ []) = tt
+few_migrate_form normal (a ∷ b ∷ []) = tt
+few_migrate_form normal (a ∷ b ∷ d ∷ words) = tt
+
 few_migrate : (words : List (List ℕ)) → AreFew (after_migrate words)
 unfolding after_migrate
 few_migrate [] = tt
 few_migrate (what ∷ rest) =
-    few_if (bytes_eq what (codes "plan")) _ _ (few_and_two form.migrate_plan rest)
-    (few_then _ (normal_form what) (λ normal. few_and_rows (form.migrate normal) rest))
+    few_if (bytes_eq what (codes "plan")) _ _ (few_migrate_plan rest)
+    (few_then _ (normal_form what) (λ normal. few_migrate_form normal rest))
+
+few_offences : (words : List (List ℕ)) → AreFew (after_offences words)
+unfolding after_offences
+few_offences [] = tt
+few_offences (a ∷ []) = tt
+few_offences (a ∷ b ∷ []) = tt
+few_offences (what ∷ b ∷ d ∷ []) = few_if (bytes_eq what (codes "rows")) _ _ tt tt
+few_offences (a ∷ b ∷ d ∷ e ∷ words) = tt
+
+few_over_rows : (verb : List ℕ) (rest : List (List ℕ)) → AreFew (form_over_rows verb rest)
+unfolding form_over_rows
+few_over_rows verb rest =
+    few_if (bytes_eq verb (codes "migrate")) _ _ (few_migrate rest)
+    (few_if (bytes_eq verb (codes "measure")) _ _ (few_and_file form.measure rest)
+    (few_if (bytes_eq verb (codes "offences")) _ _ (few_offences rest)
+    (few_if (bytes_eq verb (codes "kept")) _ _ (few_and_rows form.kept rest)
+    (few_if (bytes_eq verb (codes "rejoin")) _ _ (few_and_several form.rejoin rest) tt))))
 
 few_sql_migrate : (words : List (List ℕ)) → AreFew (after_sql_migrate words)
 unfolding after_sql_migrate
@@ -210,10 +259,8 @@ few_over_schema verb rest =
     (few_if (bytes_eq verb (codes "exhibit")) _ _ (few_alone form.exhibit rest)
     (few_if (bytes_eq verb (codes "explain")) _ _ (few_explain rest)
     (few_if (bytes_eq verb (codes "ddl")) _ _ (few_ddl rest)
-    (few_if (bytes_eq verb (codes "migrate")) _ _ (few_migrate rest)
-    (few_if (bytes_eq verb (codes "rejoin")) _ _ (few_and_several form.rejoin rest)
     (few_if (bytes_eq verb (codes "sql")) _ _ (few_sql rest)
-    (few_if (bytes_eq verb (codes "draw")) _ _ (few_draw rest) tt)))))))))))))))
+    (few_if (bytes_eq verb (codes "draw")) _ _ (few_draw rest) (few_over_rows verb rest))))))))))))))
 
 few_form : (words : List (List ℕ)) → AreFew (form_of words)
 unfolding form_of

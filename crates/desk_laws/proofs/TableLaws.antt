@@ -26,13 +26,14 @@ use Rattle.desk_responses.specs.ResponseValues.{ResponseValue, Allowed}
 use Rattle.desk_designs.specs.Decompositions.{SplitStops, WithPlanInForm, ShowsPlan, SplitsWide}
 use Rattle.desk_designs.specs.Designs.{WritesTables, WritesSchemes}
 use Rattle.desk_discovery.specs.Exhibits.{Exhibits}
-use Rattle.desk_words.specs.Forms.{form_of, form_over_schema, after_check, after_check_form, after_split, after_ddl, after_migrate, normal_form, schema_alone, schema_and_two, persons_alone, schema_and_plan, schema_and_rows}
+use Rattle.desk_words.specs.Forms.{form_of, form_over_rows, form_over_schema, after_check, after_check_form, after_split, after_ddl, after_migrate, after_migrate_form, after_migrate_plan, normal_form, schema_alone, schema_and_two, persons_alone, schema_and_plan, schema_and_rows}
 use Rattle.desk_inputs.specs.FileKinds.{IsFile, WithFile}
 use Rattle.desk_inputs.specs.Inputs.{schema_file}
 use Rattle.desk_designs.specs.Joins.{WithoutLoss, IsTooLarge}
 use Rattle.desk_designs.specs.Keeping.{JudgesKeeping}
 use Rattle.desk_tables.specs.Legality.{WithLegal}
-use Rattle.desk_tables.specs.Migrations.{GivesTables, MigratesRows, Samples}
+use Rattle.desk_tables.specs.Migrations.{GivesTables, MigratesPlan, MigratesRows, Samples}
+use Rattle.desk_tables.specs.Overwriting.{KeepsFiles, MigratesHere, MigratesPlanHere}
 use Rattle.desk_words.specs.Numbers.{is_count}
 use Rattle.lexer.specs.Bytes.{number_of}
 use Rattle.sample_rows.specs.Sample.{sample_relation}
@@ -41,7 +42,7 @@ use Rattle.desk_cli.specs.Performs.{Answers, Performs, Does, AnswersSchema, Answ
 use Rattle.desk_inputs.specs.Plans.{plan_file}
 use Rattle.desk_inputs.specs.Readings.{known_files}
 use Rattle.desk_inputs.specs.Rows.{rows_file}
-use Rattle.desk_laws.specs.Completeness.{IsYesOrNo, IsAnswered, IsSplittable, HasPlanInForm}
+use Rattle.desk_laws.specs.Completeness.{IsYesOrNo, IsAnswered, IsSplittable, HasPlanInForm, NamesNoTable}
 use Rattle.desk_designs.proofs.SplitLemmas.{stuck_within}
 use Rattle.desk_laws.proofs.CompleteLaws.{AreSame, after_schema, after_rows, after_plan, small_same}
 
@@ -176,25 +177,41 @@ ddl_answered form files name =
     form_answered files (codes "ddl" ∷ form_word form ∷ name ∷ []) name form WritesTables WritesTables-yes_or_no
     (ddl_asks form files name)
 
-migrate_asks : (form : Form) (files : Files) (name file : List ℕ) (response : ResponseValue) → Answers (known_files files) (codes "migrate" ∷ form_word form ∷ name ∷ file ∷ []) response
-    → WithFile schema_file (known_files files) name (λ r. WithFile (rows_file r) (known_files files) file (λ rows. WithPlanInForm r form (λ plan. MigratesRows r (schemes_of plan) rows))) response
-unfolding form_of form_over_schema after_migrate normal_form schema_and_rows Performs Does AnswersRows
+-- files of which none is a table's stay as they are
+abbrev EachNamesNoTable : List (List ℕ) → Type 0
+EachNamesNoTable [] = Unit {0}
+EachNamesNoTable (file ∷ files) = NamesNoTable file × EachNamesNoTable files
+
+keeps_files : (tables : ℕ) (files : List (List ℕ)) (rest : Allowed) (response : ResponseValue)
+    → EachNamesNoTable files → KeepsFiles tables files rest response → rest response
+keeps_files tables [] rest response none kept = kept
+keeps_files tables (file ∷ files) rest response none (inl (is, says)) = absurd (none.0 tables is)
+keeps_files tables (file ∷ files) rest response none (inr (passed, kept)) =
+    keeps_files tables files rest response none.1 kept
+
+migrate_asks : (form : Form) (files : Files) (name file : List ℕ) (response : ResponseValue)
+    → Answers (known_files files) (codes "migrate" ∷ form_word form ∷ name ∷ file ∷ []) response
+    → WithFile schema_file (known_files files) name
+    (λ r. WithFile (rows_file r) (known_files files) file (MigratesHere r form (name ∷ file ∷ []))) response
+unfolding form_of form_over_schema form_over_rows after_migrate after_migrate_form normal_form Performs Does
 migrate_asks Third files name file response answered = answered
 migrate_asks Bcnf files name file response answered = answered
 migrate_asks Fourth files name file response answered = answered
 
 pub migrate_answered : (form : Form) (files : Files) (name file : List ℕ)
     → (schema : Schema) (rows : Relation)
-    → IsFile schema_file (known_files files) name schema → IsFile (rows_file schema) (known_files files) file rows → HasPlanInForm schema form
+    → IsFile schema_file (known_files files) name schema → IsFile (rows_file schema) (known_files files) file rows
+    → NamesNoTable name → NamesNoTable file → HasPlanInForm schema form
     → IsAnswered files (codes "migrate" ∷ form_word form ∷ name ∷ file ∷ [])
-migrate_answered form files name file schema rows held_schema held_rows can response answered =
+migrate_answered form files name file schema rows held_schema held_rows own other can response answered =
     after_schema files name schema
-    (λ r. WithFile (rows_file r) (known_files files) file (λ x. WithPlanInForm r form (λ plan. MigratesRows r (schemes_of plan) x)))
-    response held_schema
-    (λ r same more. after_rows files schema r file rows
-    (λ x. WithPlanInForm r form (λ plan. MigratesRows r (schemes_of plan) x)) response same held_rows
-    (λ x found. after_form schema r form (λ plan. MigratesRows r (schemes_of plan) x) response same can
-    (λ plan gives. MigratesRows-yes_or_no r (schemes_of plan) x response gives) found) more)
+    (λ r. WithFile (rows_file r) (known_files files) file (MigratesHere r form (name ∷ file ∷ []))) response held_schema
+    (λ r same more. after_rows files schema r file rows (MigratesHere r form (name ∷ file ∷ [])) response same held_rows
+    (λ x found. after_form schema r form
+    (λ plan. KeepsFiles (length (schemes_of plan)) (name ∷ file ∷ []) (MigratesRows r (schemes_of plan) x)) response same can
+    (λ plan kept. MigratesRows-yes_or_no r (schemes_of plan) x response
+    (keeps_files (length (schemes_of plan)) (name ∷ file ∷ []) (MigratesRows r (schemes_of plan) x) response (own, (other, tt)) kept))
+    found) more)
     (migrate_asks form files name file response answered)
 
 pub split_answered : (files : Files) (words : List (List ℕ)) (name : List ℕ) (form : Form)
@@ -262,19 +279,34 @@ ddl_plan_answered files name file schema plan held_schema held_plan small respon
     (λ p is found. after_loss schema r p plan (WritesSchemes r p) response same is small (λ writes. WritesTables-yes_or_no r writes.0 response writes.2) found) more)
     (ddl_plan_asks files name file response answered)
 
-migrate_plan_asks : (files : Files) (name planned file : List ℕ) (response : ResponseValue) → Answers (known_files files) (codes "migrate" ∷ codes "plan" ∷ name ∷ planned ∷ file ∷ []) response
-    → WithFile schema_file (known_files files) name (λ r. WithFile (plan_file r) (known_files files) planned (λ plan. WithFile (rows_file r) (known_files files) file (λ rows. WithoutLoss r plan (MigratesRows r plan rows)))) response
-unfolding form_of form_over_schema after_migrate schema_and_two Performs Does
+migrate_plan_asks : (files : Files) (name planned file : List ℕ) (response : ResponseValue)
+    → Answers (known_files files) (codes "migrate" ∷ codes "plan" ∷ name ∷ planned ∷ file ∷ []) response
+    → WithFile schema_file (known_files files) name
+    (λ r. WithFile (plan_file r) (known_files files) planned
+    (λ plan. WithFile (rows_file r) (known_files files) file
+    (MigratesPlanHere r plan (name ∷ planned ∷ file ∷ [])))) response
+unfolding form_of form_over_schema form_over_rows after_migrate after_migrate_plan Performs Does
 migrate_plan_asks files name planned file response answered = answered
 
-pub migrate_plan_answered : (files : Files) (name planned file : List ℕ) (schema : Schema) (plan : List Attributes) (rows : Relation)
-    → IsFile schema_file (known_files files) name schema → IsFile (plan_file schema) (known_files files) planned plan → IsFile (rows_file schema) (known_files files) file rows
+pub migrate_plan_answered : (files : Files) (name planned file : List ℕ) (schema : Schema) (plan : List Attributes)
+    (rows : Relation)
+    → IsFile schema_file (known_files files) name schema
+    → IsFile (plan_file schema) (known_files files) planned plan
+    → IsFile (rows_file schema) (known_files files) file rows
+    → NamesNoTable name → NamesNoTable planned → NamesNoTable file
     → (IsTooLarge schema plan → ⊥) → IsAnswered files (codes "migrate" ∷ codes "plan" ∷ name ∷ planned ∷ file ∷ [])
-migrate_plan_answered files name planned file schema plan rows held_schema held_plan held_rows small response answered =
-    after_schema files name schema (λ r. WithFile (plan_file r) (known_files files) planned (λ p. WithFile (rows_file r) (known_files files) file (λ x. WithoutLoss r p (MigratesRows r p x)))) response held_schema
-    (λ r same more. after_plan files schema r planned plan (λ p. WithFile (rows_file r) (known_files files) file (λ x. WithoutLoss r p (MigratesRows r p x))) response same held_plan
-    (λ p is found. after_rows files schema r file rows (λ x. WithoutLoss r p (MigratesRows r p x)) response same held_rows
-    (λ x kept. after_loss schema r p plan (MigratesRows r p x) response same is small (λ gives. MigratesRows-yes_or_no r p x response gives) kept) found) more)
+migrate_plan_answered files name planned file schema plan rows held_schema held_plan held_rows own also other small
+    response answered =
+    let read = name ∷ planned ∷ file ∷ [] in
+    after_schema files name schema
+    (λ r. WithFile (plan_file r) (known_files files) planned
+    (λ p. WithFile (rows_file r) (known_files files) file (MigratesPlanHere r p read))) response held_schema
+    (λ r same more. after_plan files schema r planned plan
+    (λ p. WithFile (rows_file r) (known_files files) file (MigratesPlanHere r p read)) response same held_plan
+    (λ p is found. after_rows files schema r file rows (MigratesPlanHere r p read) response same held_rows
+    (λ x kept. after_loss schema r p plan (MigratesRows r p x) response same is small
+    (λ gives. MigratesRows-yes_or_no r p x response gives)
+    (keeps_files (length p) read (MigratesPlan r p x) response (own, (also, (other, tt))) kept)) found) more)
     (migrate_plan_asks files name planned file response answered)
 
 sample_asks : (files : Files) (word : List ℕ) (response : ResponseValue) → is_count word ≡ true → Answers (known_files files) (codes "sample" ∷ word ∷ []) response → Samples (number_of word) response

@@ -13,6 +13,7 @@ use Rattle.desk_outside.specs.Files.{Files}
 use Rattle.desk_responses.specs.declared.status.Status.{Status}
 use Rattle.desk_responses.specs.declared.status.Status.TheVariants.{Yes, No}
 use Rattle.desk_responses.specs.ResponseValues.{ResponseValue}
+use Rattle.desk_tables.specs.Overwriting.{IsTableFile}
 use Rattle.desk_cli.specs.Desk.{FileSourceInCall, SinkInCall}
 use Rattle.desk_delivery.specs.Outcomes.{DestinationsInCall, NoneFails}
 use Rattle.desk_cli.specs.Performs.{Answers}
@@ -46,3 +47,7 @@ abbrev pub HasPlanInForm : Schema → Form → Type 0
 HasPlanInForm schema Third = Unit {0}
 HasPlanInForm schema Bcnf = IsSplittable schema Bcnf
 HasPlanInForm schema Fourth = IsSplittable schema Fourth
+
+-- no table has a file of this name
+abbrev pub NamesNoTable : List ℕ → Type 0
+NamesNoTable name = (tables : ℕ) → IsTableFile tables name → ⊥

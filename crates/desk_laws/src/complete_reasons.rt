@@ -9,7 +9,8 @@ ghost use Rattle.desk_inputs.specs.FileKinds.{IsFile};
 ghost use Rattle.desk_inputs.specs.Inputs.{schema_file};
 ghost use Rattle.desk_inputs.specs.Readings.{known_files};
 ghost use Rattle.desk_keys.specs.Keys.{HasManyKeys};
-ghost use Rattle.desk_laws.specs.Completeness.{IsAnswered};
+ghost use Rattle.normal_forms.specs.declared.forms.Form.TheVariants as forms;
+ghost use Rattle.desk_laws.specs.Completeness.{IsAnswered, HasPlanInForm};
 
 /// `explain cover` is answered where the schema file means a schema.
 pub fn explain_cover_is_answered()
@@ -24,4 +25,21 @@ pub fn explain_keys_is_answered()
         → IsFile schema_file (known_files files) name schema
         → (IsTooWide schema → ⊥) → (HasManyKeys schema → ⊥)
         → IsAnswered files (codes "explain" ∷ codes "keys" ∷ name ∷ []) }
+{}
+
+/// `explain synthesize` is answered where the schema file means a schema.
+pub fn explain_synthesize_is_answered()
+    ensures law { (files : Files) (name : List ℕ) (schema : Schema)
+        → IsFile schema_file (known_files files) name schema
+        → IsAnswered files (codes "explain" ∷ codes "synthesize" ∷ name ∷ []) }
+{}
+
+/// `explain split` is answered where also the splitting meets no limit.
+pub fn explain_split_is_answered()
+    ensures bcnf { (files : Files) (name : List ℕ) (schema : Schema)
+        → IsFile schema_file (known_files files) name schema → HasPlanInForm schema forms.Bcnf
+        → IsAnswered files (codes "explain" ∷ codes "split" ∷ codes "bcnf" ∷ name ∷ []) }
+    ensures fourth { (files : Files) (name : List ℕ) (schema : Schema)
+        → IsFile schema_file (known_files files) name schema → HasPlanInForm schema forms.Fourth
+        → IsAnswered files (codes "explain" ∷ codes "split" ∷ codes "4nf" ∷ name ∷ []) }
 {}

@@ -29,7 +29,7 @@ ghost use Rattle.desk_inputs.specs.Plans.{plan_file};
 ghost use Rattle.desk_inputs.specs.Readings.{known_files};
 ghost use Rattle.desk_inputs.specs.Parts.{ArePartFiles};
 ghost use Rattle.desk_inputs.specs.Rows.{rows_file};
-ghost use Rattle.desk_laws.specs.Completeness.{IsAnswered, HasPlanInForm};
+ghost use Rattle.desk_laws.specs.Completeness.{IsAnswered, HasPlanInForm, NamesNoTable};
 
 /// `check form` is answered where the schema file means a schema, the plan file a plan, and no scheme of
 /// the plan has more attributes than are tested.
@@ -83,18 +83,20 @@ pub fn ddl_is_answered()
         → IsAnswered files (codes "ddl" ∷ codes "plan" ∷ name ∷ file ∷ []) }
 {}
 
-/// `migrate` is answered where also the CSV file has rows.
+/// `migrate` is answered where also the CSV file has rows, and no file that is read has the name of a
+/// table's.
 pub fn migrate_is_answered()
     ensures in_form { (form : Form) (files : Files) (name file : List ℕ) (schema : Schema) (rows : Relation)
         → IsFile schema_file (known_files files) name schema → IsFile (rows_file schema) (known_files files) file rows
-        → HasPlanInForm schema form
+        → NamesNoTable name → NamesNoTable file → HasPlanInForm schema form
         → IsAnswered files (codes "migrate" ∷ form_word form ∷ name ∷ file ∷ []) }
     ensures plan { (files : Files) (name planned file : List ℕ) (schema : Schema)
         (plan : List Attributes)
         (rows : Relation)
         → IsFile schema_file (known_files files) name schema
         → IsFile (plan_file schema) (known_files files) planned plan
-        → IsFile (rows_file schema) (known_files files) file rows → (IsTooLarge schema plan → ⊥)
+        → IsFile (rows_file schema) (known_files files) file rows
+        → NamesNoTable name → NamesNoTable planned → NamesNoTable file → (IsTooLarge schema plan → ⊥)
         → IsAnswered files (codes "migrate" ∷ codes "plan" ∷ name ∷ planned ∷ file ∷ []) }
 {}
 

@@ -6,6 +6,8 @@
 
 mod begun;
 mod complete;
+mod complete_derivations;
+mod complete_measures;
 mod complete_questions;
 mod complete_reasons;
 mod complete_scripts;
@@ -26,11 +28,16 @@ pub use complete::{
     cover_is_answered, help_is_answered, implies_is_answered, keys_is_answered,
     synthesize_is_answered,
 };
+pub use complete_derivations::check_derivation_is_answered;
+pub use complete_measures::{kept_is_answered, measure_is_answered, offences_is_answered};
 pub use complete_questions::{
     basis_is_answered, check_cover_is_answered, check_key_is_answered, check_same_is_answered,
     closure_is_answered, keys_of_plan_is_answered, project_is_answered,
 };
-pub use complete_reasons::{explain_cover_is_answered, explain_keys_is_answered};
+pub use complete_reasons::{
+    explain_cover_is_answered, explain_keys_is_answered, explain_split_is_answered,
+    explain_synthesize_is_answered,
+};
 pub use complete_scripts::{draw_is_answered, sql_check_is_answered, sql_migrate_is_answered};
 pub use complete_tables::{
     check_form_is_answered, check_keeps_is_answered, ddl_is_answered, discover_is_answered,

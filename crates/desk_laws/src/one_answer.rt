@@ -6,6 +6,8 @@ ghost use Rattle.csv_rows.specs.Reading.{RowsOf};
 ghost use Rattle.csv_rows.specs.declared.refusal.RowRefusal.{RowRefusal};
 ghost use Rattle.dep_model.specs.Tuples.{Relation};
 ghost use Rattle.dep_model.specs.declared.schema.Schema.{Schema};
+ghost use Rattle.derivation_grammar.specs.Derivations.{Derives};
+ghost use Rattle.derivation_grammar.specs.Refusals.{IsRefusedDerivation};
 ghost use Rattle.desk_outside.specs.Files.{Files};
 ghost use Rattle.plan_grammar.specs.Diagnostics.{RefusesPlan};
 ghost use Rattle.plan_grammar.specs.Meanings.{MeansPlan};
@@ -18,13 +20,16 @@ ghost use Rattle.desk_responses.specs.ResponseValues.{ResponseValue};
 ghost use Rattle.desk_words.specs.Forms.{Task};
 ghost use Rattle.desk_laws.specs.OneReading.{AskWhatIsDerived, HasOneReading, IsOneButForProof};
 
-/// The text of a file has one reading: of a schema, of a plan, of a certificate, and of rows.
+/// The text of a file has one reading: of a schema, of a plan, of a certificate, of a derivation, and of
+/// rows.
 pub fn texts_of_files_have_one_reading()
     ensures schema { (text : List ℕ) → HasOneReading (MeansSchema text) (RefusesSchema text) }
     ensures plan { (names : List (List ℕ)) (text : List ℕ)
         → HasOneReading (MeansPlan names text) (RefusesPlan names text) }
     ensures proof { (schema : Schema) (text : List ℕ)
         → HasOneReading (SpellsWithin schema text) (IsRefusedCertificate schema text) }
+    ensures derivation { (schema : Schema) (text : List ℕ)
+        → HasOneReading (Derives schema text) (IsRefusedDerivation schema text) }
     ensures rows { (schema : Schema) (text : List ℕ)
         → HasOneReading (λ (rows : Relation). RowsOf schema text (Ok rows))
         (λ (why : RowRefusal). RowsOf schema text (Err why)) }

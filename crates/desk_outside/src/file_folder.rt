@@ -57,7 +57,7 @@ impl<R: Files + Clock + Eprint + Drop> FileFolder<R> {
         self.written = self.written.saturating_add(count as u64);
         if let Some(name) = self.begun.last() {
             self.progress
-                .show(&self.rt, "writing", name.bytes(), self.written);
+                .show(&self.rt, "writing", name.bytes(), self.written, None);
         }
     }
 }

@@ -29,12 +29,26 @@ impl ProgressLine {
         ProgressLine { since: None }
     }
 
-    /// Shows what is done with a file and how many bytes of it are done, where it is time to.
-    pub fn show<R: Clock + Eprint>(&mut self, rt: &R, doing: &str, name: &[u8], done: u64) {
+    /// Shows what is done with a file, how many bytes of it are done and of how many, if that is known,
+    /// where it is time to.
+    pub fn show<R: Clock + Eprint>(
+        &mut self,
+        rt: &R,
+        doing: &str,
+        name: &[u8],
+        done: u64,
+        all: Option<u64>,
+    ) {
         if self.is_due(rt) {
             let name = str::from_utf8(name).unwrap_or("");
-            let megabytes = done / MEGABYTE;
-            let _ = eprint!(rt; "\r{doing} {name}: {megabytes} MB\x1b[K");
+            let done = done / MEGABYTE;
+            let _ = match all {
+                Some(all) => {
+                    let all = all / MEGABYTE;
+                    eprint!(rt; "\r{doing} {name}: {done} of {all} MB\x1b[K")
+                }
+                None => eprint!(rt; "\r{doing} {name}: {done} MB\x1b[K"),
+            };
         }
     }
 

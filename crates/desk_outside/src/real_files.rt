@@ -7,6 +7,7 @@ use crate::file_source::FileSource;
 use crate::progress::ProgressLine;
 use crate::sink::Sink;
 use std::alloc::Global;
+use std::fs::OpenFile;
 use std::io::Read;
 use std::rt::{Clock, Files};
 use std::{fs, io};
@@ -21,6 +22,8 @@ pub struct RealFiles<R: Files + Clock + Eprint + Drop> {
     rt: R,
     names: Vec<Argument>,
     begun: Option<R::File>,
+    // how many bytes the begun file has, if the system says so
+    size: Option<u64>,
     taken: u64,
     faults: u64,
     progress: ProgressLine,
@@ -39,6 +42,7 @@ impl<R: Files + Clock + Eprint + Drop> RealFiles<R> {
             rt,
             names: Vec::new(alloc),
             begun: None,
+            size: None,
             taken: 0,
             faults: 0,
             progress,
@@ -56,7 +60,7 @@ impl<R: Files + Clock + Eprint + Drop> RealFiles<R> {
         let doing = if count == 0 { "at work on" } else { "reading" };
         if let Some(name) = self.names.last() {
             self.progress
-                .show(&self.rt, doing, name.bytes(), self.taken);
+                .show(&self.rt, doing, name.bytes(), self.taken, self.size);
         }
     }
 }
@@ -65,6 +69,17 @@ impl<R: Files + Clock + Eprint + Drop> RealFiles<R> {
 fn open_named<R: Files>(rt: &R, name: &[u8]) -> Option<R::File> {
     let path = str::from_utf8(name).ok()?;
     fs::open(rt, path).ok()
+}
+
+// How many bytes the begun file has, if the system says so; a pipe has none.
+fn size_of<T: OpenFile>(begun: &Option<T>) -> Option<u64> {
+    match begun {
+        Some(file) => match file.metadata() {
+            Ok(told) if told.len() > 0 => Some(told.len()),
+            _ => None,
+        },
+        None => None,
+    }
 }
 
 // The next bytes of the begun file; where none is begun, it is at its end.
@@ -95,6 +110,7 @@ impl<R: Files + Clock + Eprint + Drop> FileSource for RealFiles<R> {
             return Err(OutsideFault::OutOfMemory);
         }
         self.begun = open_named(&self.rt, name);
+        self.size = size_of(&self.begun);
         if self.begun.is_some() {
             return Ok(());
         }

@@ -5,11 +5,14 @@
 #![tactic(auto)]
 
 mod migration;
+mod overwriting;
+mod placing;
 mod rejoining;
 mod rows;
 mod sampling;
 
 pub use migration::{migrate_by_plan, migrate_in_form};
+pub use placing::{migrate_form_here, migrate_plan_here};
 pub use rejoining::rejoin;
 pub use rows::check_rows;
 pub use sampling::migrate_sample;

@@ -1,4 +1,5 @@
--- What is printed of certificates: for `check proof` and the refusals of certificates.
+-- What is printed of certificates and derivations: for `check proof`, `check derivation` and the
+-- refusals of both.
 use Rattle.std.specs.Prelude.{List, codes, ℕ, ◌++◌}
 use Rattle.std.specs.Fmt.{decimal}
 use Rattle.dep_model.specs.Dependencies.{Dependency}
@@ -7,17 +8,25 @@ use Rattle.proof_grammar.specs.Diagnostics.{LineDiagnostic}
 use Rattle.proof_grammar.specs.RefusalTexts.{diagnostic_number, diagnostic_text, position_text}
 use Rattle.desk_texts.specs.Texts.{line}
 
--- a refusal of a certificate
-abbrev pub proof_refusal_text : List (List ℕ) → List ℕ → LineDiagnostic → List ℕ
-proof_refusal_text names file refusal =
-    line (codes "refused: proof " ++ decimal (diagnostic_number refusal.diagnostic) ++ codes " at "
+-- a refusal after these words
+abbrev pub refused_line_text : List ℕ → List (List ℕ) → List ℕ → LineDiagnostic → List ℕ
+refused_line_text words names file refusal =
+    line (words ++ decimal (diagnostic_number refusal.diagnostic) ++ codes " at "
     ++ file ++ codes ":"
     ++ position_text refusal.line refusal.diagnostic ++ codes " " ++ diagnostic_text names refusal.diagnostic)
+
+-- a refusal of a certificate
+abbrev pub proof_refusal_text : List (List ℕ) → List ℕ → LineDiagnostic → List ℕ
+proof_refusal_text names file refusal = refused_line_text (codes "refused: proof ") names file refusal
+
+-- a refusal of a derivation
+abbrev pub derivation_refusal_text : List (List ℕ) → List ℕ → LineDiagnostic → List ℕ
+derivation_refusal_text names file refusal = refused_line_text (codes "refused: derivation ") names file refusal
 
 abbrev pub checked_text : List (List ℕ) → Dependency → List ℕ
 checked_text names d = line (codes "checked " ++ dependency_text names d)
 
--- what a certificate concludes, and what was asked
+-- what a text concludes, and what was asked
 abbrev pub concludes_text : List (List ℕ) → Dependency → Dependency → List ℕ
 concludes_text names concluded asked =
     line (codes "concludes " ++ dependency_text names concluded)

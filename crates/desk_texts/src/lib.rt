@@ -1,10 +1,13 @@
-//! Pieces of what the program prints, and how it words the refusals of schemas and certificates.
+//! Pieces of what the program prints, and how it words the refusals of schemas, certificates and
+//! derivations.
 #![tactic(auto)]
 
+mod conclusions;
 mod proof_refusals;
 mod refusals;
 mod text;
 
-pub use proof_refusals::proof_refusal_line;
+pub use conclusions::{checked_line, concludes_lines};
+pub use proof_refusals::{derivation_refusal_line, proof_refusal_line};
 pub use refusals::refusal_line;
 pub use text::{add_displayed, line_of, put_pair};

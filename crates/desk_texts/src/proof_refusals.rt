@@ -6,7 +6,7 @@ ghost use Rattle.dep_model.specs.Deps.{dependency_of, IsDepWithin};
 ghost use Rattle.derivation.specs.FaultTexts.{fault_number, fault_text};
 ghost use Rattle.proof_grammar.specs.Diagnostics.{states_other, diagnostic_of, line_diagnostic_of, IsRefusalWithin};
 ghost use Rattle.proof_grammar.specs.RefusalTexts.{diagnostic_text, position_text};
-ghost use Rattle.desk_texts.specs.ProofTexts.{proof_refusal_text};
+ghost use Rattle.desk_texts.specs.ProofTexts.{proof_refusal_text, derivation_refusal_text, refused_line_text};
 
 use crate::text::add_displayed;
 use dep_model::{Dep, OutOfMemory, Schema};
@@ -27,8 +27,40 @@ pub fn proof_refusal_line(
         (λ text. text.items
         ≡ proof_refusal_text (printed_names_of schema.now) name.now (line_diagnostic_of refusal)) }
 {
+    refused_line(alloc, b"refused: proof ", schema, name, refusal)
+}
+
+/// The line that words a refusal of a derivation.
+pub fn derivation_refusal_line(
+    alloc: Global,
+    schema: &Schema,
+    name: &[u8],
+    refusal: ProofRefusal,
+) -> Result<Vec<u8>, OutOfMemory>
+    requires within { IsRefusalWithin (universe_of schema.now) refusal.kind }
+    ensures text { IfOk result
+        (λ text. text.items
+        ≡ derivation_refusal_text (printed_names_of schema.now) name.now (line_diagnostic_of refusal)) }
+{
+    refused_line(alloc, b"refused: derivation ", schema, name, refusal)
+}
+
+/// A refusal after these words.
+fn refused_line(
+    alloc: Global,
+    words: &[u8],
+    schema: &Schema,
+    name: &[u8],
+    refusal: ProofRefusal,
+) -> Result<Vec<u8>, OutOfMemory>
+    requires within { IsRefusalWithin (universe_of schema.now) refusal.kind }
+    ensures text { IfOk result
+        (λ text. text.items
+        ≡ refused_line_text words.now (printed_names_of schema.now) name.now
+        (line_diagnostic_of refusal)) }
+{
     let mut text = Vec::new(alloc);
-    add(&mut text, b"refused: proof ")?;
+    add(&mut text, words)?;
     add_number(&mut text, alloc, refusal.kind.number())?;
     add(&mut text, b" at ")?;
     add(&mut text, name)?;

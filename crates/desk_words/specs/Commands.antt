@@ -25,6 +25,8 @@ schema_question schema.SplitWide = form.split_wide
 schema_question schema.Exhibit = form.exhibit
 schema_question schema.ExplainCover = form.explain_cover
 schema_question schema.ExplainKeys = form.explain_keys
+schema_question schema.ExplainSynthesize = form.explain_synthesize
+schema_question (schema.ExplainSplit normal) = form.explain_split normal
 schema_question (schema.Ddl normal) = form.ddl normal
 schema_question (schema.SqlCheck name) = form.sql_check name.now
 schema_question (schema.SqlMigrate normal name) = form.sql_migrate normal name.now
@@ -41,14 +43,19 @@ plan_question plan.Draw = form.draw_plan
 
 abbrev pub rows_question : RowsQuestion → form.RowsQuestion
 rows_question rows.CheckRows = form.check_rows
-rows_question (rows.Migrate normal) = form.migrate normal
+rows_question rows.Offences = form.offences
+rows_question rows.OffencesByRow = form.offences_by_row
+rows_question rows.Kept = form.kept
 
 abbrev pub task_form : Task → form.Task
 task_form (task.OfSchema question) = form.of_schema (schema_question question)
 task_form (task.OfPlan plan question) = form.of_plan plan.now (plan_question question)
 task_form (task.OfRows file question) = form.of_rows file.now (rows_question question)
-task_form (task.MigratePlan plan file) = form.migrate_plan plan.now file.now
+task_form (task.Measure file) = form.measure file.now
+task_form (task.Migrate schema file normal) = form.migrate schema.now file.now normal
+task_form (task.MigratePlan schema plan file) = form.migrate_plan schema.now plan.now file.now
 task_form (task.CheckProof file goal) = form.check_proof file.now goal.now
+task_form (task.CheckDerivation file goal) = form.check_derivation file.now goal.now
 task_form (task.CheckSame file other) = form.check_same file.now other.now
 task_form (task.CheckCover file other) = form.check_cover file.now other.now
 task_form (task.Rejoin files) = form.rejoin files.now

@@ -37,6 +37,10 @@ pub data SchemaQuestion : Type 0 where
   explain_cover : SchemaQuestion
   -- its keys, what they have in common, and what is in none of them
   explain_keys : SchemaQuestion
+  -- a plan in third normal form, and how it comes about
+  explain_synthesize : SchemaQuestion
+  -- a plan in Boyce-Codd or fourth normal form, and how it comes about
+  explain_split : NormalForm → SchemaQuestion
   -- SQL tables in a normal form
   ddl : NormalForm → SchemaQuestion
   -- queries for what breaks each rule in a table of this name
@@ -67,8 +71,12 @@ pub data PlanQuestion : Type 0 where
 pub data RowsQuestion : Type 0 where
   -- whether they are legal
   check_rows : RowsQuestion
-  -- the rows as tables in a normal form
-  migrate : NormalForm → RowsQuestion
+  -- which of them break a rule, by classes
+  offences : RowsQuestion
+  -- which of them break a rule, row by row
+  offences_by_row : RowsQuestion
+  -- those that break no rule
+  kept : RowsQuestion
 
 -- what is asked of a schema, with the files that are read after its own, in their order
 pub data Task : Type 0 where
@@ -78,10 +86,16 @@ pub data Task : Type 0 where
   of_plan : List ℕ → PlanQuestion → Task
   -- a question to it and the rows of a file
   of_rows : List ℕ → RowsQuestion → Task
-  -- the rows of the second file, as tables of the plan of the first
-  migrate_plan : List ℕ → List ℕ → Task
+  -- how far the rows of a file are from legal, whatever their values are
+  measure : List ℕ → Task
+  -- the rows of the second file, as tables in a normal form of it, in the first file
+  migrate : List ℕ → List ℕ → NormalForm → Task
+  -- the rows of the third file, as tables of the plan of the second; it is in the first file
+  migrate_plan : List ℕ → List ℕ → List ℕ → Task
   -- whether the certificate of a file proves a goal
   check_proof : List ℕ → List ℕ → Task
+  -- whether the derivation of a file ends with a goal
+  check_derivation : List ℕ → List ℕ → Task
   -- whether it, in the first file, says the same as the schema of a second file
   check_same : List ℕ → List ℕ → Task
   -- whether the schema of a second file is a minimal cover of it, in the first file
@@ -128,6 +142,11 @@ schema_and_plan_and_word question _ = None
 unfoldable pub schema_and_rows : RowsQuestion → List (List ℕ) → Option CommandForm
 schema_and_rows question (schema ∷ rows ∷ []) = Some (over_schema schema (of_rows rows question))
 schema_and_rows question _ = None
+
+-- a schema, and one file more
+unfoldable pub schema_and_file : (List ℕ → Task) → List (List ℕ) → Option CommandForm
+schema_and_file task (schema ∷ file ∷ []) = Some (over_schema schema (task file))
+schema_and_file task _ = None
 
 -- a schema and two words more
 unfoldable pub schema_and_two : (List ℕ → List ℕ → Task) → List (List ℕ) → Option CommandForm
@@ -184,6 +203,7 @@ unfoldable pub after_check : List (List ℕ) → Option CommandForm
 after_check [] = None
 after_check (what ∷ rest) =
     if bytes_eq what (codes "proof") then schema_and_two check_proof rest
+    else if bytes_eq what (codes "derivation") then schema_and_two check_derivation rest
     else if bytes_eq what (codes "rows") then schema_and_rows check_rows rest
     else if bytes_eq what (codes "key") then schema_and_word check_key rest
     else if bytes_eq what (codes "join") then schema_and_plan check_join rest
@@ -208,12 +228,22 @@ after_split (what ∷ rest) =
     else if bytes_eq what (codes "wide-bcnf") then schema_alone split_wide rest
     else None
 
+-- after `explain split`
+unfoldable pub after_explain_split : List (List ℕ) → Option CommandForm
+after_explain_split [] = None
+after_explain_split (what ∷ rest) =
+    if bytes_eq what (codes "bcnf") then schema_alone (explain_split Bcnf) rest
+    else if bytes_eq what (codes "4nf") then schema_alone (explain_split Fourth) rest
+    else None
+
 -- after `explain`
 unfoldable pub after_explain : List (List ℕ) → Option CommandForm
 after_explain [] = None
 after_explain (what ∷ rest) =
     if bytes_eq what (codes "cover") then schema_alone explain_cover rest
     else if bytes_eq what (codes "keys") then schema_alone explain_keys rest
+    else if bytes_eq what (codes "synthesize") then schema_alone explain_synthesize rest
+    else if bytes_eq what (codes "split") then after_explain_split rest
     else None
 
 -- after `ddl`
@@ -223,12 +253,33 @@ after_ddl (what ∷ rest) =
     if bytes_eq what (codes "plan") then schema_and_plan ddl_plan rest
     else option_and_then (λ form. schema_alone (ddl form) rest) (normal_form what)
 
+-- after `migrate plan`
+unfoldable pub after_migrate_plan : List (List ℕ) → Option CommandForm
+after_migrate_plan (schema ∷ plan ∷ rows ∷ []) = Some (over_schema schema (migrate_plan schema plan rows))
+after_migrate_plan _ = None
+
+-- after `migrate` and a normal form
+unfoldable pub after_migrate_form : NormalForm → List (List ℕ) → Option CommandForm
+after_migrate_form form (schema ∷ rows ∷ []) = Some (over_schema schema (migrate schema rows form))
+after_migrate_form form _ = None
+
 -- after `migrate`
 unfoldable pub after_migrate : List (List ℕ) → Option CommandForm
 after_migrate [] = None
 after_migrate (what ∷ rest) =
-    if bytes_eq what (codes "plan") then schema_and_two migrate_plan rest
-    else option_and_then (λ form. schema_and_rows (migrate form) rest) (normal_form what)
+    if bytes_eq what (codes "plan") then after_migrate_plan rest
+    else option_and_then (λ form. after_migrate_form form rest) (normal_form what)
+
+-- after `offences`, a word, a schema and rows
+abbrev pub offences_after_word : List ℕ → List ℕ → List ℕ → Option CommandForm
+offences_after_word what schema rows =
+    if bytes_eq what (codes "rows") then Some (over_schema schema (of_rows rows offences_by_row)) else None
+
+-- after `offences`
+unfoldable pub after_offences : List (List ℕ) → Option CommandForm
+after_offences (schema ∷ rows ∷ []) = Some (over_schema schema (of_rows rows offences))
+after_offences (what ∷ schema ∷ rows ∷ []) = offences_after_word what schema rows
+after_offences _ = None
 
 -- after `sql migrate`
 unfoldable pub after_sql_migrate : List (List ℕ) → Option CommandForm
@@ -252,6 +303,16 @@ after_draw (what ∷ rest) =
     if bytes_eq what (codes "plan") then schema_and_plan draw_plan rest
     else option_and_then (λ form. schema_alone (draw form) rest) (normal_form what)
 
+-- what is asked of a schema, to the rows of a file
+unfoldable pub form_over_rows : List ℕ → List (List ℕ) → Option CommandForm
+form_over_rows verb rest =
+    if bytes_eq verb (codes "migrate") then after_migrate rest
+    else if bytes_eq verb (codes "measure") then schema_and_file measure rest
+    else if bytes_eq verb (codes "offences") then after_offences rest
+    else if bytes_eq verb (codes "kept") then schema_and_rows kept rest
+    else if bytes_eq verb (codes "rejoin") then schema_and_several rejoin rest
+    else None
+
 -- what is asked of a schema
 unfoldable pub form_over_schema : List ℕ → List (List ℕ) → Option CommandForm
 form_over_schema verb rest =
@@ -267,11 +328,9 @@ form_over_schema verb rest =
     else if bytes_eq verb (codes "exhibit") then schema_alone exhibit rest
     else if bytes_eq verb (codes "explain") then after_explain rest
     else if bytes_eq verb (codes "ddl") then after_ddl rest
-    else if bytes_eq verb (codes "migrate") then after_migrate rest
-    else if bytes_eq verb (codes "rejoin") then schema_and_several rejoin rest
     else if bytes_eq verb (codes "sql") then after_sql rest
     else if bytes_eq verb (codes "draw") then after_draw rest
-    else None
+    else form_over_rows verb rest
 
 -- the command that the words form, if they form one
 unfoldable pub form_of : List (List ℕ) → Option CommandForm

@@ -20,6 +20,9 @@ pub fn after_check(words: &[Argument]) -> Option<Command<'_>>
     if what.bytes() == b"proof".as_slice() {
         return after_check_proof(rest);
     }
+    if what.bytes() == b"derivation".as_slice() {
+        return after_check_derivation(rest);
+    }
     if what.bytes() == b"rows".as_slice() {
         return schema_and_rows(RowsQuestion::CheckRows, rest);
     }
@@ -51,6 +54,18 @@ fn after_check_proof(words: &[Argument]) -> Option<Command<'_>>
 {
     match words {
         [schema, file, goal] => over(schema, Task::CheckProof { file, goal }),
+        _ => None,
+    }
+}
+
+// A schema, a derivation and a goal.
+#[tactic(auto, unfolding(crate::specs::Forms::schema_and_two))]
+fn after_check_derivation(words: &[Argument]) -> Option<Command<'_>>
+    ensures form { option_map command_form result
+        ≡ forms.schema_and_two forms.check_derivation words.now }
+{
+    match words {
+        [schema, file, goal] => over(schema, Task::CheckDerivation { file, goal }),
         _ => None,
     }
 }

@@ -6,10 +6,9 @@ use crate::check::after_check;
 use crate::explain::after_explain;
 use crate::persons::{Persons, count_of};
 use crate::questions::{SchemaQuestion, Task};
+use crate::rows::over_rows;
 use crate::shapes::{no_more_arguments, over, schema_alone};
-use crate::tables::{
-    after_ddl, after_draw, after_keys, after_migrate, after_rejoin, after_split, after_sql,
-};
+use crate::tables::{after_ddl, after_draw, after_keys, after_split, after_sql};
 use desk_outside::Argument;
 
 /// The most files of a command.
@@ -151,17 +150,11 @@ fn over_schema<'a>(verb: &Argument, rest: &'a [Argument]) -> Option<Command<'a>>
     if verb.bytes() == b"ddl".as_slice() {
         return after_ddl(rest);
     }
-    if verb.bytes() == b"migrate".as_slice() {
-        return after_migrate(rest);
-    }
-    if verb.bytes() == b"rejoin".as_slice() {
-        return after_rejoin(rest);
-    }
     if verb.bytes() == b"sql".as_slice() {
         return after_sql(rest);
     }
     if verb.bytes() == b"draw".as_slice() {
         return after_draw(rest);
     }
-    None
+    over_rows(verb, rest)
 }

@@ -8,6 +8,7 @@ use crate::command::Command;
 use crate::questions::SchemaQuestion;
 use crate::shapes::schema_alone;
 use desk_outside::Argument;
+use normal_forms::Form;
 
 /// After `explain`.
 #[tactic(auto, unfolding(crate::specs::Forms::after_explain))]
@@ -22,6 +23,29 @@ pub fn after_explain(words: &[Argument]) -> Option<Command<'_>>
     }
     if what.bytes() == b"keys".as_slice() {
         return schema_alone(SchemaQuestion::ExplainKeys, rest);
+    }
+    if what.bytes() == b"synthesize".as_slice() {
+        return schema_alone(SchemaQuestion::ExplainSynthesize, rest);
+    }
+    if what.bytes() == b"split".as_slice() {
+        return after_explain_split(rest);
+    }
+    None
+}
+
+// After `explain split`.
+#[tactic(auto, unfolding(crate::specs::Forms::after_explain_split))]
+fn after_explain_split(words: &[Argument]) -> Option<Command<'_>>
+    ensures form { option_map command_form result ≡ forms.after_explain_split words.now }
+{
+    let [what, rest @ ..] = words else {
+        return None;
+    };
+    if what.bytes() == b"bcnf".as_slice() {
+        return schema_alone(SchemaQuestion::ExplainSplit { form: Form::Bcnf }, rest);
+    }
+    if what.bytes() == b"4nf".as_slice() {
+        return schema_alone(SchemaQuestion::ExplainSplit { form: Form::Fourth }, rest);
     }
     None
 }

@@ -6,8 +6,10 @@
 mod check;
 mod command;
 mod explain;
+mod migrate;
 mod persons;
 mod questions;
+mod rows;
 mod shapes;
 mod tables;
 

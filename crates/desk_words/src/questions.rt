@@ -30,6 +30,10 @@ pub enum SchemaQuestion<'a> {
     ExplainCover,
     /// All its keys, what they have in common, and what is in none of them.
     ExplainKeys,
+    /// A plan in third normal form, and how it comes about.
+    ExplainSynthesize,
+    /// A plan in Boyce-Codd or fourth normal form, and how it comes about.
+    ExplainSplit { form: Form },
     /// SQL tables in a normal form.
     Ddl { form: Form },
     /// Queries for what breaks each rule in a table of this name.
@@ -64,8 +68,12 @@ pub enum PlanQuestion<'a> {
 pub enum RowsQuestion {
     /// Whether they are legal.
     CheckRows,
-    /// The rows as tables in a normal form.
-    Migrate { form: Form },
+    /// Which of them break a rule, by classes.
+    Offences,
+    /// Which of them break a rule, row by row.
+    OffencesByRow,
+    /// Those that break no rule.
+    Kept,
 }
 
 /// What is asked of a schema, with the files that are read after its own, in their order.
@@ -85,13 +93,29 @@ pub enum Task<'a> {
         file: &'a Argument,
         question: RowsQuestion,
     },
-    /// The rows of a file, as tables of the plan of another.
+    /// How far the rows of a file are from legal, whatever their values are.
+    Measure {
+        file: &'a Argument,
+    },
+    /// The rows of a file, as tables in a normal form of it, in the first file.
+    Migrate {
+        schema: &'a Argument,
+        file: &'a Argument,
+        form: Form,
+    },
+    /// The rows of a file, as tables of the plan of another; it is in the first file.
     MigratePlan {
+        schema: &'a Argument,
         plan: &'a Argument,
         file: &'a Argument,
     },
     /// Whether the certificate of a file proves a goal.
     CheckProof {
+        file: &'a Argument,
+        goal: &'a Argument,
+    },
+    /// Whether the derivation of a file ends with a goal.
+    CheckDerivation {
         file: &'a Argument,
         goal: &'a Argument,
     },

@@ -1,12 +1,12 @@
-//! The words after the commands that make plans, tables, scripts and pictures.
+//! The words after the commands that make plans, SQL tables, scripts and pictures.
 
 ghost use Rattle.std.specs.Prelude.{◌≡◌, option_map};
 ghost use Rattle.desk_words.specs.Commands.{command_form};
 ghost use Rattle.desk_words.specs.Forms as forms;
 
-use crate::command::{Command, MOST_FILES};
-use crate::questions::{PlanQuestion, RowsQuestion, SchemaQuestion, Task};
-use crate::shapes::{normal_form, over, schema_alone, schema_and_plan, schema_and_rows};
+use crate::command::Command;
+use crate::questions::{PlanQuestion, SchemaQuestion, Task};
+use crate::shapes::{normal_form, over, schema_alone, schema_and_plan};
 use desk_outside::Argument;
 use normal_forms::Form;
 
@@ -68,48 +68,6 @@ pub fn after_ddl(words: &[Argument]) -> Option<Command<'_>>
         Some(form) => schema_alone(SchemaQuestion::Ddl { form }, rest),
         None => None,
     }
-}
-
-/// After `migrate`.
-#[tactic(auto, unfolding(crate::specs::Forms::after_migrate))]
-pub fn after_migrate(words: &[Argument]) -> Option<Command<'_>>
-    ensures form { option_map command_form result ≡ forms.after_migrate words.now }
-{
-    let [what, rest @ ..] = words else {
-        return None;
-    };
-    if what.bytes() == b"plan".as_slice() {
-        return after_migrate_plan(rest);
-    }
-    match normal_form(what) {
-        Some(form) => schema_and_rows(RowsQuestion::Migrate { form }, rest),
-        None => None,
-    }
-}
-
-// A schema, a plan and rows.
-#[tactic(auto, unfolding(crate::specs::Forms::schema_and_two))]
-fn after_migrate_plan(words: &[Argument]) -> Option<Command<'_>>
-    ensures form { option_map command_form result ≡ forms.schema_and_two forms.migrate_plan words.now }
-{
-    match words {
-        [schema, plan, file] => over(schema, Task::MigratePlan { plan, file }),
-        _ => None,
-    }
-}
-
-/// A schema and from one to `MOST_FILES` files.
-#[tactic(auto, unfolding(crate::specs::Forms::schema_and_several))]
-pub fn after_rejoin(words: &[Argument]) -> Option<Command<'_>>
-    ensures form { option_map command_form result ≡ forms.schema_and_several forms.rejoin words.now }
-{
-    let [schema, files @ ..] = words else {
-        return None;
-    };
-    if files.is_empty() || files.len() > MOST_FILES {
-        return None;
-    }
-    over(schema, Task::Rejoin { files })
 }
 
 /// After `sql`.

@@ -1,33 +1,49 @@
 -- The texts of values.
-use Rattle.std.proofs.Common.{◌≡◌, ℕ, ◌+◌, ◌<◌, Bool, true, false, List, [], ◌∷◌, ◌++◌, length, get_or, take, refl, sym, ap, ◌∙◌}
-use Rattle.std.specs.Prelude.{IsUtf8, ◌==◌, ◌||◌, if◌then◌else◌}
+use Rattle.std.proofs.Common.{◌≡◌, ℕ, ◌+◌, ◌<◌, ◌≤◌, Bool, true, false, List, [], ◌∷◌, ◌++◌, length, get_or, drop, refl, sym, ap, ap₂, ◌∙◌, append_assoc, append-nil}
+use Rattle.std.specs.Prelude.{IsUtf8, ◌==◌, ◌||◌, ◌&&◌, if◌then◌else◌, codes}
 use Rattle.std.specs.Str.{is_utf8}
-use Rattle.std.specs.List.{flat_map, list_any}
+use Rattle.std.specs.List.{list_any}
 use Rattle.std.proofs.lemmas.Bool.{true≢false}
 use Rattle.std.proofs.lemmas.Str.{IsUtf8-from_is_utf8, is_utf8-from_IsUtf8}
-use Rattle.std.proofs.lemmas.List.{flat_map_more, take_more}
-use Rattle.destinations.specs.Sql.{escape_quote}
+use Rattle.std.proofs.lemmas.List.{drop_more, drop_all}
+use Rattle.destinations.specs.Sql.{escape_quote, escape_after, escaped_after}
 
--- the bytes before a position and the one that is there
-pub escape_quote-next : (front bytes : List ℕ) (i byte d : ℕ) (before after : List ℕ)
-    → i < length bytes → byte ≡ get_or bytes i d → before ≡ front ++ flat_map escape_quote (take i bytes) → after ≡ before ++ escape_quote byte → after ≡ front ++ flat_map escape_quote (take (i + 1) bytes)
-escape_quote-next front bytes i byte d before after within is before_is after_is =
-    after_is
-    ∙ ap (λ (b : List ℕ). b ++ escape_quote byte) before_is
-    ∙ flat_map_more escape_quote front (take i bytes) byte
-    ∙ ap (λ (y : ℕ). front ++ flat_map escape_quote (take i bytes ++ y ∷ [])) is
-    ∙ ap (λ (ys : List ℕ). front ++ flat_map escape_quote ys) (sym (take_more bytes i d within))
+-- a byte is added, and those after it are left
+pub escaped-next : (bytes : List ℕ) (i d last byte : ℕ) (before after whole : List ℕ) → i < length bytes → byte ≡ get_or bytes i d
+    → before ++ escaped_after last (drop i bytes) ≡ whole → after ≡ before ++ escape_after last byte
+    → after ++ escaped_after byte (drop (i + 1) bytes) ≡ whole
+escaped-next bytes i d last byte before after whole within is so_far added =
+    ap (λ (text : List ℕ). text ++ escaped_after byte (drop (i + 1) bytes)) added
+    ∙ append_assoc before (escape_after last byte) (escaped_after byte (drop (i + 1) bytes))
+    ∙ ap (λ (one : ℕ). before ++ escaped_after last (one ∷ drop (i + 1) bytes)) is
+    ∙ ap (λ (rest : List ℕ). before ++ escaped_after last rest) (sym (drop_more bytes i d within))
+    ∙ so_far
 
--- a value without a single quote is escaped as it is
-pub no_quote : (bytes : List ℕ) → list_any (λ byte. byte == 39) bytes ≡ false → flat_map escape_quote bytes ≡ bytes
-no_quote [] none = refl
-no_quote (first ∷ bytes) none =
-    by (first == 39) (list_any (λ byte. byte == 39) bytes) (flat_map escape_quote bytes) none (no_quote bytes)
+-- no byte is left
+pub escaped-all : (bytes : List ℕ) (i last : ℕ) (text whole : List ℕ) → length bytes ≤ i → text ++ escaped_after last (drop i bytes) ≡ whole → text ≡ whole
+escaped-all bytes i last text whole all so_far =
+    sym (append-nil text) ∙ ap (λ (rest : List ℕ). text ++ escaped_after last rest) (sym (drop_all i bytes all)) ∙ so_far
+
+-- bytes without a single quote or CR are escaped as they are, where they do not come after CR
+none_escaped_after : (bytes : List ℕ) (last : ℕ) → (last == 13) ≡ false → list_any (λ byte. byte == 39) bytes ≡ false
+    → list_any (λ byte. byte == 13) bytes ≡ false → escaped_after last bytes ≡ bytes
+none_escaped_after [] last other no_quote no_return = refl
+none_escaped_after (first ∷ bytes) last other no_quote no_return =
+    ap₂ (λ (front rest : List ℕ). front ++ rest)
+    (ap (λ (b : Bool). if b && first == 10 then codes "' || '" ++ 10 ∷ [] else escape_quote first) other
+    ∙ ap (λ (b : Bool). if b then 39 ∷ 39 ∷ [] else first ∷ []) (none_here (first == 39) _ no_quote))
+    (none_escaped_after bytes first (none_here (first == 13) _ no_return) (none_later (first == 39) _ no_quote) (none_later (first == 13) _ no_return))
   where
-    by : (b any : Bool) (rest : List ℕ) → (b || any) ≡ false → (any ≡ false → rest ≡ bytes)
-        → (if b then 39 ∷ 39 ∷ [] else first ∷ []) ++ rest ≡ first ∷ bytes
-    by true any rest none later = absurd (true≢false none)
-    by false any rest none later = ap (λ (t : List ℕ). first ∷ t) (later none)
+    none_here : (b any : Bool) → (b || any) ≡ false → b ≡ false
+    none_here true any none = none
+    none_here false any none = refl
+
+    none_later : (b any : Bool) → (b || any) ≡ false → any ≡ false
+    none_later true any none = absurd (true≢false none)
+    none_later false any none = none
+
+pub none_escaped : (bytes : List ℕ) → list_any (λ byte. byte == 39) bytes ≡ false → list_any (λ byte. byte == 13) bytes ≡ false → escaped_after 0 bytes ≡ bytes
+none_escaped bytes = none_escaped_after bytes 0 refl
 
 -- what is not UTF-8 fails the test
 pub utf8_not : (bytes : List ℕ) → ¬ (IsUtf8 bytes) → is_utf8 bytes ≡ false

@@ -1,6 +1,6 @@
 -- A table as INSERT lines: for the destination that writes such files. `Desk` does not cite it.
 use Rattle.std.specs.Prelude.{ℕ, ◌==◌, ◌&&◌, Bool, not, if◌then◌else◌, List, [], ◌∷◌, ◌++◌, codes}
-use Rattle.std.specs.List.{flat_map, list_any}
+use Rattle.std.specs.List.{list_any}
 use Rattle.std.specs.Str.{is_utf8}
 use Rattle.hex.specs.Hex.{encode_upper}
 use Rattle.dep_model.specs.Tuples.{Tuple}
@@ -10,6 +10,19 @@ use Rattle.sql_names.specs.Names.{comma_list, quoted_name}
 abbrev pub escape_quote : ℕ → List ℕ
 escape_quote byte = if byte == 39 then 39 ∷ 39 ∷ [] else byte ∷ []
 
+-- a byte after another one: between CR and LF the string ends and another one is joined to it
+abbrev pub escape_after : ℕ → ℕ → List ℕ
+escape_after last byte = if last == 13 && byte == 10 then codes "' || '" ++ 10 ∷ [] else escape_quote byte
+
+-- bytes between single quotes, the first of which stands after this one
+abbrev pub escaped_after : ℕ → List ℕ → List ℕ
+escaped_after last [] = []
+escaped_after last (byte ∷ bytes) = escape_after last byte ++ escaped_after byte bytes
+
+-- a text between single quotes; before its first byte there is none, as if it were a zero
+abbrev pub quoted_text : List ℕ → List ℕ
+quoted_text value = 39 ∷ (escaped_after 0 value ++ 39 ∷ [])
+
 -- whether a value can be a text of SQL: it is UTF-8, and has no zero byte
 abbrev pub is_sql_text : List ℕ → Bool
 is_sql_text value = is_utf8 value && not (list_any (λ byte. byte == 0) value)
@@ -17,7 +30,7 @@ is_sql_text value = is_utf8 value && not (list_any (λ byte. byte == 0) value)
 -- a value: a text between single quotes, or its bytes in hexadecimal digits
 abbrev pub sql_value : List ℕ → List ℕ
 sql_value value =
-    if is_sql_text value then 39 ∷ (flat_map escape_quote value ++ 39 ∷ [])
+    if is_sql_text value then quoted_text value
     else codes "X'" ++ encode_upper value ++ codes "'"
 
 -- the front of each line of a table

@@ -3,8 +3,10 @@
 //! - [`Destination`] says what each call does to the finished tables and to the open one. A
 //!   `Box<dyn Destination>` is a destination.
 //! - [`MemoryDestination`] keeps the tables, and fails at chosen calls alone.
-//! - [`FileDestination`] writes each table to a file of a folder, in a [`TableFormat`]. It makes known what
-//!   it holds where the folder does.
+//! - [`BufferedFolder`] gathers what is written to a folder. [`opening_of`], [`front_of`] and [`add_line`] make
+//!   the text of a table in a [`TableFormat`].
+//! - [`FileDestination`] writes each table to a file of a folder, in such a format. It makes known what it
+//!   holds where the folder does.
 #![tactic(auto)]
 
 mod boxed;
@@ -15,7 +17,8 @@ mod format;
 mod memory;
 mod sql_line;
 
+pub use buffered_folder::BufferedFolder;
 pub use destination::Destination;
 pub use file_destination::FileDestination;
-pub use format::TableFormat;
+pub use format::{TableFormat, add_line, front_of, opening_of};
 pub use memory::MemoryDestination;

@@ -1,7 +1,7 @@
-ghost use Rattle.std.specs.Prelude.{◌≡◌, ◌==◌, false, [], ◌∷◌, ◌++◌, if◌then◌else◌, IfOk, OnOk};
-ghost use Rattle.std.specs.List.{flat_map, list_any};
+ghost use Rattle.std.specs.Prelude.{◌≡◌, ◌==◌, false, [], ◌++◌, if◌then◌else◌, IfOk, OnOk};
+ghost use Rattle.std.specs.List.{list_any};
 ghost use Rattle.std.specs.Str.{is_utf8};
-ghost use Rattle.destinations.specs.Sql.{escape_quote, is_sql_text, sql_value, sql_head, sql_row};
+ghost use Rattle.destinations.specs.Sql.{escape_after, escaped_after, quoted_text, is_sql_text, sql_value, sql_head, sql_row};
 ghost use Rattle.sql_names.specs.Names.{comma_list, separator};
 
 use dep_model::{Name, OutOfMemory};
@@ -94,13 +94,12 @@ fn is_valid(bytes: &[u8]) -> bool
     }
 }
 
-// A value between single quotes, each single quote in it doubled.
+// A value between single quotes, in which each single quote is doubled and each CR LF parted.
 fn quote(text: &mut Vec<u8>, value: &[u8]) -> Result<(), OutOfMemory>
-    ensures text { OnOk result (text.new.items ≡ text.old.items
-        ++ 39 ∷ (flat_map escape_quote value.now ++ 39 ∷ [])) }
+    ensures text { OnOk result (text.new.items ≡ text.old.items ++ quoted_text value.now) }
 {
     add(text, b"'")?;
-    if value.contains(&b'\'') {
+    if value.contains(&b'\'') || value.contains(&b'\r') {
         add_escaped(text, value)?;
     } else {
         add_plain(text, value)?;
@@ -108,29 +107,35 @@ fn quote(text: &mut Vec<u8>, value: &[u8]) -> Result<(), OutOfMemory>
     add(text, b"'")
 }
 
-// A value without a single quote, as it is.
-#[tactic(auto, using(crate::proofs::SqlLemmas::no_quote))]
+// A value without a single quote or CR, as it is.
+#[tactic(auto, using(crate::proofs::SqlLemmas::none_escaped))]
 fn add_plain(text: &mut Vec<u8>, value: &[u8]) -> Result<(), OutOfMemory>
-    requires plain { list_any (λ byte. byte == 39) value.now ≡ false }
-    ensures text { OnOk result (text.new.items ≡ text.old.items ++ flat_map escape_quote value.now) }
+    requires no_quote { list_any (λ byte. byte == 39) value.now ≡ false }
+    requires no_return { list_any (λ byte. byte == 13) value.now ≡ false }
+    ensures text { OnOk result (text.new.items ≡ text.old.items ++ escaped_after 0 value.now) }
 {
     add(text, value)
 }
 
-// A value with each single quote in it doubled.
+// A value with each single quote in it doubled, and each CR LF parted.
 fn add_escaped(text: &mut Vec<u8>, value: &[u8]) -> Result<(), OutOfMemory>
-    ensures text { OnOk result (text.new.items ≡ text.old.items ++ flat_map escape_quote value.now) }
+    ensures text { OnOk result (text.new.items ≡ text.old.items ++ escaped_after 0 value.now) }
 {
-    for (i, byte) in value.iter().enumerate() {
-        add_doubled(text, *byte)?;
+    let mut last = 0;
+    for byte in value {
+        add_byte(text, last, *byte)?;
+        last = *byte;
     }
     Ok(())
 }
 
-// A byte between single quotes, at the end of a text.
-fn add_doubled(text: &mut Vec<u8>, byte: u8) -> Result<(), OutOfMemory>
-    ensures more { OnOk result (text.new.items ≡ text.old.items ++ escape_quote byte) }
+// A byte between single quotes that stands after another one, at the end of a text.
+fn add_byte(text: &mut Vec<u8>, last: u8, byte: u8) -> Result<(), OutOfMemory>
+    ensures more { OnOk result (text.new.items ≡ text.old.items ++ escape_after last byte) }
 {
+    if last == b'\r' && byte == b'\n' {
+        return add(text, b"' || '\n");
+    }
     if byte == b'\'' {
         return add(text, b"''");
     }

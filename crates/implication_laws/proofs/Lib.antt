@@ -11,6 +11,7 @@ mod CoverLaws
 mod ExhibitLaws
 pub mod StepLaws
 pub mod OneAnswer
+pub mod OneDerivation
 pub mod OneStepsAnswer
 pub mod OneProjection
 pub mod OneReasons

@@ -76,7 +76,7 @@ one_goal_stop schema goal one other (inr (e, is, says)) (inr (f, also, said)) =
     ∙ (goal-refusal-law (names_of schema) goal f).1 also.refused) in
     same_says Refused _ _ one other says said (ap goal_refusal_text same)
 
-one_after_goal : (schema : Schema) (goal : List ℕ) (rest : Dependency → Allowed)
+pub one_after_goal : (schema : Schema) (goal : List ℕ) (rest : Dependency → Allowed)
     → ((d : Dependency) → AllowsOne (rest d)) → AllowsOne (WithGoal schema goal rest)
 one_after_goal schema goal rest each =
     With-one (GoalStops schema goal) (IsGoal schema goal) rest (one_goal_stop schema goal)
@@ -195,7 +195,7 @@ not_earlier ds j k first second before =
     let functional : is_fd (get_or (take k ds) j d) ≡ true = second.earlier j d (omega (arith, before, low)) in
     true≢false (sym functional ∙ ap is_fd (get_or-take k ds j d before) ∙ mvd_at ds j d first)
 
-one_mvd : (ds : List Dependency) (j k : ℕ) → IsFirstMvd ds j → IsFirstMvd ds k → j ≡ k
+pub one_mvd : (ds : List Dependency) (j k : ℕ) → IsFirstMvd ds j → IsFirstMvd ds k → j ≡ k
 one_mvd ds j k first second = elim (cases_lt j k) [
   | inl before ↦ absurd (not_earlier ds j k first second before)
   | inr from_on ↦ elim (cases_lt k j) [
@@ -204,7 +204,7 @@ one_mvd ds j k first second = elim (cases_lt j k) [
   ]
 ]
 
-not_functional : (ds : List Dependency) (k : ℕ) → IsFirstMvd ds k → functional_part ds ≡ ds → ⊥
+pub not_functional : (ds : List Dependency) (k : ℕ) → IsFirstMvd ds k → functional_part ds ≡ ds → ⊥
 not_functional ds k is functional =
     let d = mvd is.lhs is.rhs in
     true≢false (sym (all_functional ds functional k d (slice_get_within ds k d is.given)) ∙ mvd_at ds k d is)

@@ -12,6 +12,7 @@ ghost use Rattle.desk_implication.specs.Closures.{GivesClosure};
 ghost use Rattle.desk_covers.specs.CoverChecks.{ChecksCover};
 ghost use Rattle.desk_covers.specs.CoverReasons.{ExplainsCover};
 ghost use Rattle.desk_covers.specs.Covering.{GivesCover};
+ghost use Rattle.desk_derivations.specs.Derivations.{ChecksDerivation};
 ghost use Rattle.desk_discovery.specs.Discoveries.{FindsRules};
 ghost use Rattle.desk_discovery.specs.Exhibits.{Exhibits};
 ghost use Rattle.desk_arguments.specs.Goals.{IsGoal};
@@ -36,6 +37,12 @@ pub fn implies_has_one_answer()
 /// `check proof` has one answer to a certificate and a goal.
 pub fn check_proof_has_one_answer()
     ensures law { (schema : Schema) (tree : Tree) (goal : List ℕ) → AllowsOne (ChecksProof schema tree goal) }
+{}
+
+/// `check derivation` has one answer to what a text derives and a goal.
+pub fn check_derivation_has_one_answer()
+    ensures law { (schema : Schema) (derived : Dependency) (goal : List ℕ)
+        → AllowsOne (ChecksDerivation schema derived goal) }
 {}
 
 /// `cover` has one answer.

@@ -15,7 +15,8 @@ use Rattle.desk_designs.specs.Drawings.{DrawsTables, DrawsForm, DrawsSchemes}
 use Rattle.desk_designs.specs.Joins.{IsShownLossless, LossStops, WithoutLoss}
 use Rattle.desk_designs.specs.Scripts.{AsksTable, MakesSchemes, MakesTables, ScriptsCheck, ScriptsMigration, ScriptsMigrationByPlan, TableNameStops, WithTableName}
 use Rattle.desk_designs.specs.Decompositions.{WithPlanInForm}
-use Rattle.plan_laws.proofs.DesignTexts.{ddl_same, drawing_same, script_same}
+use Rattle.plan_laws.proofs.DesignTexts.{ddl_same, drawing_same}
+use Rattle.plan_laws.proofs.ScriptTexts.{script_same}
 use Rattle.plan_laws.proofs.OneDesign.{one_sound_design}
 use Rattle.plan_laws.proofs.SplitAnswers.{one_in_form}
 use Rattle.plan_laws.proofs.UniqueLaws.{loss_goes, one_loss_stop}

@@ -10,8 +10,6 @@ use Rattle.ddl_text.specs.Ddl.{column_elements, ddl_text, elements, key_elements
 use Rattle.ddl_text.specs.Designs.{known_keys}
 use Rattle.ddl_text.specs.declared.table.TableDesign.{TableDesign}
 use Rattle.table_drawing.specs.Drawing.{node_text, edge_text, edges_text, drawing_text}
-use Rattle.table_queries.specs.Queries.{StoredTable}
-use Rattle.table_scripts.specs.Migrating.{stored_of, stored_tables, fill_text, view_text, difference_queries_text, migrate_text}
 use Rattle.plan_laws.specs.SameDesigns.{IsSameTable, AreSameTables}
 
 -- ---- texts of tables
@@ -100,46 +98,4 @@ drawing_same s one other same =
     simp (
       flat_same (node_text s) (node_text s) (node_same s) one other same,
       flat_same (edges_text s one) (edges_text s other) (edges_same s one other same) one other same,
-    )
-
--- ---- scripts
-stored_same : (t u : TableDesign) → IsSameTable t u → stored_of t ≡ stored_of u
-stored_same t u same =
-    ap (λ (name : List ℕ). stored name (attributes t.scheme)) same.name
-    ∙ ap (λ (scheme : Attributes). stored u.name scheme) same.columns
-  where
-    stored : List ℕ → Attributes → StoredTable
-    stored name scheme = record { name = name; scheme = scheme }
-
-all_stored : (one other : List TableDesign) → AreSameTables one other → stored_tables one ≡ stored_tables other
-all_stored [] [] same = refl
-all_stored [] (u ∷ us) same = absurd same
-all_stored (t ∷ ts) [] same = absurd same
-all_stored (t ∷ ts) (u ∷ us) same =
-    ap (λ (table : StoredTable). table ∷ stored_tables ts) (stored_same t u same.0)
-    ∙ ap (λ (tables : List StoredTable). stored_of u ∷ tables) (all_stored ts us same.1)
-
-fill_same : (s : Schema) (table : List ℕ) (t u : TableDesign) → IsSameTable t u
-    → fill_text s table t ≡ fill_text s table u
-unfolding fill_text
-fill_same s table t u same = simp (same.name, same.columns)
-
-view_same : (s : Schema) (table : List ℕ) (one other : List TableDesign) → AreSameTables one other
-    → view_text s table one ≡ view_text s table other
-unfolding view_text
-view_same s table one other same = simp (all_stored one other same)
-
-differences_same : (s : Schema) (table : List ℕ) (one other : List TableDesign) → AreSameTables one other
-    → difference_queries_text s table one ≡ difference_queries_text s table other
-unfolding difference_queries_text
-differences_same s table one other same = simp (all_stored one other same)
-
-pub script_same : (s : Schema) (table : List ℕ) (one other : List TableDesign) → AreSameTables one other
-    → migrate_text s table one ≡ migrate_text s table other
-script_same s table one other same =
-    simp (
-      ddl_same s one other same,
-      flat_same (fill_text s table) (fill_text s table) (fill_same s table) one other same,
-      view_same s table one other same,
-      differences_same s table one other same,
     )

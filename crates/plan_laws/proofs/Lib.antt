@@ -6,7 +6,10 @@ pub mod FormTables
 mod NameLaws
 pub mod OneDesign
 mod DesignTexts
+mod ScriptTexts
 pub mod SplitAnswers
 pub mod DesignAnswers
 pub mod RowAnswers
+pub mod PlacedAnswers
 pub mod SampleAnswers
+pub mod ReasonAnswers

@@ -59,7 +59,7 @@ one_given s plan rows one other (tables, are, says) (others, also, said) =
     (one_migration s plan rows tables others are also)
     ∙ sym said
 
-one_migrated : (s : Schema) (plan : List Attributes) (rows : Relation) → AllowsOne (MigratesRows s plan rows)
+pub one_migrated : (s : Schema) (plan : List Attributes) (rows : Relation) → AllowsOne (MigratesRows s plan rows)
 one_migrated s plan rows = one_with_legal s rows (GivesTables s plan rows) (one_given s plan rows)
 
 same_migrated : (s : Schema) (rows : Relation) (plan others : List AttrSet) (one other : ResponseValue)

@@ -27,7 +27,7 @@ use Rattle.normal_forms.proofs.ViolationLemmas.{not_in_form}
 use Rattle.normal_forms.proofs.UniqueLemmas.{one_chosen}
 use Rattle.schema_printer.specs.Spelling.{printed_names_of}
 use Rattle.synthesis_3nf.specs.Groups.{schemes_of_groups}
-use Rattle.synthesis_3nf.specs.GroupedPlans.{IsWithKey, IsGroupedPlan}
+use Rattle.synthesis_3nf.specs.GroupedPlans.{AreSynthesisSteps, IsWithKey, IsGroupedPlan}
 use Rattle.split_forms.proofs.StepLemmas.{split_at_first-unique}
 use Rattle.split_forms.proofs.SplitLemmas.{one_finished}
 use Rattle.wide_bcnf.proofs.OneSplit.{one_split}
@@ -49,11 +49,11 @@ any_map f p [] = refl
 any_map f p (x ∷ xs) = ap (λ (b : Bool). p (f x) || b) (any_map f p xs)
 
 -- whether a set is contained, of sets of attributes
-contained : List Attributes → Attributes → List Attributes → Bool
+pub contained : List Attributes → Attributes → List Attributes → Bool
 contained earlier x later =
     list_any (λ y. is_subset x y) earlier || list_any (λ y. is_subset x y && not (is_subset y x)) later
 
-contained_is : (earlier later : List AttrSet) (x : AttrSet)
+pub contained_is : (earlier later : List AttrSet) (x : AttrSet)
     → is_contained earlier x later ≡ contained (schemes_of earlier) (attributes x) (schemes_of later)
 unfolding contained
 contained_is earlier later x =
@@ -63,13 +63,13 @@ contained_is earlier later x =
     (is_subset (attributes y) (attributes x))) later) near
     ∙ ap (λ (b : Bool). list_any (λ y. is_subset (attributes x) y) (schemes_of earlier) || b) far
 
-kept_after : List Attributes → List Attributes → List Attributes
+pub kept_after : List Attributes → List Attributes → List Attributes
 kept_after earlier [] = []
 kept_after earlier (x ∷ later) =
     if contained earlier x later then kept_after (earlier ++ x ∷ []) later
     else x ∷ kept_after (earlier ++ x ∷ []) later
 
-kept_is : (earlier later : List AttrSet)
+pub kept_is : (earlier later : List AttrSet)
     → schemes_of (without_contained_after earlier later) ≡ kept_after (schemes_of earlier) (schemes_of later)
 unfolding kept_after
 kept_is earlier [] = refl
@@ -123,15 +123,22 @@ with_key_same n ds schemes one other (inr first) (inr second) =
     (one_key n (functional_part ds) (below n) first.key second.key (λ k member. member) first.greedy second.greedy)
     ∙ sym second.last
 
+-- a synthesis comes about in one way
+pub steps_same : (n : ℕ) (ds cover others : List Dependency) (one other : List Attributes)
+    → AreSynthesisSteps n ds cover one → AreSynthesisSteps n ds others other → (cover ≡ others) × (one ≡ other)
+steps_same n ds cover others one other first second =
+    let covers : cover ≡ others = one_cover n ds cover others first.fixed second.fixed in (
+      covers,
+      with_key_same n ds (schemes_of_groups others) one other
+          (subst (λ (es : List Dependency). IsWithKey n ds (schemes_of_groups es) one) covers first.completed)
+          second.completed,
+    )
+
 pub grouped_same : (n : ℕ) (ds : List Dependency) (plan other : List AttrSet) → IsGroupedPlan n ds plan
     → IsGroupedPlan n ds other → schemes_of plan ≡ schemes_of other
 grouped_same n ds plan other one two =
-    let covers : one.cover ≡ two.cover = one_cover n ds one.cover two.cover one.fixed two.fixed in
     kept_same one.all two.all plan other one.kept two.kept
-    (with_key_same n ds (schemes_of_groups two.cover) (schemes_of one.all) (schemes_of two.all)
-    (subst (λ (cover : List Dependency). IsWithKey n ds (schemes_of_groups cover)
-    (schemes_of one.all)) covers one.completed)
-    two.completed)
+    (steps_same n ds one.cover two.cover (schemes_of one.all) (schemes_of two.all) one.steps two.steps).1
 
 -- ---- `check join`
 pub one_loss_stop : (s : Schema) (plan : List Attributes) (one other : ResponseValue) → LossStops s plan one

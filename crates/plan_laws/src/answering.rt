@@ -12,14 +12,23 @@ ghost use Rattle.desk_designs.specs.Decompositions.{Splits, SplitsWide};
 ghost use Rattle.desk_designs.specs.Designs.{WritesForm, WritesPlan};
 ghost use Rattle.desk_designs.specs.Drawings.{DrawsForm, DrawsSchemes};
 ghost use Rattle.desk_designs.specs.Scripts.{ScriptsCheck, ScriptsMigration, ScriptsMigrationByPlan};
+ghost use Rattle.desk_reasons.specs.SplitReasons.{ExplainsSplit};
+ghost use Rattle.desk_reasons.specs.SynthesisReasons.{ExplainsSynthesis};
 ghost use Rattle.desk_tables.specs.Legality.{JudgesRows};
 ghost use Rattle.desk_tables.specs.Migrations.{Migrates, MigratesPlan, Samples};
+ghost use Rattle.desk_tables.specs.Overwriting.{MigratesHere, MigratesPlanHere};
 ghost use Rattle.desk_tables.specs.Rejoining.{JoinsTables};
 
 /// `split` has one answer to a schema, in each form and at any width.
 pub fn one_answer_of_split()
     ensures form { (schema : Schema) (form : Form) → AllowsOne (Splits schema form) }
     ensures wide { (schema : Schema) → AllowsOne (SplitsWide schema) }
+{}
+
+/// `explain synthesize` and `explain split` have one answer to a schema, and to a schema and a form.
+pub fn one_answer_of_plan_reasons()
+    ensures synthesis { (schema : Schema) → AllowsOne (ExplainsSynthesis schema) }
+    ensures split { (schema : Schema) (form : Form) → AllowsOne (ExplainsSplit schema form) }
 {}
 
 /// `ddl` has one answer to a schema and a form, and to a schema and a plan.
@@ -56,6 +65,14 @@ pub fn one_answer_of_migrate()
     ensures form { (schema : Schema) (form : Form) (rows : Relation) → AllowsOne (Migrates schema form rows) }
     ensures plan { (schema : Schema) (plan : List Attributes) (rows : Relation)
         → AllowsOne (MigratesPlan schema plan rows) }
+{}
+
+/// The same where no file that is read may be written over.
+pub fn one_answer_of_migrate_here()
+    ensures form { (schema : Schema) (form : Form) (files : List (List ℕ)) (rows : Relation)
+        → AllowsOne (MigratesHere schema form files rows) }
+    ensures plan { (schema : Schema) (plan : List Attributes) (files : List (List ℕ)) (rows : Relation)
+        → AllowsOne (MigratesPlanHere schema plan files rows) }
 {}
 
 /// `sample` has one answer, text and tables, to a number of persons.

@@ -46,8 +46,8 @@ fn without_contained(schemes: Vec<AttrSet>) -> Vec<AttrSet>
     kept
 }
 
-// Whether the scheme at a position of a list is contained in another.
-fn is_contained_at(schemes: &[AttrSet], i: usize) -> bool
+/// Whether the scheme at a position of a list is contained in another.
+pub fn is_contained_at(schemes: &[AttrSet], i: usize) -> bool
     requires position { i < length schemes.now }
     ensures contained { (scheme : AttrSet) → result
         ≡ is_contained (take i schemes.now) (slice_index_or schemes.now i scheme) (drop

@@ -9,6 +9,6 @@ mod containing;
 mod plan;
 mod printing;
 
-pub use containing::drop_contained;
+pub use containing::{drop_contained, is_contained_at};
 pub use plan::Plan;
 pub use printing::print_plan;

@@ -64,7 +64,7 @@ of_attributes s ms x (inr not_empty) k member =
     named_within (names_of s) ms k (ap (λ (y : Attributes). y k) (sym not_empty.members) ∙ member) in
     grind (arith, nat_tests, inside, s.valid.names_within_limit)
 
-rule_of_attributes : (s : Schema) (ms : List Mark) (b : Body) → IsRule (names_of s) ms b → BodyOfAttributes b
+pub rule_of_attributes : (s : Schema) (ms : List Mark) (b : Body) → IsRule (names_of s) ms b → BodyOfAttributes b
 rule_of_attributes s ms (by_given k) is = tt
 rule_of_attributes s ms by_reflexivity is = tt
 rule_of_attributes s ms by_mreflexivity is = tt

@@ -24,24 +24,24 @@ use Rattle.proof_grammar.proofs.TokenLaws.{reads_value, after_of, number_there, 
 use Rattle.proof_grammar.proofs.RuleLaws.{rule_there, rule_back}
 
 -- ---- the dependency
-arrow_law : (a : Sign) (k : TokenKind) → (arrow_in k ≡ Some a) ↔ IsArrow a k
+pub arrow_law : (a : Sign) (k : TokenKind) → (arrow_in k ≡ Some a) ↔ IsArrow a k
 arrow_law sign.Functional token.Arrow = (λ e. refl, λ e. refl)
 arrow_law sign.Multivalued token.DoubleArrow = (λ e. refl, λ e. refl)
 arrow_law sign.Functional _ = (λ e. cc, λ e. cc)
 arrow_law sign.Multivalued _ = (λ e. cc, λ e. cc)
 
-arrow_other : (s : Sign) (k : TokenKind) → IsArrow s k → is_word_token k ≡ false
+pub arrow_other : (s : Sign) (k : TokenKind) → IsArrow s k → is_word_token k ≡ false
 arrow_other sign.Functional k is = ap is_word_token is
 arrow_other sign.Multivalued k is = ap is_word_token is
 
 -- a dependency that is read
-record ReadsDependency (names : List (List ℕ)) (r : Rest) (d : Dependency) (next : Rest) : Type 0 where
-  marks : List Mark
-  whole : r.marks ≡ marks ++ next.marks
-  is : IsDependency format.Plain names marks d
-  stop : next.stop ≡ r.stop
+pub record ReadsDependency (names : List (List ℕ)) (r : Rest) (d : Dependency) (next : Rest) : Type 0 where
+  pub marks : List Mark
+  pub whole : r.marks ≡ marks ++ next.marks
+  pub is : IsDependency format.Plain names marks d
+  pub stop : next.stop ≡ r.stop
 
-dependency_there : (names : List (List ℕ)) (r : Rest) (d : Dependency × Rest) → stated_dependency names r ≡ Ok d → ReadsDependency names r d.0 d.1
+pub dependency_there : (names : List (List ℕ)) (r : Rest) (d : Dependency × Rest) → stated_dependency names r ≡ Ok d → ReadsDependency names r d.0 d.1
 unfolding stated_dependency arrow
 dependency_there names r d e =
     let x = bind_ok (side names r) _ d e in
@@ -74,11 +74,11 @@ dependency_there names r d e =
 
 -- ---- the line
 -- a value that is given only where a line ends
-record Ends (r : Rest) : Type 0 where
-  marks : r.marks ≡ []
-  stop : r.stop ≡ None
+pub record Ends (r : Rest) : Type 0 where
+  pub marks : r.marks ≡ []
+  pub stop : r.stop ≡ None
 
-unless_there : {X : Type 0} (r : Rest) (x y : X) → unless (refusal_at_end r) x ≡ Ok y → (x ≡ y) × Ends r
+pub unless_there : {X : Type 0} (r : Rest) (x y : X) → unless (refusal_at_end r) x ≡ Ok y → (x ≡ y) × Ends r
 unfolding refusal_at_end
 unless_there {X} r x y e = by_cases r.marks r.stop e
   where

@@ -166,7 +166,7 @@ diagnostic_back names ms stop p n (inl (inr (six, stuck))) =
         (omega (arith, same, length-map ms form), rw (reached, at) (six, ended, open_end))
 
 -- ---- the law
-judged_refuses : (names : List (List ℕ)) (at : ℕ) (ms : List Mark) (stop : Option LexError) (r : Result Line SchemaRefusal)
+pub judged_refuses : (names : List (List ℕ)) (at : ℕ) (ms : List Mark) (stop : Option LexError) (r : Result Line SchemaRefusal)
     (e : SchemaRefusal) → Judged at_start names at 1 ms stop r → (r ≡ Err e) ↔ RefusesTokens names at ms stop e
 judged_refuses names at ms stop (Ok l) e judged = (
   λ is. cc,

@@ -12,7 +12,9 @@ mod printing;
 mod text;
 mod words;
 
+pub use line::{Body, read_body, stated_dependency};
 pub use node::{Concluded, same_dependency};
 pub use printing::print_proof;
 pub use proof_grammar::{ProofRefusal, ProofRefusalKind};
-pub use text::{MOST_PROOF_BYTES, read_concluded, read_proof};
+pub use text::{MOST_PROOF_BYTES, is_blank, is_yes, read_concluded, read_proof};
+pub use words::{colon, rule_word};

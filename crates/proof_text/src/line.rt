@@ -69,7 +69,7 @@ pub fn read_line(
 
 /// The dependency that a line states.
 #[tactic(auto, unfolding(proof_grammar::specs::Lines::stated_dependency))]
-fn stated_dependency<'a>(
+pub fn stated_dependency<'a>(
     names: &Names<'_>,
     start: Cursor<'a>,
 ) -> Result<(Dep, Cursor<'a>), SchemaRefusal>
@@ -92,7 +92,7 @@ fn stated_dependency<'a>(
 
 /// What stands after the name of a rule.
 #[tactic(auto, unfolding(proof_grammar::specs::Lines::body))]
-fn read_body<'a>(
+pub fn read_body<'a>(
     names: &Names<'_>,
     name: RuleName,
     start: Cursor<'a>,

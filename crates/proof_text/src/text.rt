@@ -139,7 +139,7 @@ fn read_one(
 }
 
 /// Whether no token stands in the rest of a line.
-fn is_blank(rest: Cursor<'_>) -> bool
+pub fn is_blank(rest: Cursor<'_>) -> bool
     ensures exact { result ≡ is_blank_from (rest_of rest.entry).marks (rest_of rest.entry).stop }
 {
     match rest.next() {
@@ -151,7 +151,7 @@ fn is_blank(rest: Cursor<'_>) -> bool
 
 /// Whether a token is the word `yes`, in lower case.
 #[tactic(auto, unfolding(proof_grammar::specs::Texts::is_yes))]
-fn is_yes(kind: TokenKind, word: &Word<'_>) -> bool
+pub fn is_yes(kind: TokenKind, word: &Word<'_>) -> bool
     ensures exact { result ≡ is_yes kind (bytes_of word.now) }
 {
     match kind {

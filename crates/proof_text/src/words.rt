@@ -89,8 +89,9 @@ fn rule_named(kind: TokenKind, word: &Word<'_>) -> Option<RuleName>
     }
 }
 
+/// The rule whose name a word is.
 #[tactic(auto, unfolding(proof_grammar::specs::Tokens::rule_word))]
-fn rule_word(word: &[u8]) -> Option<RuleName>
+pub fn rule_word(word: &[u8]) -> Option<RuleName>
     ensures exact { result ≡ rule_word word.now }
 {
     if word == b"given".as_slice() {

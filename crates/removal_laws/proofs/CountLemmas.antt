@@ -4,12 +4,9 @@ use Rattle.std.proofs.lemmas.Bool.{cases_Bool, cases_eq}
 use Rattle.std.proofs.lemmas.Bool.Decides.{nat_tests}
 use Rattle.attr_sets.specs.Attributes.{Attributes, count_below}
 use Rattle.attr_sets.proofs.AttributesLemmas.{count_below-equal, count_below-none}
+use Rattle.removal_laws.specs.Counts.{total}
 
 -- ---- sums over the numbers below n
-unfoldable pub total : (ℕ → ℕ) → ℕ → ℕ
-total f zero = 0
-total f (suc n) = total f n + f n
-
 pub total-le : (f g : ℕ → ℕ) (n : ℕ) → ((k : ℕ) → k < n → f k ≤ g k) → total f n ≤ total g n
 unfolding total
 total-le f g zero each = omega arith

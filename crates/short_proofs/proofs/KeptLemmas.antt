@@ -3,11 +3,11 @@ use Rattle.std.proofs.Common.{◌≡◌, ℕ, ◌≤◌, ◌⊎◌, Bool, true, 
 use Rattle.std.specs.Prelude.{Option, IfSome}
 use Rattle.attr_sets.specs.Attributes.{Attributes}
 use Rattle.dep_model.specs.declared.schema.Schema.{Schema}
-use Rattle.dep_model.specs.Dependencies.{Dependency, mvd}
+use Rattle.dep_model.specs.Dependencies.{Dependency, fd, mvd}
 use Rattle.derivation.specs.Trees.{Tree, leaf, step, pair, nodes, given}
 use Rattle.derivation.specs.Direct.{IsDirect}
 use Rattle.dep_basis.specs.JoinedProofs.{IsProofOf}
-use Rattle.dep_basis.specs.Proofs.{IsFirstGiven}
+use Rattle.dep_basis.specs.Proofs.{IsFirstGiven, IsDirectUnlessChain}
 use Rattle.short_proofs.specs.declared.shapes.Shape.{Shape}
 use Rattle.short_proofs.specs.Shapes.{Fits, HasAtMost, IsNoLarger, IsKept}
 
@@ -65,3 +65,6 @@ kept_direct s x y t u kept direct =
           absurd (omega (arith, one, some, less)),
     ))
     kept
+
+pub kept_direct_fd : (s : Schema) (x y : Attributes) (t u : Tree) → IsKept s (fd x y) t u → IsDirectUnlessChain s (fd x y) t → IsDirectUnlessChain s (fd x y) u
+kept_direct_fd s x y t u kept direct no_chain = ⊎_elim (λ same. subst (IsDirect s) (sym same) (direct no_chain)) (λ other. other.1) kept

@@ -1,2 +1,4 @@
 pub mod ShapeLemmas
 pub mod KeptLemmas
+pub mod PairLemmas
+pub mod RestLemmas

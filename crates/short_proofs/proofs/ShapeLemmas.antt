@@ -26,7 +26,7 @@ use Rattle.short_proofs.specs.Short.{taken, shape}
 use Rattle.short_proofs.specs.Shapes.{count, shape_nodes}
 
 -- ---- how many nodes
-nodes-taken : (b : Bool) (rule : Step) (t : Tree) → nodes (taken b rule t) ≡ nodes t + count b
+pub nodes-taken : (b : Bool) (rule : Step) (t : Tree) → nodes (taken b rule t) ≡ nodes t + count b
 nodes-taken true rule t = refl
 nodes-taken false rule t = omega arith
 
@@ -44,11 +44,11 @@ nodes-shape k r c a wide narrow t g wide_again narrow_again =
     let five = nodes-taken g (maugmentation wide_again narrow_again) fourth in
     omega (arith, one, two, three, four, five)
 
-count-le : (b : Bool) → count b ≤ 1
+pub count-le : (b : Bool) → count b ≤ 1
 count-le true = omega arith
 count-le false = omega arith
 
-depth-taken : (b : Bool) (rule : Step) (t : Tree) → depth (taken b rule t) ≡ depth t + count b
+pub depth-taken : (b : Bool) (rule : Step) (t : Tree) → depth (taken b rule t) ≡ depth t + count b
 depth-taken true rule t = refl
 depth-taken false rule t = omega arith
 

@@ -5,7 +5,6 @@ use Rattle.attr_sets.specs.Attributes.{Attributes}
 use Rattle.attr_sets.specs.Sets.{attributes}
 use Rattle.dep_model.specs.declared.schema.Schema.{Schema}
 use Rattle.dep_model.specs.Dependencies.{Dependency, mvd}
-use Rattle.derivation.specs.Trees.{Tree, nodes}
 use Rattle.derivation.specs.Conclusions.{Proves}
 use Rattle.derivation.specs.Direct.{IsDirect}
 use Rattle.dep_basis.specs.JoinedProofs.{IsProofOf}
@@ -13,7 +12,10 @@ use Rattle.short_proofs.specs.declared.shapes.Shape.{Shape}
 use Rattle.dep_basis.specs.declared.proving.Proof.{Proof}
 use Rattle.dep_basis.specs.declared.proving.Proof.TheVariants.{Yes, No}
 use Rattle.derivation.specs.Derivs.{tree_of}
-use Rattle.short_proofs.specs.Short.{shape, IsShort}
+use Rattle.short_proofs.specs.declared.pairs.Halves.{Halves}
+use Rattle.short_proofs.specs.declared.pairs.Merged.{Merged}
+use Rattle.derivation.specs.Trees.{Tree, nodes, leaf, given}
+use Rattle.short_proofs.specs.Short.{shape, start, difference_of, coalescence_of, IsShort}
 
 -- the derivation that a shape of the code stands for
 abbrev pub tree_of_shape : Shape → Tree
@@ -21,10 +23,26 @@ tree_of_shape f =
     shape f.number f.replicated f.complemented f.augmented (attributes f.wide) (attributes f.narrow)
     f.turned f.again (attributes f.wide_again) (attributes f.narrow_again)
 
+-- the derivations of two dependencies that are joined by transitivity, and by coalescence
+abbrev pub tree_of_halves : Halves → Bool → Bool → Bool → Bool → Tree
+tree_of_halves h lifted widened turned again =
+    difference_of (attributes h.half.lhs) (attributes h.half.rhs) (attributes h.half.middle)
+    (start h.half.first.number h.half.first.replicated h.half.first.complemented)
+    (start h.second.number h.second.replicated h.second.complemented) lifted widened turned again
+
+abbrev pub tree_of_merged : Merged → Bool → Bool → Bool → Tree
+tree_of_merged m lifted cut again =
+    coalescence_of (attributes m.lhs) (attributes m.rhs) (attributes m.right)
+    (start m.first.number m.first.replicated m.first.complemented) (leaf (given m.number)) lifted cut again
+
 -- how many steps these are
 abbrev pub count : Bool → ℕ
 count true = 1
 count false = 0
+
+-- how many nodes a start has
+abbrev pub start_count : Bool → Bool → ℕ
+start_count replicated complemented = 1 + count replicated + count complemented
 
 abbrev pub shape_nodes : Bool → Bool → Bool → Bool → Bool → ℕ
 shape_nodes replicated complemented augmented turned again =

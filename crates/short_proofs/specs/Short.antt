@@ -1,10 +1,11 @@
--- Short derivations of a multivalued dependency: for `implies` (`desk_implication/Implication`).
-use Rattle.std.specs.Prelude.{◌≡◌, ◌⊎◌, ◌≤◌, ℕ, Bool, true, false}
-use Rattle.attr_sets.specs.Attributes.{Attributes, union, difference}
+-- Short derivations: for `implies` (`desk_implication/Implication`).
+use Rattle.std.specs.Prelude.{◌≡◌, ◌⊎◌, ◌≤◌, ℕ, Bool, true, false, if◌then◌else◌, Some, slice_get}
+use Rattle.attr_sets.specs.Attributes.{Attributes, none, union, intersection, difference, IsSubset, Disjoint}
 use Rattle.dep_model.specs.declared.schema.Schema.{Schema}
-use Rattle.dep_model.specs.Dependencies.{Dependency, fd, mvd}
-use Rattle.dep_model.specs.Schemas.{universe_of}
-use Rattle.derivation.specs.Trees.{Tree, leaf, step, nodes, Step, given, complementation, maugmentation, replication}
+use Rattle.dep_model.specs.Dependencies.{Dependency, fd, mvd, left_of, right_of, functional_part}
+use Rattle.dep_model.specs.Implication.{Implies}
+use Rattle.dep_model.specs.Schemas.{universe_of, width_of, theory_of}
+use Rattle.derivation.specs.Trees.{Tree, leaf, step, pair, nodes, Step, given, reflexivity, augmentation, complementation, maugmentation, replication, transitivity, mtransitivity, coalescence}
 use Rattle.derivation.specs.Conclusions.{Proves}
 use Rattle.derivation.specs.Chains.{IsFunctionalChain}
 
@@ -29,16 +30,104 @@ IsShape t =
     × (narrow_again : Attributes)
     × (t ≡ shape k replicated complemented augmented wide narrow turned again wide_again narrow_again)
 
--- the derivations of x ->> y that are listed: a given dependency after these steps; the functional chain of
--- x -> y, and replication; and that of x and what is neither in x nor in y, with complementation at last
+-- from the chain of x and what is neither in x nor in y: x ->> y, with what both share added at last, or not
+abbrev pub rest_of : Attributes → Attributes → Bool → Tree → Tree
+rest_of x y shared chain =
+    taken shared (maugmentation x (intersection x y)) (step complementation (step replication chain))
+
+-- dependency k, and then replication and complementation, each or not
+abbrev pub start : ℕ → Bool → Bool → Tree
+start k replicated complemented = taken complemented complementation (taken replicated replication (leaf (given k)))
+
+-- from x ->> w and l ->> u, by transitivity: with x added to the first and w on the left of the second, each
+-- or not; and then complementation, and what x and y share added on the right, each or not
+abbrev pub difference_of : Attributes → Attributes → Attributes → Tree → Tree → Bool → Bool → Bool → Bool → Tree
+difference_of x y w first second lifted widened turned again =
+    taken again (maugmentation x (intersection x y)) (taken turned complementation
+    (pair mtransitivity (taken lifted (maugmentation x x) first)
+    (taken widened (maugmentation (if lifted then union w x else w) none) second)))
+
+-- from l -> u what it says of z alone, or all
+abbrev pub cut_to : Bool → Attributes → Attributes → Tree → Tree
+cut_to true u z t = pair transitivity t (leaf (reflexivity u z))
+cut_to false u z t = t
+
+-- from x ->> w and l -> u, by coalescence: with x on the left of the first, and of the second only what y has
+-- beyond x, each or not; and then what x and y share added to both sides, or not
+abbrev pub coalescence_of : Attributes → Attributes → Attributes → Tree → Tree → Bool → Bool → Bool → Tree
+coalescence_of x y u first second lifted cut again =
+    taken again (augmentation (intersection x y))
+    (pair coalescence (taken lifted (maugmentation x none) first) (cut_to cut u (difference y x) second))
+
+-- of the attributes of b, r has just those that y has, or just those that y has not
+abbrev pub Agrees : Attributes → Attributes → Attributes → Type 0
+Agrees b y r = (intersection r b ≡ intersection b y) ⊎ (intersection r b ≡ difference b y)
+
+-- what is in p is in y, or none of it is
+abbrev pub IsOneSided : Attributes → Attributes → Type 0
+IsOneSided p y = IsSubset p y ⊎ Disjoint p y
+
+-- the sets of a dependency e fit a goal after x ->> w, where b is what is in neither x nor w: what w has beyond x
+-- y has all, or none of it; x and w reach the left side of e, and its right side agrees with y on b. Of a
+-- functional goal, e is functional, its left side is apart from w, and what y has beyond x is in w and in its
+-- right side
+abbrev pub FitBeyond : Attributes → Dependency → Attributes → Dependency → Type 0
+FitBeyond b (mvd x y) w e =
+    IsOneSided (difference w x) y × IsSubset (left_of e) (union w x) × Agrees b y (right_of e)
+FitBeyond b (fd x y) w (mvd l u) = ⊥
+FitBeyond b (fd x y) w (fd l u) = Disjoint l w × IsSubset (difference y x) w × IsSubset (difference y x) u
+
+abbrev pub SetsFit : Schema → Dependency → Attributes → Dependency → Type 0
+SetsFit s d w e = FitBeyond (difference (universe_of s) (union w (left_of d))) d w e
+
+-- such trees of two dependencies: from a tree of x ->> w, and of dependency j
+abbrev pub IsDifference : Attributes → Attributes → Tree → Attributes → ℕ → Tree → Type 0
+IsDifference x y first w j t =
+    (replicated complemented : Bool) × ((lifted widened : Bool) × ((turned again : Bool)
+    × (t ≡ difference_of x y w first (start j replicated complemented) lifted widened turned again)))
+
+abbrev pub IsCoalescence : Attributes → Attributes → Attributes → Tree → ℕ → Tree → Type 0
+IsCoalescence x y u first j t =
+    (lifted : Bool) × ((cut again : Bool)
+    × (t ≡ coalescence_of x y u first (leaf (given j)) lifted cut again))
+
+-- the one or the other, by the goal, where the sets of dependency j fit
+abbrev pub IsPair : Dependency → Tree → Attributes → ℕ → Dependency → Tree → Type 0
+IsPair (mvd x y) first w j e t = IsDifference x y first w j t
+IsPair (fd x y) first w j e t = IsCoalescence x y (right_of e) first j t
+
+abbrev pub IsJoinedBy : Schema → Dependency → Tree → Attributes → ℕ → Tree → Type 0
+IsJoinedBy s d first w j t =
+    (e : Dependency) × (slice_get (theory_of s) j ≡ Some e) × SetsFit s d w e × IsPair d first w j e t
+
+-- the same, where the first is v ->> w with v in the left side of the goal
+abbrev pub IsJoinedFrom : Schema → Dependency → Tree → Tree → Type 0
+IsJoinedFrom s d first t =
+    (v w : Attributes) × Proves s first (mvd v w) × IsSubset v (left_of d)
+    × ((j : ℕ) × IsJoinedBy s d first w j t)
+
+-- a tree of two dependencies that are joined
+abbrev pub IsJoined : Schema → Dependency → Tree → Type 0
+IsJoined s d t =
+    (k : ℕ) × ((replicated complemented : Bool) × IsJoinedFrom s d (start k replicated complemented) t)
+
+-- the derivations of a goal that are listed: two dependencies that are joined; and of x ->> y a given
+-- dependency after a few steps; the functional chain of x -> y, and replication; and that of x and what is
+-- neither in x nor in y, replicated and complemented. Of a functional goal that the functional part alone
+-- implies, none
 abbrev pub IsListed : Schema → Dependency → Tree → Type 0
-IsListed s (fd x y) t = ⊥
+IsListed s (fd x y) t =
+    (Implies (width_of s) (functional_part (theory_of s)) (fd x y) → ⊥) × IsJoined s (fd x y) t
 IsListed s (mvd x y) t =
     IsShape t
     ⊎ ((chain : Tree) × IsFunctionalChain s x y chain × (t ≡ step replication chain))
     ⊎ ((chain : Tree) × IsFunctionalChain s x (difference (universe_of s) (union x y)) chain
-    × (t ≡ step complementation (step replication chain)))
+    × (shared : Bool) × (t ≡ rest_of x y shared chain))
+    ⊎ IsJoined s (mvd x y) t
 
--- a tree is no longer than any listed one that proves the dependency
+-- a tree is no longer than any of these that proves the dependency
+abbrev pub IsNoLongerThan : Schema → Dependency → (Tree → Type 0) → Tree → Type 0
+IsNoLongerThan s d P t = (u : Tree) → P u → Proves s u d → nodes t ≤ nodes u
+
 abbrev pub IsShort : Schema → Dependency → Tree → Type 0
-IsShort s d t = (u : Tree) → IsListed s d u → Proves s u d → nodes t ≤ nodes u
+IsShort s d t = IsNoLongerThan s d (IsListed s d) t

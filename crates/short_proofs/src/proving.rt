@@ -1,32 +1,33 @@
 //! Derivations that are no longer than the listed ones.
 
-ghost use Rattle.std.specs.Prelude.{◌≤◌, ◌<◌, ◌^◌, ◌+◌, ◌↔◌, IfOk};
+ghost use Rattle.std.specs.Prelude.{◌≡◌, ◌≤◌, ◌+◌, ◌↔◌, Bool, IsTrue, IfOk};
 ghost use Rattle.attr_sets.specs.Attributes.{IsSubset, union, difference};
 ghost use Rattle.attr_sets.specs.Sets.{attributes};
-ghost use Rattle.dep_model.specs.Dependencies.{Dependency, mvd};
+ghost use Rattle.dep_model.specs.Dependencies.{fd, mvd, functional_part};
 ghost use Rattle.dep_model.specs.Deps.{dependency_of, IsDepWithin};
-ghost use Rattle.dep_model.specs.Schemas.{universe_of, ImpliedBy};
-ghost use Rattle.derivation.specs.Trees.{Tree, nodes, step, complementation, replication};
+ghost use Rattle.dep_model.specs.Implication.{Implies};
+ghost use Rattle.dep_model.specs.Schemas.{universe_of, width_of, theory_of, ImpliedBy};
+ghost use Rattle.derivation.specs.Trees.{Tree, nodes};
 ghost use Rattle.derivation.specs.Derivs.{tree_of};
 ghost use Rattle.derivation.specs.Conclusions.{Proves};
 ghost use Rattle.derivation.specs.Chains.{IsFunctionalChain};
-ghost use Rattle.derivation.specs.declared.measures.TheConstants.{MOST_NODES, MOST_LEVELS};
-ghost use Rattle.dep_basis.specs.CutProofs.{HasSize};
 ghost use Rattle.dep_basis.specs.JoinedProofs.{IsProofOf};
 ghost use Rattle.dep_basis.specs.Proofs.{IsAnswer, IsDirectAnswer, IsYes};
-ghost use Rattle.short_proofs.specs.Short.{IsShape, IsShort};
+ghost use Rattle.short_proofs.specs.Short.{IsShape, IsShort, rest_of};
 ghost use Rattle.short_proofs.specs.Shapes.{IsKept, IsShortAnswer};
 
 use crate::given_shapes::smallest_shape;
-use crate::shapes::shape_deriv;
+use crate::joints::unless_joined;
+use crate::keeping::shorter;
+use crate::shapes::{shape_deriv, stepped};
 use attr_sets::AttrSet;
 use dep_basis::{Proof, functional_chain, prove};
 use dep_model::{Dep, OutOfMemory, Schema};
-use derivation::{Deriv, StepRule, nodes, shorten};
+use derivation::{Deriv, StepRule};
 use std::alloc::Global;
 
 /// A derivation of a dependency where the schema implies it, or two rows that show that it does not, as
-/// `dep_basis::prove` gives them. Where the dependency is multivalued and a listed derivation is shorter,
+/// `dep_basis::prove` gives them. Where the derivation is no functional chain and a listed one is shorter,
 /// the shortest of these is given, and what is said twice left out of it.
 pub fn prove_shortly(alloc: Global, schema: &Schema, dep: Dep) -> Result<Proof, OutOfMemory>
     requires within { IsDepWithin (universe_of schema.now) dep }
@@ -39,6 +40,9 @@ pub fn prove_shortly(alloc: Global, schema: &Schema, dep: Dep) -> Result<Proof, 
     match (proof, dep) {
         (Proof::Yes(deriv), Dep::Mvd { lhs, rhs }) => {
             Ok(Proof::Yes(shortest(alloc, schema, lhs, rhs, deriv)?))
+        }
+        (Proof::Yes(deriv), Dep::Fd { lhs, rhs }) => {
+            Ok(Proof::Yes(shortest_fd(alloc, schema, lhs, rhs, deriv)?))
         }
         (other, _) => Ok(other),
     }
@@ -64,7 +68,52 @@ fn shortest(
     let shaped = unless_shape(alloc, schema, lhs, rhs, deriv)?;
     let chained = unless_chain(alloc, schema, lhs, rhs, shaped)?;
     let rested = unless_chain_of_rest(alloc, schema, lhs, rhs, chained)?;
-    Ok(rested)
+    let joined = unless_joined(alloc, schema, Dep::Mvd { lhs, rhs }, rested)?;
+    Ok(joined)
+}
+
+// Of a derivation of `lhs -> rhs` and the listed ones the shortest; a functional chain stays.
+fn shortest_fd(
+    alloc: Global,
+    schema: &Schema,
+    lhs: AttrSet,
+    rhs: AttrSet,
+    deriv: Box<Deriv>,
+) -> Result<Box<Deriv>, OutOfMemory>
+    requires lhs { IsSubset (attributes lhs) (universe_of schema.now) }
+    requires rhs { IsSubset (attributes rhs) (universe_of schema.now) }
+    requires proof { IsProofOf schema.now (fd (attributes lhs) (attributes rhs))
+        (tree_of deriv.value) }
+    ensures kept { IfOk result (λ b. IsKept schema.now (fd (attributes lhs) (attributes rhs))
+        (tree_of deriv.value) (tree_of b.value)) }
+    ensures chain { IfOk result (λ b. Implies (width_of schema.now)
+        (functional_part (theory_of schema.now)) (fd (attributes lhs) (attributes rhs))
+        → tree_of b.value ≡ tree_of deriv.value) }
+    ensures short { IfOk result (λ b. IsShort schema.now (fd (attributes lhs) (attributes rhs))
+        (tree_of b.value)) }
+{
+    let chained = has_chain(alloc, schema, lhs, rhs)?;
+    if chained {
+        return Ok(deriv);
+    }
+    let joined = unless_joined(alloc, schema, Dep::Fd { lhs, rhs }, deriv)?;
+    Ok(joined)
+}
+
+// Whether the functional dependencies alone imply `lhs -> rhs`.
+fn has_chain(
+    alloc: Global,
+    schema: &Schema,
+    lhs: AttrSet,
+    rhs: AttrSet,
+) -> Result<bool, OutOfMemory>
+    requires lhs { IsSubset (attributes lhs) (universe_of schema.now) }
+    requires rhs { IsSubset (attributes rhs) (universe_of schema.now) }
+    ensures exact { IfOk result (λ chained. IsTrue chained ↔ Implies (width_of schema.now)
+        (functional_part (theory_of schema.now)) (fd (attributes lhs) (attributes rhs))) }
+{
+    let found = functional_chain(alloc, schema, lhs, rhs)?;
+    Ok(found.is_some())
 }
 
 // A derivation, unless a shape of a given dependency is shorter.
@@ -119,7 +168,7 @@ fn unless_chain(
 }
 
 // A derivation, unless the functional chain of what is in neither side, replication and complementation
-// are shorter.
+// are shorter, with what both sides share added at last.
 fn unless_chain_of_rest(
     alloc: Global,
     schema: &Schema,
@@ -133,40 +182,39 @@ fn unless_chain_of_rest(
         (tree_of deriv.value) }
     ensures kept { IfOk result (λ b. IsKept schema.now (mvd (attributes lhs) (attributes rhs))
         (tree_of deriv.value) (tree_of b.value)) }
-    ensures chains { IfOk result (λ b. (t : Tree)
+    ensures chains { IfOk result (λ b. (t : Tree) (shared : Bool)
         → IsFunctionalChain schema.now (attributes lhs)
         (difference (universe_of schema.now) (union (attributes lhs) (attributes rhs))) t
-        → Proves schema.now (step complementation (step replication t))
+        → Proves schema.now (rest_of (attributes lhs) (attributes rhs) shared t)
         (mvd (attributes lhs) (attributes rhs))
-        → nodes (tree_of b.value) ≤ nodes t + 2) }
+        → nodes (tree_of b.value) ≤ nodes (rest_of (attributes lhs) (attributes rhs) shared t)) }
 {
-    if lhs.intersects(rhs) {
-        return Ok(deriv);
-    }
     let rest = AttrSet::full(schema.width()).difference(lhs.union(rhs));
     match functional_chain(alloc, schema, lhs, rest)? {
         None => Ok(deriv),
         Some(chain) => {
-            let replica = Box::new(alloc, Deriv::Step(StepRule::Replication, chain))?;
-            let other = Box::new(alloc, Deriv::Step(StepRule::Complementation, replica))?;
+            let other = rest_deriv(alloc, lhs, rhs, lhs.intersects(rhs), chain)?;
             Ok(shorter(schema, deriv, other))
         }
     }
 }
 
-// The first of two derivations of the same, unless the second one is shorter once what it says twice is
-// left out.
-fn shorter(schema: &Schema, deriv: Box<Deriv>, other: Box<Deriv>) -> Box<Deriv>
-    requires fits_u32 { nodes (tree_of deriv.value) < 2 ^ 32 }
-    requires small { HasSize (tree_of other.value) MOST_NODES MOST_LEVELS }
-    ensures kept { (d : Dependency) → Proves schema.now (tree_of other.value) d
-        → IsKept schema.now d (tree_of deriv.value) (tree_of result.value) }
-    ensures than_other { nodes (tree_of result.value) ≤ nodes (tree_of other.value) }
+// The derivation from a chain of what is in neither side.
+fn rest_deriv(
+    alloc: Global,
+    lhs: AttrSet,
+    rhs: AttrSet,
+    is_shared: bool,
+    chain: Box<Deriv>,
+) -> Result<Box<Deriv>, OutOfMemory>
+    ensures tree { IfOk result (λ b. tree_of b.value
+        ≡ rest_of (attributes lhs) (attributes rhs) is_shared (tree_of chain.value)) }
 {
-    let short = shorten(schema, other);
-    if nodes(&short) < nodes(&deriv) {
-        short
-    } else {
-        deriv
-    }
+    let shared = StepRule::MAugmentation {
+        wide: lhs,
+        narrow: lhs.intersection(rhs),
+    };
+    let replica = Box::new(alloc, Deriv::Step(StepRule::Replication, chain))?;
+    let turned = Box::new(alloc, Deriv::Step(StepRule::Complementation, replica))?;
+    stepped(alloc, is_shared, shared, turned)
 }

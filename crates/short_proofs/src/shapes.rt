@@ -131,7 +131,7 @@ fn augmentation(by: Sides) -> StepRule
 }
 
 // What a given dependency concludes, if there is one of this number.
-fn given_dep(schema: &Schema, number: u16) -> Option<Dep>
+pub fn given_dep(schema: &Schema, number: u16) -> Option<Dep>
     ensures only { ConcludesOnly schema.now (leaf (given number)) result }
 {
     match leaf_conclusion(schema, LeafRule::Given(number)) {
@@ -141,7 +141,7 @@ fn given_dep(schema: &Schema, number: u16) -> Option<Dep>
 }
 
 // What a step concludes, if it is taken and concludes anything.
-fn step_taken(schema: &Schema, is_taken: bool, rule: StepRule, from: Option<Dep>) -> Option<Dep>
+pub fn step_taken(schema: &Schema, is_taken: bool, rule: StepRule, from: Option<Dep>) -> Option<Dep>
     ensures only { (t : Tree) → ConcludesOnly schema.now t from
         → ConcludesOnly schema.now (taken is_taken (step_of rule) t) result }
 {
@@ -218,7 +218,8 @@ fn node_count(shape: Shape) -> u8
         + one_if(shape.again)
 }
 
-fn one_if(is_taken: bool) -> u8
+/// One step, or none.
+pub fn one_if(is_taken: bool) -> u8
     ensures count { result ≡ count is_taken }
     ensures least { result ≤ 1 }
 {
@@ -253,7 +254,7 @@ pub fn shape_deriv(alloc: Global, shape: Shape) -> Result<Box<Deriv>, OutOfMemor
 }
 
 // A derivation with a step more, if it is taken.
-fn stepped(
+pub fn stepped(
     alloc: Global,
     is_taken: bool,
     rule: StepRule,

@@ -86,7 +86,7 @@ module _ (n : ℕ) (ds : List Dependency) (form : Form) (not_empty : 0 < n) (spl
       one_successor n Whole Cut (cut_not_whole n ds form) (one_cut n ds form) l a b (lists_proper l reached) p q
 
   -- no successor
-  finished_last : (l a : List Attributes) → FinishedList n ds form l → IsSplitStep Whole Cut l a → ⊥
+  pub finished_last : (l a : List Attributes) → FinishedList n ds form l → IsSplitStep Whole Cut l a → ⊥
   finished_last l a finished =
       whole_is_last n Whole Cut (cut_not_whole n ds form) (one_cut n ds form) l a (lists_proper l finished.reached)
       finished.whole

@@ -66,6 +66,16 @@ module _ (n : ℕ) (Whole : Attributes → Type 0) (Cut : Attributes → Attribu
       ∙ ap (λ (y : Attributes). q.earlier ++ union q.x y ∷ difference q.scheme y ∷ q.later) sides.1
       ∙ sym q.replaced
 
+  -- two steps from a list cut the same scheme by the same sides
+  pub one_cutting : (l a b : List Attributes) → All (IsProper n) l → (p : IsSplitStep Whole Cut l a)
+      → (q : IsSplitStep Whole Cut l b) → (p.scheme ≡ q.scheme) × ((p.x ≡ q.x) × (p.y ≡ q.y))
+  one_cutting l a b proper p q =
+      let same = split_at_first-unique Whole p.earlier q.earlier p.scheme q.scheme p.later q.later (sym p.list ∙ q.list) p.whole
+      q.whole
+      (not_whole p.scheme p.x p.y (step_scheme l a proper p) p.cut)
+      (not_whole q.scheme q.x q.y (step_scheme l b proper q) q.cut) in
+      (same.1, one_cut q.scheme p.x p.y q.x q.y (step_scheme l b proper q) (subst (λ (s : Attributes). Cut s p.x p.y) same.1 p.cut) q.cut)
+
   -- a list all of whose schemes stay whole has no successor
   pub whole_is_last : (l a : List Attributes) → All (IsProper n) l → All Whole l → IsSplitStep Whole Cut l a → ⊥
   whole_is_last l a proper all step =

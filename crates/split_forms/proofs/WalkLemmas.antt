@@ -15,6 +15,8 @@ use Rattle.normal_forms.specs.declared.forms.Form.TheVariants.{Third}
 use Rattle.split_forms.specs.Splitting.{StaysWhole, IsCutBy, IsStuckScheme, ReachedList, FinishedList, IsTooWideAt, HasTooManySchemes}
 use Rattle.split_forms.proofs.SizeLemmas.{IsProper}
 use Rattle.split_forms.specs.Lists.{IsSplitStep}
+use Rattle.split_forms.specs.Steps.{Cutting, CutsLead, cutting}
+use Rattle.split_forms.proofs.LeadLemmas.{lead_on}
 use Rattle.split_forms.proofs.StepLemmas.{cons-head, cons-tail, step_length}
 use Rattle.split_forms.proofs.SplitLemmas.{lists_proper, lists_lossless}
 
@@ -169,6 +171,18 @@ module _ (n : ℕ) (ds : List Dependency) (form : Form) where
             },
             counted,
           )
+
+      -- and the cuts so far lead on to the list that comes of it
+      pub walk_lead : (ys : List AttrSet) (cuts : List Cutting)
+          → ((e l : List Attributes) (s : Attributes) → length e ≡ at → schemes_of xs ≡ e ++ s ∷ l
+          → schemes_of ys ≡ e ++ union x y ∷ difference s y ∷ l)
+          → CutsLead n ds form (below n ∷ []) cuts (schemes_of xs)
+          → CutsLead n ds form (below n ∷ []) (cuts ++ cutting (attributes scheme) x y ∷ []) (schemes_of ys)
+      unfolding next_step
+      walk_lead ys cuts made lead =
+          let same : schemes_of ys ≡ after = made earlier later (attributes scheme) count list in
+          subst (λ (l : List Attributes). CutsLead n ds form (below n ∷ []) (cuts ++ cutting (attributes scheme) x y ∷ []) l) (sym same)
+          (lead_on n ds form (below n ∷ []) cuts (schemes_of xs) after (cutting (attributes scheme) x y) lead (record { step = next_step; is = refl }))
 
     -- it is stuck
     pub walk_stuck : (limit : ℕ) → length xs ≤ limit → IsStuckScheme n ds form (attributes scheme)

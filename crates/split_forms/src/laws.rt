@@ -11,6 +11,7 @@ ghost use Rattle.fd_closure.specs.declared.left_sides.TheConstants.{WIDEST_SEARC
 ghost use Rattle.normal_forms.specs.declared.forms.Form.{Form};
 ghost use Rattle.split_forms.specs.Splitting.{IsNextList, ReachedList, FinishedList};
 ghost use Rattle.split_forms.specs.Splitting.{IsTooWideAt, HasTooManySchemes};
+ghost use Rattle.split_forms.specs.Steps.{AreSplitSteps, Cutting};
 
 /// A reached list has one successor at most.
 pub fn one_successor()
@@ -76,4 +77,23 @@ pub fn reached_lists_are_short()
     ensures law { (n : ℕ) (ds : List Dependency) (form : Form) (schemes : List Attributes)
         → 0 < n → (form ≡ Form.Third → ⊥)
         → ReachedList n ds form schemes → length schemes ≤ 2 ^ (n - 1) }
+{}
+
+/// The cuts lead to the finished list.
+pub fn steps_lead_to_the_finished_list()
+    ensures law { (n : ℕ) (ds : List Dependency) (form : Form) (cuts : List Cutting)
+        (schemes : List Attributes)
+        → AreSplitSteps n ds form cuts schemes → FinishedList n ds form schemes }
+{}
+
+/// There is one account of a split.
+pub fn one_account_of_a_split()
+    ensures cuts { (n : ℕ) (ds : List Dependency) (form : Form) (cuts others : List Cutting)
+        (schemes rest : List Attributes)
+        → 0 < n → (form ≡ Form.Third → ⊥)
+        → AreSplitSteps n ds form cuts schemes → AreSplitSteps n ds form others rest → cuts ≡ others }
+    ensures schemes { (n : ℕ) (ds : List Dependency) (form : Form) (cuts others : List Cutting)
+        (schemes rest : List Attributes)
+        → 0 < n → (form ≡ Form.Third → ⊥)
+        → AreSplitSteps n ds form cuts schemes → AreSplitSteps n ds form others rest → schemes ≡ rest }
 {}

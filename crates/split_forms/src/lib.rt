@@ -3,8 +3,9 @@
 //! `split` cuts schemes at their violations, the first that is not in the form first, until each is
 //! in the form; then contained schemes are dropped. The plan is lossless, and a scheme that is in the
 //! form is never cut. What lists are reached on the way is a definition (`specs`): `split` gives up
-//! exactly where one of them is too long, or has a wide scheme that no given left side cuts. `laws`
-//! has what holds of the reached lists.
+//! exactly where one of them is too long, or has a wide scheme that no given left side cuts.
+//! `split_steps` gives the cuts, and `plan_of_steps` the plan that they lead to. `laws` has what holds
+//! of the reached lists and of the cuts.
 #![tactic(auto)]
 
 mod cutting;
@@ -12,7 +13,9 @@ pub mod laws;
 mod outcome;
 mod refusal;
 mod splitting;
+mod steps;
 mod trying;
 
 pub use refusal::SplitRefusal;
-pub use splitting::split;
+pub use splitting::{plan_of_steps, split};
+pub use steps::{SchemeCut, SplitSteps, split_steps};

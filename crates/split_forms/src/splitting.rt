@@ -3,17 +3,15 @@ ghost use Rattle.dep_model.specs.Failures.{RefusesAs};
 ghost use Rattle.dep_model.specs.Plans.{schemes_of};
 ghost use Rattle.dep_model.specs.Projections.{IsLossless};
 ghost use Rattle.dep_model.specs.Schemas.{width_of, theory_of};
+ghost use Rattle.plans.specs.Containing.{without_contained};
 ghost use Rattle.plans.specs.Plans.{scheme_sets, plan_of, IsPlanOver};
 ghost use Rattle.normal_forms.specs.Chosen.{IsInForm};
 ghost use Rattle.split_forms.specs.Splitting.{FinishedList, IsSplitPlan};
 ghost use Rattle.split_forms.specs.Refusals.{IsRefusedSplit, IsWithinLimits};
 
-use crate::cutting::cut_at;
-use crate::outcome::Outcome;
 use crate::refusal::SplitRefusal;
-use crate::trying::found_outcome;
-use attr_sets::AttrSet;
-use dep_model::{Failure, Schema};
+use crate::steps::{SplitSteps, split_steps};
+use dep_model::{Failure, OutOfMemory, Schema};
 use normal_forms::Form;
 use plans::{Plan, drop_contained};
 use std::alloc::Global;
@@ -53,46 +51,28 @@ pub fn split(
     ensures never_too_many { 2 ^ (width_of schema.now - 1) ≤ limit
         → result ≡ Err (Failure.Refused SplitRefusal.TooManySchemes) → ⊥ }
 {
-    match finished_list(alloc, schema, form, limit) {
-        Ok(schemes) => Ok(drop_contained(schema, Plan::new(schema, schemes))),
+    match split_steps(alloc, schema, form, limit) {
+        Ok(steps) => Ok(plan_of_steps(alloc, schema, &steps)?),
         Err(failure) => Err(failure),
     }
 }
 
-// The list in which all schemes are in the form. It is gone through once, from the left: a scheme
-// that stays whole stays so whatever becomes of those after it.
-fn finished_list(
+/// The plan that a split leads to: its last list without contained schemes.
+pub fn plan_of_steps(
     alloc: Global,
     schema: &Schema,
-    form: Form,
-    limit: u32,
-) -> Result<Vec<AttrSet>, Failure<SplitRefusal>>
-    requires form { form ≡ Form.Third → ⊥ }
-    requires limit { 0 < limit }
-    ensures finished { IfOk result (λ all.
-        FinishedList (width_of schema.now) (theory_of schema.now) form (schemes_of all.items)) }
-    ensures within_limits { IfOk result (λ _.
-        IsWithinLimits (width_of schema.now) (theory_of schema.now) form limit) }
-    ensures refused { IfErr result
-        (RefusesAs (IsRefusedSplit (width_of schema.now) (theory_of schema.now) form limit)) }
+    steps: &SplitSteps,
+) -> Result<Plan, OutOfMemory>
+    requires form { steps.now.form ≡ Form.Third → ⊥ }
+    requires finished { FinishedList (width_of schema.now) (theory_of schema.now) steps.now.form
+        (schemes_of steps.now.schemes.items) }
+    ensures universe { IfOk result (IsPlanOver schema.now) }
+    ensures kept { IfOk result (λ plan. scheme_sets plan ≡ without_contained steps.now.schemes.items) }
+    ensures lossless { IfOk result (λ plan.
+        IsLossless (width_of schema.now) (theory_of schema.now) (plan_of plan)) }
+    ensures in_form { IfOk result (λ plan.
+        All (IsInForm (width_of schema.now) (theory_of schema.now) steps.now.form) (plan_of plan)) }
 {
-    let mut schemes = Vec::new(alloc);
-    schemes.push(AttrSet::full(schema.width()))?;
-    let mut tried = Vec::new(alloc);
-    let most = limit as usize;
-    let mut at = 0;
-    while at < schemes.len() {
-        let scheme = schemes[at];
-        match found_outcome(schema, form, scheme, &mut tried)? {
-            Outcome::Whole => at += 1,
-            Outcome::Stuck => return Err(Failure::Refused(SplitRefusal::TooWide { scheme })),
-            Outcome::Cut(breach) => {
-                if schemes.len() >= most {
-                    return Err(Failure::Refused(SplitRefusal::TooManySchemes));
-                }
-                cut_at(&mut schemes, at, breach)?;
-            }
-        }
-    }
-    Ok(schemes)
+    let schemes = Vec::from_slice(alloc, &steps.schemes)?;
+    Ok(drop_contained(schema, Plan::new(schema, schemes)))
 }

@@ -73,6 +73,13 @@ differ (text a) (text b) = Some (not (bytes_eq a b))
 differ (number m) (number n) = Some (not (int_eq m n))
 differ a b = None
 
+abbrev pub equal : Cell → Cell → Option Bool
+equal missing b = Some false
+equal a missing = Some false
+equal (text a) (text b) = Some (bytes_eq a b)
+equal (number m) (number n) = Some (int_eq m n)
+equal a b = None
+
 abbrev pub exceed : Cell → Cell → Option Bool
 exceed missing b = Some false
 exceed a missing = Some false

@@ -1,10 +1,12 @@
 -- What a query gives over the tables of an engine: for the laws of queries.
-use Rattle.std.specs.Prelude.{ℕ, ℤ, Bool, false, ◌&&◌, ◌==◌, if◌then◌else◌, Option, Some, None, List, [], ◌∷◌, ◌++◌, length, map, filter, option_map, option_and_then}
+use Rattle.std.specs.Prelude.{ℕ, ℤ, Bool, false, not, ◌&&◌, ◌==◌, if◌then◌else◌, Option, Some, None, List, [], ◌∷◌, ◌++◌, length, map, filter, option_map, option_and_then}
+use Rattle.std.specs.List.{list_any}
 use Rattle.std.specs.Set.{unique_keys}
 use Rattle.std.specs.Str.{bytes_eq}
-use Rattle.sql_syntax.specs.Syntax.{Column, column, Condition, Item, own, named, Clause, each_row, rows_where, groups_by, Query, stored, select, union_all}
+use Rattle.sql_syntax.specs.Syntax.{Column, column, Condition, Item, own, named, unnamed, Clause, each_row, rows_where, groups_by, Link, by_columns, crosswise, Query, stored, select, union_all, except, joined}
 use Rattle.sql_evaluation.specs.Cells.{Cell, same_row}
-use Rattle.sql_evaluation.specs.Values.{each, bytes_of, Look, look_at, View, value, holds}
+use Rattle.sql_evaluation.specs.Values.{each, bytes_of, named_cell, Look, look_at, View, value, holds}
+use Rattle.sql_evaluation.specs.Joins.{is_name_of, rows_joined}
 
 -- rows with named columns, whose order means nothing
 pub record Rows : Type 0 where
@@ -69,10 +71,12 @@ views_of cast (groups_by columns having) looks =
 abbrev pub item_name : Item → List ℕ
 item_name (own c) = bytes_of c.name
 item_name (named x name) = bytes_of name
+item_name (unnamed x) = []
 
 abbrev pub item_value : (List ℕ → Option ℤ) → View → Item → Option Cell
 item_value cast v (own c) = value cast v (column c)
 item_value cast v (named x name) = value cast v x
+item_value cast v (unnamed x) = value cast v x
 
 abbrev pub with_items : Bool → List Item → List (List Cell) → Rows
 with_items distinct items rows = record {
@@ -92,8 +96,43 @@ abbrev pub appended : Rows → Rows → Option Rows
 appended a b =
     if length a.names == length b.names then Some (record { names = a.names; rows = a.rows ++ b.rows }) else None
 
+-- those of the first that the second has not, each once, where they have as many columns
+abbrev pub is_among : List (List Cell) → List Cell → Bool
+is_among rows row = list_any (same_row row) rows
+
+abbrev pub without : List (List Cell) → List (List Cell) → List (List Cell)
+without rows others = unique_keys same_row (filter (λ row. not (is_among others row)) rows)
+
+abbrev pub excepted : Rows → Rows → Option Rows
+excepted a b =
+    if length a.names == length b.names then Some (record { names = a.names; rows = without a.rows b.rows }) else None
+
+-- two tables, joined by the columns of these names, which stand once in the result
+abbrev pub joined_by : List (List ℕ) → Rows → Rows → Option Rows
+joined_by by a b =
+    option_map (λ rows. record { names = a.names ++ filter (λ name. not (is_name_of by name)) b.names; rows = rows })
+    (rows_joined by a.names b.names a.rows b.rows)
+
+-- the columns of these names
+abbrev pub columns_of : List (List ℕ) → Rows → Option Rows
+columns_of names a =
+    option_map (λ rows. record { names = names; rows = rows })
+    (each (λ row. each (named_cell a.names row) names) a.rows)
+
+-- a table that is joined to what stands before it
+abbrev pub linked : Engine → Rows → Link → Option Rows
+linked e a (by_columns name columns) = option_and_then (joined_by (map bytes_of columns) a) (e.tables name)
+linked e a (crosswise name) = option_and_then (joined_by [] a) (e.tables name)
+
+abbrev pub all_linked : Engine → List Link → Rows → Option Rows
+all_linked e [] a = Some a
+all_linked e (l ∷ links) a = option_and_then (all_linked e links) (linked e a l)
+
 abbrev pub evaluate : Engine → Query → Option Rows
 evaluate e (stored name) = e.tables name
 evaluate e (select distinct items source alias clause) =
     option_and_then (selected e.cast distinct items alias clause) (evaluate e source)
 evaluate e (union_all p q) = option_and_then (λ a. option_and_then (appended a) (evaluate e q)) (evaluate e p)
+evaluate e (except p q) = option_and_then (λ a. option_and_then (excepted a) (evaluate e q)) (evaluate e p)
+evaluate e (joined names first links) =
+    option_and_then (columns_of (map bytes_of names)) (option_and_then (all_linked e links) (e.tables first))

@@ -1,5 +1,7 @@
 -- The definitions of sql_evaluation, in reading order: what stands in columns, rows, values and tests of
--- a row or a group, and queries.
+-- a row or a group, rows beside rows, queries, and what statements and scripts do.
 pub mod Cells
 pub mod Values
+pub mod Joins
 pub mod Evaluation
+pub mod Running

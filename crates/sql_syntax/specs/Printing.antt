@@ -1,7 +1,8 @@
 -- The texts of queries: for all that prints queries.
 use Rattle.std.specs.Prelude.{ℕ, Bool, true, false, if◌then◌else◌, Option, Some, None, List, [], ◌∷◌, ◌++◌, codes}
+use Rattle.std.specs.List.{flat_map}
 use Rattle.sql_names.specs.Names.{comma_list, quoted_name}
-use Rattle.sql_syntax.specs.Syntax.{ColumnName, attribute, helper, Column, Scalar, column, as_text, as_integer, number_zero, number_one, count, sum, sum_product, less_sum, Condition, is_missing, differs, exceeds, either, Item, own, named, Clause, each_row, rows_where, groups_by, Query, stored, select, union_all}
+use Rattle.sql_syntax.specs.Syntax.{ColumnName, attribute, helper, Column, Scalar, column, as_text, as_integer, number_zero, number_one, count, sum, sum_product, less_sum, Condition, is_missing, differs, exceeds, either, Item, own, named, unnamed, Clause, each_row, rows_where, groups_by, Link, by_columns, crosswise, Query, stored, select, union_all, except, joined}
 
 -- a user's name stands in quotes
 abbrev pub name_text : ColumnName → List ℕ
@@ -32,6 +33,7 @@ condition_text (either p q) = condition_text p ++ codes " OR " ++ condition_text
 abbrev pub item_text : Item → List ℕ
 item_text (own c) = column_text c
 item_text (named x name) = scalar_text x ++ codes " AS " ++ name_text name
+item_text (unnamed x) = scalar_text x
 
 -- ---- clauses
 abbrev pub group_text : List Column → List ℕ
@@ -46,6 +48,19 @@ abbrev pub clause_text : Clause → List ℕ
 clause_text each_row = []
 clause_text (rows_where p) = codes " WHERE " ++ condition_text p
 clause_text (groups_by columns having) = group_text columns ++ having_text having
+
+-- ---- joins
+-- columns by their names alone
+abbrev pub names_text : List ColumnName → List ℕ
+names_text names = comma_list name_text names
+
+abbrev pub link_text : Link → List ℕ
+link_text (by_columns name columns) = codes " JOIN " ++ name ++ codes " USING (" ++ names_text columns ++ codes ")"
+link_text (crosswise name) = codes " CROSS JOIN " ++ name
+
+-- what is selected from a table and those that are joined to it: the texts of the parts
+unfoldable pub joined_text : List ℕ → List ℕ → List ℕ → List ℕ
+joined_text names first links = codes "SELECT " ++ names ++ codes " FROM " ++ first ++ links
 
 -- ---- queries
 abbrev pub distinct_text : Bool → List ℕ
@@ -67,6 +82,10 @@ text_at is_source (select distinct items source alias clause) =
     (selected_text distinct (comma_list item_text items) (text_at true source) alias (clause_text clause))
 text_at is_source (union_all p q) =
     in_brackets is_source (text_at false p ++ codes " UNION ALL " ++ text_at false q)
+text_at is_source (except p q) =
+    in_brackets is_source (text_at false p ++ codes " EXCEPT " ++ text_at false q)
+text_at is_source (joined names first links) =
+    in_brackets is_source (joined_text (names_text names) first (flat_map link_text links))
 
 -- a query, as it stands in a statement, and as the source of another
 abbrev pub query_text : Query → List ℕ

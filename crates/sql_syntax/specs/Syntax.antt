@@ -32,10 +32,11 @@ pub data Condition : Type 0 where
   exceeds : Scalar → Scalar → Condition
   either : Condition → Condition → Condition
 
--- what is selected: a column under its own name, or a value under a name
+-- what is selected: a column under its own name, or a value under a name or without one
 pub data Item : Type 0 where
   own : Column → Item
   named : Scalar → ColumnName → Item
+  unnamed : Scalar → Item
 
 -- what stands after a source: nothing; which rows are taken; or by which columns they are grouped, and
 -- which groups are taken. Grouped by no column, all rows are one group, also where there is no row
@@ -44,9 +45,18 @@ pub data Clause : Type 0 where
   rows_where : Condition → Clause
   groups_by : List Column → Option Condition → Clause
 
+-- a stored table that is joined to what stands before it: by columns of these names, which both have, or
+-- each row with each
+pub data Link : Type 0 where
+  by_columns : List ℕ → List ColumnName → Link
+  crosswise : List ℕ → Link
+
 -- a query: a stored table, by its name as SQL has it; what is selected of a source under an alias,
--- each value once or not; the rows of two queries one after the other
+-- each value once or not; the rows of two queries one after the other; those of the first that the second
+-- has not, each once; columns of stored tables that are joined, by their names alone
 pub data Query : Type 0 where
   stored : List ℕ → Query
   select : Bool → List Item → Query → List ℕ → Clause → Query
   union_all : Query → Query → Query
+  except : Query → Query → Query
+  joined : List ColumnName → List ℕ → List Link → Query

@@ -1,4 +1,3 @@
-//! Queries of SQL as values: what each prints, and what it evaluates to over bags of rows with named
-//! columns. Definitions alone, with no code: the crates that print queries cite them, and so do the laws
-//! of these queries.
+//! Queries and statements of SQL as values, and what each prints. Definitions alone, with no code: the
+//! crates that print queries and scripts cite them, and so do the laws of what these do.
 #![tactic(auto)]

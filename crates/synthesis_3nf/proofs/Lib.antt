@@ -3,4 +3,5 @@ pub mod GroupLemmas
 pub mod ThirdLemmas
 pub mod LosslessLemmas
 pub mod CompleteLemmas
+pub mod MadeLemmas
 mod LoopLemmas

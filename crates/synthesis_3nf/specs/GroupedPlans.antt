@@ -1,5 +1,5 @@
--- The decomposition in third normal form that is made of a cover: for `synthesize` and the command
--- of that name (`desk_designs/Synthesis`).
+-- The decomposition in third normal form that is made of a cover, and how it comes about: for `synthesize`,
+-- the command of that name (`desk_designs/Synthesis`) and its explanation.
 use Rattle.std.specs.Prelude.{◌≡◌, ℕ, ◌⊎◌, List, [], ◌∷◌, ◌++◌, Any}
 use Rattle.attr_sets.specs.Attributes.{Attributes, below}
 use Rattle.attr_sets.specs.declared.set.AttrSet.{AttrSet}
@@ -25,11 +25,15 @@ pub record IsKeyAdded (n : ℕ) (ds : List Dependency) (schemes all : List Attri
 abbrev pub IsWithKey : ℕ → List Dependency → List Attributes → List Attributes → Type 0
 IsWithKey n ds schemes all = (HoldSuperkey n ds schemes × (all ≡ schemes)) ⊎ IsKeyAdded n ds schemes all
 
--- the grouped plan: the fixed cover grouped by left side, with a key where no group holds one, without
--- contained schemes
+-- how the grouped plan comes about: the fixed cover, and the schemes of its left sides, with a key where
+-- none holds one
+pub record AreSynthesisSteps (n : ℕ) (ds cover : List Dependency) (all : List Attributes) : Type 0 where
+  pub fixed : IsFixedCover n ds cover
+  pub completed : IsWithKey n ds (schemes_of_groups cover) all
+
+-- the grouped plan: such schemes, without contained ones
 pub record IsGroupedPlan (n : ℕ) (ds : List Dependency) (plan : List AttrSet) : Type 0 where
   pub cover : List Dependency
-  pub fixed : IsFixedCover n ds cover
   pub all : List AttrSet
-  pub completed : IsWithKey n ds (schemes_of_groups cover) (schemes_of all)
+  pub steps : AreSynthesisSteps n ds cover (schemes_of all)
   pub kept : plan ≡ without_contained all

@@ -4,23 +4,18 @@ ghost use Rattle.attr_sets.specs.Sets.{attributes, is_same};
 ghost use Rattle.dep_model.specs.Dependencies.{left_of, right_of};
 ghost use Rattle.dep_model.specs.Deps.{dependency_of, dependencies_of};
 ghost use Rattle.dep_model.specs.Plans.{schemes_of};
-ghost use Rattle.synthesis_3nf.specs.Groups.{left_sides_after, group_scheme, schemes_of_groups};
+ghost use Rattle.synthesis_3nf.specs.Groups.{left_sides_after, group_scheme};
 
 use attr_sets::AttrSet;
 use dep_model::{Dep, OutOfMemory, sides};
 use std::alloc::Global;
 
-// The schemes of the left sides of a list, in the order of their first occurrence.
-pub fn group_schemes(alloc: Global, deps: &[Dep]) -> Result<Vec<AttrSet>, OutOfMemory>
-    ensures grouped { IfOk result (λ schemes. schemes_of schemes.items
-        ≡ schemes_of_groups (dependencies_of deps.now)) }
-{
-    let lefts = left_sides(alloc, deps)?;
-    each_scheme(alloc, deps, &lefts)
-}
-
 // The schemes of these left sides.
-fn each_scheme(alloc: Global, deps: &[Dep], lefts: &[AttrSet]) -> Result<Vec<AttrSet>, OutOfMemory>
+pub fn each_scheme(
+    alloc: Global,
+    deps: &[Dep],
+    lefts: &[AttrSet],
+) -> Result<Vec<AttrSet>, OutOfMemory>
     ensures schemes { IfOk result (λ schemes.
         schemes_of schemes.items ≡ map (group_scheme (dependencies_of deps.now)) (schemes_of lefts.now)) }
 {
@@ -32,7 +27,7 @@ fn each_scheme(alloc: Global, deps: &[Dep], lefts: &[AttrSet]) -> Result<Vec<Att
 }
 
 // The left sides of a list, each once, in the order of their first occurrence.
-fn left_sides(alloc: Global, deps: &[Dep]) -> Result<Vec<AttrSet>, OutOfMemory>
+pub fn left_sides(alloc: Global, deps: &[Dep]) -> Result<Vec<AttrSet>, OutOfMemory>
     ensures lefts { IfOk result (λ lefts.
         schemes_of lefts.items ≡ left_sides_after [] (dependencies_of deps.now)) }
 {
@@ -53,8 +48,8 @@ fn is_among(sets: &[AttrSet], set: AttrSet) -> bool
     sets.iter().any(|other| *other == set)
 }
 
-// A left side with all that the dependencies of the list with this left side determine.
-fn group_scheme(deps: &[Dep], left: AttrSet) -> AttrSet
+/// A left side with all that the dependencies of the list with this left side determine.
+pub fn group_scheme(deps: &[Dep], left: AttrSet) -> AttrSet
     ensures scheme { attributes result ≡ group_scheme (dependencies_of deps.now) (attributes left) }
 {
     let mut scheme = left;

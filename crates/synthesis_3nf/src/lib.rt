@@ -2,11 +2,15 @@
 //!
 //! `synthesize` groups a minimal cover of the functional dependencies by left side, and adds a key of
 //! the universe where no group holds one. The plan is lossless, each of its schemes is in third normal
-//! form, and it keeps the functional dependencies.
+//! form, and it keeps the functional dependencies. `synthesis_steps` gives the cover, its left sides and
+//! their schemes, and `plan_of_steps` the plan that they lead to.
 #![tactic(auto)]
 
 mod completing;
 mod grouping;
+mod steps;
 mod synthesis;
 
-pub use synthesis::synthesize;
+pub use grouping::group_scheme;
+pub use steps::{SynthesisSteps, synthesis_steps};
+pub use synthesis::{plan_of_steps, synthesize};

@@ -1,3 +1,4 @@
 mod PartFiles
 mod MigratedFiles
 mod StatedReferences
+mod QuotedTexts

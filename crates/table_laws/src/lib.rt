@@ -1,5 +1,6 @@
 //! Laws of tables. What a destination over a folder writes of a table as CSV is read back as the table's
-//! rows. A design in its order states each reference that it can.
+//! rows, and what stands between quotes in its SQL tells the value. A design in its order states each
+//! reference that it can.
 #![tactic(auto)]
 
 ghost use Rattle.std.specs.Prelude.{◌≡◌, ◌<◌, ◌≤◌, ℕ, true, List, length, slice_get, Some, All, IsTrue, Ok};
@@ -21,6 +22,7 @@ ghost use Rattle.ddl_text.specs.declared.table.TableDesign.{TableDesign};
 ghost use Rattle.design_order.specs.Order.{IsInDesignOrder};
 ghost use Rattle.named_tables.specs.Tables.{TableValue};
 ghost use Rattle.destinations.specs.Formats.{table_file};
+ghost use Rattle.destinations.specs.Sql.{quoted_text};
 ghost use Rattle.destinations.specs.declared.format.TableFormat.TheVariants.{Csv};
 ghost use Rattle.table_laws.specs.References.{ReferencesAreStated};
 
@@ -46,6 +48,12 @@ pub fn migrated_tables_are_read_back()
         → length rows ≤ MOST_ROWS → All (λ scheme. 0 < count_below scheme (width_of s)) plan
         → All (λ table. PartOf s (table_file Csv table).bytes (Ok table.rows))
         (tables_of_migration s plan rows) }
+{}
+
+/// A text between single quotes tells the text: two values with the same one are the same. So nothing is lost
+/// in an INSERT line.
+pub fn texts_of_values_differ()
+    ensures law { (one other : List ℕ) → quoted_text one ≡ quoted_text other → one ≡ other }
 {}
 
 /// In the design of a plan in its order each table refers to every other one whose key, not empty, lies

@@ -1,6 +1,9 @@
+mod CreatedLemmas
 mod ItemLemmas
 mod JoiningLemmas
 mod ListingLemmas
+mod MigrationLemmas
 mod NamingLemmas
+mod OrderLemmas
 mod PieceLemmas
 mod ScriptLemmas

@@ -1,43 +1,16 @@
--- Texts of queries, from those of their pieces.
+-- What stands after a rule: its query, or that it holds always.
 use Rattle.std.proofs.Common.{◌≡◌, ℕ, Bool, true, false, ◌||◌, Some, None, List, ◌++◌, sym, ap, ◌∙◌}
-use Rattle.std.specs.Prelude.{if◌then◌else◌, codes, slice_get, slice_index_or, option_and_then}
-use Rattle.attr_sets.specs.declared.set.AttrSet.{AttrSet}
-use Rattle.attr_sets.specs.Attributes.{Attributes, below, union, difference, IsEmpty}
-use Rattle.attr_sets.specs.Sets.{attributes, is_subset}
-use Rattle.dep_model.specs.declared.column_type.ColumnType.{ColumnType}
-use Rattle.dep_model.specs.declared.column_type.ColumnType.TheVariants.{Text}
+use Rattle.std.specs.Prelude.{if◌then◌else◌, codes, option_and_then}
+use Rattle.attr_sets.specs.Attributes.{Attributes, below, union, difference}
+use Rattle.attr_sets.specs.Sets.{is_subset}
 use Rattle.dep_model.specs.declared.schema.Schema.{Schema}
 use Rattle.dep_model.specs.Dependencies.{fd, mvd}
-use Rattle.dep_model.specs.Schemas.{names_of, width_of, types_of}
-use Rattle.sql_names.specs.Names.{name_list}
-use Rattle.sql_names.proofs.NameLemmas.{name_is}
+use Rattle.dep_model.specs.Schemas.{width_of}
 use Rattle.sql_syntax.specs.Printing.{query_text}
-use Rattle.ddl_text.proofs.TextLemmas.{column_is, empty_passes, empty_fails}
 use Rattle.table_queries.specs.Queries.{several, unpaired}
 use Rattle.table_queries.specs.Queries as terms
 use Rattle.check_queries.specs.Checks.{several_query, unpaired_query, query_of, check_query}
-use Rattle.table_scripts.specs.QueryTexts.{column_text, column_item, link_text}
 use Rattle.table_scripts.specs.Checking.{breaches_text, check_line}
-
--- ---- columns
-pub item_is : (s : Schema) (k : ℕ) (name : List ℕ) (column : ColumnType)
-    → slice_get (names_of s) k ≡ Some name → slice_get (types_of s) k ≡ Some column → column_text column name ≡ column_item s k
-unfolding column_item
-item_is s k name column named typed =
-    ap (λ (c : ColumnType). column_text c name) (column_is s k column typed)
-    ∙ ap (λ (n : List ℕ). column_text (slice_index_or (types_of s) k Text) n) (sym (name_is s k name named))
-
--- ---- joins
-pub link_crosswise : (s : Schema) (shared : Attributes) (source : List ℕ) → IsEmpty shared → codes " CROSS JOIN " ++ source ≡ link_text s shared source
-unfolding link_text
-link_crosswise s shared source empty =
-    sym (ap (λ (b : Bool). if b then codes " CROSS JOIN " ++ source else codes " JOIN " ++ source ++ codes " USING (" ++ name_list s shared ++ codes ")") (empty_passes shared empty))
-
-pub link_using : (s : Schema) (shared : AttrSet) (source : List ℕ) → (IsEmpty (attributes shared) → ⊥)
-    → codes " JOIN " ++ source ++ codes " USING (" ++ name_list s (attributes shared) ++ codes ")" ≡ link_text s (attributes shared) source
-unfolding link_text
-link_using s shared source not_empty =
-    sym (ap (λ (b : Bool). if b then codes " CROSS JOIN " ++ source else codes " JOIN " ++ source ++ codes " USING (" ++ name_list s (attributes shared) ++ codes ")") (empty_fails shared not_empty))
 
 -- ---- rules
 pub fd_rule : (s : Schema) (t : List ℕ) (x y both : Attributes) → is_subset y x ≡ false → both ≡ union x y

@@ -15,7 +15,8 @@ use Rattle.table_queries.specs.Meanings.{GivesNone}
 use Rattle.table_queries.proofs.BreachLemmas.{breaches_tell}
 use Rattle.table_queries.proofs.JoinedLemmas.{values_given, join_given, nothing_left}
 use Rattle.table_scripts.specs.Checking.{NothingBreaks}
-use Rattle.table_scripts.specs.Migrating.{stored_tables, view_name, FillsTables, ViewIsTable}
+use Rattle.table_scripts.specs.Migrating.{stored_tables, FillsTables, ViewIsTable}
+use Rattle.migrate_queries.specs.Script.{view_name}
 
 -- ---- rules
 GivesNone-from_meaning : (n : ℕ) (r : Relation) (found : Option Query) (A : Type 0) → MatchOption found A (λ q. GivesNone n q r ↔ A) → A

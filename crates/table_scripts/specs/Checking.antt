@@ -1,17 +1,15 @@
 -- The script that asks for what breaks the rules of a schema: for `check_script` and `sql check`
 -- (`desk_designs/Scripts`).
-use Rattle.std.specs.Prelude.{ℕ, Bool, true, false, if◌then◌else◌, Option, Some, None, List, [], ◌∷◌, ◌++◌, codes, All, MatchOption, ⊤}
+use Rattle.std.specs.Prelude.{ℕ, if◌then◌else◌, Option, Some, None, List, [], ◌∷◌, ◌++◌, codes, All, MatchOption, ⊤}
 use Rattle.std.specs.Fmt.{decimal}
 use Rattle.std.specs.List.{flat_map, zip, range_with_len}
-use Rattle.dep_model.specs.declared.column_type.ColumnType.{ColumnType}
-use Rattle.dep_model.specs.declared.column_type.ColumnType.TheVariants.{Integer}
 use Rattle.dep_model.specs.declared.naming.Naming.{Naming}
 use Rattle.dep_model.specs.declared.schema.Schema.{Schema}
 use Rattle.dep_model.specs.Dependencies.{Dependency}
 use Rattle.dep_model.specs.Projections.{members_below}
 use Rattle.dep_model.specs.Schemas.{width_of, naming_of, lines_of, theory_of}
 use Rattle.dep_model.specs.Tuples.{Relation}
-use Rattle.schema_printer.specs.Printing.{dependency_text}
+use Rattle.schema_printer.specs.Printing.{dependency_text, is_integer}
 use Rattle.schema_printer.specs.Spelling.{spelling, printed_names_of}
 use Rattle.sql_syntax.specs.Syntax.{Query}
 use Rattle.sql_syntax.specs.Printing.{query_text}
@@ -35,10 +33,6 @@ unfoldable pub integer_text : Naming → List ℕ → List ℕ → List ℕ
 integer_text naming table name =
     codes "-- " ++ spelling naming name ++ codes " is an integer\n"
     ++ check_line (integer_query table (named_column (codes "r") name))
-
-abbrev pub is_integer : ColumnType → Bool
-is_integer Integer = true
-is_integer column = false
 
 abbrev pub value_text : Schema → List ℕ → ℕ → List ℕ
 value_text s table k = if is_integer (type_at s k) then integer_text (naming_of s) table (name_at s k) else []

@@ -2,6 +2,5 @@
 -- the scripts that check and migrate.
 pub mod Naming
 pub mod Listing
-pub mod QueryTexts
 pub mod Checking
 pub mod Migrating

@@ -1,19 +1,61 @@
 -- The script that makes the tables of a plan from the user's table: for `migrate_script` and `sql
 -- migrate` (`desk_designs/Scripts`).
 use Rattle.std.specs.Prelude.{◌↔◌, ℕ, List, ◌++◌, map, codes, Contains}
-use Rattle.std.specs.List.{flat_map}
 use Rattle.attr_sets.specs.Sets.{attributes}
 use Rattle.dep_model.specs.declared.schema.Schema.{Schema}
 use Rattle.dep_model.specs.Projections.{ordered_projection, IsLossless}
 use Rattle.dep_model.specs.Schemas.{width_of, theory_of, LegalFor}
 use Rattle.dep_model.specs.Tuples.{Tuple, Relation}
 use Rattle.ddl_text.specs.declared.table.TableDesign.{TableDesign}
-use Rattle.ddl_text.specs.Ddl.{ddl_text}
-use Rattle.sql_names.specs.Names.{name_list, quoted_name}
+use Rattle.sql_syntax.specs.Printing.{item_text, query_text}
+use Rattle.sql_syntax.specs.Statements.{remark, begin, create_from, statement_text, script_text}
 use Rattle.table_queries.specs.Queries.{StoredTable, rows_of, plan_join, table_beyond_view, view_beyond_table}
 use Rattle.table_queries.specs.Meanings.{IsGiven, GivesNone}
-use Rattle.table_scripts.specs.QueryTexts.{query_text}
+use Rattle.migrate_queries.specs.declared.moving.Move.{Move}
+use Rattle.migrate_queries.specs.Moving.{moved_at}
+use Rattle.migrate_queries.specs.Script.{copy_name, view_name, copy_query, fill, copied_rows, viewed_rows, migration}
 
+-- the text of a column
+abbrev pub moved_text : Schema → Move → ℕ → List ℕ
+moved_text s move k = item_text (moved_at s move k)
+
+-- the statements before the tables
+abbrev pub opening_text : Schema → List ℕ → List ℕ
+opening_text s table =
+    statement_text (remark (codes
+    "all of it or nothing, where the first error ends it: psql -v ON_ERROR_STOP=1, sqlite3 -bail"))
+    ++ statement_text begin ++ statement_text (create_from copy_name (copy_query s table))
+
+-- the statement that fills a table
+abbrev pub fill_text : Schema → TableDesign → List ℕ
+fill_text s table = statement_text (fill s table)
+
+-- the statements of the test, from the queries that it counts
+abbrev pub test_opening : List ℕ
+test_opening =
+    codes "-- an error here undoes all: the view would lack a row of the table, or have one more\n"
+    ++ codes "CREATE TEMPORARY TABLE \"t00\" (n BIGINT CHECK (n = 0));\n"
+
+abbrev pub count_text : List ℕ → List ℕ
+count_text query = codes "INSERT INTO \"t00\" SELECT COUNT(*) FROM (" ++ query ++ codes ") AS d;\n"
+
+abbrev pub test_end : List ℕ
+test_end = codes "DROP TABLE \"t00\";\nDROP TABLE \"t0\";\nCOMMIT;\n"
+
+abbrev pub lacked_text : Schema → List ℕ
+lacked_text s = query_text (copied_rows s) ++ codes " EXCEPT " ++ query_text (viewed_rows s)
+
+abbrev pub gained_text : Schema → List ℕ
+gained_text s = query_text (viewed_rows s) ++ codes " EXCEPT " ++ query_text (copied_rows s)
+
+abbrev pub testing_text : Schema → List ℕ
+testing_text s = test_opening ++ count_text (lacked_text s) ++ count_text (gained_text s) ++ test_end
+
+-- the whole script: its statements, as a text
+abbrev pub migrate_text : Schema → List ℕ → List TableDesign → List ℕ
+migrate_text s table tables = script_text (migration s table tables)
+
+-- ---- what is asked for, as terms over relations
 -- a table of a design, by its name and its scheme
 abbrev pub stored_of : TableDesign → StoredTable
 stored_of table = record { name = table.name; scheme = attributes table.scheme }
@@ -21,41 +63,6 @@ stored_of table = record { name = table.name; scheme = attributes table.scheme }
 abbrev pub stored_tables : List TableDesign → List StoredTable
 stored_tables tables = map stored_of tables
 
--- the name of the view
-abbrev pub view_name : List ℕ
-view_name = codes "joined"
-
--- ---- texts
--- a query as a statement, in a line
-unfoldable pub statement_text : List ℕ → List ℕ
-statement_text query = query ++ codes ";\n"
-
--- the statement that fills a table
-unfoldable pub fill_text : Schema → List ℕ → TableDesign → List ℕ
-fill_text s table design =
-    codes "INSERT INTO " ++ quoted_name design.name ++ codes " (" ++ name_list s (attributes design.scheme)
-    ++ codes ") " ++ statement_text (query_text s table (rows_of (stored_of design)))
-
--- the view on the join of the tables
-unfoldable pub view_text : Schema → List ℕ → List TableDesign → List ℕ
-view_text s table designs =
-    codes "CREATE VIEW " ++ quoted_name view_name ++ codes " AS "
-    ++ statement_text (query_text s table (plan_join (stored_tables designs)))
-
--- what says whether the view is the table
-unfoldable pub difference_queries_text : Schema → List ℕ → List TableDesign → List ℕ
-difference_queries_text s table designs =
-    codes "-- rows of the table that the view lacks: none\n"
-    ++ statement_text (query_text s table (table_beyond_view view_name (stored_tables designs)))
-    ++ codes "-- rows of the view that the table lacks: none\n"
-    ++ statement_text (query_text s table (view_beyond_table view_name (stored_tables designs)))
-
-abbrev pub migrate_text : Schema → List ℕ → List TableDesign → List ℕ
-migrate_text s table designs =
-    ddl_text s designs ++ flat_map (fill_text s table) designs ++ view_text s table designs
-    ++ difference_queries_text s table designs
-
--- ---- what the queries give
 -- what fills each table is its ordered projection
 abbrev pub FillsTables : Schema → List TableDesign → Type 0
 FillsTables s designs =

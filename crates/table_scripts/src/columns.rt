@@ -1,17 +1,30 @@
-ghost use Rattle.std.specs.Prelude.{◌≡◌, ◌<◌, IfOk};
+ghost use Rattle.std.specs.Prelude.{◌≡◌, ◌<◌, ◌++◌, codes, IfOk};
 ghost use Rattle.attr_sets.specs.Sets.{attributes};
+ghost use Rattle.dep_model.specs.Projections.{members_below};
 ghost use Rattle.dep_model.specs.Schemas.{width_of};
-ghost use Rattle.sql_names.specs.Names.{name_list, quoted_name};
-ghost use Rattle.table_scripts.specs.QueryTexts.{column_text, column_item, column_list};
+ghost use Rattle.sql_names.specs.Names.{comma_list, name_list, quoted_name};
+ghost use Rattle.sql_syntax.specs.Printing.{item_text, names_text};
+ghost use Rattle.migrate_queries.specs.Moving.{attribute_names, moved, moved_at, moved_on};
+ghost use Rattle.table_scripts.specs.Migrating.{moved_text};
 
+use crate::integers::is_integer;
+use crate::listing::column_text;
 use attr_sets::AttrSet;
-use dep_model::{ColumnType, Name, OutOfMemory, Schema};
+use dep_model::{Name, OutOfMemory, Schema};
+use migrate_queries::Move;
 use schema_printer::add;
 use sql_names::{add_listed, add_name_list, add_quoted};
 use std::alloc::Global;
 
 // The quoted names of a set's attributes.
 pub fn names_text(alloc: Global, schema: &Schema, set: AttrSet) -> Result<Vec<u8>, OutOfMemory>
+    ensures text { IfOk result (λ text. text.items
+        ≡ names_text (attribute_names schema.now (attributes set))) }
+{
+    name_list(alloc, schema, set)
+}
+
+fn name_list(alloc: Global, schema: &Schema, set: AttrSet) -> Result<Vec<u8>, OutOfMemory>
     ensures text { IfOk result (λ text. text.items ≡ name_list schema.now (attributes set)) }
 {
     let mut text = Vec::new(alloc);
@@ -19,9 +32,28 @@ pub fn names_text(alloc: Global, schema: &Schema, set: AttrSet) -> Result<Vec<u8
     Ok(text)
 }
 
-// The columns of a set's attributes, with a comma and a blank between.
-pub fn columns_text(alloc: Global, schema: &Schema, set: AttrSet) -> Result<Vec<u8>, OutOfMemory>
-    ensures text { IfOk result (λ text. text.items ≡ column_list schema.now (attributes set)) }
+// The columns of a set's attributes, as they move, with a comma and a blank between.
+pub fn moved_columns(
+    alloc: Global,
+    schema: &Schema,
+    set: AttrSet,
+    how: Move,
+) -> Result<Vec<u8>, OutOfMemory>
+    ensures text { IfOk result (λ text. text.items
+        ≡ comma_list item_text (moved_on schema.now how (attributes set))) }
+{
+    columns_text(alloc, schema, set, how)
+}
+
+// The same, by the text of each.
+fn columns_text(
+    alloc: Global,
+    schema: &Schema,
+    set: AttrSet,
+    how: Move,
+) -> Result<Vec<u8>, OutOfMemory>
+    ensures text { IfOk result (λ text. text.items ≡ comma_list (moved_text schema.now how)
+        (members_below (width_of schema.now) (attributes set))) }
 {
     let mut text = Vec::new(alloc);
     let mut any_written = false;
@@ -30,7 +62,7 @@ pub fn columns_text(alloc: Global, schema: &Schema, set: AttrSet) -> Result<Vec<
             add_listed(
                 &mut text,
                 any_written,
-                &column_item(alloc, schema, attribute)?,
+                &column_at(alloc, schema, how, attribute)?,
             )?;
             any_written = true;
         }
@@ -39,23 +71,68 @@ pub fn columns_text(alloc: Global, schema: &Schema, set: AttrSet) -> Result<Vec<
 }
 
 // The column of an attribute.
-fn column_item(alloc: Global, schema: &Schema, attribute: u8) -> Result<Vec<u8>, OutOfMemory>
+fn column_at(
+    alloc: Global,
+    schema: &Schema,
+    how: Move,
+    attribute: u8,
+) -> Result<Vec<u8>, OutOfMemory>
     requires attribute { attribute < width_of schema.now }
-    ensures text { IfOk result (λ text. text.items ≡ column_item schema.now attribute) }
+    ensures text { IfOk result (λ text. text.items ≡ item_text (moved_at schema.now how attribute)) }
 {
-    let column = schema.column(attribute);
-    column_of_type(alloc, &column, schema.name(attribute))
+    let of_integer = is_integer(schema.column(attribute));
+    moved_column(alloc, how, schema.name(attribute), of_integer)
 }
 
-// A column of a type.
-#[tactic(auto, unfolding(crate::specs::QueryTexts::column_text))]
-fn column_of_type(alloc: Global, column: &ColumnType, name: &Name) -> Result<Vec<u8>, OutOfMemory>
-    ensures text { IfOk result (λ text. text.items ≡ column_text column.now name.now) }
+// A column of a name, of an integer or not.
+fn moved_column(
+    alloc: Global,
+    how: Move,
+    name: &Name,
+    of_integer: bool,
+) -> Result<Vec<u8>, OutOfMemory>
+    ensures text { IfOk result (λ text. text.items ≡ item_text (moved how name.now of_integer)) }
 {
-    match column {
-        ColumnType::Integer => cast_text(alloc, name),
-        _ => quoted_name(alloc, name),
+    match how {
+        Move::Unchanged => column_text(alloc, b"o.", name),
+        Move::Entering => entering_column(alloc, name, of_integer),
+        Move::Returning => returning_column(alloc, name, of_integer),
     }
+}
+
+fn entering_column(alloc: Global, name: &Name, of_integer: bool) -> Result<Vec<u8>, OutOfMemory>
+    ensures text { IfOk result
+        (λ text. text.items ≡ item_text (moved Move.Entering name.now of_integer)) }
+{
+    let column = column_text(alloc, b"o.", name)?;
+    if of_integer {
+        cast_text(alloc, &column, b" AS BIGINT)")
+    } else {
+        Ok(column)
+    }
+}
+
+fn returning_column(alloc: Global, name: &Name, of_integer: bool) -> Result<Vec<u8>, OutOfMemory>
+    ensures text { IfOk result
+        (λ text. text.items ≡ item_text (moved Move.Returning name.now of_integer)) }
+{
+    let column = column_text(alloc, b"j.", name)?;
+    if of_integer {
+        cast_text(alloc, &column, b" AS TEXT)")
+    } else {
+        Ok(column)
+    }
+}
+
+// A column that is cast.
+fn cast_text(alloc: Global, column: &[u8], end: &[u8]) -> Result<Vec<u8>, OutOfMemory>
+    ensures text { IfOk result (λ text. text.items ≡ codes "CAST(" ++ column.now ++ end.now) }
+{
+    let mut text = Vec::new(alloc);
+    add(&mut text, b"CAST(")?;
+    add(&mut text, column)?;
+    add(&mut text, end)?;
+    Ok(text)
 }
 
 // A name in double quotes.
@@ -63,19 +140,6 @@ pub fn quoted_name(alloc: Global, name: &Name) -> Result<Vec<u8>, OutOfMemory>
     ensures text { IfOk result (λ text. text.items ≡ quoted_name name.now) }
 {
     let mut text = Vec::new(alloc);
-    add_quoted(&mut text, name)?;
-    Ok(text)
-}
-
-// A column that is cast, and keeps its name.
-#[tactic(auto, unfolding(crate::specs::QueryTexts::column_text))]
-fn cast_text(alloc: Global, name: &Name) -> Result<Vec<u8>, OutOfMemory>
-    ensures text { IfOk result (λ text. text.items ≡ column_text ColumnType.Integer name.now) }
-{
-    let mut text = Vec::new(alloc);
-    add(&mut text, b"CAST(")?;
-    add_quoted(&mut text, name)?;
-    add(&mut text, b" AS BIGINT) AS ")?;
     add_quoted(&mut text, name)?;
     Ok(text)
 }

@@ -1,12 +1,13 @@
 ghost use Rattle.std.specs.Prelude.{◌≡◌, ◌++◌, ◌<◌, codes, IfOk, OnOk};
 ghost use Rattle.std.specs.List.{flat_map, range_with_len};
 ghost use Rattle.dep_model.specs.Schemas.{width_of};
+ghost use Rattle.schema_printer.specs.Printing.{is_integer};
 ghost use Rattle.schema_printer.specs.Spelling.{spelling};
 ghost use Rattle.sql_syntax.specs.Printing.{query_text};
 ghost use Rattle.check_queries.specs.Columns.{named_column};
 ghost use Rattle.check_queries.specs.Checks.{integer_query};
 ghost use Rattle.table_scripts.specs.Listing.{integer_test};
-ghost use Rattle.table_scripts.specs.Checking.{integer_text, is_integer, value_text};
+ghost use Rattle.table_scripts.specs.Checking.{integer_text, value_text};
 
 use crate::listing::column_text;
 use crate::selecting::{line_of_query, selected_text};
@@ -47,7 +48,7 @@ fn value_text(
     integer_text(alloc, schema.naming(), table, schema.name(attribute))
 }
 
-fn is_integer(column: ColumnType) -> bool
+pub fn is_integer(column: ColumnType) -> bool
     ensures integer { result ≡ is_integer column }
 {
     match column {

@@ -2,8 +2,9 @@
 //!
 //! `check_script` asks for the rows in which a value is missing, for what is no integer and for what breaks
 //! each rule; its queries are values of `check_queries`, and `check_laws` says what they give in an engine.
-//! `migrate_script` makes the tables of a design from the table and compares their join with it; each query is
-//! the text of a term of `table_queries`, whose laws say what it gives over a relation.
+//! `migrate_script` makes the tables of a design from the table, in one transaction that undoes itself where
+//! their join is not the table; its statements are values of `migrate_queries`, and `migrate_laws` says what
+//! they do in an engine.
 //! `is_table_name` says the names that a script may hold.
 #![tactic(auto)]
 
@@ -15,8 +16,7 @@ mod listing;
 mod migrating;
 mod missing;
 mod naming;
-mod pieces;
-mod reading;
+mod ordering;
 mod rules;
 mod selecting;
 mod several;

@@ -1,24 +1,33 @@
-ghost use Rattle.std.specs.Prelude.{◌≡◌, ◌++◌, IsTrue, IfOk, OnOk};
+ghost use Rattle.std.specs.Prelude.{◌≡◌, ◌++◌, ℕ, List, IsTrue, codes, IfOk, OnOk};
 ghost use Rattle.std.specs.List.{flat_map};
-ghost use Rattle.table_queries.specs.Queries.{table_beyond_view, view_beyond_table, kept, plan_join};
+ghost use Rattle.attr_sets.specs.Sets.{attributes};
+ghost use Rattle.dep_model.specs.Tuples.{Relation};
+ghost use Rattle.sql_syntax.specs.Printing.{query_text};
+ghost use Rattle.sql_syntax.specs.Statements.{create_view, statement_text};
+ghost use Rattle.sql_evaluation.specs.Cells.{Cell};
+ghost use Rattle.sql_evaluation.specs.Running.{State, Cast, Fails, engine_at, ended, stopped, outcome};
+ghost use Rattle.check_laws.specs.Holding.{Holds};
+ghost use Rattle.migrate_queries.specs.Script.{copy_query, fill_query, view_name, view_query, copied_rows, viewed_rows, migration};
+ghost use Rattle.migrate_laws.specs.Moved.{HasMoved};
 ghost use Rattle.table_scripts.specs.Naming.{is_table_name, quoted_table};
-ghost use Rattle.table_scripts.specs.QueryTexts.{query_text};
-ghost use Rattle.table_scripts.specs.Migrating.{migrate_text, statement_text, fill_text, view_text, view_name, difference_queries_text, stored_tables, FillsTables, ViewIsTable};
+ghost use Rattle.table_scripts.specs.Migrating.{opening_text, fill_text, lacked_text, gained_text, test_opening, count_text, test_end, testing_text, migrate_text, FillsTables, ViewIsTable};
 
-use crate::columns::names_text;
-use crate::joining::{attributes_of_tables, join_of_tables};
+use crate::columns::{moved_columns, names_text, quoted_name};
+use crate::joining::view_text;
+use crate::listing::{Listed, items_text};
 use crate::naming::quote_table;
-use crate::pieces::{except_text, select_text};
-use crate::reading::{values, whole};
+use crate::selecting::selected_text;
+use attr_sets::AttrSet;
 use ddl_text::{DesignList, TableDesign, print_ddl};
 use dep_model::{OutOfMemory, Schema};
+use migrate_queries::Move;
 use schema_printer::add;
-use sql_names::add_quoted;
 use std::alloc::Global;
 
 /// A script that makes the tables of a design and fills them from a table, makes a view on their join, and
-/// compares the two. Over a legal relation each table holds its ordered projection, and where the plan loses
-/// nothing the view is the relation.
+/// undoes all of this where the view is not the table. In an engine that holds a relation as this table, a run
+/// without an error has moved it into the tables, and any other run has changed nothing. Over a legal relation
+/// what fills each table is its ordered projection, and where the plan loses nothing the join is the relation.
 pub fn migrate_script(
     alloc: Global,
     schema: &Schema,
@@ -30,6 +39,13 @@ pub fn migrate_script(
         (λ text. text.items ≡ migrate_text schema.now (quoted_table table.now) design.now) }
     ensures fills { FillsTables schema.now design.now }
     ensures view { ViewIsTable schema.now design.now }
+    ensures moves { (fails : Fails) (cast : Cast) (cell : ℕ → List ℕ → Cell) (r : Relation)
+        (start last : State) → Holds (engine_at cast start) (quoted_table table.now) schema.now cell r
+        → outcome fails cast (migration schema.now (quoted_table table.now) design.now) start ≡ ended last
+        → HasMoved schema.now cast cell r design.now last }
+    ensures undoes { (fails : Fails) (cast : Cast) (start kept : State)
+        → outcome fails cast (migration schema.now (quoted_table table.now) design.now) start ≡ stopped kept
+        → kept ≡ start }
 {
     migrate_text(alloc, schema, design, table)
 }
@@ -44,124 +60,222 @@ fn migrate_text(
     ensures text { IfOk result
         (λ text. text.items ≡ migrate_text schema.now (quoted_table table.now) design.now) }
 {
-    let table = quote_table(alloc, table)?;
-    let mut text = print_ddl(alloc, schema, design)?;
-    add_fills(alloc, &mut text, schema, &table, design.tables())?;
-    add(
-        &mut text,
-        &view_text(alloc, schema, &table, design.tables())?,
-    )?;
-    add(
-        &mut text,
-        &difference_queries_text(alloc, schema, &table, design.tables())?,
-    )?;
+    let name = quote_table(alloc, table)?;
+    script_text(alloc, schema, design, &name)
+}
+
+// The same; `table` is the quoted name of the user's table.
+fn script_text(
+    alloc: Global,
+    schema: &Schema,
+    design: &DesignList,
+    table: &[u8],
+) -> Result<Vec<u8>, OutOfMemory>
+    ensures text { IfOk result (λ text. text.items ≡ migrate_text schema.now table.now design.now) }
+{
+    let ddl = print_ddl(alloc, schema, design)?;
+    migration_text(alloc, schema, table, &ddl, design.tables())
+}
+
+// The same, from the text of the tables.
+fn migration_text(
+    alloc: Global,
+    schema: &Schema,
+    table: &[u8],
+    ddl: &[u8],
+    designs: &[TableDesign],
+) -> Result<Vec<u8>, OutOfMemory>
+    ensures text { IfOk result (λ text. text.items ≡ opening_text schema.now table.now ++ ddl.now
+        ++ flat_map (fill_text schema.now) designs.now
+        ++ statement_text (create_view view_name (view_query schema.now designs.now))
+        ++ testing_text schema.now) }
+{
+    let mut text = opening_text(alloc, schema, table)?;
+    add(&mut text, ddl)?;
+    add_fills(alloc, &mut text, schema, designs)?;
+    add(&mut text, &view_statement(alloc, schema, designs)?)?;
+    add(&mut text, &testing_text(alloc, schema)?)?;
     Ok(text)
 }
 
-// Adds the statements that fill the designed tables; `table` is the quoted name of the user's table.
+// The statements before the tables.
+#[tactic(auto, unfolding(sql_syntax::specs::Statements::statement_text))]
+fn opening_text(alloc: Global, schema: &Schema, table: &[u8]) -> Result<Vec<u8>, OutOfMemory>
+    ensures text { IfOk result (λ text. text.items ≡ opening_text schema.now table.now) }
+{
+    let query = copy_text(alloc, schema, table)?;
+    let mut text = Vec::new(alloc);
+    add(
+        &mut text,
+        b"-- all of it or nothing, where the first error ends it: ",
+    )?;
+    add(&mut text, b"psql -v ON_ERROR_STOP=1, sqlite3 -bail\n")?;
+    add(&mut text, b"BEGIN;\n")?;
+    add(&mut text, b"CREATE TEMPORARY TABLE \"t0\" AS ")?;
+    add(&mut text, &query)?;
+    add(&mut text, b";\n")?;
+    Ok(text)
+}
+
+// The user's table, as it is compared.
+#[tactic(auto, unfolding(migrate_queries::specs::Script::copy_query))]
+fn copy_text(alloc: Global, schema: &Schema, table: &[u8]) -> Result<Vec<u8>, OutOfMemory>
+    ensures text { IfOk result (λ text. text.items ≡ query_text (copy_query schema.now table.now)) }
+{
+    let set = AttrSet::full(schema.width());
+    let items = items_text(alloc, schema, set, Listed::Compared)?;
+    selected_text(alloc, false, &items, table, b"r", b"")
+}
+
+// Adds the statements that fill the tables of a design.
 fn add_fills(
     alloc: Global,
     text: &mut Vec<u8>,
     schema: &Schema,
-    table: &[u8],
     designs: &[TableDesign],
 ) -> Result<(), OutOfMemory>
     ensures added { OnOk result (text.new.items
-        ≡ text.old.items ++ flat_map (fill_text schema.now table.now) designs.now) }
+        ≡ text.old.items ++ flat_map (fill_text schema.now) designs.now) }
 {
     for design in designs {
-        add(text, &fill_text(alloc, schema, table, design)?)?;
+        add(text, &fill_text(alloc, schema, design)?)?;
     }
     Ok(())
 }
 
 // The statement that fills a table.
-#[tactic(auto, unfolding(crate::specs::Migrating::fill_text))]
-fn fill_text(
-    alloc: Global,
-    schema: &Schema,
-    table: &[u8],
-    design: &TableDesign,
-) -> Result<Vec<u8>, OutOfMemory>
-    ensures text { IfOk result (λ text. text.items ≡ fill_text schema.now table.now design.now) }
+#[tactic(auto, unfolding(migrate_queries::specs::Script::fill, sql_syntax::specs::Statements::statement_text))]
+fn fill_text(alloc: Global, schema: &Schema, design: &TableDesign) -> Result<Vec<u8>, OutOfMemory>
+    ensures text { IfOk result (λ text. text.items ≡ fill_text schema.now design.now) }
 {
     let mut text = Vec::new(alloc);
     add(&mut text, b"INSERT INTO ")?;
-    add_quoted(&mut text, &design.name)?;
+    add(&mut text, &quoted_name(alloc, &design.name)?)?;
     add(&mut text, b" (")?;
     add(&mut text, &names_text(alloc, schema, design.scheme)?)?;
     add(&mut text, b") ")?;
-    add_statement(&mut text, &values(alloc, schema, table, design.scheme)?)?;
+    add(&mut text, &fill_query(alloc, schema, design.scheme)?)?;
+    add(&mut text, b";\n")?;
     Ok(text)
 }
 
-// Adds a query as a statement.
-#[tactic(auto, unfolding(crate::specs::Migrating::statement_text))]
-fn add_statement(text: &mut Vec<u8>, query: &[u8]) -> Result<(), OutOfMemory>
-    ensures added { OnOk result (text.new.items ≡ text.old.items ++ statement_text query.now) }
+// The values of the copy on a set, each once.
+#[tactic(auto, unfolding(migrate_queries::specs::Script::fill_query))]
+fn fill_query(alloc: Global, schema: &Schema, set: AttrSet) -> Result<Vec<u8>, OutOfMemory>
+    ensures text { IfOk result
+        (λ text. text.items ≡ query_text (fill_query schema.now (attributes set))) }
 {
-    add(text, query)?;
-    add(text, b";\n")
+    let items = moved_columns(alloc, schema, set, Move::Entering)?;
+    selected_text(alloc, true, &items, b"\"t0\"", b"o", b"")
 }
 
-// The view on the join of the tables.
-#[tactic(auto, unfolding(crate::specs::Migrating::view_text))]
-fn view_text(
+// The statement that makes the view.
+#[tactic(auto, unfolding(sql_syntax::specs::Statements::statement_text))]
+fn view_statement(
     alloc: Global,
     schema: &Schema,
-    table: &[u8],
-    designs: &[TableDesign],
-) -> Result<Vec<u8>, OutOfMemory>
-    ensures text { IfOk result (λ text. text.items ≡ view_text schema.now table.now designs.now) }
-{
-    let mut text = Vec::new(alloc);
-    add(&mut text, b"CREATE VIEW ")?;
-    add(&mut text, b"\"joined\"")?;
-    add(&mut text, b" AS ")?;
-    add_statement(&mut text, &join_of_tables(alloc, schema, table, designs)?)?;
-    Ok(text)
-}
-
-// The two queries for what the view and the table do not share.
-#[tactic(auto, unfolding(crate::specs::Migrating::difference_queries_text))]
-fn difference_queries_text(
-    alloc: Global,
-    schema: &Schema,
-    table: &[u8],
-    designs: &[TableDesign],
-) -> Result<Vec<u8>, OutOfMemory>
-    ensures text { IfOk result (λ text.
-        text.items ≡ difference_queries_text schema.now table.now designs.now) }
-{
-    let whole = whole(alloc, schema, table)?;
-    let view = rows_of_view(alloc, schema, table, designs)?;
-    let mut text = Vec::new(alloc);
-    add(
-        &mut text,
-        b"-- rows of the table that the view lacks: none\n",
-    )?;
-    add_statement(&mut text, &except_text(alloc, &whole, &view)?)?;
-    add(
-        &mut text,
-        b"-- rows of the view that the table lacks: none\n",
-    )?;
-    add_statement(&mut text, &except_text(alloc, &view, &whole)?)?;
-    Ok(text)
-}
-
-// The query for all rows of the view.
-fn rows_of_view(
-    alloc: Global,
-    schema: &Schema,
-    table: &[u8],
     designs: &[TableDesign],
 ) -> Result<Vec<u8>, OutOfMemory>
     ensures text { IfOk result (λ text. text.items
-        ≡ query_text schema.now table.now (kept view_name (plan_join (stored_tables designs.now)))) }
+        ≡ statement_text (create_view view_name (view_query schema.now designs.now))) }
 {
-    select_text(
-        alloc,
-        &names_text(alloc, schema, attributes_of_tables(designs))?,
-        b"\"joined\"",
-    )
+    let query = view_text(alloc, schema, designs)?;
+    let mut text = Vec::new(alloc);
+    add(&mut text, b"CREATE VIEW \"joined\" AS ")?;
+    add(&mut text, &query)?;
+    add(&mut text, b";\n")?;
+    Ok(text)
+}
+
+// The statements after the view: both differences must be empty.
+fn testing_text(alloc: Global, schema: &Schema) -> Result<Vec<u8>, OutOfMemory>
+    ensures text { IfOk result (λ text. text.items ≡ testing_text schema.now) }
+{
+    let lacked = lacked_text(alloc, schema)?;
+    let gained = gained_text(alloc, schema)?;
+    test_text(alloc, &lacked, &gained)
+}
+
+// What the view lacks.
+fn lacked_text(alloc: Global, schema: &Schema) -> Result<Vec<u8>, OutOfMemory>
+    ensures text { IfOk result (λ text. text.items ≡ lacked_text schema.now) }
+{
+    let copied = copied_text(alloc, schema)?;
+    let viewed = viewed_text(alloc, schema)?;
+    except_text(alloc, &copied, &viewed)
+}
+
+// What the view has beyond the table.
+fn gained_text(alloc: Global, schema: &Schema) -> Result<Vec<u8>, OutOfMemory>
+    ensures text { IfOk result (λ text. text.items ≡ gained_text schema.now) }
+{
+    let copied = copied_text(alloc, schema)?;
+    let viewed = viewed_text(alloc, schema)?;
+    except_text(alloc, &viewed, &copied)
+}
+
+// The same, from the two differences.
+fn test_text(alloc: Global, lacked: &[u8], gained: &[u8]) -> Result<Vec<u8>, OutOfMemory>
+    ensures text { IfOk result (λ text. text.items
+        ≡ test_opening ++ count_text lacked.now ++ count_text gained.now ++ test_end) }
+{
+    let mut text = Vec::new(alloc);
+    add(&mut text, b"-- an error here undoes all: ")?;
+    add(
+        &mut text,
+        b"the view would lack a row of the table, or have one more\n",
+    )?;
+    add(
+        &mut text,
+        b"CREATE TEMPORARY TABLE \"t00\" (n BIGINT CHECK (n = 0));\n",
+    )?;
+    add(&mut text, &count_text(alloc, lacked)?)?;
+    add(&mut text, &count_text(alloc, gained)?)?;
+    add(
+        &mut text,
+        b"DROP TABLE \"t00\";\nDROP TABLE \"t0\";\nCOMMIT;\n",
+    )?;
+    Ok(text)
+}
+
+// The statement that puts the number of the rows of a query into the table of the test.
+fn count_text(alloc: Global, query: &[u8]) -> Result<Vec<u8>, OutOfMemory>
+    ensures text { IfOk result (λ text. text.items ≡ count_text query.now) }
+{
+    let mut text = Vec::new(alloc);
+    add(&mut text, b"INSERT INTO \"t00\" SELECT COUNT(*) FROM (")?;
+    add(&mut text, query)?;
+    add(&mut text, b") AS d;\n")?;
+    Ok(text)
+}
+
+// The rows of the copy.
+#[tactic(auto, unfolding(migrate_queries::specs::Script::copied_rows))]
+fn copied_text(alloc: Global, schema: &Schema) -> Result<Vec<u8>, OutOfMemory>
+    ensures text { IfOk result (λ text. text.items ≡ query_text (copied_rows schema.now)) }
+{
+    let set = AttrSet::full(schema.width());
+    let items = moved_columns(alloc, schema, set, Move::Unchanged)?;
+    selected_text(alloc, false, &items, b"\"t0\"", b"o", b"")
+}
+
+// The rows of the view, as they are compared.
+#[tactic(auto, unfolding(migrate_queries::specs::Script::viewed_rows))]
+fn viewed_text(alloc: Global, schema: &Schema) -> Result<Vec<u8>, OutOfMemory>
+    ensures text { IfOk result (λ text. text.items ≡ query_text (viewed_rows schema.now)) }
+{
+    let set = AttrSet::full(schema.width());
+    let items = moved_columns(alloc, schema, set, Move::Returning)?;
+    selected_text(alloc, false, &items, b"\"joined\"", b"j", b"")
+}
+
+// What the first query gives and the second does not.
+fn except_text(alloc: Global, first: &[u8], second: &[u8]) -> Result<Vec<u8>, OutOfMemory>
+    ensures text { IfOk result (λ text. text.items ≡ first.now ++ codes " EXCEPT " ++ second.now) }
+{
+    let mut text = Vec::new(alloc);
+    add(&mut text, first)?;
+    add(&mut text, b" EXCEPT ")?;
+    add(&mut text, second)?;
+    Ok(text)
 }

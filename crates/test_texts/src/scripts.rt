@@ -67,7 +67,12 @@ fn makes_tables_from_a_table(rt: HostRuntime) -> Result<(), Fail> {
     let tables = design_of(&rt, &schema, b"scheme A\nscheme B C\nscheme A B")?;
     assert!(rt; is_table_name(b"r"));
     let script = migrate_script(rt.alloc(), &schema, &tables, b"r")?;
-    let wanted = b"CREATE TABLE \"t1\" (
+    let wanted =
+        b"-- all of it or nothing, where the first error ends it: psql -v ON_ERROR_STOP=1, sqlite3 -bail
+BEGIN;
+CREATE TEMPORARY TABLE \"t0\" AS SELECT CAST(r.\"A\" AS TEXT) AS \"A\", \
+                CAST(r.\"B\" AS TEXT) AS \"B\", CAST(r.\"C\" AS TEXT) AS \"C\" FROM \"r\" AS r;
+CREATE TABLE \"t1\" (
   \"A\" TEXT NOT NULL,
   PRIMARY KEY (\"A\")
 );
@@ -82,14 +87,19 @@ CREATE TABLE \"t3\" (
   PRIMARY KEY (\"A\", \"B\"),
   FOREIGN KEY (\"A\") REFERENCES \"t1\" (\"A\")
 );
-INSERT INTO \"t1\" (\"A\") SELECT DISTINCT \"A\" FROM \"r\";
-INSERT INTO \"t2\" (\"B\", \"C\") SELECT DISTINCT \"B\", \"C\" FROM \"r\";
-INSERT INTO \"t3\" (\"A\", \"B\") SELECT DISTINCT \"A\", \"B\" FROM \"r\";
-CREATE VIEW \"joined\" AS SELECT \"A\", \"B\", \"C\" FROM \"t1\" CROSS JOIN \"t2\" JOIN \"t3\" USING (\"A\", \"B\");
--- rows of the table that the view lacks: none
-SELECT \"A\", \"B\", \"C\" FROM \"r\" EXCEPT SELECT \"A\", \"B\", \"C\" FROM \"joined\";
--- rows of the view that the table lacks: none
-SELECT \"A\", \"B\", \"C\" FROM \"joined\" EXCEPT SELECT \"A\", \"B\", \"C\" FROM \"r\";
+INSERT INTO \"t1\" (\"A\") SELECT DISTINCT o.\"A\" FROM \"t0\" AS o;
+INSERT INTO \"t2\" (\"B\", \"C\") SELECT DISTINCT o.\"B\", o.\"C\" FROM \"t0\" AS o;
+INSERT INTO \"t3\" (\"A\", \"B\") SELECT DISTINCT o.\"A\", o.\"B\" FROM \"t0\" AS o;
+CREATE VIEW \"joined\" AS SELECT \"A\", \"B\", \"C\" FROM \"t3\" JOIN \"t2\" USING (\"B\") JOIN \"t1\" USING (\"A\");
+-- an error here undoes all: the view would lack a row of the table, or have one more
+CREATE TEMPORARY TABLE \"t00\" (n BIGINT CHECK (n = 0));
+INSERT INTO \"t00\" SELECT COUNT(*) FROM (SELECT o.\"A\", o.\"B\", o.\"C\" FROM \
+                \"t0\" AS o EXCEPT SELECT j.\"A\", j.\"B\", j.\"C\" FROM \"joined\" AS j) AS d;
+INSERT INTO \"t00\" SELECT COUNT(*) FROM (SELECT j.\"A\", j.\"B\", j.\"C\" FROM \
+                \"joined\" AS j EXCEPT SELECT o.\"A\", o.\"B\", o.\"C\" FROM \"t0\" AS o) AS d;
+DROP TABLE \"t00\";
+DROP TABLE \"t0\";
+COMMIT;
 ";
     assert!(rt; script.as_slice() == wanted.as_slice(), "{script:?}");
     Ok(())

@@ -65,3 +65,30 @@ returns-in-CheckSame-clause-reads g c =
 pub returns-in-Rejoin-clause-reads : goal.returns-in-Rejoin-clause-reads
 returns-in-Rejoin-clause-reads g c =
     subst (λ (task : Task). BeginsFront (files_of_task (task_form task)) (g.F.FileSource.begun c.args.source.now) (g.F.FileSource.begun c.of_parts.new.source)) (sym c.in-Rejoin.is) c.of_parts.ensures.reads
+
+pub returns-in-Measure-clause-response : goal.returns-in-Measure-clause-response
+unfolding Does
+returns-in-Measure-clause-response g c = λ r shows.
+    subst (λ (task : Task). RespondsAs (Does r c.args.schema.now (task_form task)) c.of_values.result) (sym c.in-Measure.is) (c.of_values.ensures.response r shows)
+
+pub returns-in-Measure-clause-reads : goal.returns-in-Measure-clause-reads
+returns-in-Measure-clause-reads g c =
+    subst (λ (task : Task). BeginsFront (files_of_task (task_form task)) (g.F.FileSource.begun c.args.source.now) (g.F.FileSource.begun c.of_values.new.source)) (sym c.in-Measure.is) c.of_values.ensures.reads
+
+pub returns-in-CheckDerivation-clause-response : goal.returns-in-CheckDerivation-clause-response
+unfolding Does
+returns-in-CheckDerivation-clause-response g c = λ r shows.
+    subst (λ (task : Task). RespondsAs (Does r c.args.schema.now (task_form task)) c.of_derivation.result) (sym c.in-CheckDerivation.is) (c.of_derivation.ensures.response r shows)
+
+pub returns-in-CheckDerivation-clause-reads : goal.returns-in-CheckDerivation-clause-reads
+returns-in-CheckDerivation-clause-reads g c =
+    subst (λ (task : Task). BeginsFront (files_of_task (task_form task)) (g.F.FileSource.begun c.args.source.now) (g.F.FileSource.begun c.of_derivation.new.source)) (sym c.in-CheckDerivation.is) c.of_derivation.ensures.reads
+
+pub returns-in-Migrate-clause-response : goal.returns-in-Migrate-clause-response
+unfolding Does
+returns-in-Migrate-clause-response g c = λ r shows.
+    subst (λ (task : Task). RespondsAs (Does r c.args.schema.now (task_form task)) c.of_rows_in_form.result) (sym c.in-Migrate.is) (c.of_rows_in_form.ensures.response r shows)
+
+pub returns-in-Migrate-clause-reads : goal.returns-in-Migrate-clause-reads
+returns-in-Migrate-clause-reads g c =
+    subst (λ (task : Task). BeginsFront (files_of_task (task_form task)) (g.F.FileSource.begun c.args.source.now) (g.F.FileSource.begun c.of_rows_in_form.new.source)) (sym c.in-Migrate.is) c.of_rows_in_form.ensures.reads

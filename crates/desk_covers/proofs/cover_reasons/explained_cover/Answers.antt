@@ -1,32 +1,46 @@
 -- What is left to prove of `explained_cover`: its clause.
-use Rattle.std.proofs.Common.{List, ℕ, ◌++◌, refl, ap, ◌∙◌, inl}
+use Rattle.std.proofs.Common.{◌≡◌, List, ℕ, ◌++◌, refl, ap, ◌∙◌, inl}
+use Rattle.cover_steps.specs.declared.shortening.ShortMember.{ShortMember}
+use Rattle.cover_steps.specs.declared.thinning.PlacedDep.{PlacedDep}
+use Rattle.cover_steps.specs.Steps.{places_of, shortened_list}
 use Rattle.dep_model.specs.declared.dep.Dep.{Dep}
 use Rattle.dep_model.specs.Deps.{dependencies_of}
 use Rattle.schema_printer.specs.Printing.{schema_text}
 use Rattle.desk_responses.specs.ResponseValues.{text_only}
 use Rattle.desk_responses.specs.declared.status.Status.TheVariants.{Yes}
+use Rattle.desk_covers.specs.CoverReasons.{all_gone_text, members_text}
 use Rattle.desk_covers.proofs.cover_reasons.explained_cover.Goals as goal
 
 pub returns : goal.returns
 returns c =
     let s = c.args.schema.now in
-    let whole = c.in_ok-whole.whole.items in
+    let steps = c.in_ok-steps.steps in
+    let whole = steps.whole.items in
     let reasons = c.in_ok-text.text.items in
     let plain = schema_text s (dependencies_of whole) in
+    let reads : reasons ≡ members_text s (shortened_list steps.members.items) ++ all_gone_text s (places_of steps.gone.items) =
+    c.in_ok-text.ensures.text
+    ∙ ap (λ (ms : List ShortMember). members_text s (shortened_list ms) ++ all_gone_text s (places_of c.deref-2.result.now)) c.deref.ensures.value
+    ∙ ap (λ (ps : List PlacedDep). members_text s (shortened_list steps.members.items) ++ all_gone_text s (places_of ps)) c.deref-2.ensures.value in
     record {
       response = (
         text_only Yes plain,
-        (dependencies_of whole, c.in_ok-whole.ensures.fixed, c.in_ok-whole.ensures.minimal, c.in_ok-whole.ensures.whole_cover, refl),
+        (dependencies_of whole, c.in_ok-steps.ensures.fixed, c.in_ok-steps.ensures.minimal, c.in_ok-steps.ensures.whole_cover, refl),
         inl (
           refl,
           (
             reasons,
-            c.in_ok-text.ensures.text,
+            record {
+              members = shortened_list steps.members.items;
+              gone = places_of steps.gone.items;
+              steps = c.in_ok-steps.ensures.steps;
+              reads = reads;
+            },
             c.with_text.ensures.says
                 ∙ ap (text_only Yes) (c.in_ok-add.ensures.added
-                ∙ ap (λ (t : List ℕ). reasons ++ t) c.deref-2.ensures.value
+                ∙ ap (λ (t : List ℕ). reasons ++ t) c.deref-4.ensures.value
                 ∙ ap (λ (t : List ℕ). reasons ++ t) c.in_ok-plain.ensures.text
-                ∙ ap (λ (ds : List Dep). reasons ++ schema_text s (dependencies_of ds)) c.deref.ensures.value),
+                ∙ ap (λ (ds : List Dep). reasons ++ schema_text s (dependencies_of ds)) c.deref-3.ensures.value),
           ),
         ),
       );

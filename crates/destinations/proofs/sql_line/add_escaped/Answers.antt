@@ -1,9 +1,14 @@
 -- What is left to prove of `add_escaped`: that a round of its loop keeps the invariant, by
--- `escape_quote-next`.
-use Rattle.std.proofs.Common.{refl}
-use Rattle.destinations.proofs.SqlLemmas.{escape_quote-next}
+-- `escaped-next`, and its clause `text`, by `escaped-all`.
+use Rattle.std.proofs.Common.{arith, refl}
+use Rattle.destinations.proofs.SqlLemmas.{escaped-next, escaped-all}
 use Rattle.destinations.proofs.sql_line.add_escaped.Goals as goal
 
-pub loop-i-preserved : goal.loop-i-preserved
-loop-i-preserved c =
-    escape_quote-next c.args.text.now.items c.args.value.now _ _ _ _ _ c.loop-i-test.true refl c.loop-i.invariant c.in_ok-add_doubled.ensures.more
+pub loop-byte-preserved : goal.loop-byte-preserved
+loop-byte-preserved c =
+    escaped-next c.args.value.now c.loop-byte.byte-index _ _ _ _ _ _ c.loop-byte-test.true refl c.loop-byte.invariant c.in_ok-add_byte.ensures.more
+
+pub returns : goal.returns
+returns c = record {
+  text = escaped-all c.args.value.now c.loop-byte.byte-index _ _ _ (omega arith) c.loop-byte.invariant;
+}

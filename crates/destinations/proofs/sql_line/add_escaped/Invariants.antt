@@ -1,9 +1,9 @@
--- What the loop of `add_escaped` keeps, in terms of `escape_quote`.
-use Rattle.std.proofs.Common.{◌≡◌, ◌++◌, take}
-use Rattle.std.specs.List.{flat_map}
-use Rattle.destinations.specs.Sql.{escape_quote}
+-- What the loop of `add_escaped` keeps: with what is left of the value it is the whole text.
+use Rattle.std.proofs.Common.{◌≡◌, ◌++◌, drop}
+use Rattle.destinations.specs.Sql.{escaped_after}
 use Rattle.destinations.proofs.sql_line.add_escaped.Given as goal
 
--- the bytes so far
-abbrev pub invariant-loop-i : goal.invariant-loop-i
-invariant-loop-i l = l.text.items ≡ l.fn.text.items ++ flat_map escape_quote (take l.i l.value)
+-- the bytes so far, and those that are left
+abbrev pub invariant-loop-byte : goal.invariant-loop-byte
+invariant-loop-byte l =
+    l.text.items ++ escaped_after l.last (drop l.byte-index l.value) ≡ l.fn.text.items ++ escaped_after 0 l.value

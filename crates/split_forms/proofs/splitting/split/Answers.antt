@@ -1,29 +1,25 @@
--- What is left to prove of `split`: its clauses `never_too_many`, `lossless` and `in_form` and what
--- `new` requires, by `SplitLemmas` and `WalkLemmas`.
+-- What is left to prove of `split`: its clauses and what `plan_of_steps` requires, by `SplitLemmas` and
+-- `LeadLemmas`.
 use Rattle.std.proofs.Common.{◌≡◌, ℕ, ◌-◌, ◌^◌, ◌<◌, ◌≤◌, List, sym, subst, arith}
-use Rattle.std.specs.Prelude.{Result, Err, IfErr, All, Contains}
-use Rattle.std.proofs.lemmas.List.Elements.{All-weaker, All-contains, All-map}
-use Rattle.attr_sets.specs.Sets.{attributes}
-use Rattle.attr_sets.specs.declared.set.AttrSet.{AttrSet}
+use Rattle.std.specs.Prelude.{Result, Err, IfErr}
 use Rattle.dep_model.specs.declared.schema.Schema.{Schema}
 use Rattle.dep_model.specs.Failures.{RefusesAs}
 use Rattle.dep_model.specs.declared.failure.Failure.{Failure}
 use Rattle.dep_model.specs.declared.failure.Failure.TheVariants.{Refused}
 use Rattle.dep_model.specs.Plans.{schemes_of}
-use Rattle.dep_model.specs.Projections.{IsLossless}
 use Rattle.dep_model.specs.Schemas.{width_of, theory_of}
-use Rattle.dep_model.proofs.ListLemmas.{Contains-map}
 use Rattle.dep_model.specs.Dependencies.{Dependency}
 use Rattle.normal_forms.specs.declared.forms.Form.{Form}
 use Rattle.normal_forms.specs.declared.forms.Form.TheVariants.{Third}
-use Rattle.normal_forms.specs.Chosen.{IsInForm}
 use Rattle.plans.specs.declared.plan.Plan.{Plan}
 use Rattle.split_forms.specs.declared.refusal.SplitRefusal.{SplitRefusal}
 use Rattle.split_forms.specs.declared.refusal.SplitRefusal.TheVariants.{TooManySchemes}
 use Rattle.split_forms.specs.Refusals.{IsRefusedSplit}
-use Rattle.split_forms.specs.Splitting.{StaysWhole}
-use Rattle.split_forms.proofs.SplitLemmas.{lists_lossless, too_many_short}
-use Rattle.split_forms.proofs.WalkLemmas.{reached_plan}
+use Rattle.split_forms.specs.Splitting.{FinishedList}
+use Rattle.split_forms.specs.declared.steps.SplitSteps.{SplitSteps}
+use Rattle.split_forms.specs.Steps.{AreSplitSteps, cuttings_of}
+use Rattle.split_forms.proofs.LeadLemmas.{steps_finish}
+use Rattle.split_forms.proofs.SplitLemmas.{too_many_short}
 use Rattle.split_forms.proofs.splitting.split.Goals as goal
 
 attributes_not_empty : (s : Schema) → 0 < width_of s
@@ -43,36 +39,24 @@ returns-in-Err-clause-never_too_many c large is =
     never (width_of s) (theory_of s) c.args.form c.args.limit (Err c.in-Err.failure) (attributes_not_empty s) c.requires.form
     c.in-Err.ensures.refused large is
 
-pub new-requires : goal.new-requires
-new-requires c =
+-- the list that the cuts lead to, in the form of the steps
+finished : (s : Schema) (form : Form) (steps : SplitSteps) → steps.form ≡ form
+    → AreSplitSteps (width_of s) (theory_of s) form (cuttings_of steps.cuts.items) (schemes_of steps.schemes.items)
+    → FinishedList (width_of s) (theory_of s) steps.form (schemes_of steps.schemes.items)
+finished s form steps is lead =
+    subst (λ (f : Form). FinishedList (width_of s) (theory_of s) f (schemes_of steps.schemes.items)) (sym is)
+    (steps_finish (width_of s) (theory_of s) form (cuttings_of steps.cuts.items) (schemes_of steps.schemes.items) lead)
+
+pub plan_of_steps-requires-clause-finished : goal.plan_of_steps-requires-clause-finished
+plan_of_steps-requires-clause-finished c =
+    finished c.args.schema.now c.args.form c.in-Ok.steps c.in-Ok.ensures.form c.in-Ok.ensures.steps
+
+pub returns-in_ok-plan_of_steps-in-Ok-clause-finished : goal.returns-in_ok-plan_of_steps-in-Ok-clause-finished
+returns-in_ok-plan_of_steps-in-Ok-clause-finished c =
     let s = c.args.schema.now in
+    let steps = c.in-Ok.steps in
     record {
-      plan = reached_plan (width_of s) (theory_of s) c.args.form (schemes_of c.in-Ok.schemes.items) (attributes_not_empty s)
-          c.requires.form c.in-Ok.ensures.finished.reached;
+      all = steps.schemes.items;
+      finished = steps_finish (width_of s) (theory_of s) c.args.form (cuttings_of steps.cuts.items) (schemes_of steps.schemes.items) c.in-Ok.ensures.steps;
+      kept = c.in_ok-plan_of_steps-in-Ok.ensures.kept;
     }
-
-pub returns-in-Ok-clause-lossless : goal.returns-in-Ok-clause-lossless
-returns-in-Ok-clause-lossless c =
-    let s = c.args.schema.now in
-    let all = c.in-Ok.schemes.items in
-    c.drop_contained.ensures.lossless (theory_of s)
-    (subst (λ (xs : List AttrSet). IsLossless (width_of s) (theory_of s) (schemes_of xs)) (sym c.new.ensures.schemes)
-    (lists_lossless (width_of s) (theory_of s) c.args.form (attributes_not_empty s) c.requires.form (schemes_of all)
-    c.in-Ok.ensures.finished.reached))
-
-pub returns-in-Ok-clause-in_form : goal.returns-in-Ok-clause-in_form
-returns-in-Ok-clause-in_form c =
-    let s = c.args.schema.now in
-    let n = width_of s in
-    let ds = theory_of s in
-    let all = c.in-Ok.schemes.items in
-    let kept = c.drop_contained.result.schemes.items in
-    let among : All (λ (k : AttrSet). Contains all k) kept =
-    subst (λ (xs : List AttrSet). All (λ (k : AttrSet). Contains xs k) kept) c.new.ensures.schemes
-    c.drop_contained.ensures.among in
-    let whole : All (StaysWhole n ds c.args.form) (schemes_of all) = c.in-Ok.ensures.finished.whole in
-    All-map (IsInForm n ds c.args.form) attributes kept
-    (All-weaker (λ (k : AttrSet). Contains all k) (λ (k : AttrSet). IsInForm n ds c.args.form (attributes k))
-    (λ k has. let stays : StaysWhole n ds c.args.form (attributes k) =
-    All-contains (StaysWhole n ds c.args.form) (schemes_of all) (attributes k) whole
-    (Contains-map attributes all k has) in stays.in_form) kept among)

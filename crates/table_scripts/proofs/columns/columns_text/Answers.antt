@@ -3,10 +3,10 @@
 use Rattle.std.proofs.Common.{◌∙◌, refl, sym}
 use Rattle.attr_sets.specs.Sets.{attributes}
 use Rattle.dep_model.proofs.SchemeLemmas.{members_below-none}
-use Rattle.table_scripts.specs.QueryTexts.{column_item}
+use Rattle.table_scripts.specs.Migrating.{moved_text}
 use Rattle.table_scripts.proofs.ItemLemmas.{listed_more, not_empty_more, members_passed}
 use Rattle.table_scripts.proofs.columns.columns_text.Goals as goal
-use Rattle.table_scripts.proofs.columns.columns_text.Goals.{then-contains+in_ok-column_item+in_ok-add_listed, else-contains}
+use Rattle.table_scripts.proofs.columns.columns_text.Goals.{then-contains+in_ok-column_at+in_ok-add_listed, else-contains}
 
 pub loop-attribute-init : goal.loop-attribute-init
 loop-attribute-init c = rw (members_below-none (attributes c.args.set)) (record { listed = c.new-text.ensures.items; any_written = refl })
@@ -17,9 +17,9 @@ loop-attribute-preserved c =
     let n = c.loop-attribute.attribute in
     let before = c.loop-attribute.invariant in
     elim c.if-contains.branch [
-      | then-contains+in_ok-column_item+in_ok-add_listed w ↦ rw (w.text-is, w.any_written-is) (record {
-        listed = listed_more (column_item c.args.schema.now) x n c.loop-attribute.any_written c.loop-attribute.text.items w.add_listed.new.text.items w.deref.result.now
-            (sym w.if-contains.ensures.member) before.listed before.any_written (w.deref.ensures.value ∙ w.in_ok-column_item.ensures.text)
+      | then-contains+in_ok-column_at+in_ok-add_listed w ↦ rw (w.text-is, w.any_written-is) (record {
+        listed = listed_more (moved_text c.args.schema.now c.args.how) x n c.loop-attribute.any_written c.loop-attribute.text.items w.add_listed.new.text.items w.deref.result.now
+            (sym w.if-contains.ensures.member) before.listed before.any_written (w.deref.ensures.value ∙ w.in_ok-column_at.ensures.text)
             w.in_ok-add_listed.ensures.added;
         any_written = not_empty_more x n (sym w.if-contains.ensures.member);
       })

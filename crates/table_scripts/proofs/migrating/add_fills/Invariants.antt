@@ -7,4 +7,4 @@ use Rattle.table_scripts.proofs.migrating.add_fills.Given as goal
 -- the statements so far
 abbrev pub invariant-loop-design : goal.invariant-loop-design
 invariant-loop-design l = l.text.items
-    ≡ l.fn.text.items ++ flat_map (fill_text l.schema l.table) (take l.design-index l.designs)
+    ≡ l.fn.text.items ++ flat_map (fill_text l.schema) (take l.design-index l.designs)

@@ -1,5 +1,8 @@
--- What is left to prove of `migrate_script`: its clauses `fills` and `view`, by `fills_tables` and
--- `view_is_table`.
+-- What is left to prove of `migrate_script`: its clauses, by `fills_tables`, `view_is_table`, `all_moved` and
+-- `nothing_kept`.
+use Rattle.migrate_laws.proofs.MovedLemmas.{all_moved}
+use Rattle.migrate_laws.proofs.RunLemmas.{nothing_kept}
+use Rattle.table_scripts.specs.Naming.{quoted_table}
 use Rattle.table_scripts.proofs.ScriptLemmas.{fills_tables, view_is_table}
 use Rattle.table_scripts.proofs.migrating.migrate_script.Goals as goal
 
@@ -8,3 +11,11 @@ returns-clause-fills c = fills_tables c.args.schema.now c.args.design.now
 
 pub returns-clause-view : goal.returns-clause-view
 returns-clause-view c = view_is_table c.args.schema.now c.args.design.now
+
+pub returns-clause-moves : goal.returns-clause-moves
+returns-clause-moves c fails cast cell r start last holds e =
+    all_moved fails cast c.args.schema.now (quoted_table c.args.table.now) cell r c.args.design.now start last holds e
+
+pub returns-clause-undoes : goal.returns-clause-undoes
+returns-clause-undoes c fails cast start kept e =
+    nothing_kept fails cast c.args.schema.now (quoted_table c.args.table.now) c.args.design.now start kept e

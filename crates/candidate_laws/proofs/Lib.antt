@@ -1,0 +1,4 @@
+pub mod StandingLemmas
+pub mod StepLemmas
+pub mod EvidenceLemmas
+pub mod CountLemmas

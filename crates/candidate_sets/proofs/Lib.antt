@@ -1,0 +1,4 @@
+pub mod CutLemmas
+pub mod AskLemmas
+pub mod GrowLemmas
+pub mod NextLemmas

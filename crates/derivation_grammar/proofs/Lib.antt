@@ -1,0 +1,10 @@
+pub mod AddedLines
+pub mod Certificates
+pub mod LineLaws
+pub mod LineRefusals
+pub mod OutcomeLemmas
+pub mod ReadLines
+pub mod RuleWords
+pub mod StandIns
+pub mod TextLaws
+pub mod WalkedLines

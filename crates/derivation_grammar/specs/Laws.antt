@@ -1,0 +1,71 @@
+-- The laws that tie the reading of a derivation to what it derives, and what that comes to: for the
+-- functions of `laws.rt`. `Desk` does not cite it.
+use Rattle.std.specs.Prelude.{◌≡◌, ◌⊎◌, ◌↔◌, ℕ, List, [], All, Ok, Err}
+use Rattle.dep_model.specs.declared.schema.Schema.{Schema}
+use Rattle.dep_model.specs.Dependencies.{Dependency}
+use Rattle.dep_model.specs.Schemas.{ImpliedBy}
+use Rattle.derivation.specs.Conclusions.{Proves}
+use Rattle.derivation.specs.Trees.{Tree}
+use Rattle.lexer.specs.Modes as mode
+use Rattle.lexer.specs.Tokens.{lex}
+use Rattle.schema_grammar.specs.declared.refusal.SchemaRefusal.{SchemaRefusal}
+use Rattle.schema_grammar.specs.Rests.{rest_from}
+use Rattle.proof_grammar.specs.Diagnostics.{LineDiagnostic}
+use Rattle.proof_grammar.specs.Spelling.{SpellsWithin}
+use Rattle.derivation_grammar.specs.Derivations.{AreDerived, Derives}
+use Rattle.derivation_grammar.specs.LineDiagnostics.{RefusesDerivationLine}
+use Rattle.derivation_grammar.specs.Lines.{DerivationLine, derivation_line}
+use Rattle.derivation_grammar.specs.Meanings.{MeansDerivationLine}
+use Rattle.derivation_grammar.specs.Refusals.{IsRefusedDerivation}
+use Rattle.derivation_grammar.specs.Texts.{read_derivation}
+
+-- ---- reading
+-- a line is read exactly as what it means
+abbrev pub LineMeaning : Type 0
+LineMeaning =
+    (names : List (List ℕ)) (number : ℕ) (text : List ℕ) (l : DerivationLine)
+    → (derivation_line names (rest_from number 1 (lex mode.numbered text)) ≡ Ok l)
+    ↔ MeansDerivationLine names text l
+
+-- the reading of a line refuses it exactly as the grammar does
+abbrev pub LineRefusal : Type 0
+LineRefusal =
+    (names : List (List ℕ)) (number : ℕ) (text : List ℕ) (e : SchemaRefusal)
+    → (derivation_line names (rest_from number 1 (lex mode.numbered text)) ≡ Err e)
+    ↔ RefusesDerivationLine names number text e
+
+-- a text is read exactly as what it derives
+abbrev pub DerivationReading : Type 0
+DerivationReading = (s : Schema) (text : List ℕ) (d : Dependency) → (read_derivation s text ≡ Ok d) ↔ Derives s text d
+
+-- the reading of a text refuses it exactly as the definition does
+abbrev pub DerivationRefusal : Type 0
+DerivationRefusal = (s : Schema) (text : List ℕ) (e : LineDiagnostic)
+    → (read_derivation s text ≡ Err e) ↔ IsRefusedDerivation s text e
+
+-- a text derives something or is refused
+abbrev pub ReadOrRefused : Type 0
+ReadOrRefused = (s : Schema) (text : List ℕ)
+    → ((d : Dependency) × Derives s text d) ⊎ ((e : LineDiagnostic) × IsRefusedDerivation s text e)
+
+-- it derives one dependency at most, is refused in one way at most, and never both
+abbrev pub OneOutcome : Type 0
+OneOutcome = (s : Schema) (text : List ℕ)
+    → ((d e : Dependency) → Derives s text d → Derives s text e → d ≡ e)
+    × ((c e : LineDiagnostic) → IsRefusedDerivation s text c → IsRefusedDerivation s text e → c ≡ e)
+    × ((d : Dependency) (e : LineDiagnostic) → Derives s text d → IsRefusedDerivation s text e → ⊥)
+
+-- ---- soundness
+-- what each line of derived lines states is implied
+abbrev pub EachLineIsImplied : Type 0
+EachLineIsImplied = (s : Schema) (lines : List DerivationLine) → AreDerived s [] lines
+    → All (λ l. ImpliedBy s l.stated) lines
+
+-- what a text derives is implied
+abbrev pub DerivedIsImplied : Type 0
+DerivedIsImplied = (s : Schema) (text : List ℕ) (d : Dependency) → Derives s text d → ImpliedBy s d
+
+-- a certificate is a derivation of what it proves
+abbrev pub CertificateIsDerivation : Type 0
+CertificateIsDerivation = (s : Schema) (text : List ℕ) (t : Tree) (d : Dependency) → SpellsWithin s text t → Proves s t d
+    → Derives s text d

@@ -1,0 +1,85 @@
+-- The lines of a derivation, and how one is read from left to right: for the meaning and the reading of
+-- derivations.
+use Rattle.std.specs.Prelude.{ℕ, List, Option, None, Some, option_map, if◌then◌else◌, Result, Ok, ok_or, codes}
+use Rattle.std.specs.Str.{bytes_eq}
+use Rattle.dep_model.specs.Dependencies.{Dependency}
+use Rattle.lexer.specs.Tokens.{Mark}
+use Rattle.lexer.specs.declared.token.TokenKind.{TokenKind}
+use Rattle.lexer.specs.declared.token.TokenKind.TheVariants as token
+use Rattle.schema_grammar.specs.declared.refusal.SchemaRefusal.{SchemaRefusal}
+use Rattle.schema_grammar.specs.declared.refusal.What.TheVariants as what
+use Rattle.schema_grammar.specs.Rests.{Rest, ◌>>=◌, take, refusal_of_token, number_in, number, refusal_at_end, unless}
+use Rattle.proof_grammar.specs.Lines.{Body, body, stated_dependency}
+use Rattle.proof_grammar.specs.Readers.{colon}
+use Rattle.proof_grammar.specs.Tokens.{rule_word}
+use Rattle.derivation_rules.specs.declared.rule.FurtherRule.TheVariants as further
+use Rattle.derivation_rules.specs.FurtherRules.{Further}
+use Rattle.derivation_rules.specs.Views.{further_of}
+use Rattle.derivation_grammar.specs.declared.line_rule.LineRule.{LineRule}
+use Rattle.derivation_grammar.specs.declared.line_rule.LineRule.TheVariants as rule
+
+-- what a line says of its dependency: a rule of certificates, or a further one with the lines of its
+-- premises
+pub data DerivationBody : Type 0 where
+  by_rule : Body → DerivationBody
+  by_decomposition : ℕ → DerivationBody
+  by_further : Further → ℕ → ℕ → DerivationBody
+
+-- a line of a derivation
+pub record DerivationLine : Type 0 where
+  pub number : ℕ
+  pub stated : Dependency
+  pub body : DerivationBody
+
+-- ---- the rule
+-- the rule whose name a word is
+unfoldable pub line_rule_word : List ℕ → Option LineRule
+line_rule_word word =
+    if bytes_eq word (codes "union") then Some (rule.Further further.Union)
+    else if bytes_eq word (codes "decomposition") then Some rule.Decomposition
+    else if bytes_eq word (codes "pseudotransitivity") then Some (rule.Further further.Pseudotransitivity)
+    else if bytes_eq word (codes "intersection") then Some (rule.Further further.Intersection)
+    else if bytes_eq word (codes "difference") then Some (rule.Further further.Difference)
+    else if bytes_eq word (codes "mpseudotransitivity") then Some (rule.Further further.MPseudotransitivity)
+    else option_map rule.Certificate (rule_word word)
+
+-- the rule that a token names
+abbrev pub line_rule_named : TokenKind → List ℕ → Option LineRule
+line_rule_named token.Identifier word = line_rule_word word
+line_rule_named _ word = None
+
+-- the rule that the next word names, and what is left
+unfoldable pub line_rule_name : Rest → Result (LineRule × Rest) SchemaRefusal
+line_rule_name r = do
+  t ← take what.Rule r
+  n ← ok_or (line_rule_named t.0.kind t.0.word) (refusal_of_token what.Rule t.0 t.1)
+  Ok (n, t.1)
+
+-- what follows the name of this rule: for a further one, the numbers of its premises
+unfoldable pub derivation_body : List (List ℕ) → LineRule → Rest → Result (DerivationBody × Rest) SchemaRefusal
+derivation_body names (rule.Certificate r) start = do
+  b ← body names r start
+  Ok (by_rule b.0, b.1)
+derivation_body names rule.Decomposition start = do
+  p ← number start
+  Ok (by_decomposition p.0, p.1)
+derivation_body names (rule.Further r) start = do
+  p ← number start
+  q ← number p.1
+  Ok (by_further (further_of r) p.0 q.0, q.1)
+
+-- ---- the whole line
+-- what follows the first token, which is a number: `:`, a dependency, `:`, the rule
+unfoldable pub derivation_line_from : List (List ℕ) → Mark → Rest → Result DerivationLine SchemaRefusal
+derivation_line_from names m rest = do
+  n ← ok_or (number_in m.kind) (refusal_of_token what.Number m rest)
+  c ← colon rest
+  d ← stated_dependency names c
+  e ← colon d.1
+  r ← line_rule_name e
+  b ← derivation_body names r.0 r.1
+  unless (refusal_at_end b.1) (record { number = n; stated = d.0; body = b.0 })
+
+-- the whole line
+unfoldable pub derivation_line : List (List ℕ) → Rest → Result DerivationLine SchemaRefusal
+derivation_line names start = take what.Number start >>= λ t. derivation_line_from names t.0 t.1

@@ -1,0 +1,82 @@
+-- Why a derivation is refused, and at which line of the text: for `read_derivation` and
+-- `check derivation`.
+use Rattle.std.specs.Prelude.{◌≡◌, ◌⊎◌, ◌≤◌, ℕ, ◌+◌, List, [], length, map, None, Some, Ok, Err}
+use Rattle.dep_model.specs.declared.schema.Schema.{Schema}
+use Rattle.dep_model.specs.Dependencies.{Dependency}
+use Rattle.dep_model.specs.Schemas.{names_of}
+use Rattle.derivation.specs.declared.measures.TheConstants.{MOST_NODES}
+use Rattle.lexer.specs.Lines.{line_texts, without_mark}
+use Rattle.schema_grammar.specs.declared.refusal.SchemaRefusal.{SchemaRefusal}
+use Rattle.proof_grammar.specs.declared.refusal.ProofRefusal.{ProofRefusal}
+use Rattle.proof_grammar.specs.Diagnostics.{Diagnostic, LineDiagnostic, bad_line, wrong_number, no_such_line, too_many_lines, unsound, states_other, empty_proof, line_diagnostic_of}
+use Rattle.proof_grammar.specs.Meanings.{certificate_lines_of, certificate_lines}
+use Rattle.proof_grammar.specs.Refusals.{StandsAt}
+use Rattle.proof_grammar.specs.Wrongs.{rank}
+use Rattle.derivation_grammar.specs.Derivations.{outcome_of_line, AreDerived}
+use Rattle.derivation_grammar.specs.LineDiagnostics.{RefusesDerivationLine}
+use Rattle.derivation_grammar.specs.Lines.{DerivationLine}
+use Rattle.derivation_grammar.specs.Meanings.{MeansDerivationLine, MeanDerivationLines}
+
+-- what lines state
+abbrev pub stated_by : List DerivationLine → List Dependency
+stated_by lines = map (λ l. l.stated) lines
+
+-- ---- at a line
+-- what is wrong with a line after lines that state these
+abbrev pub Wrong : Schema → List Dependency → DerivationLine → Diagnostic → Type 0
+Wrong s before l wrong_number = l.number ≡ length before + 1 → ⊥
+Wrong s before l no_such_line = outcome_of_line s before l.stated l.body ≡ None
+Wrong s before l too_many_lines = MOST_NODES ≤ length before
+Wrong s before l (unsound fault) =
+    (fault.node ≡ l.number) × (outcome_of_line s before l.stated l.body ≡ Some (Err fault.kind))
+Wrong s before l (states_other stated concluded) =
+    (stated ≡ l.stated) × (outcome_of_line s before l.stated l.body ≡ Some (Ok concluded))
+    × (l.stated ≡ concluded → ⊥)
+Wrong s before l _ = ⊥
+
+-- what is wrong with a line, and comes first of all that is, in the order of certificates
+pub record IsFirstWrong (s : Schema) (before : List Dependency) (l : DerivationLine) (c : Diagnostic) : Type 0 where
+  pub wrong : Wrong s before l c
+  pub first : (other : Diagnostic) → Wrong s before l other → rank c ≤ rank other
+
+-- the line breaks the grammar: it is refused by its first diagnostic
+pub record IsBadLine (names : List (List ℕ)) (here : List ℕ) (at : ℕ) (c : Diagnostic) : Type 0 where
+  pub refusal : SchemaRefusal
+  pub grammar : RefusesDerivationLine names at here refusal
+  pub is : c ≡ bad_line refusal
+
+-- or it means a line, with which something is wrong
+pub record IsWrongLine (s : Schema) (lines : List DerivationLine) (here : List ℕ) (c : Diagnostic) : Type 0 where
+  pub line : DerivationLine
+  pub means : MeansDerivationLine (names_of s) here line
+  pub wrong : IsFirstWrong s (stated_by lines) line c
+
+-- lines are derived, and within the limit
+pub record AreRead (s : Schema) (lines : List DerivationLine) : Type 0 where
+  pub derived : AreDerived s [] lines
+  pub lines_fit : length lines ≤ MOST_NODES
+
+-- the lines before are read, and this one is refused
+pub record IsRefusedAt (s : Schema) (text : List ℕ) (e : LineDiagnostic) : Type 0 where
+  pub before : List (List ℕ)
+  pub here : List ℕ
+  pub stands : StandsAt text before here e.line
+  pub lines : List DerivationLine
+  pub mean : MeanDerivationLines (names_of s) (certificate_lines_of before) lines
+  pub read : AreRead s lines
+  pub why : IsBadLine (names_of s) here e.line e.diagnostic ⊎ IsWrongLine s lines here e.diagnostic
+
+-- ---- at the end
+-- there is no line; this is refused at the last line of the text
+pub record IsEmpty (text : List ℕ) (e : LineDiagnostic) : Type 0 where
+  pub none : certificate_lines text ≡ []
+  pub at : e.line ≡ length (line_texts (without_mark text))
+  pub is : e.diagnostic ≡ empty_proof
+
+-- a derivation is refused so
+abbrev pub IsRefusedDerivation : Schema → List ℕ → LineDiagnostic → Type 0
+IsRefusedDerivation s text e = IsRefusedAt s text e ⊎ IsEmpty text e
+
+-- the same of a refusal
+abbrev pub RefusesDerivation : Schema → List ℕ → ProofRefusal → Type 0
+RefusesDerivation s text e = IsRefusedDerivation s text (line_diagnostic_of e)

@@ -1,0 +1,11 @@
+use derivation_rules::FurtherRule;
+use proof_grammar::RuleName;
+
+/// The rule that a line of a derivation names.
+#[derive(Clone, Copy, Debug, PartialEq, Eq)]
+pub enum LineRule {
+    /// One of those that certificates have.
+    Certificate(RuleName),
+    Decomposition,
+    Further(FurtherRule),
+}

@@ -1,0 +1,3 @@
+pub mod RelationLemmas
+pub mod SoundLemmas
+pub mod WithinLemmas

@@ -1,0 +1,2 @@
+-- The definitions of desk_derivations.
+pub mod Derivations

@@ -1,0 +1,37 @@
+-- What is left to prove of `open_derivation`: its clauses `ok` and `exit` and what
+-- `derivation_refusal_exit` requires, by `refusal_stops`.
+use Rattle.std.proofs.Common.{ℕ, List, subst}
+use Rattle.dep_model.proofs.FailureLemmas.{refused_is}
+use Rattle.dep_model.specs.Deps.{dependency_of}
+use Rattle.schema_printer.specs.Spelling.{printed_names_of}
+use Rattle.proof_grammar.specs.Diagnostics.{line_diagnostic_of}
+use Rattle.derivation_grammar.specs.Derivations.{Derives}
+use Rattle.derivation_grammar.specs.Refusals.{RefusesDerivation}
+use Rattle.desk_responses.specs.ResponseValues.{Says}
+use Rattle.desk_responses.specs.declared.status.Status.TheVariants.{Refused}
+use Rattle.desk_texts.specs.ProofTexts.{derivation_refusal_text}
+use Rattle.desk_responses.specs.Responses.{ExitsAs}
+use Rattle.desk_inputs.proofs.KindLemmas.{refusal_stops}
+use Rattle.desk_inputs.specs.Inputs.{derivation_file}
+use Rattle.desk_inputs.proofs.derived.open_derivation.Goals as goal
+
+pub returns-in-Ok-read_derivation-clause-ok : goal.returns-in-Ok-read_derivation-clause-ok
+returns-in-Ok-read_derivation-clause-ok g c = λ r same. record {
+  bytes = c.in-Ok.bytes.items;
+  content = c.in-Ok.ensures.ok r same;
+  means = subst (λ (bytes : List ℕ). Derives c.args.schema.now bytes (dependency_of c.in-Ok-read_derivation.dep)) c.deref.ensures.value c.in-Ok-read_derivation.ensures.ok;
+}
+
+pub derivation_refusal_exit-requires : goal.derivation_refusal_exit-requires
+derivation_refusal_exit-requires g c = record {
+  within = refused_is _ _ _ c.in-Err-Refused.field-0-is c.in-Err-Refused.ensures.within;
+}
+
+pub returns-in-Err-Refused-clause-exit : goal.returns-in-Err-Refused-clause-exit
+returns-in-Err-Refused-clause-exit g c = λ r shows.
+    let s = c.args.schema.now in
+    let refusal = c.in-Err-Refused.refusal in
+    let refused = refused_is _ _ _ c.in-Err-Refused.field-0-is c.in-Err-Refused.ensures.err in
+    let of_bytes = subst (λ (bytes : List ℕ). RefusesDerivation s bytes refusal) c.deref.ensures.value refused in
+    let exits_as = subst (λ (name : List ℕ). ExitsAs (Says Refused (derivation_refusal_text (printed_names_of s) name (line_diagnostic_of refusal))) c.derivation_refusal_exit.result) c.bytes.ensures.bytes c.derivation_refusal_exit.ensures.says in
+    refusal_stops (derivation_file s) r c.args.name.now c.in-Ok.bytes.items (line_diagnostic_of refusal) c.derivation_refusal_exit.result (c.in-Ok.ensures.ok r shows.same) of_bytes exits_as

@@ -1,0 +1,74 @@
+ghost use Rattle.std.specs.Prelude.{◌≡◌, ◌≤◌, ◌∷◌, [], OnOk, IfOk, IfErr};
+ghost use Rattle.dep_model.specs.Deps.{dependency_of, IsDepWithin};
+ghost use Rattle.dep_model.specs.Schemas.{universe_of, ImpliedBy};
+ghost use Rattle.schema_printer.specs.Spelling.{printed_names_of};
+ghost use Rattle.proof_grammar.specs.Diagnostics.{line_diagnostic_of, IsRefusalWithin};
+ghost use Rattle.desk_responses.specs.ResponseValues.{Says};
+ghost use Rattle.desk_texts.specs.ProofTexts.{derivation_refusal_text};
+ghost use Rattle.desk_outside.specs.Begun.{Begins};
+ghost use Rattle.desk_inputs.specs.FilesBegun.{BeginsFront};
+ghost use Rattle.desk_inputs.specs.FileKinds.{FileStops, IsFile};
+ghost use Rattle.desk_inputs.specs.Inputs.{derivation_file};
+ghost use Rattle.desk_inputs.specs.Readings.{Reading, files_in, Shows};
+ghost use Rattle.desk_responses.specs.Responses.{ExitsAs};
+
+use crate::read::open_file;
+use dep_model::{Dep, Failure, Schema};
+use derivation_text::read_derivation;
+use desk_outside::{Argument, FileSource};
+use desk_responses::{EarlyExit, Status};
+use desk_texts::derivation_refusal_line;
+use proof_text::{MOST_PROOF_BYTES, ProofRefusal};
+use std::alloc::Global;
+
+/// What the derivation of a file derives from a schema.
+pub fn open_derivation<F: FileSource>(
+    alloc: Global,
+    source: &mut F,
+    schema: &Schema,
+    name: &Argument,
+) -> Result<Dep, EarlyExit>
+    ensures files { F.files source.new ≡ F.files source.old }
+    ensures later { F.faults source.old ≤ F.faults source.new }
+    ensures begins { OnOk result (Begins name.now (F.begun source.old) (F.begun source.new)) }
+    ensures reads { BeginsFront (name.now ∷ []) (F.begun source.old) (F.begun source.new) }
+    ensures ok { (r : Reading) → files_in r ≡ F.files source.old
+        → IfOk result (λ d. IsFile (derivation_file schema.now) r name.now (dependency_of d)) }
+    ensures implied { IfOk result (λ d. ImpliedBy schema.now (dependency_of d)) }
+    ensures within { IfOk result (IsDepWithin (universe_of schema.now)) }
+    ensures exit { (r : Reading) → Shows F.files F.faults F.taken F.begun source.old source.new r
+        → IfErr result (ExitsAs (FileStops (derivation_file schema.now) r name.now)) }
+{
+    let bytes = match open_file(alloc, source, name, MOST_PROOF_BYTES) {
+        Ok(bytes) => bytes,
+        Err(exit) => return Err(exit),
+    };
+    match read_derivation(alloc, schema, &bytes) {
+        Ok(dep) => Ok(dep),
+        Err(Failure::Refused(refusal)) => Err(derivation_refusal_exit(
+            alloc,
+            schema,
+            name.bytes(),
+            refusal,
+        )),
+        Err(Failure::OutOfMemory) => Err(EarlyExit::OutOfMemory),
+    }
+}
+
+// A command that ends with the refusal of a derivation.
+fn derivation_refusal_exit(
+    alloc: Global,
+    schema: &Schema,
+    name: &[u8],
+    refusal: ProofRefusal,
+) -> EarlyExit
+    requires within { IsRefusalWithin (universe_of schema.now) refusal.kind }
+    ensures says { ExitsAs (Says Status.Refused
+        (derivation_refusal_text (printed_names_of schema.now) name.now (line_diagnostic_of refusal)))
+        result }
+{
+    EarlyExit::with_text(
+        Status::Refused,
+        derivation_refusal_line(alloc, schema, name, refusal),
+    )
+}

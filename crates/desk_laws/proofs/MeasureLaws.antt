@@ -1,0 +1,144 @@
+-- Where the schema file means a schema and the CSV file rows, what is wrong with them is said.
+use Rattle.std.proofs.Common.{◌≡◌, ℕ, Bool, true, false, List, [], ◌∷◌, length, inl, inr, ap, sym, subst, ◌∙◌}
+use Rattle.std.specs.Prelude.{codes, replicate}
+use Rattle.armstrong_rel.specs.Refusals.{IsFirstMvd}
+use Rattle.dep_model.specs.Dependencies.{Dependency}
+use Rattle.dep_model.specs.Schemas.{theory_of}
+use Rattle.dep_model.specs.Tuples.{Relation}
+use Rattle.dep_model.specs.declared.column_type.ColumnType.{ColumnType}
+use Rattle.dep_model.specs.declared.column_type.ColumnType.TheVariants.{Text}
+use Rattle.dep_model.specs.declared.schema.Schema.{Schema}
+use Rattle.schema_grammar.specs.Declarations.{Declarations}
+use Rattle.schema_grammar.specs.Texts.{declarations_of}
+use Rattle.desk_cli.specs.Performs.{Answers, Performs, Does, AnswersRows, WithValues}
+use Rattle.desk_inputs.specs.FileKinds.{IsFile, WithFile}
+use Rattle.desk_inputs.specs.Inputs.{schema_file}
+use Rattle.desk_inputs.specs.Readings.{known_files}
+use Rattle.desk_inputs.specs.Rows.{rows_file}
+use Rattle.desk_measures.specs.Findings.{status_of}
+use Rattle.desk_measures.specs.Keeping.{KeepsRows}
+use Rattle.desk_measures.specs.Measures.{MeasuresRows}
+use Rattle.desk_measures.specs.Offences.{ListsOffences, ListsOffencesByRow}
+use Rattle.desk_measures.specs.Untyped.{HasTextsAlone}
+use Rattle.desk_outside.specs.Files.{Files}
+use Rattle.desk_responses.specs.ResponseValues.{ResponseValue, Allowed}
+use Rattle.desk_responses.specs.declared.status.Status.{Status}
+use Rattle.desk_words.specs.Forms.{form_of, form_over_rows, form_over_schema, after_offences, schema_and_file, schema_and_rows}
+use Rattle.desk_laws.specs.Completeness.{IsYesOrNo, IsAnswered}
+use Rattle.desk_laws.proofs.CompleteLaws.{AreSame, after_schema, after_rows}
+
+status_said : (clean : Bool) (status : Status) → status ≡ status_of clean → IsYesOrNo status
+status_said true status is = inl is
+status_said false status is = inr is
+
+-- ---- rows of typed values
+-- the two lists of offences are answered whatever the rows are
+module _ (files : Files) (words : List (List ℕ)) (name file : List ℕ) (Lists : Schema → Relation → Allowed)
+    (says : (r : Schema) (x : Relation) (response : ResponseValue) → Lists r x response → IsYesOrNo response.status)
+    (asks : (response : ResponseValue) → Answers (known_files files) words response
+    → WithFile schema_file (known_files files) name (λ r. WithFile (rows_file r) (known_files files) file (Lists r)) response) where
+  rows_answered : (schema : Schema) (rows : Relation) → IsFile schema_file (known_files files) name schema
+      → IsFile (rows_file schema) (known_files files) file rows → IsAnswered files words
+  rows_answered schema rows held_schema held_rows response answered =
+      after_schema files name schema (λ r. WithFile (rows_file r) (known_files files) file (Lists r)) response
+      held_schema
+      (λ r same more. after_rows files schema r file rows (Lists r) response same held_rows
+      (λ x found. says r x response found) more)
+      (asks response answered)
+
+offences_asks : (files : Files) (name file : List ℕ) (response : ResponseValue)
+    → Answers (known_files files) (codes "offences" ∷ name ∷ file ∷ []) response
+    → WithFile schema_file (known_files files) name
+    (λ r. WithFile (rows_file r) (known_files files) file (ListsOffences r)) response
+unfolding form_of form_over_schema form_over_rows after_offences Performs Does AnswersRows
+offences_asks files name file response answered = answered
+
+pub offences_answered : (files : Files) (name file : List ℕ) (schema : Schema) (rows : Relation)
+    → IsFile schema_file (known_files files) name schema → IsFile (rows_file schema) (known_files files) file rows
+    → IsAnswered files (codes "offences" ∷ name ∷ file ∷ [])
+offences_answered files name file =
+    rows_answered files (codes "offences" ∷ name ∷ file ∷ []) name file ListsOffences
+    (λ r x response found. status_said found.0 response.status (ap (λ (a : ResponseValue). a.status) found.3))
+    (offences_asks files name file)
+
+by_row_asks : (files : Files) (name file : List ℕ) (response : ResponseValue)
+    → Answers (known_files files) (codes "offences" ∷ codes "rows" ∷ name ∷ file ∷ []) response
+    → WithFile schema_file (known_files files) name
+    (λ r. WithFile (rows_file r) (known_files files) file (ListsOffencesByRow r)) response
+unfolding form_of form_over_schema form_over_rows after_offences Performs Does AnswersRows
+by_row_asks files name file response answered = answered
+
+pub offences_by_row_answered : (files : Files) (name file : List ℕ) (schema : Schema) (rows : Relation)
+    → IsFile schema_file (known_files files) name schema → IsFile (rows_file schema) (known_files files) file rows
+    → IsAnswered files (codes "offences" ∷ codes "rows" ∷ name ∷ file ∷ [])
+offences_by_row_answered files name file =
+    rows_answered files (codes "offences" ∷ codes "rows" ∷ name ∷ file ∷ []) name file ListsOffencesByRow
+    (λ r x response found. status_said found.0 response.status (ap (λ (a : ResponseValue). a.status) found.3))
+    (by_row_asks files name file)
+
+kept_asks : (files : Files) (name file : List ℕ) (response : ResponseValue)
+    → Answers (known_files files) (codes "kept" ∷ name ∷ file ∷ []) response
+    → WithFile schema_file (known_files files) name
+    (λ r. WithFile (rows_file r) (known_files files) file (KeepsRows r)) response
+unfolding form_of form_over_schema form_over_rows schema_and_rows Performs Does AnswersRows
+kept_asks files name file response answered = answered
+
+keeps_rows : (schema r : Schema) (x : Relation) (response : ResponseValue) → AreSame schema r
+    → ((k : ℕ) → IsFirstMvd (theory_of schema) k → ⊥) → KeepsRows r x response → IsYesOrNo response.status
+keeps_rows schema r x response same functional (inl (kept, are, says)) =
+    inl (ap (λ (a : ResponseValue). a.status) says)
+keeps_rows schema r x response same functional (inr (dep, first, says)) =
+    absurd (functional dep (subst (λ (d : Declarations). IsFirstMvd d.deps dep) (sym same) first))
+
+pub kept_answered : (files : Files) (name file : List ℕ) (schema : Schema) (rows : Relation)
+    → IsFile schema_file (known_files files) name schema → IsFile (rows_file schema) (known_files files) file rows
+    → ((k : ℕ) → IsFirstMvd (theory_of schema) k → ⊥)
+    → IsAnswered files (codes "kept" ∷ name ∷ file ∷ [])
+kept_answered files name file schema rows held_schema held_rows functional response answered =
+    after_schema files name schema (λ r. WithFile (rows_file r) (known_files files) file (KeepsRows r)) response
+    held_schema
+    (λ r same more. after_rows files schema r file rows (KeepsRows r) response same held_rows
+    (λ x found. keeps_rows schema r x response same functional found) more)
+    (kept_asks files name file response answered)
+
+-- ---- rows of whatever values
+measure_asks : (files : Files) (name file : List ℕ) (response : ResponseValue)
+    → Answers (known_files files) (codes "measure" ∷ name ∷ file ∷ []) response
+    → WithFile schema_file (known_files files) name (λ r. WithValues (known_files files) r file (MeasuresRows r)) response
+unfolding form_of form_over_schema form_over_rows schema_and_file Performs Does
+measure_asks files name file response answered = answered
+
+-- what a schema with text columns alone declares
+abbrev with_texts : Declarations → Declarations
+with_texts d =
+    record { names = d.names; columns = replicate (length d.names) Text; deps = d.deps; lines = d.lines }
+
+texts_declare : (s a : Schema) → HasTextsAlone s a → declarations_of a ≡ with_texts (declarations_of s)
+texts_declare s a first = λ i. record {
+  names = first.names i;
+  columns = first.types i;
+  deps = first.theory i;
+  lines = first.lines i;
+}
+
+-- text columns alone of two schemas that declare the same
+texts_same : (s r a b : Schema) → AreSame s r → HasTextsAlone s a → HasTextsAlone r b → AreSame a b
+texts_same s r a b same first second =
+    texts_declare s a first ∙ ap (λ (d : Declarations). with_texts d) same ∙ sym (texts_declare r b second)
+
+pub measure_answered : (files : Files) (name file : List ℕ) (schema texts : Schema) (rows : Relation)
+    → IsFile schema_file (known_files files) name schema → HasTextsAlone schema texts
+    → IsFile (rows_file texts) (known_files files) file rows
+    → IsAnswered files (codes "measure" ∷ name ∷ file ∷ [])
+unfolding WithValues
+measure_answered files name file schema texts rows held_schema alone held_rows response answered =
+    after_schema files name schema (λ r. WithValues (known_files files) r file (MeasuresRows r)) response held_schema
+    (λ r same more. read r same more)
+    (measure_asks files name file response answered)
+  where
+    read : (r : Schema) → AreSame schema r → WithValues (known_files files) r file (MeasuresRows r) response
+        → IsYesOrNo response.status
+    read r same (others, also, more) =
+        after_rows files texts others file rows (MeasuresRows r) response
+        (texts_same schema r texts others same alone also) held_rows
+        (λ x found. status_said found.0 response.status (ap (λ (a : ResponseValue). a.status) found.3)) more

@@ -1,0 +1,4 @@
+pub mod FlagLemmas
+pub mod FindingLemmas
+pub mod FieldLemmas
+pub mod KeepingLemmas

@@ -1,0 +1,7 @@
+-- The definitions of desk_measures, in reading order: rows that are read without types, what is found wrong, the
+-- rows that are at odds, how far rows are from legal, and the rows that can stay.
+pub mod Untyped
+pub mod Findings
+pub mod Offences
+pub mod Measures
+pub mod Keeping

@@ -1,0 +1,177 @@
+//! Values that are not of their column's type.
+
+ghost use Rattle.std.specs.Prelude.{◌≡◌, ◌<◌, ◌≤◌, ◌==◌, ◌↔◌, ◌++◌, true, [], length, if◌then◌else◌, slice_index_or, IfOk, OnOk};
+ghost use Rattle.std.specs.List.{position_or_len};
+ghost use Rattle.dep_model.specs.Integers.{IsIntegerText};
+ghost use Rattle.dep_model.specs.Schemas.{width_of};
+ghost use Rattle.dep_model.specs.declared.column_type.ColumnType.TheVariants.{Integer};
+ghost use Rattle.schema_printer.specs.Spelling.{printed_names_of};
+ghost use Rattle.desk_measures.specs.Findings.{Adds, FindsBelow};
+ghost use Rattle.desk_measures.specs.Measures.{AreMistyped, IsColumnFound, flags_set, mistyped_text, mistyped_words};
+
+use crate::fields::value_of;
+use crate::offences::both;
+use dep_model::{ColumnType, OutOfMemory, Schema, integer_text};
+use itoa::Buffer;
+use row_store::Rows;
+use schema_printer::{add, add_name};
+use std::alloc::Global;
+
+// A line for each column with such values, at the end of a text, and whether there are none.
+#[tactic(auto, using(crate::proofs::FindingLemmas::adds_none))]
+pub fn put_columns(
+    alloc: Global,
+    text: &mut Vec<u8>,
+    schema: &Schema,
+    rows: &Rows,
+) -> Result<bool, OutOfMemory>
+    ensures added { IfOk result (λ clean.
+        Adds (FindsBelow (IsColumnFound schema.now rows.now) (width_of schema.now))
+        text.old.items text.new.items clean) }
+{
+    let mut clean = true;
+    for attribute in 0..schema.width() {
+        let own = put_column(alloc, text, schema, rows, attribute)?;
+        clean = both(clean, own);
+    }
+    Ok(clean)
+}
+
+// The line of one column, where it has such values.
+fn put_column(
+    alloc: Global,
+    text: &mut Vec<u8>,
+    schema: &Schema,
+    rows: &Rows,
+    attribute: u8,
+) -> Result<bool, OutOfMemory>
+    requires attribute { attribute < width_of schema.now }
+    ensures added { IfOk result (λ clean.
+        Adds (IsColumnFound schema.now rows.now attribute) text.old.items text.new.items clean) }
+{
+    let flags = mistyped(alloc, schema, rows, attribute)?;
+    let count = flags_set(&flags);
+    let first = first_set(&flags);
+    put_mistyped_where(text, schema, attribute, count, first + 1)?;
+    Ok(count == 0)
+}
+
+// The line of a column that has so many such values.
+fn put_mistyped_where(
+    text: &mut Vec<u8>,
+    schema: &Schema,
+    attribute: u8,
+    count: usize,
+    row: usize,
+) -> Result<(), OutOfMemory>
+    requires attribute { attribute < width_of schema.now }
+    ensures added { OnOk result (text.new.items ≡ text.old.items
+        ++ (if count == 0 then []
+        else mistyped_text (slice_index_or (printed_names_of schema.now) attribute []) count row)) }
+{
+    if count == 0 {
+        return Ok(());
+    }
+    put_mistyped(text, schema, attribute, count, row)
+}
+
+// A flag for each row, set where its value is not of its column's type.
+fn mistyped(
+    alloc: Global,
+    schema: &Schema,
+    rows: &Rows,
+    attribute: u8,
+) -> Result<Vec<bool>, OutOfMemory>
+    requires attribute { attribute < width_of schema.now }
+    ensures flags { IfOk result (λ flags. AreMistyped schema.now rows.now attribute flags.items) }
+{
+    let column = schema.column(attribute);
+    let mut flags = Vec::with_capacity(alloc, rows.len())?;
+    for row in 0..rows.len() {
+        flags.push(is_mistyped(&column, value_of(rows, row, attribute as usize)))?;
+    }
+    Ok(flags)
+}
+
+// Whether a column of this type does not take the value.
+fn is_mistyped(column: &ColumnType, value: &[u8]) -> bool
+    ensures mistyped { (result ≡ true) ↔ (column.now ≡ Integer) × (IsIntegerText value.now → ⊥) }
+{
+    match column {
+        ColumnType::Integer => !integer_text(value),
+        _ => false,
+    }
+}
+
+// How many flags are set.
+#[tactic(auto, using(crate::proofs::FlagLemmas::flags_steps))]
+fn flags_set(flags: &[bool]) -> usize
+    ensures count { result ≡ flags_set flags.now }
+{
+    let mut count = 0;
+    for row in 0..flags.len() {
+        count += one_if(flags[row]);
+    }
+    count
+}
+
+// 1 or 0.
+fn one_if(flag: bool) -> usize
+    ensures one { result ≡ (if flag then 1 else 0) }
+{
+    if flag { 1 } else { 0 }
+}
+
+// The position of the first flag that is set, or their number.
+fn first_set(flags: &[bool]) -> usize
+    ensures first { result ≡ position_or_len (λ flag. flag) flags.now }
+    ensures within { result ≤ length flags.now }
+{
+    for row in 0..flags.len() {
+        if flags[row] {
+            return row;
+        }
+    }
+    flags.len()
+}
+
+// How many values of a column are not of its type, and the first row that has one, on a line.
+fn put_mistyped(
+    text: &mut Vec<u8>,
+    schema: &Schema,
+    attribute: u8,
+    count: usize,
+    row: usize,
+) -> Result<(), OutOfMemory>
+    requires attribute { attribute < width_of schema.now }
+    ensures added { OnOk result (text.new.items ≡ text.old.items
+        ++ mistyped_text (slice_index_or (printed_names_of schema.now) attribute []) count row) }
+{
+    add(text, b"column ")?;
+    put_name(text, schema, attribute)?;
+    add(text, b": ")?;
+    add(text, Buffer::new().format(count).as_bytes())?;
+    put_mistyped_words(text, count)?;
+    add(text, Buffer::new().format(row).as_bytes())?;
+    add(text, b"\n")
+}
+
+#[tactic(auto, unfolding(crate::specs::Measures::mistyped_words))]
+fn put_mistyped_words(text: &mut Vec<u8>, count: usize) -> Result<(), OutOfMemory>
+    ensures added { OnOk result (text.new.items ≡ text.old.items ++ mistyped_words count) }
+{
+    if count == 1 {
+        add(text, b" value is no integer, in row ")
+    } else {
+        add(text, b" values are no integer, the first in row ")
+    }
+}
+
+// The name of an attribute as it is printed.
+pub fn put_name(text: &mut Vec<u8>, schema: &Schema, attribute: u8) -> Result<(), OutOfMemory>
+    requires attribute { attribute < width_of schema.now }
+    ensures added { OnOk result (text.new.items
+        ≡ text.old.items ++ slice_index_or (printed_names_of schema.now) attribute []) }
+{
+    add_name(text, schema.naming(), schema.name(attribute))
+}

@@ -1,0 +1,19 @@
+//! What is wrong with rows: how far they are from legal, which are at odds, and which of them can
+//! stay.
+//!
+//! Each answer is a pure function of values, with the one clause that its response is allowed.
+//! `text_columns_alone` gives
+//! the schema by which rows are read whose values may not be of their column's type.
+#![tactic(auto)]
+
+mod columns;
+mod fields;
+mod keeping;
+mod measures;
+mod offences;
+mod untyped;
+
+pub use keeping::keep_rows;
+pub use measures::measure_rows;
+pub use offences::{list_offences, list_offences_by_row};
+pub use untyped::text_columns_alone;

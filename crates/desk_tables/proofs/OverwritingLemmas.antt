@@ -1,0 +1,14 @@
+-- Files that would be written over.
+use Rattle.std.proofs.Common.{ℕ, List, ◌∷◌, Result}
+use Rattle.desk_responses.proofs.StepLemmas.{Unless-passed}
+use Rattle.desk_responses.specs.ResponseValues.{Allowed}
+use Rattle.desk_responses.specs.Responses.{RespondsAs}
+use Rattle.desk_responses.specs.declared.response.EarlyExit.{EarlyExit}
+use Rattle.desk_responses.specs.declared.response.Response.{Response}
+use Rattle.desk_tables.specs.Overwriting.{IsTableFile, KeepsFiles, OverStops}
+
+-- a file that stays is passed
+pub file_kept : (tables : ℕ) (file : List ℕ) (files : List (List ℕ)) (rest : Allowed) (result : Result Response EarlyExit)
+    → (IsTableFile tables file → ⊥) → RespondsAs (KeepsFiles tables files rest) result → RespondsAs (KeepsFiles tables (file ∷ files) rest) result
+file_kept tables file files rest result stays goes =
+    Unless-passed (OverStops tables file) (IsTableFile tables file → ⊥) (KeepsFiles tables files rest) result stays goes

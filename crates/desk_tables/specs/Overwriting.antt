@@ -1,0 +1,52 @@
+-- Files of tables that would be written over files that are read: for `migrate`.
+use Rattle.std.specs.Prelude.{◌≡◌, ℕ, ◌+◌, ◌<◌, ◌==◌, ◌||◌, Bool, if◌then◌else◌, List, [], ◌∷◌, ◌++◌, codes, drop, length, IsTrue}
+use Rattle.std.specs.List.{starts_with}
+use Rattle.attr_sets.specs.Attributes.{Attributes}
+use Rattle.dep_model.specs.Names.{same_name}
+use Rattle.dep_model.specs.Plans.{schemes_of}
+use Rattle.dep_model.specs.Tuples.{Relation}
+use Rattle.dep_model.specs.declared.schema.Schema.{Schema}
+use Rattle.normal_forms.specs.declared.forms.Form.{Form}
+use Rattle.table_names.specs.TableNames.{table_name}
+use Rattle.desk_designs.specs.Decompositions.{WithPlanInForm}
+use Rattle.desk_responses.specs.declared.status.Status.TheVariants.{Refused}
+use Rattle.desk_responses.specs.ResponseValues.{Allowed, Says, Unless}
+use Rattle.desk_tables.specs.Migrations.{MigratesPlan, MigratesRows}
+use Rattle.desk_texts.specs.Texts.{line}
+
+-- ---- names
+-- a name without `./` before it
+abbrev pub plain_name : List ℕ → List ℕ
+plain_name name = if starts_with (λ a b. a == b) name (codes "./") then drop 2 name else name
+
+-- whether a name is that of a file of a table, the case of letters aside
+abbrev pub is_file_of : List ℕ → List ℕ → Bool
+is_file_of table name = same_name name (table ++ codes ".csv") || same_name name (table ++ codes ".sql")
+
+-- a name is that of a file of one of so many tables
+abbrev pub IsTableFile : ℕ → List ℕ → Type 0
+IsTableFile tables name = (i : ℕ) × (i < tables) × IsTrue (is_file_of (table_name (i + 1)) (plain_name name))
+
+-- ---- answers
+abbrev pub written_over_text : List ℕ → List ℕ
+written_over_text file = line (codes "refused: " ++ file ++ codes " would be written over")
+
+-- a file that is read would be written over
+abbrev pub OverStops : ℕ → List ℕ → Allowed
+OverStops tables file response = IsTableFile tables file × Says Refused (written_over_text file) response
+
+-- none of the files that are read would be written over by so many tables; the first that would decides
+abbrev pub KeepsFiles : ℕ → List (List ℕ) → Allowed → Allowed
+KeepsFiles tables [] rest = rest
+KeepsFiles tables (file ∷ files) rest =
+    Unless (OverStops tables file) (IsTableFile tables file → ⊥) (KeepsFiles tables files rest)
+
+-- rows as tables in a normal form, in files beside those that are read
+abbrev pub MigratesHere : Schema → Form → List (List ℕ) → Relation → Allowed
+MigratesHere schema form files rows =
+    WithPlanInForm schema form
+    (λ plan. KeepsFiles (length (schemes_of plan)) files (MigratesRows schema (schemes_of plan) rows))
+
+-- the same as tables of a plan
+abbrev pub MigratesPlanHere : Schema → List Attributes → List (List ℕ) → Relation → Allowed
+MigratesPlanHere schema plan files rows = KeepsFiles (length plan) files (MigratesPlan schema plan rows)

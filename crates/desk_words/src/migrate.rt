@@ -1,0 +1,50 @@
+//! The words after `migrate`.
+
+ghost use Rattle.std.specs.Prelude.{◌≡◌, option_map};
+ghost use Rattle.desk_words.specs.Commands.{command_form};
+ghost use Rattle.desk_words.specs.Forms as forms;
+
+use crate::command::Command;
+use crate::questions::Task;
+use crate::shapes::{normal_form, over};
+use desk_outside::Argument;
+use normal_forms::Form;
+
+/// After `migrate`.
+#[tactic(auto, unfolding(crate::specs::Forms::after_migrate))]
+pub fn after_migrate(words: &[Argument]) -> Option<Command<'_>>
+    ensures form { option_map command_form result ≡ forms.after_migrate words.now }
+{
+    let [what, rest @ ..] = words else {
+        return None;
+    };
+    if what.bytes() == b"plan".as_slice() {
+        return after_migrate_plan(rest);
+    }
+    match normal_form(what) {
+        Some(form) => after_migrate_form(form, rest),
+        None => None,
+    }
+}
+
+// After `migrate` and a normal form.
+#[tactic(auto, unfolding(crate::specs::Forms::after_migrate_form))]
+fn after_migrate_form(form: Form, words: &[Argument]) -> Option<Command<'_>>
+    ensures form { option_map command_form result ≡ forms.after_migrate_form form words.now }
+{
+    match words {
+        [schema, file] => over(schema, Task::Migrate { schema, file, form }),
+        _ => None,
+    }
+}
+
+// After `migrate plan`.
+#[tactic(auto, unfolding(crate::specs::Forms::after_migrate_plan))]
+fn after_migrate_plan(words: &[Argument]) -> Option<Command<'_>>
+    ensures form { option_map command_form result ≡ forms.after_migrate_plan words.now }
+{
+    match words {
+        [schema, plan, file] => over(schema, Task::MigratePlan { schema, plan, file }),
+        _ => None,
+    }
+}

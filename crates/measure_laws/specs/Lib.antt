@@ -1,0 +1,1 @@
+-- measure_laws has no definitions of its own.

@@ -1,0 +1,5 @@
+pub mod RunLemmas
+pub mod StepLemmas
+pub mod RowLemmas
+pub mod ViewLemmas
+pub mod MovedLemmas

@@ -1,0 +1,55 @@
+-- The tables of a design as statements: for the script (`Script`).
+use Rattle.std.specs.Prelude.{ℕ, Bool, if◌then◌else◌, List, [], ◌∷◌, ◌++◌, map, codes, is_some, slice_index_or}
+use Rattle.std.specs.List.{flat_map}
+use Rattle.attr_sets.specs.Attributes.{Attributes}
+use Rattle.attr_sets.specs.Sets.{attributes}
+use Rattle.dep_model.specs.declared.schema.Schema.{Schema}
+use Rattle.dep_model.specs.Projections.{members_below}
+use Rattle.dep_model.specs.Schemas.{width_of, nullable_of}
+use Rattle.ddl_text.specs.declared.table.TableDesign.{TableDesign}
+use Rattle.ddl_text.specs.Ddl.{sql_type, is_empty}
+use Rattle.ddl_text.specs.Designs.{known_keys}
+use Rattle.sql_names.specs.Names.{quoted_name}
+use Rattle.sql_syntax.specs.Syntax.{attribute}
+use Rattle.sql_syntax.specs.Statements.{Element, column_of, primary_key, unique_key, foreign_key, Statement, remark, create_table}
+use Rattle.check_queries.specs.Columns.{name_at, type_at}
+use Rattle.migrate_queries.specs.Moving.{attribute_names}
+
+abbrev pub column_made : Schema → ℕ → Element
+column_made s k = column_of (attribute (name_at s k)) (sql_type (type_at s k)) (nullable_of s k)
+
+abbrev pub columns_made : Schema → Attributes → List Element
+columns_made s scheme = map (column_made s) (members_below (width_of s) scheme)
+
+-- the key, where it is not empty, and the other keys
+abbrev pub key_made : Schema → Attributes → List Element
+key_made s key = if is_empty key then [] else primary_key (attribute_names s key) ∷ []
+
+abbrev pub keys_made : Schema → TableDesign → List Element
+keys_made s table =
+    key_made s (attributes table.key) ++ map (λ key. unique_key (attribute_names s key)) (known_keys table.other_keys)
+
+-- a reference to a table by its key
+abbrev pub reference_made : Schema → TableDesign → Element
+reference_made s other = foreign_key (attribute_names s (attributes other.key)) (quoted_name other.name)
+
+abbrev pub references_made : Schema → List TableDesign → TableDesign → List Element
+references_made s tables table = map (λ j. reference_made s (slice_index_or tables j table)) table.refs.items
+
+abbrev pub elements_made : Schema → List TableDesign → TableDesign → List Element
+elements_made s tables table =
+    columns_made s (attributes table.scheme) ++ keys_made s table ++ references_made s tables table
+
+-- what stands before a table: a remark where its key is empty, or where its other keys are not known
+abbrev pub remarks_made : Attributes → Bool → List Statement
+remarks_made key are_known =
+    if is_empty key then remark (codes "at most one row") ∷ []
+    else if are_known then [] else remark (codes "further keys are not looked for") ∷ []
+
+abbrev pub table_made : Schema → List TableDesign → TableDesign → List Statement
+table_made s tables table =
+    remarks_made (attributes table.key) (is_some table.other_keys)
+    ++ create_table (quoted_name table.name) (elements_made s tables table) ∷ []
+
+abbrev pub tables_made : Schema → List TableDesign → List TableDesign → List Statement
+tables_made s tables made = flat_map (table_made s tables) made

@@ -1,0 +1,10 @@
+use attr_sets::AttrSet;
+use dep_model::Name;
+
+/// A table that a view joins.
+#[derive(Clone, Copy)]
+pub struct JoinedTable {
+    pub name: Name,
+    /// The attributes of its columns.
+    pub scheme: AttrSet,
+}

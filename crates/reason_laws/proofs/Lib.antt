@@ -1,0 +1,5 @@
+mod LineLemmas
+mod NameTexts
+mod SchemaTexts
+mod CoverTexts
+mod ReasonTexts

@@ -1,0 +1,193 @@
+-- The lines of a printed schema, none of which begins with `# `, and of the reasons of a cover.
+use Rattle.std.proofs.Common.{◌≡◌, ◌<◌, ◌≤◌, ◌^◌, ◌&&◌, ◌||◌, ◌+◌, ℕ, Bool, true, false, List, [], ◌∷◌, ◌++◌, map, refl, sym, ap, subst, ◌∙◌, append_assoc, inl, inr, arith, length, Some, None}
+use Rattle.std.specs.Prelude.{All, Option, codes, nat_le, nat_lt, slice_get, ◌==◌}
+use Rattle.std.specs.Fmt.{decimal}
+use Rattle.std.specs.Char.{is_ascii_digit}
+use Rattle.std.specs.List.{list_all, list_any}
+use Rattle.std.proofs.lemmas.Bool.{cases_Bool, and_parts, eqb-true, true≢false}
+use Rattle.std.proofs.lemmas.Bool.Decides.{nat_tests}
+use Rattle.std.proofs.lemmas.Fmt.{digits_decimal}
+use Rattle.std.proofs.lemmas.Option.{get_or_from_slice_get, slice_get_within}
+use Rattle.std.proofs.lemmas.List.Elements.{All-nil, All-cons, All-head, All-tail, All-append}
+use Rattle.attr_sets.specs.Attributes.{Attributes}
+use Rattle.dep_model.specs.Columns.{is_column_type}
+use Rattle.dep_model.specs.Dependencies.{Dependency, fd, mvd}
+use Rattle.dep_model.specs.Names.{IsName, is_type_byte, quoted}
+use Rattle.dep_model.specs.Schemas.{naming_of, names_of, nullable_of, types_of}
+use Rattle.dep_model.specs.declared.column_type.ColumnType.{ColumnType}
+use Rattle.dep_model.specs.declared.column_type.ColumnType.TheVariants.{Text, Integer, Date, Timestamp, Decimal, Uuid, Other}
+use Rattle.dep_model.specs.declared.column_type.TheConstants.{MOST_SCALE}
+use Rattle.dep_model.specs.declared.naming.Naming.{Naming}
+use Rattle.dep_model.specs.declared.naming.Naming.TheVariants.{Bare, Any}
+use Rattle.dep_model.specs.declared.schema.Schema.{Schema}
+use Rattle.dep_model.specs.declared.type_name.TheConstants.{MOST_TYPE_BYTES}
+use Rattle.dep_model.proofs.NumeralLemmas.{decimal_numeral_model}
+use Rattle.schema_printer.specs.Printing.{Run, declaring_lines, dependency_text, in_front, is_integer, lines_text, members_from, nullable_lines, run_line, runs_of, same_column, schema_lines, schema_text, set_text, side_text, type_word, words_text}
+use Rattle.schema_printer.specs.Spelling.{printed_names_of}
+use Rattle.desk_responses.specs.Lines.{line_number_text}
+use Rattle.reason_laws.specs.ReasonLines.{has_line_feed, is_reason}
+use Rattle.reason_laws.proofs.LineLemmas.{AreLines, IsPlain, plain_both}
+use Rattle.reason_laws.proofs.NameTexts.{IsPrinted, dependency_plain, members_printed, names_printed, quoted_plain, set_own, side_plain, words_plain}
+
+-- ---- numbers
+digits_plain : (bytes : List ℕ) → list_all is_ascii_digit bytes ≡ true → IsPlain bytes
+digits_plain [] all = refl
+digits_plain (b ∷ bytes) all =
+    let parts = and_parts (is_ascii_digit b) (list_all is_ascii_digit bytes) all in
+    let digit = parts.0 in
+    let this : (b == 10) ≡ false = grind (arith, nat_tests, digit) in
+    ap (λ (t : Bool). t || has_line_feed bytes) this ∙ digits_plain bytes parts.1
+
+decimal_plain : (n : ℕ) → n < 2 ^ 64 → IsPlain (decimal n)
+decimal_plain n low = digits_plain (decimal n) (digits_decimal decimal_numeral_model n low)
+
+pub number_plain : (lines : List ℕ) → All (λ at. at < 2 ^ 32) lines → (k : ℕ) → IsPlain (line_number_text (slice_get lines k))
+number_plain lines low k = of (slice_get lines k) refl
+  where
+    of : (found : Option ℕ) → slice_get lines k ≡ found → IsPlain (line_number_text found)
+    of None is = refl
+    of (Some at) is =
+        let here : at < 2 ^ 32 = subst (λ (n : ℕ). n < 2 ^ 32) (get_or_from_slice_get lines k at 0 is) (low k 0 (slice_get_within lines k at is)) in
+        decimal_plain at (omega (arith, here))
+
+-- ---- types of columns
+type_byte_plain : (b : ℕ) → is_type_byte b ≡ true → (b == 10) ≡ false
+type_byte_plain b is = elim (cases_Bool (b == 10)) [
+  | inl feed ↦ absurd (true≢false (sym is ∙ ap is_type_byte (eqb-true b 10 feed)))
+  | inr other ↦ other
+]
+
+type_bytes_plain : (bytes : List ℕ) → list_all is_type_byte bytes ≡ true → IsPlain bytes
+type_bytes_plain [] all = refl
+type_bytes_plain (b ∷ bytes) all =
+    let parts = and_parts (is_type_byte b) (list_all is_type_byte bytes) all in
+    ap (λ (t : Bool). t || has_line_feed bytes) (type_byte_plain b parts.0) ∙ type_bytes_plain bytes parts.1
+
+type_plain : (column : ColumnType) → is_column_type column ≡ true → IsPlain (type_word column)
+type_plain Text is = refl
+type_plain Integer is = refl
+type_plain Date is = refl
+type_plain Timestamp is = refl
+type_plain (Decimal scale) is =
+    let most : scale ≤ MOST_SCALE = grind (arith, nat_tests, is) in
+    plain_both (codes "decimal ") (decimal scale) refl (decimal_plain scale (omega (arith, most)))
+type_plain Uuid is = refl
+type_plain (Other text) is =
+    let bytes = and_parts (nat_lt 0 (length text) && nat_le (length text) MOST_TYPE_BYTES) (list_all is_type_byte text) is in
+    plain_both (codes "other ") (quoted text) refl (quoted_plain text (type_bytes_plain text bytes.1))
+
+-- ---- lines of the command's own
+record IsOwn (text : List ℕ) : Type 0 where
+  plain : IsPlain text
+  own : is_reason text ≡ false
+
+own_lines : (lines : List (List ℕ)) → All IsOwn lines → AreLines false (lines_text lines)
+own_lines lines all = record {
+  lines = lines;
+  each = λ k d low. let is = all k d low in is.plain;
+  kind = λ k d low. let is = all k d low in is.own;
+  whole = refl;
+}
+
+run_own : (run : Run) → is_column_type run.column ≡ true → All IsPrinted run.names → IsOwn (run_line run)
+run_own run column names = record {
+  plain = plain_both (type_word run.column) (words_text run.names) (type_plain run.column column) (words_plain run.names names);
+  own = begins run.column (words_text run.names);
+}
+  where
+    begins : (c : ColumnType) (more : List ℕ) → is_reason (type_word c ++ more) ≡ false
+    begins Text more = refl
+    begins Integer more = refl
+    begins Date more = refl
+    begins Timestamp more = refl
+    begins (Decimal scale) more = refl
+    begins Uuid more = refl
+    begins (Other text) more = refl
+
+record IsFine (run : Run) : Type 0 where
+  column : is_column_type run.column ≡ true
+  names : All IsPrinted run.names
+
+front_fine : (column : ColumnType) (name : List ℕ) (runs : List Run) → is_column_type column ≡ true → IsPrinted name → All IsFine runs
+    → All IsFine (in_front column name runs)
+front_fine column name [] typed printed all =
+    All-cons IsFine (record { column = column; names = name ∷ [] }) [] (record { column = typed; names = All-cons IsPrinted name [] printed (All-nil IsPrinted) }) (All-nil IsFine)
+front_fine column name (run ∷ runs) typed printed all = elim (cases_Bool (same_column column run.column)) [
+  | inl same ↦
+      let here = All-head IsFine run runs all in
+      rw same (All-cons IsFine (record { column = column; names = name ∷ run.names }) runs
+      (record { column = typed; names = All-cons IsPrinted name run.names printed here.names }) (All-tail IsFine run runs all))
+  | inr other ↦
+      rw other (All-cons IsFine (record { column = column; names = name ∷ [] }) (run ∷ runs)
+      (record { column = typed; names = All-cons IsPrinted name [] printed (All-nil IsPrinted) }) all)
+]
+
+runs_fine : (columns : List ColumnType) (names : List (List ℕ)) → All (λ c. is_column_type c ≡ true) columns → All IsPrinted names
+    → All IsFine (runs_of columns names)
+runs_fine [] names typed printed = All-nil IsFine
+runs_fine (c ∷ columns) [] typed printed = All-nil IsFine
+runs_fine (c ∷ columns) (name ∷ names) typed printed =
+    let P : ColumnType → Type 0 = λ (d : ColumnType). is_column_type d ≡ true in
+    front_fine c name (runs_of columns names) (All-head P c columns typed) (All-head IsPrinted name names printed)
+    (runs_fine columns names (All-tail P c columns typed) (All-tail IsPrinted name names printed))
+
+run_lines_own : (runs : List Run) → All IsFine runs → All IsOwn (map run_line runs)
+run_lines_own [] all = All-nil IsOwn
+run_lines_own (run ∷ runs) all =
+    let here = All-head IsFine run runs all in
+    All-cons IsOwn (run_line run) (map run_line runs) (run_own run here.column here.names) (run_lines_own runs (All-tail IsFine run runs all))
+
+declaring_own : (columns : List ColumnType) (names : List (List ℕ)) → All (λ c. is_column_type c ≡ true) columns → All IsPrinted names
+    → All IsOwn (declaring_lines columns names)
+unfolding declaring_lines
+declaring_own columns names typed printed = elim (cases_Bool (list_any is_integer columns)) [
+  | inl some ↦
+      rw some (All-cons IsOwn (codes "version 2") (map run_line (runs_of columns names)) (record { plain = refl; own = refl })
+      (run_lines_own (runs_of columns names) (runs_fine columns names typed printed)))
+  | inr none ↦
+      rw none (All-cons IsOwn (codes "attributes" ++ words_text names) []
+      (record { plain = plain_both (codes "attributes") (words_text names) refl (words_plain names printed); own = refl }) (All-nil IsOwn))
+]
+
+nullable_own : (names : List (List ℕ)) → All IsPrinted names → All IsOwn (nullable_lines names)
+unfolding nullable_lines
+nullable_own [] printed = All-nil IsOwn
+nullable_own (name ∷ names) printed =
+    All-cons IsOwn (codes "nullable " ++ side_text (name ∷ names)) []
+    (record { plain = plain_both (codes "nullable ") (side_text (name ∷ names)) refl (side_plain (name ∷ names) printed); own = refl }) (All-nil IsOwn)
+
+schema_lines_own : (naming : Naming) (columns : List ColumnType) (names : List (List ℕ)) (nullable : Attributes) → All (λ c. is_column_type c ≡ true) columns
+    → All IsPrinted names → All IsOwn (schema_lines naming columns names nullable)
+unfolding schema_lines
+schema_lines_own Bare columns names nullable typed printed = declaring_own columns names typed printed
+schema_lines_own Any columns names nullable typed printed =
+    All-cons IsOwn (codes "version 3") (map run_line (runs_of columns names) ++ nullable_lines (members_from nullable 0 names))
+    (record { plain = refl; own = refl })
+    (All-append IsOwn (map run_line (runs_of columns names)) (nullable_lines (members_from nullable 0 names))
+    (run_lines_own (runs_of columns names) (runs_fine columns names typed printed))
+    (nullable_own (members_from nullable 0 names) (members_printed nullable 0 names printed)))
+
+dependency_own : (names : List (List ℕ)) (d : Dependency) → All IsPrinted names → IsOwn (dependency_text names d)
+unfolding dependency_text
+dependency_own names d printed = record { plain = dependency_plain names d printed; own = begins d }
+  where
+    begins : (e : Dependency) → is_reason (dependency_text names e) ≡ false
+    begins (fd x y) =
+        ap is_reason (append_assoc (set_text names x) (codes " -> ") (set_text names y)) ∙ set_own names x (codes " -> " ++ set_text names y) printed
+    begins (mvd x y) =
+        ap is_reason (append_assoc (set_text names x) (codes " ->> ") (set_text names y)) ∙ set_own names x (codes " ->> " ++ set_text names y) printed
+
+dependencies_own : (names : List (List ℕ)) (ds : List Dependency) → All IsPrinted names → All IsOwn (map (dependency_text names) ds)
+dependencies_own names [] printed = All-nil IsOwn
+dependencies_own names (d ∷ ds) printed =
+    All-cons IsOwn (dependency_text names d) (map (dependency_text names) ds) (dependency_own names d printed) (dependencies_own names ds printed)
+
+-- a printed schema
+pub schema_own : (s : Schema) (ds : List Dependency) → All IsName (names_of s) → AreLines false (schema_text s ds)
+unfolding schema_text
+schema_own s ds are_names =
+    let names = printed_names_of s in
+    let printed = names_printed s are_names in
+    own_lines (schema_lines (naming_of s) (types_of s) names (nullable_of s) ++ map (dependency_text names) ds)
+    (All-append IsOwn (schema_lines (naming_of s) (types_of s) names (nullable_of s)) (map (dependency_text names) ds)
+    (schema_lines_own (naming_of s) (types_of s) names (nullable_of s) s.typed.each printed) (dependencies_own names ds printed))

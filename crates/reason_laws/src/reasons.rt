@@ -1,0 +1,32 @@
+//! What is left of an explanation without its reasons. A function that does nothing, whose clauses are
+//! the law.
+
+ghost use Rattle.std.specs.Prelude.{◌<◌, ◌^◌, All};
+ghost use Rattle.dep_model.specs.Names.{IsName};
+ghost use Rattle.dep_model.specs.Schemas.{lines_of, names_of};
+ghost use Rattle.dep_model.specs.declared.schema.Schema.{Schema};
+ghost use Rattle.normal_forms.specs.declared.forms.Form.{Form};
+ghost use Rattle.desk_covers.specs.CoverReasons.{ExplainsCover};
+ghost use Rattle.desk_covers.specs.Covering.{GivesCover};
+ghost use Rattle.desk_designs.specs.Decompositions.{Splits};
+ghost use Rattle.desk_designs.specs.Synthesis.{Synthesizes};
+ghost use Rattle.desk_keys.specs.KeyReasons.{ExplainsKeys};
+ghost use Rattle.desk_keys.specs.Keys.{ListsKeys};
+ghost use Rattle.desk_reasons.specs.SplitReasons.{ExplainsSplit};
+ghost use Rattle.desk_reasons.specs.SynthesisReasons.{ExplainsSynthesis};
+ghost use Rattle.desk_responses.specs.ResponseValues.{ResponseValue};
+ghost use Rattle.reason_laws.specs.ReasonLines.{LeavesAnswer};
+
+/// Without the lines that begin with `# ` an explanation is what the command prints.
+pub fn explanations_leave_the_answer()
+    ensures cover { (schema : Schema) (response : ResponseValue) → All IsName (names_of schema)
+        → All (λ at. at < 2 ^ 32) (lines_of schema)
+        → ExplainsCover schema response → LeavesAnswer (GivesCover schema) response }
+    ensures keys { (schema : Schema) (response : ResponseValue) → All IsName (names_of schema)
+        → ExplainsKeys schema response → LeavesAnswer (ListsKeys schema) response }
+    ensures synthesis { (schema : Schema) (response : ResponseValue) → All IsName (names_of schema)
+        → ExplainsSynthesis schema response → LeavesAnswer (Synthesizes schema) response }
+    ensures split { (schema : Schema) (form : Form) (response : ResponseValue)
+        → All IsName (names_of schema)
+        → ExplainsSplit schema form response → LeavesAnswer (Splits schema form) response }
+{}

@@ -1,0 +1,9 @@
+pub mod UniqueLemmas
+pub mod ChosenLemmas
+pub mod MissingLemmas
+pub mod TupleLemmas
+pub mod ChainLemmas
+pub mod OrderLemmas
+pub mod SortedLemmas
+pub mod KeptLemmas
+pub mod LawLemmas

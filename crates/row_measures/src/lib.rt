@@ -1,0 +1,28 @@
+//! How far rows are from obeying a dependency, which rows stand in broken groups, and which can be kept.
+//!
+//! Rows that agree on the left side are a group. A group breaks a functional dependency where two of its rows
+//! differ on the right side; of its classes, the rows that agree on both sides, the largest is chosen, of
+//! equally large ones that of the least first row. A group breaks a multivalued dependency where some
+//! right side and some rest of it do not stand in one row. `measure` counts broken groups, their rows, and
+//! how many rows must change or are missing; `broken_parts` and `broken_rows` list what stands in broken
+//! groups; `kept_rows` are those that no functional dependency removes. All are linear in the rows.
+#![tactic(auto)]
+
+mod breach;
+mod by_class;
+mod by_part;
+mod counting;
+mod keeping;
+mod laws;
+mod listing;
+mod measuring;
+mod ordering;
+
+pub use breach::{BrokenPart, BrokenRow, Mark, Measure};
+pub use keeping::kept_rows;
+pub use laws::{
+    kept_rows_are_legal, measure_counts_missing, measure_is_least, one_list_of_kept,
+    one_list_of_parts, one_list_of_rows, one_measure, removed_rows_are_least_removal,
+};
+pub use listing::{broken_parts, broken_rows};
+pub use measuring::measure;

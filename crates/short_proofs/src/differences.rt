@@ -1,0 +1,151 @@
+//! A derivation, or a shorter one of two dependencies that transitivity joins.
+
+ghost use Rattle.std.specs.Prelude.{◌≡◌, Bool, IfOk};
+ghost use Rattle.attr_sets.specs.Sets.{attributes};
+ghost use Rattle.dep_model.specs.Dependencies.{mvd};
+ghost use Rattle.derivation.specs.Derivs.{tree_of};
+ghost use Rattle.dep_basis.specs.JoinedProofs.{IsProofOf};
+ghost use Rattle.short_proofs.specs.Short.{start, difference_of, IsDifference, IsNoLongerThan};
+ghost use Rattle.short_proofs.specs.Shapes.{IsKept, tree_of_halves};
+
+use crate::keeping::{is_no_longer, unless_other};
+use crate::pairs::{Half, Halves, Transit, difference_deriv, difference_size};
+use crate::starts::Start;
+use dep_model::{Dep, OutOfMemory, Schema};
+use derivation::Deriv;
+use std::alloc::Global;
+
+/// A derivation of a multivalued goal, unless one of these with dependency `number` is shorter.
+pub fn unless_difference(
+    alloc: Global,
+    schema: &Schema,
+    half: Half,
+    number: u16,
+    deriv: Box<Deriv>,
+) -> Result<Box<Deriv>, OutOfMemory>
+    requires proof { IsProofOf schema.now (mvd (attributes half.lhs) (attributes half.rhs))
+        (tree_of deriv.value) }
+    ensures kept { IfOk result (λ b. IsKept schema.now (mvd (attributes half.lhs) (attributes half.rhs))
+        (tree_of deriv.value) (tree_of b.value)) }
+    ensures short { IfOk result (λ b. IsNoLongerThan schema.now
+        (mvd (attributes half.lhs) (attributes half.rhs))
+        (IsDifference (attributes half.lhs) (attributes half.rhs)
+        (start half.first.number half.first.replicated half.first.complemented)
+        (attributes half.middle) number) (tree_of b.value)) }
+{
+    let one = unless_second(alloc, schema, half, number, false, false, deriv)?;
+    let two = unless_second(alloc, schema, half, number, false, true, one)?;
+    let three = unless_second(alloc, schema, half, number, true, false, two)?;
+    let four = unless_second(alloc, schema, half, number, true, true, three)?;
+    Ok(four)
+}
+
+// The same where this dependency is replicated or complemented, or not.
+fn unless_second(
+    alloc: Global,
+    schema: &Schema,
+    half: Half,
+    number: u16,
+    replicated: bool,
+    complemented: bool,
+    deriv: Box<Deriv>,
+) -> Result<Box<Deriv>, OutOfMemory>
+    requires proof { IsProofOf schema.now (mvd (attributes half.lhs) (attributes half.rhs))
+        (tree_of deriv.value) }
+    ensures kept { IfOk result (λ b. IsKept schema.now (mvd (attributes half.lhs) (attributes half.rhs))
+        (tree_of deriv.value) (tree_of b.value)) }
+    ensures short { IfOk result (λ b. IsNoLongerThan schema.now
+        (mvd (attributes half.lhs) (attributes half.rhs))
+        (λ u. (lifted widened : Bool) × ((turned again : Bool)
+        × (u ≡ difference_of (attributes half.lhs) (attributes half.rhs) (attributes half.middle)
+        (start half.first.number half.first.replicated half.first.complemented)
+        (start number replicated complemented) lifted widened turned again))) (tree_of b.value)) }
+{
+    let second = Start {
+        number,
+        replicated,
+        complemented,
+    };
+    unless_halves(alloc, schema, Halves { half, second }, deriv)
+}
+
+// The same of two halves: what is added to the first, and to the second.
+fn unless_halves(
+    alloc: Global,
+    schema: &Schema,
+    halves: Halves,
+    deriv: Box<Deriv>,
+) -> Result<Box<Deriv>, OutOfMemory>
+    requires proof { IsProofOf schema.now (mvd (attributes halves.half.lhs) (attributes halves.half.rhs))
+        (tree_of deriv.value) }
+    ensures kept { IfOk result (λ b. IsKept schema.now (mvd (attributes halves.half.lhs) (attributes halves.half.rhs))
+        (tree_of deriv.value) (tree_of b.value)) }
+    ensures short { IfOk result (λ b. IsNoLongerThan schema.now
+        (mvd (attributes halves.half.lhs) (attributes halves.half.rhs))
+        (λ u. (lifted widened : Bool) × ((turned again : Bool)
+        × (u ≡ tree_of_halves halves lifted widened turned again))) (tree_of b.value)) }
+{
+    let one = unless_ended(alloc, schema, halves, false, false, deriv)?;
+    let two = unless_ended(alloc, schema, halves, false, true, one)?;
+    let three = unless_ended(alloc, schema, halves, true, false, two)?;
+    let four = unless_ended(alloc, schema, halves, true, true, three)?;
+    Ok(four)
+}
+
+// The same where these are added: what comes last.
+fn unless_ended(
+    alloc: Global,
+    schema: &Schema,
+    halves: Halves,
+    lifted: bool,
+    widened: bool,
+    deriv: Box<Deriv>,
+) -> Result<Box<Deriv>, OutOfMemory>
+    requires proof { IsProofOf schema.now (mvd (attributes halves.half.lhs) (attributes halves.half.rhs))
+        (tree_of deriv.value) }
+    ensures kept { IfOk result (λ b. IsKept schema.now (mvd (attributes halves.half.lhs) (attributes halves.half.rhs))
+        (tree_of deriv.value) (tree_of b.value)) }
+    ensures short { IfOk result (λ b. IsNoLongerThan schema.now
+        (mvd (attributes halves.half.lhs) (attributes halves.half.rhs))
+        (λ u. (turned again : Bool) × (u ≡ tree_of_halves halves lifted widened turned again))
+        (tree_of b.value)) }
+{
+    let one = unless_transit(alloc, schema, halves, lifted, widened, false, false, deriv)?;
+    let two = unless_transit(alloc, schema, halves, lifted, widened, false, true, one)?;
+    let three = unless_transit(alloc, schema, halves, lifted, widened, true, false, two)?;
+    let four = unless_transit(alloc, schema, halves, lifted, widened, true, true, three)?;
+    Ok(four)
+}
+
+// The same of one way to join them.
+fn unless_transit(
+    alloc: Global,
+    schema: &Schema,
+    halves: Halves,
+    lifted: bool,
+    widened: bool,
+    turned: bool,
+    again: bool,
+    deriv: Box<Deriv>,
+) -> Result<Box<Deriv>, OutOfMemory>
+    requires proof { IsProofOf schema.now (mvd (attributes halves.half.lhs) (attributes halves.half.rhs))
+        (tree_of deriv.value) }
+    ensures kept { IfOk result (λ b. IsKept schema.now (mvd (attributes halves.half.lhs) (attributes halves.half.rhs))
+        (tree_of deriv.value) (tree_of b.value)) }
+    ensures short { IfOk result (λ b. IsNoLongerThan schema.now
+        (mvd (attributes halves.half.lhs) (attributes halves.half.rhs))
+        (λ u. u ≡ tree_of_halves halves lifted widened turned again) (tree_of b.value)) }
+{
+    let Half { lhs, rhs, .. } = halves.half;
+    let by = Transit {
+        lifted,
+        widened,
+        turned,
+        again,
+    };
+    if is_no_longer(&deriv, difference_size(halves, by)) {
+        return Ok(deriv);
+    }
+    let other = difference_deriv(alloc, halves, by)?;
+    Ok(unless_other(schema, Dep::Mvd { lhs, rhs }, deriv, other))
+}

@@ -1,0 +1,13 @@
+-- The laws of `one_account_of_a_split`, by `one_account`.
+use Rattle.split_forms.proofs.LeadLemmas.{one_account}
+use Rattle.split_forms.proofs.laws.one_account_of_a_split.Goals as goal
+
+pub returns : goal.returns
+returns c = record {
+  cuts = λ n ds form cuts others schemes rest not_empty split first second.
+      let same = one_account n ds form not_empty split cuts others schemes rest first second in
+      same.0;
+  schemes = λ n ds form cuts others schemes rest not_empty split first second.
+      let same = one_account n ds form not_empty split cuts others schemes rest first second in
+      same.1;
+}

@@ -1,0 +1,2 @@
+pub mod OrderedLemmas
+pub mod CrossingLemmas

@@ -1,0 +1,2 @@
+-- The definitions of view_laws: where a cross join stands.
+pub mod Crossing
