@@ -120,7 +120,8 @@ pub record WrittenInOwn (name script : List ℕ) (tables : List TableValue) (pla
   pub files : FilesWritten name script tables folder csv load
 
 -- the folder could not be made: no file is begun, and neither the CSV files nor the script are done
-pub record NotMade (name : List ℕ) (place : PlaceInCall) (folder : FolderInCall) (csv load : WriteOutcome) : Type 0 where
+pub record NotMade (name : List ℕ) (place : PlaceInCall) (folder : FolderInCall)
+    (csv load : WriteOutcome) : Type 0 where
   pub made : (place.new_made ≡ place.old_made) ⊎ (place.new_made ≡ place.old_made ++ name ∷ [])
   pub kept : folder.new ≡ folder.old
   pub fine : folder.after ≡ folder.before
