@@ -22,6 +22,10 @@ import model
 from model import FD, MVD, members
 
 NAMES = ["A", "B", "C", "D", "E", "F", "G", "H", "I", "J", "K", "L", "M", "N", "O", "P"]
+STRANGE = ["Unit price", "n\u00e9e", 'say "hi"', "text", "date", "Nullable", "a:b", "#1", "x,y", "1st", "stra\u00dfe", "A", "B", "c",
+           "D & <E>", "back\\slash", "O'Hara", "  ", "scheme", "with", "x" * 63, "integer"]
+TYPES = ["text", "integer", "date", "timestamp", "uuid", "decimal 0", "decimal 2", "decimal 9", 'other "real"',
+         'other "varchar(80)"']
 LONG = ["City", "street_1", "ZIP", "Room", "x9", "Teacher", "HOUR", "grade", "given", "with", "yes", "Integers",
         "a_name_of_thirty_one_bytes_long", "Tn", "Id", "q"]
 
@@ -31,6 +35,7 @@ LONG = ["City", "street_1", "ZIP", "Room", "x9", "Teacher", "HOUR", "grade", "gi
 class Maker:
     def __init__(self, rng):
         self.r = rng
+        self.any_names = False
 
     def some(self, n, most=3, least=0):
         """A small set of places."""
@@ -42,8 +47,12 @@ class Maker:
         r = self.r
         n = r.randint(low, high)
         names = r.sample(r.choice((NAMES, NAMES, LONG)), n) if r.random() < .3 else NAMES[:n]
+        self.any_names = typed is None and r.random() < .25
         typed = r.random() < .15 if typed is None else typed
         columns = [r.choice(("text", "integer")) if typed else "text" for _ in range(n)]
+        if self.any_names:
+            names = r.sample(STRANGE, n) if r.random() < .6 else names
+            columns = [r.choice(TYPES) if r.random() < .5 else "text" for _ in range(n)]
         mvd = r.choice((0, 0, .3, .5, 1)) if mvd is None else mvd
         out = []
         for _ in range(r.randint(0, n + 2) if deps is None else deps):
@@ -65,9 +74,34 @@ class Maker:
             out.append((MVD if r.random() < mvd else FD, x, self.some(n, r.choice((1, 2, 9)), 1)))
         return [f"a{i + 1}" for i in range(n)], ["text"] * n, out
 
-    def spelled(self, name):
+    def cased(self, name):
         r = self.r.random()
-        return name if r < .7 else name.lower() if r < .85 else name.upper()
+        if r < .7 or not name.isascii():
+            return name
+        return name.lower() if r < .85 else name.upper()
+
+    def spelled(self, name):
+        """A name in a schema, a goal or a plan."""
+        name = self.cased(name)
+        bare = model.is_name(name.encode()) and name.lower().encode() not in model.RESERVED_3
+        if bare and not (self.any_names and self.r.random() < .15):
+            return name
+        return '"' + name.replace('"', '""') + '"'
+
+    def typed_lines(self, names, columns):
+        """The declaring lines of a schema that takes any names."""
+        r = self.r
+        lines = [r.choice(("version 3", "version 03", "version\t3 # three"))]
+        for name, column in zip(names, columns):
+            word = "attributes" if column == "text" and r.random() < .5 else column
+            if lines[1:] and lines[-1].startswith(word + " ") and r.random() < .6:
+                lines[-1] += " " + self.spelled(name)
+            else:
+                lines.append(f"{word} {self.spelled(name)}")
+        if r.random() < .6:
+            some = self.some(len(names), 3, 1)
+            lines.append("nullable " + self.side(names, some))
+        return lines
 
     def side(self, names, x):
         if not x:
@@ -87,7 +121,9 @@ class Maker:
         names, columns, deps = schema
         typed = "integer" in columns
         lines = []
-        if typed or r.random() < .08:
+        if self.any_names:
+            lines += self.typed_lines(names, columns)
+        elif typed or r.random() < .08:
             lines.append(r.choice(("version 2", "version 02", "version\t2 # two")))
             for name, column in zip(names, columns):
                 lines.append(f"{column if column == 'integer' or r.random() < .5 else 'attributes'} {name}")
@@ -126,10 +162,37 @@ class Maker:
         return out
 
     def plan_text(self, names, plan):
-        return "".join(f"scheme {self.side(names, x)}\n" for x in plan).encode()
+        """A plan, in which some tables have names."""
+        r = self.r
+        named = r.random() < .25
+        lines = []
+        for k, x in enumerate(plan):
+            own = r.choice((f"part{k}", f"Part_{k}", f"orders{k}", "orders", "t9", "joined", "version", "tx"))
+            head = f"table {own}{r.choice((':', ' : ', ':'))}" if named and r.random() < .5 else "scheme"
+            lines.append(f"{head} {self.side(names, x)}\n")
+        return "".join(lines).encode()
+
+    def typed_value(self, column):
+        """A value of a type that only some schemas have, or a text that is nearly one."""
+        r = self.r
+        if column.startswith("decimal "):
+            scale = int(column[8:])
+            good = [whole + ("." + part * scale if scale else "") for whole in ("0", "1", "-1", "12") for part in ("0", "5")]
+            return r.choice(good + ["-0" + "." * bool(scale) + "0" * scale, "1", "01.00", "1.", "999999999999999", "1234567890123456", ""]).encode()
+        if column == "uuid":
+            return r.choice(("00000000-0000-0000-0000-00000000000%d" % r.randint(0, 2), "123e4567-e89b-12d3-a456-426614174000",
+                             "123E4567-e89b-12d3-a456-426614174000", "123e4567e89b12d3a456426614174000", "")).encode()
+        day = r.choice(("2024-02-29", "2023-02-29", "1900-02-29", "2000-02-29", "2024-02-30", "2024-04-31", "0001-01-01", "0000-01-01",
+                        "2024-12-31", "2024-13-01", "2024-1-01", "1999-12-31", "1999-12-31", "2024-02-29", ""))
+        if column == "date" or not day:
+            return day.encode()
+        return (day + r.choice((" 00:00:00", " 23:59:59", " 23:59:60", " 24:00:00", " 12:30:00.5", " 12:30:00.50", " 12:30:00.123456",
+                                " 12:30:00.1234567", "T12:30:00", " 12:30:00.", ""))).encode()
 
     def value(self, column="text"):
         r = self.r
+        if column not in ("text", "integer") and not column.startswith("other "):
+            return self.typed_value(column)
         if column == "integer":
             return b"%d" % r.choice((0, 1, 2, -1, 7, 9223372036854775807, -9223372036854775808)) if r.random() < .98 else r.choice((b"07", b"-0", b"", b"+1", b"9223372036854775808", b"x"))
         if r.random() < .85:
@@ -180,7 +243,7 @@ class Maker:
         def line(values):
             text = b",".join(field(v) for v in values)
             return (text or b'""') + end
-        text = line([self.spelled(names[places[i]]).encode() for i in order])
+        text = line([self.cased(names[places[i]]).encode() for i in order])
         for row in rows:
             if r.random() < .03:
                 text += end
@@ -216,6 +279,7 @@ def sum_or(sets):
 
 PIECES = [b"attributes ", b"scheme ", b"version ", b"integer ", b"text ", b"Scheme", b" -> ", b" ->> ", b"->", b"-", b">",
           b"()", b"(", b" ( ) ", b":", b"A", b" B ", b"Z9", b"_x", b"1a", b"12", b"\n", b"\r", b"\r\n", b"#", b",", b"\t",
+          b'"', b'""', b'"A"', b' "b" ', b"version 3\n", b"decimal 2 ", b"decimal ", b'other "x" ', b"nullable ", b"date ", b"uuid ", b"table x: ",
           b"\xef\xbb\xbf", b"\0", b"\xff", b"version 2\n", b"2", b"x" * 32, b" yes\n", b" given 1", b" with ", b" : "]
 
 
@@ -475,10 +539,11 @@ def f_csv(m):
 def f_migrate(m):
     s = m.schema(1, 5)
     files = {"s": m.schema_text(s), "r": m.csv(s[0], m.rows(s), noise=.02)}
+    into = ["into", m.r.choice(("out", "out", "out", "s"))] if m.r.random() < .2 else []
     if m.r.random() < .4:
         files["p"] = m.plan_text(s[0], m.plan(len(s[0])))
-        return ["migrate", "plan", "s", "p", "r"], files
-    return ["migrate", m.r.choice(model.FORMS), "s", "r"], files
+        return ["migrate", "plan", "s", "p", "r", *into], files
+    return ["migrate", m.r.choice(model.FORMS), "s", "r", *into], files
 
 
 def f_sample(m):
@@ -495,7 +560,7 @@ def f_discover(m):
     s = (NAMES[:n], ["text"] * n, [])
     names = list(s[0])
     if m.r.random() < .1:
-        names[m.r.randrange(n)] = m.r.choice(("scheme", "a", "1x", "", "Version", "x" * 32, "b_", "integer"))
+        names[m.r.randrange(n)] = m.r.choice(("scheme", "a", "1x", "", "Version", "x" * 32, "b_", "integer", "x" * 64, "Unit price", 'a"b', "\x7f"))
     rows = m.rows(s, m.r.choice((2, 4, 8, 12)), 0)
     return ["discover", "r"], {"r": m.csv(names, rows, noise=.1)}
 
@@ -554,14 +619,14 @@ def f_same(m):
         others[0] = (k, x, y & ~x or y)
         for a in members(y)[1:]:
             others.append((k, x, 1 << a))
-    spelled = [m.spelled(names[a]) for a in order]
+    cased = [m.cased(names[a]) for a in order]
     if r.random() < .08:
-        spelled[0] = "OTHER"
+        cased[0] = "OTHER"
     if r.random() < .08:
-        spelled.append("MORE")
+        cased.append("MORE")
         columns = columns + ["text"]
     return ["check", "same", "s", "o"], {"s": m.schema_text((names, columns[:len(names)], deps)),
-                                         "o": m.schema_text((spelled, ["text"] * len(spelled), others))}
+                                         "o": m.schema_text((cased, ["text"] * len(cased), others))}
 
 
 def f_check_cover(m):
@@ -596,7 +661,7 @@ def f_sql(m):
 
 
 ALL_WORDS = ["implies", "keys", "cover", "synthesize", "split", "bcnf", "4nf", "3nf", "wide-bcnf", "ddl", "plan", "check", "proof", "join", "form",
-             "rows", "same", "keeps", "migrate", "sample", "exhibit", "discover", "rejoin", "basis", "closure", "project", "key", "explain", "sql", "draw", "measure", "offences", "kept", "help", "--help", "-h", "--version",
+             "rows", "same", "keeps", "migrate", "sample", "exhibit", "discover", "rejoin", "basis", "closure", "project", "key", "explain", "sql", "draw", "measure", "offences", "kept", "into", "help", "--help", "-h", "--version",
              "s", "p", "r", "A -> B", "1", "missing", "", "Keys", "table"]
 
 
@@ -633,7 +698,7 @@ def difference(program, words, files):
             with open(os.path.join(folder, name), "wb") as f:
                 f.write(data)
         done = subprocess.run([program, *words], cwd=folder, stdin=subprocess.DEVNULL, capture_output=True, timeout=120)
-        wrote = {n: open(os.path.join(folder, n), "rb").read() for n in os.listdir(folder)}
+        wrote = {os.path.relpath(path, folder): path.read_bytes() for path in pathlib.Path(folder).rglob("*") if path.is_file()}
     want = model.run(words, files)
     wrong = []
     if done.returncode != want.status:

@@ -158,6 +158,7 @@ module _ (s t : Schema) (f : Frame s) (g : Frame t) where
       → ((response : ResponseValue) → rest response → after response)
       → (response : ResponseValue) → WithSameNames s t file other_file rest response
       → WithSameNames left right file other_file after response
+  unfolding printed_names_of
   with_names_moved file other_file rest after moves response (inl stops) = inl stops
   with_names_moved file other_file rest after moves response (inr (names, answers)) =
       inr (names, moves response answers)

@@ -46,4 +46,4 @@ implied_there s t d same implied =
 
 pub proved_there : (s t : Schema) (tree : Tree) (d : Dependency) → DeclareTheSame s t → Proves s tree d
     → Proves t tree d
-proved_there s t tree d same = proves_alike s t tree d (record { names = same.names; theory = same.theory })
+proved_there s t tree d same = proves_alike s t tree d (record { naming = same.naming; names = same.names; theory = same.theory })

@@ -35,10 +35,10 @@ module _ (s : Schema) (f : Frame s) where
 
   -- ---- what trees prove
   there : AreAlike s built
-  there = record { names = refl; theory = f.theory }
+  there = record { naming = refl; names = refl; theory = f.theory }
 
   back : AreAlike built s
-  back = record { names = refl; theory = sym f.theory }
+  back = record { naming = refl; names = refl; theory = sym f.theory }
 
   pub leaf_moved : (rule : Leaf) → leaf_conclusion s rule ≡ leaf_conclusion built rule
   leaf_moved rule = leaf_alike s built rule there

@@ -1,35 +1,42 @@
 -- The answers of `ddl`, `draw`, `sql check` and `sql migrate` move to a schema that is built again.
 use Rattle.std.proofs.Common.{◌≡◌, ◌↔◌, ◌⊎◌, ◌≤◌, ℕ, List, [], ◌∷◌, ◌++◌, map, All, Contains, MatchOption, Some, codes, slice_get, slice_index_or, take, false, true, Option, None, Vec, length, is_some, decimal, refl, sym, subst, ap, ap₂, ◌∙◌, inl, inr}
-use Rattle.std.specs.Prelude.{⊤}
+use Rattle.std.specs.Prelude.{⊤, AllPairs, filter, if◌then◌else◌, not}
 use Rattle.std.specs.List.{flat_map, range_with_len, zip}
 use Rattle.std.specs.declared.alloc.Global.{Global}
 use Rattle.attr_sets.specs.Attributes.{Attributes, difference}
-use Rattle.attr_sets.specs.Sets.{attributes}
+use Rattle.attr_sets.specs.Sets.{attributes, is_disjoint}
 use Rattle.attr_sets.specs.declared.set.AttrSet.{AttrSet}
 use Rattle.check_laws.specs.Holding.{Holds}
 use Rattle.check_laws.specs.Telling.{NoBreachShown, NothingShown, RulesHold, ShowsNothing}
 use Rattle.check_queries.specs.Columns.{name_at, type_at}
 use Rattle.check_queries.specs.Checks.{check_query, missing_among, missing_query, required_of, values_query, groups_of_several, count_of_several, counts_query, three_counts, groups_of_unpaired, count_of_unpaired}
-use Rattle.ddl_text.specs.Ddl.{column_element, column_type, comment, ddl_text, sql_type, element_lines, key_element, keys_elements, unique_element, reference_element, reference_elements, table_text}
+use Rattle.ddl_text.specs.Ddl.{column_element, column_type, comment, ddl_text, sql_type, element_lines, is_empty, key_comment, key_element, key_elements, keys_elements, left_out_line, unique_element, reference_element, reference_elements, table_text}
+use Rattle.primary_keys.specs.PrimaryKeys.{IsPrimaryKey}
 use Rattle.ddl_text.specs.Designs.{AreOtherKeys, IsDesign, IsTableOf, known_keys, without_key}
 use Rattle.ddl_text.specs.Holding.{KeyHolds, ReferenceHolds}
 use Rattle.ddl_text.specs.Laws.{KeysHold, OtherKeysHold, ReferencesHold, rows_on}
 use Rattle.ddl_text.specs.declared.table.TableDesign.{TableDesign}
 use Rattle.dep_model.specs.Dependencies.{Dependency}
 use Rattle.dep_model.specs.Implication.{IsLegal}
-use Rattle.dep_model.specs.Keys.{IsGreedyKey}
 use Rattle.dep_model.specs.Plans.{schemes_of}
 use Rattle.dep_model.specs.Projections.{IsLossless, members_below, ordered_projection}
-use Rattle.dep_model.specs.Schemas.{width_of, names_of, types_of, theory_of, lines_of, universe_of}
+use Rattle.dep_model.specs.Schemas.{width_of, names_of, types_of, nullable_of, theory_of, lines_of, universe_of}
 use Rattle.dep_model.specs.Tuples.{value_at, Relation, Tuple}
 use Rattle.dep_model.specs.declared.column_type.ColumnType.TheVariants.{Text}
 use Rattle.dep_model.specs.declared.schema.Schema.{Schema}
 use Rattle.design_order.specs.Order.{IsInDesignOrder}
-use Rattle.desk_designs.specs.Designs.{IsSoundDesign, WritesForm, WritesPlan, WritesSchemes, WritesTables}
+use Rattle.desk_designs.specs.Designs.{AreNeverMissing, IsDesignOf, IsSoundDesign, MissingStops, WithoutMissing, WritesForm, WritesPlan, WritesSchemes, WritesTables}
+use Rattle.desk_designs.specs.Decompositions.{WithPlanInForm}
+use Rattle.desk_designs.specs.Joins.{WithoutLoss}
 use Rattle.desk_designs.specs.Drawings.{DrawsForm, DrawsSchemes, DrawsTables}
 use Rattle.desk_designs.specs.Scripts.{AsksTable, IsSoundScript, MakesSchemes, MakesTables, ScriptsCheck, ScriptsMigration, ScriptsMigrationByPlan, TellLegal, WithTableName}
 use Rattle.desk_responses.specs.ResponseValues.{Allowed, ResponseValue, text_only}
-use Rattle.desk_responses.specs.declared.status.Status.TheVariants.{Yes}
+use Rattle.desk_responses.specs.declared.status.Status.TheVariants.{Refused, Yes}
+use Rattle.ending_laws.specs.Ending.{FitsRelations, IsSoundRun}
+use Rattle.missing_values.specs.Missing.{FindsMissing, NeverMissing}
+use Rattle.missing_values.specs.Refusals.{missing_text, refusal_text}
+use Rattle.missing_values.specs.declared.refusal.MissingRefusal.{MissingRefusal}
+use Rattle.missing_values.specs.declared.refusal.MissingRefusal.TheVariants.{InKey, InTwo}
 use Rattle.fd_closure.specs.LeftSides.{IsWide}
 use Rattle.key_listing.specs.Listing.{AreAllKeys, AreManyKeys}
 use Rattle.key_listing.specs.declared.refusal.TheConstants.{MOST_KEYS}
@@ -38,13 +45,15 @@ use Rattle.schema_printer.specs.Printing.{dependency_text}
 use Rattle.schema_printer.specs.Spelling.{printed_names_of}
 use Rattle.sql_evaluation.specs.Cells.{Cell, is_none}
 use Rattle.sql_evaluation.specs.Evaluation.{Engine}
-use Rattle.sql_evaluation.specs.Running.{State, Cast, engine_at, outcome}
-use Rattle.migrate_queries.specs.Created.{column_made, keys_made, references_made, remarks_made, table_made}
+use Rattle.sql_evaluation.specs.Running.{State, Cast, Fails, engine_at, outcome}
+use Rattle.sql_evaluation.specs.Rules.{RefusesBroken}
+use Rattle.migrate_queries.specs.Created.{column_made, key_made, keys_made, left_out_words, references_made, remarks_made, table_made}
+use Rattle.migrate_queries.specs.Moving.{attribute_names}
 use Rattle.migrate_queries.specs.Script.{copy_name, view_name, copy_query, fill_query, fill, view_query, copied_rows, viewed_rows, testing, migration}
 use Rattle.migrate_laws.specs.Moved.{HasMoved}
 use Rattle.sql_names.specs.Names.{quoted_name}
 use Rattle.sql_syntax.specs.Syntax.{Query, attribute}
-use Rattle.sql_syntax.specs.Statements.{Element, column_of, Statement, remark, begin, commit, create_table, create_from, create_view, script_text}
+use Rattle.sql_syntax.specs.Statements.{Element, column_of, unique_key, Statement, remark, begin, commit, create_table, create_from, create_view, script_text}
 use Rattle.table_drawing.specs.Drawing.{drawing_text, edge_text, node_text, row_text}
 use Rattle.table_queries.specs.Meanings.{IsGiven, GivesNone}
 use Rattle.table_queries.specs.Queries.{breaches_of, rows_of}
@@ -81,7 +90,9 @@ module _ (s : Schema) (f : Frame s) where
   table_moved earlier scheme table is = record {
     name = is.name;
     columns = is.columns;
-    key = said s f (λ ds. IsGreedyKey (width_of s) ds (attributes scheme) (attributes table.key)) is.key;
+    key = subst (λ (nullable : Attributes). IsPrimaryKey (width_of s) (theory_of built) nullable (attributes scheme)
+        (attributes table.key)) f.nullable
+        (said s f (λ ds. IsPrimaryKey (width_of s) ds (nullable_of s) (attributes scheme) (attributes table.key)) is.key);
     refs = is.refs;
     other_keys = other_keys_moved (attributes scheme) (attributes table.key) table.other_keys is.other_keys;
   }
@@ -95,16 +106,29 @@ module _ (s : Schema) (f : Frame s) where
         (is.each k low scheme table);
   }
 
+  -- what is said of the keys of tables, by the dependencies
+  abbrev KeysHoldBy : List TableDesign → List Dependency → Type 0
+  KeysHoldBy tables ds =
+      (r : Relation) → IsLegal (width_of s) ds r → (table : TableDesign) → Contains tables table
+      → KeyHolds (attributes table.scheme) (rows_on table r) (attributes table.key)
+
+  abbrev OtherKeysHoldBy : List TableDesign → List Dependency → Type 0
+  OtherKeysHoldBy tables ds =
+      (r : Relation) → IsLegal (width_of s) ds r → (table : TableDesign) → Contains tables table
+      → (key : Attributes) → Contains (known_keys table.other_keys) key
+      → KeyHolds (attributes table.scheme) (rows_on table r) key
+
   keys_hold_moved : (tables : List TableDesign) → KeysHold s tables → KeysHold built tables
-  keys_hold_moved tables =
-      said s f (λ ds. (r : Relation) → IsLegal (width_of s) ds r → (table : TableDesign) → Contains tables table
-      → KeyHolds (attributes table.scheme) (rows_on table r) (attributes table.key))
+  keys_hold_moved tables = said s f (KeysHoldBy tables)
+
+  keys_hold_back : (tables : List TableDesign) → KeysHold built tables → KeysHold s tables
+  keys_hold_back tables = said_back s f (KeysHoldBy tables)
 
   other_keys_hold_moved : (tables : List TableDesign) → OtherKeysHold s tables → OtherKeysHold built tables
-  other_keys_hold_moved tables =
-      said s f (λ ds. (r : Relation) → IsLegal (width_of s) ds r → (table : TableDesign) → Contains tables table
-      → (key : Attributes) → Contains (known_keys table.other_keys) key
-      → KeyHolds (attributes table.scheme) (rows_on table r) key)
+  other_keys_hold_moved tables = said s f (OtherKeysHoldBy tables)
+
+  other_keys_hold_back : (tables : List TableDesign) → OtherKeysHold built tables → OtherKeysHold s tables
+  other_keys_hold_back tables = said_back s f (OtherKeysHoldBy tables)
 
   references_hold_moved : (tables : List TableDesign) → ReferencesHold s tables → ReferencesHold built tables
   references_hold_moved tables =
@@ -113,7 +137,7 @@ module _ (s : Schema) (f : Frame s) where
       → ReferenceHolds (attributes table.scheme) (rows_on table r) (attributes other.scheme) (rows_on other r)
       (attributes other.key))
 
-  sound_design_moved : (plan : List AttrSet) (tables : List TableDesign) → IsSoundDesign s plan tables
+  pub sound_design_moved : (plan : List AttrSet) (tables : List TableDesign) → IsSoundDesign s plan tables
       → IsSoundDesign built plan tables
   sound_design_moved plan tables is = record {
     ordered = is.ordered;
@@ -132,20 +156,106 @@ module _ (s : Schema) (f : Frame s) where
       quoted_name (slice_index_or (names_of s) k []) ++ column_type (slice_index_or (types_of s) k Text) (nullable k))
       f.nullable
 
+  keys_elements_moved : (table : TableDesign) → keys_elements s table ≡ keys_elements built table
+  unfolding key_element unique_element
+  keys_elements_moved table =
+      ap (λ (nullable : Attributes).
+      key_elements s (attributes table.key)
+      ++ map (unique_element s) (filter (λ key. is_disjoint key nullable) (known_keys table.other_keys)))
+      f.nullable
+
+  key_comment_moved : (others : Option (Vec AttrSet Global)) → key_comment s others ≡ key_comment built others
+  unfolding left_out_line
+  key_comment_moved None = refl
+  key_comment_moved (Some keys) =
+      ap (λ (nullable : Attributes).
+      flat_map (left_out_line s) (filter (λ key. not (is_disjoint key nullable)) (schemes_of keys.items)))
+      f.nullable
+
+  comment_moved : (table : TableDesign) → comment s table ≡ comment built table
+  comment_moved table =
+      ap (λ (said : List ℕ). if is_empty (attributes table.key) then codes "-- at most one row\n" else said)
+      (key_comment_moved table.other_keys)
+
   table_text_moved : (tables : List TableDesign) (table : TableDesign)
       → table_text s tables table ≡ table_text built tables table
-  unfolding table_text key_element unique_element reference_element
+  unfolding table_text reference_element
   table_text_moved tables table =
       ap (λ (text : ℕ → List ℕ).
-      comment (attributes table.key) (is_some table.other_keys) ++ codes "CREATE TABLE " ++ quoted_name table.name ++ codes " (\n"
+      comment s table ++ codes "CREATE TABLE " ++ quoted_name table.name ++ codes " (\n"
       ++ element_lines false (map text (members_below (width_of s) (attributes table.scheme))
       ++ keys_elements s table ++ reference_elements s tables table.refs.items) ++ codes "\n);\n")
       (λ i k. column_moved k i)
+      ∙ ap₂ (λ (said : List ℕ) (keys : List (List ℕ)).
+      said ++ codes "CREATE TABLE " ++ quoted_name table.name ++ codes " (\n"
+      ++ element_lines false (map (column_element built) (members_below (width_of s) (attributes table.scheme))
+      ++ keys ++ reference_elements s tables table.refs.items) ++ codes "\n);\n")
+      (comment_moved table) (keys_elements_moved table)
 
   pub ddl_text_moved : (tables : List TableDesign) → ddl_text s tables ≡ ddl_text built tables
   ddl_text_moved tables =
       ap (λ (text : TableDesign → List ℕ). flat_map text tables) (λ i table. table_text_moved tables table i)
 
+  -- ---- missing values
+  design_of_moved : (schemes : List Attributes) (tables : List TableDesign) → IsDesignOf s schemes tables
+      → IsDesignOf built schemes tables
+  design_of_moved schemes tables is =
+      record { plan = is.plan; same = is.same; sound = sound_design_moved is.plan tables is.sound }
+
+  never_missing_moved : (schemes : List Attributes) → AreNeverMissing s schemes → AreNeverMissing built schemes
+  never_missing_moved schemes (tables, is, never) = (
+    tables,
+    design_of_moved schemes tables is,
+    subst (λ (nullable : Attributes). NeverMissing nullable tables) f.nullable never,
+  )
+
+  refusal_text_moved : (tables : List TableDesign) (refusal : MissingRefusal)
+      → refusal_text s tables refusal ≡ refusal_text built tables refusal
+  unfolding missing_text
+  refusal_text_moved tables (InKey a k) = refl
+  refusal_text_moved tables (InTwo a j k) = refl
+
+  missing_stops_moved : (schemes : List Attributes) (response : ResponseValue) → MissingStops s schemes response
+      → MissingStops built schemes response
+  missing_stops_moved schemes response (tables, is, (refusal, finds, says)) = (
+    tables,
+    design_of_moved schemes tables is,
+    (
+      refusal,
+      subst (λ (nullable : Attributes). FindsMissing nullable tables (Some refusal)) f.nullable finds,
+      says ∙ ap (text_only Refused) (refusal_text_moved tables refusal),
+    ),
+  )
+
+  pub missing_moved : (schemes : List Attributes) (rest after : Allowed)
+      → ((response : ResponseValue) → rest response → after response)
+      → (response : ResponseValue) → WithoutMissing s schemes rest response
+      → WithoutMissing built schemes after response
+  missing_moved schemes rest after moves response (inl stops) = inl (missing_stops_moved schemes response stops)
+  missing_moved schemes rest after moves response (inr (never, answers)) =
+      inr (never_missing_moved schemes never, moves response answers)
+
+  -- a plan in a form, and then the test for what may be missing
+  pub plan_and_missing_moved : (form : Form) (rest after : List AttrSet → Allowed)
+      → ((plan : List AttrSet) (response : ResponseValue) → rest plan response → after plan response)
+      → (response : ResponseValue)
+      → WithPlanInForm s form (λ plan. WithoutMissing s (schemes_of plan) (rest plan)) response
+      → WithPlanInForm built form (λ plan. WithoutMissing built (schemes_of plan) (after plan)) response
+  plan_and_missing_moved form rest after moves =
+      with_plan_moved s f form (λ plan. WithoutMissing s (schemes_of plan) (rest plan))
+      (λ plan. WithoutMissing built (schemes_of plan) (after plan))
+      (λ plan. missing_moved (schemes_of plan) (rest plan) (after plan) (moves plan))
+
+  -- that test, and then the one for what a plan loses
+  missing_and_loss_moved : (schemes : List Attributes) (rest after : Allowed)
+      → ((response : ResponseValue) → rest response → after response)
+      → (response : ResponseValue) → WithoutMissing s schemes (WithoutLoss s schemes rest) response
+      → WithoutMissing built schemes (WithoutLoss built schemes after) response
+  missing_and_loss_moved schemes rest after moves =
+      missing_moved schemes (WithoutLoss s schemes rest) (WithoutLoss built schemes after)
+      (without_loss_moved s f schemes rest after moves)
+
+  -- ---- answers of `ddl`
   tables_written_moved : (plan : List AttrSet) (response : ResponseValue) → WritesTables s plan response
       → WritesTables built plan response
   tables_written_moved plan response (tables, sound, says) =
@@ -153,7 +263,7 @@ module _ (s : Schema) (f : Frame s) where
 
   pub form_written_moved : (form : Form) (response : ResponseValue) → WritesForm s form response
       → WritesForm built form response
-  form_written_moved form = with_plan_moved s f form (WritesTables s) (WritesTables built) tables_written_moved
+  form_written_moved form = plan_and_missing_moved form (WritesTables s) (WritesTables built) tables_written_moved
 
   schemes_written_moved : (plan : List Attributes) (response : ResponseValue) → WritesSchemes s plan response
       → WritesSchemes built plan response
@@ -163,7 +273,7 @@ module _ (s : Schema) (f : Frame s) where
   pub plan_written_moved : (plan : List Attributes) (response : ResponseValue) → WritesPlan s plan response
       → WritesPlan built plan response
   plan_written_moved plan =
-      without_loss_moved s f plan (WritesSchemes s plan) (WritesSchemes built plan) (schemes_written_moved plan)
+      missing_and_loss_moved plan (WritesSchemes s plan) (WritesSchemes built plan) (schemes_written_moved plan)
 
   -- ---- `draw`
   drawing_moved : (tables : List TableDesign) → drawing_text s tables ≡ drawing_text built tables
@@ -320,14 +430,36 @@ module _ (s : Schema) (f : Frame s) where
   column_made_moved k =
       ap (λ (nullable : Attributes). column_of (attribute (name_at s k)) (sql_type (type_at s k)) (nullable k)) f.nullable
 
+  keys_made_moved : (table : TableDesign) → keys_made s table ≡ keys_made built table
+  keys_made_moved table =
+      ap (λ (nullable : Attributes).
+      key_made s (attributes table.key) ++ map (λ key. unique_key (attribute_names s key))
+      (filter (λ key. is_disjoint key nullable) (known_keys table.other_keys)))
+      f.nullable
+
+  remarks_moved : (table : TableDesign) → remarks_made s table ≡ remarks_made built table
+  remarks_moved table =
+      ap (λ (nullable : Attributes).
+      map remark (if is_empty (attributes table.key) then codes "at most one row" ∷ []
+      else if is_some table.other_keys then map (left_out_words s)
+      (filter (λ key. not (is_disjoint key nullable)) (known_keys table.other_keys))
+      else codes "further keys are not looked for" ∷ []))
+      f.nullable
+
   table_made_moved : (tables : List TableDesign) (table : TableDesign)
       → table_made s tables table ≡ table_made built tables table
   table_made_moved tables table =
       ap (λ (column : ℕ → Element).
-      remarks_made (attributes table.key) (is_some table.other_keys)
+      remarks_made s table
       ++ create_table (quoted_name table.name) (map column (members_below (width_of s) (attributes table.scheme))
       ++ keys_made s table ++ references_made s tables table) ∷ [])
       (λ i k. column_made_moved k i)
+      ∙ ap₂ (λ (remarks : List Statement) (keys : List Element).
+      remarks
+      ++ create_table (quoted_name table.name)
+      (map (column_made built) (members_below (width_of s) (attributes table.scheme))
+      ++ keys ++ references_made s tables table) ∷ [])
+      (remarks_moved table) (keys_made_moved table)
 
   migration_moved : (name : List ℕ) (tables : List TableDesign) → migration s name tables ≡ migration built name tables
   unfolding copy_query fill_query fill view_query copied_rows viewed_rows
@@ -356,6 +488,41 @@ module _ (s : Schema) (f : Frame s) where
     };
   }
 
+  -- what a run without an error needs
+  fits_back : (tables : List TableDesign) → FitsRelations built tables → FitsRelations s tables
+  fits_back tables fits = record {
+    within = fits.within;
+    key_within = fits.key_within;
+    other_keys_within = fits.other_keys_within;
+    earlier = fits.earlier;
+    refers_within = fits.refers_within;
+    keys_hold = keys_hold_back tables fits.keys_hold;
+    other_keys_hold = other_keys_hold_back tables fits.other_keys_hold;
+    keys_required = λ table among k in_key.
+        subst (λ (nullable : Attributes). nullable k ≡ false) (sym f.nullable) (fits.keys_required table among k in_key);
+    shared_required = subst (λ (nullable : Attributes).
+        AllPairs (λ (table other : TableDesign). (k : ℕ) → attributes table.scheme k ≡ true → attributes other.scheme k ≡ true
+        → nullable k ≡ false) tables) (sym f.nullable) fits.shared_required;
+  }
+
+  sound_run_back : (fails : Fails) (cast : Cast) (name : List ℕ) (cell : ℕ → List ℕ → Cell) (r : Relation)
+      (tables : List TableDesign) (start : State) → IsSoundRun fails cast built name cell r tables start
+      → IsSoundRun fails cast s name cell r tables start
+  sound_run_back fails cast name cell r tables start is = record {
+    holds = holds_back (engine_at cast start) name cell r is.holds;
+    legal = said_back s f (λ ds. IsLegal (width_of s) ds r) is.legal;
+    none_missing = required_back (NoneMissingOf cell r) is.none_missing;
+    integers = is.integers;
+    comparable = is.comparable;
+    casts = is.casts;
+    refuses = subst (λ (script : List Statement). RefusesBroken cast script fails) (sym (migration_moved name tables))
+        is.refuses;
+    free = is.free;
+    fits = fits_back tables is.fits;
+    lossless = said_back s f (λ ds. IsLossless (width_of s) ds (map (λ design. attributes design.scheme) tables))
+        is.lossless;
+  }
+
   script_moved : (name : List ℕ) (tables : List TableDesign) → IsSoundScript s name tables → IsSoundScript built name tables
   script_moved name tables is = record {
     fills = fills_moved tables is.fills;
@@ -367,6 +534,11 @@ module _ (s : Schema) (f : Frame s) where
     undoes = λ fails cast start kept stops.
         is.undoes fails cast start kept
         (ap (λ (script : List Statement). outcome fails cast script start) (migration_moved name tables) ∙ stops);
+    ends = λ fails cast cell r start is_sound.
+        let run = is.ends fails cast cell r start (sound_run_back fails cast name cell r tables start is_sound) in (
+          run.0,
+          ap (λ (script : List Statement). outcome fails cast script start) (sym (migration_moved name tables)) ∙ run.1,
+        );
   }
 
   migrate_text_moved : (table : List ℕ) (tables : List TableDesign)
@@ -375,18 +547,20 @@ module _ (s : Schema) (f : Frame s) where
 
   tables_made_moved : (name : List ℕ) (plan : List AttrSet) (response : ResponseValue)
       → MakesTables s name plan response → MakesTables built name plan response
-  tables_made_moved name plan response (tables, sound, script, says) = (
+  tables_made_moved name plan response (tables, sound, (script, says)) = (
     tables,
     sound_design_moved plan tables sound,
-    script_moved (quoted_table name) tables script,
-    says ∙ ap (text_only Yes) (migrate_text_moved (quoted_table name) tables),
+    (
+      script_moved (quoted_table name) tables script,
+      says ∙ ap (text_only Yes) (migrate_text_moved (quoted_table name) tables),
+    ),
   )
 
   pub form_scripted_moved : (form : Form) (name : List ℕ) (response : ResponseValue)
       → ScriptsMigration s form name response → ScriptsMigration built form name response
   form_scripted_moved form name =
       with_name_moved name _ _
-      (with_plan_moved s f form (MakesTables s name) (MakesTables built name) (tables_made_moved name))
+      (plan_and_missing_moved form (MakesTables s name) (MakesTables built name) (tables_made_moved name))
 
   schemes_made_moved : (name : List ℕ) (plan : List Attributes) (response : ResponseValue)
       → MakesSchemes s name plan response → MakesSchemes built name plan response
@@ -397,4 +571,5 @@ module _ (s : Schema) (f : Frame s) where
       → ScriptsMigrationByPlan s plan name response → ScriptsMigrationByPlan built plan name response
   plan_scripted_moved plan name =
       with_name_moved name _ _
-      (without_loss_moved s f plan (MakesSchemes s name plan) (MakesSchemes built name plan) (schemes_made_moved name plan))
+      (missing_and_loss_moved plan (MakesSchemes s name plan) (MakesSchemes built name plan)
+      (schemes_made_moved name plan))

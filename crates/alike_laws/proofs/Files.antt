@@ -1,16 +1,18 @@
 -- What is read after a schema's own file moves to a schema that is built again.
-use Rattle.std.proofs.Common.{◌≡◌, ◌+◌, ◌-◌, ◌==◌, ℕ, List, [], ◌∷◌, length, true, false, Ok, Err, refl, sym, ap, ◌∙◌, inl, inr, if◌then◌else◌, take}
-use Rattle.std.specs.Prelude.{Bool, Result, Option}
+use Rattle.std.proofs.Common.{◌≡◌, ◌+◌, ◌-◌, ◌==◌, ℕ, List, [], ◌∷◌, length, true, false, Ok, Err, refl, sym, ap, ◌∙◌, inl, inr, if◌then◌else◌, subst, take}
+use Rattle.std.specs.Prelude.{Bool, Result, Option, slice_index_or}
 use Rattle.attr_sets.specs.Attributes.{Attributes}
 use Rattle.csv_rows.specs.Columns.{IsHeaderOf, columns_of_header}
-use Rattle.csv_rows.specs.Quotes.{open_record}
-use Rattle.csv_rows.specs.Reading.{AreFirstRows, PartOf, RowsOf, RowsUnder, TableOf}
+use Rattle.csv_rows.specs.Quotes.{is_open, open_record}
+use Rattle.csv_rows.specs.Reading.{AreFirstRows, ClosedRowOf, FitsAt, PartOf, RowAt, RowOf, RowsOf, RowsUnder, TableOf, value_of}
 use Rattle.csv_rows.specs.Records.{records_of}
 use Rattle.csv_rows.specs.declared.part.PartialRows.{PartialRows}
 use Rattle.csv_rows.specs.declared.refusal.RowRefusal.{RowRefusal}
+use Rattle.csv_rows.specs.declared.refusal.RowRefusal.TheVariants as refusal
+use Rattle.column_values.specs.Values.{FitsColumn}
 use Rattle.dep_model.specs.Dependencies.{Dependency}
 use Rattle.dep_model.specs.Schemas.{names_of, width_of}
-use Rattle.dep_model.specs.Tuples.{Relation}
+use Rattle.dep_model.specs.Tuples.{Relation, Tuple}
 use Rattle.dep_model.specs.declared.schema.Schema.{Schema}
 use Rattle.derivation.specs.Trees.{Tree, leaf, given}
 use Rattle.derivation.specs.declared.fault.FaultKind.{FaultKind}
@@ -135,14 +137,50 @@ module _ (s : Schema) (f : Frame s) where
       → ((plan : List Attributes) (response : ResponseValue) → rest plan response → after plan response)
       → (response : ResponseValue) → WithFile (plan_file s) r name rest response
       → WithFile (plan_file built) r name after response
+  unfolding printed_names_of
   with_plan_file_moved r name rest after moves response (inl stops) = inl stops
   with_plan_file_moved r name rest after moves response (inr (plan, is, answers)) =
       inr (plan, is, moves plan response answers)
 
   -- ---- rows
+  fit_moved : (columns : List ℕ) (fields : List (List ℕ)) (a : ℕ) → FitsAt s columns fields a → FitsAt built columns fields a
+  fit_moved columns fields a fits column is =
+      subst (λ (nullable : Attributes). FitsColumn column (nullable a) (value_of columns fields a)) f.nullable (fits column is)
+
+  fit_back : (columns : List ℕ) (fields : List (List ℕ)) (a : ℕ) → FitsAt built columns fields a → FitsAt s columns fields a
+  fit_back columns fields a fits column is =
+      subst (λ (nullable : Attributes). FitsColumn column (nullable a) (value_of columns fields a)) (sym f.nullable) (fits column is)
+
+  closed_row_moved : (columns : List ℕ) (row : ℕ) (fields : List (List ℕ)) (result : Result Tuple RowRefusal)
+      → ClosedRowOf s columns row fields result → ClosedRowOf built columns row fields result
+  closed_row_moved columns row fields (Ok t) (fits, is, each) = (fits, is, λ a has. fit_moved columns fields a (each a has))
+  closed_row_moved columns row fields (Err (refusal.UnevenRow r)) is = is
+  closed_row_moved columns row fields (Err refusal.TooManyRows) is = is
+  closed_row_moved columns row fields (Err (refusal.NotOfType r a)) (fits, at, has, breaks, earlier) =
+      (fits, at, has, λ fit. breaks (fit_back columns fields a fit), λ b less is. fit_moved columns fields b (earlier b less is))
+  closed_row_moved columns row fields (Err refusal.NoHeader) is = absurd is
+  closed_row_moved columns row fields (Err (refusal.UnknownColumn c)) is = absurd is
+  closed_row_moved columns row fields (Err (refusal.DoubleColumn c)) is = absurd is
+  closed_row_moved columns row fields (Err (refusal.MissingColumn a)) is = absurd is
+  closed_row_moved columns row fields (Err refusal.OpenHeader) is = absurd is
+  closed_row_moved columns row fields (Err (refusal.OpenRow r)) is = absurd is
+
+  row_moved : (columns : List ℕ) (unclosed : Bool) (row : ℕ) (fields : List (List ℕ)) (result : Result Tuple RowRefusal)
+      → RowOf s columns unclosed row fields result → RowOf built columns unclosed row fields result
+  row_moved columns true row fields result is = is
+  row_moved columns false row fields result is = closed_row_moved columns row fields result is
+
+  row_at_moved : (columns : List ℕ) (unclosed : Option ℕ) (records : List (List (List ℕ))) (i : ℕ)
+      (result : Result Tuple RowRefusal) → RowAt s columns unclosed records i result → RowAt built columns unclosed records i result
+  row_at_moved columns unclosed records i result is =
+      row_moved columns (is_open unclosed (i + 2)) (i + 1) (slice_index_or records i []) result is
+
   first_rows_moved : (columns : List ℕ) (unclosed : Option ℕ) (records : List (List (List ℕ))) (rows : Relation)
       → AreFirstRows s columns unclosed records rows → AreFirstRows built columns unclosed records rows
-  first_rows_moved columns unclosed records rows are = record { within = are.within; each = are.each }
+  first_rows_moved columns unclosed records rows are = record {
+    within = are.within;
+    each = λ i less. row_at_moved columns unclosed records i (Ok (slice_index_or rows i [])) (are.each i less);
+  }
 
   rows_under_moved : (columns : Result (List ℕ) RowRefusal) (unclosed : Option ℕ) (records : List (List (List ℕ)))
       (result : Result Relation RowRefusal) → RowsUnder s columns unclosed records result
@@ -150,8 +188,12 @@ module _ (s : Schema) (f : Frame s) where
   rows_under_moved (Err e) unclosed records result are = are
   rows_under_moved (Ok columns) unclosed records (Ok rows) are =
       (first_rows_moved columns unclosed records rows are.0, are.1)
-  rows_under_moved (Ok columns) unclosed records (Err e) (rows, are, fewer, last) =
-      (rows, first_rows_moved columns unclosed records rows are, fewer, last)
+  rows_under_moved (Ok columns) unclosed records (Err e) (rows, are, fewer, last) = (
+    rows,
+    first_rows_moved columns unclosed records rows are,
+    fewer,
+    row_at_moved columns unclosed records (length rows) (Err e) last,
+  )
 
   table_moved : (Means : List (List ℕ) → Result (List ℕ) RowRefusal → Type 0) (unclosed : Option ℕ)
       (records : List (List (List ℕ))) (result : Result Relation RowRefusal) → TableOf s Means unclosed records result
@@ -173,6 +215,7 @@ module _ (s : Schema) (f : Frame s) where
       → ((rows : Relation) (response : ResponseValue) → rest rows response → after rows response)
       → (response : ResponseValue) → WithFile (rows_file s) r name rest response
       → WithFile (rows_file built) r name after response
+  unfolding printed_names_of
   with_rows_moved r name rest after moves response (inl (inl stops)) = inl (inl stops)
   with_rows_moved r name rest after moves response (inl (inr (why, is, says))) =
       inl (inr (
@@ -209,6 +252,7 @@ module _ (s : Schema) (f : Frame s) where
 
   part_stops_moved : (r : Reading) (name : List ℕ) (response : ResponseValue) → FileStops (part_file s) r name response
       → FileStops (part_file built) r name response
+  unfolding printed_names_of
   part_stops_moved r name response (inl stops) = inl stops
   part_stops_moved r name response (inr (why, is, says)) =
       inr (

@@ -8,7 +8,7 @@ use Rattle.desk_responses.specs.ResponseValues.{Allowed, ResponseValue}
 use Rattle.desk_tables.specs.Migrations.{MigratesPlan, MigratesRows}
 use Rattle.desk_tables.specs.Overwriting.{KeepsFiles, MigratesHere, MigratesPlanHere}
 use Rattle.normal_forms.specs.declared.forms.Form.{Form}
-use Rattle.alike_laws.proofs.Plans.{with_plan_moved}
+use Rattle.alike_laws.proofs.Designs.{missing_moved, plan_and_missing_moved}
 use Rattle.alike_laws.proofs.Rebuilt.{Frame, rebuilt}
 use Rattle.alike_laws.proofs.Rows.{migrated_moved, plan_migrated_moved}
 
@@ -28,7 +28,7 @@ module _ (s : Schema) (f : Frame s) where
   pub form_placed_moved : (form : Form) (files : List (List ℕ)) (rows : Relation) (response : ResponseValue)
       → MigratesHere s form files rows response → MigratesHere built form files rows response
   form_placed_moved form files rows =
-      with_plan_moved s f form
+      plan_and_missing_moved s f form
       (λ plan. KeepsFiles (length (schemes_of plan)) files (MigratesRows s (schemes_of plan) rows))
       (λ plan. KeepsFiles (length (schemes_of plan)) files (MigratesRows built (schemes_of plan) rows))
       (λ plan. keeping_moved (length (schemes_of plan)) files (MigratesRows s (schemes_of plan) rows)
@@ -38,5 +38,7 @@ module _ (s : Schema) (f : Frame s) where
       (response : ResponseValue) → MigratesPlanHere s plan files rows response
       → MigratesPlanHere built plan files rows response
   plan_placed_moved plan files rows =
-      keeping_moved (length plan) files (MigratesPlan s plan rows) (MigratesPlan built plan rows)
-      (plan_migrated_moved s f plan rows)
+      missing_moved s f plan (KeepsFiles (length plan) files (MigratesPlan s plan rows))
+      (KeepsFiles (length plan) files (MigratesPlan built plan rows))
+      (keeping_moved (length plan) files (MigratesPlan s plan rows) (MigratesPlan built plan rows)
+      (plan_migrated_moved s f plan rows))

@@ -29,6 +29,8 @@ use Rattle.schema_printer.specs.Spelling.{printed_names_of}
 use Rattle.alike_laws.proofs.Derivations.{said, said_back}
 use Rattle.alike_laws.proofs.Implication.{dep_text_moved, with_set_moved}
 use Rattle.alike_laws.proofs.Rebuilt.{Frame, rebuilt}
+use Rattle.alike_laws.proofs.Values.{fits_moved}
+use Rattle.dep_model.specs.Implication.{IsLegal}
 
 -- the first that does not pass a test is the first for another test of the same meaning
 pub first_failing_moved : (P Q : Attributes → Type 0) → ((x : Attributes) → P x → Q x)
@@ -216,7 +218,11 @@ module _ (s : Schema) (f : Frame s) where
           functional = functional_moved is.functional;
           narrow = λ wide. is.narrow (exhibit_wide_back wide);
           within_limit = is.within_limit;
-          exhibit = said s f (λ ds. IsExhibit (width_of s) ds rows) is.exhibit;
+          numbers = is.numbers;
+          exhibit = said s f (λ ds. IsExhibit (width_of s) ds is.numbers) is.exhibit;
+          shown = is.shown;
+          fits = fits_moved s f rows is.fits;
+          legal = said s f (λ ds. IsLegal (width_of s) ds rows) is.legal;
           exact = said s f (λ ds. IsArmstrong (width_of s) ds rows) is.exact;
         },
         says,

@@ -1,5 +1,6 @@
 pub mod Rebuilt
 pub mod Alike
+mod Values
 mod DeclarationLaws
 pub mod DerivationTexts
 pub mod Derivations
@@ -13,5 +14,6 @@ pub mod PlanReasons
 pub mod Designs
 pub mod Rows
 pub mod KeptFiles
+pub mod OwnFolders
 pub mod RowMeasures
 pub mod Files

@@ -4,7 +4,7 @@ use Rattle.std.specs.List.{flat_map}
 use Rattle.std.proofs.lemmas.List.Elements.{All-weaker}
 use Rattle.attr_sets.specs.Attributes.{Attributes}
 use Rattle.attr_sets.specs.declared.set.AttrSet.{AttrSet}
-use Rattle.chase_laws.specs.Answers.{IsClosedTableau, IsGaining}
+use Rattle.chase_laws.specs.Answers.{IsClosedTableau}
 use Rattle.chase_laws.specs.Rounds.{RoundsExceed}
 use Rattle.dep_model.specs.Forms.{IsBcnf, IsThird}
 use Rattle.dep_model.specs.Plans.{schemes_of}
@@ -38,6 +38,9 @@ use Rattle.alike_laws.proofs.Derivations.{said, said_back}
 use Rattle.alike_laws.proofs.Implication.{dep_text_moved}
 use Rattle.alike_laws.proofs.Keys.{first_failing_moved, wide_moved, wide_back}
 use Rattle.alike_laws.proofs.Rebuilt.{Frame, rebuilt}
+use Rattle.alike_laws.proofs.Values.{fits_moved}
+use Rattle.shown_rows.specs.Shown.{shown_relation}
+use Rattle.dep_model.specs.Implication.{IsLegal}
 
 module _ (s : Schema) (f : Frame s) where
   abbrev built : Schema
@@ -156,8 +159,12 @@ module _ (s : Schema) (f : Frame s) where
   loss_moved : (plan : List Attributes) (rows : Relation) → ShowsLoss s plan rows → ShowsLoss built plan rows
   loss_moved plan rows is = record {
     closed = said s f (λ ds. IsClosedTableau (width_of s) ds plan MOST_TABLEAU_ROWS rows) is.closed;
-    gaining = said s f (λ ds. IsGaining (width_of s) ds plan rows) is.gaining;
-    typed = is.typed;
+    gains = record {
+      fits = fits_moved s f (shown_relation s rows) is.gains.fits;
+      legal = said s f (λ ds. IsLegal (width_of s) ds (shown_relation s rows)) is.gains.legal;
+      joined = is.gains.joined;
+      gained = is.gains.gained;
+    };
   }
 
   loss_stops_moved : (plan : List Attributes) (response : ResponseValue) → LossStops s plan response

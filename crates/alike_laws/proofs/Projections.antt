@@ -2,7 +2,7 @@
 use Rattle.std.proofs.Common.{◌≡◌, ℕ, List, ◌++◌, ap, ◌∙◌, inl, inr}
 use Rattle.attr_sets.specs.Attributes.{Attributes, intersection}
 use Rattle.dep_model.specs.Dependencies.{Dependency}
-use Rattle.dep_model.specs.Schemas.{width_of, theory_of}
+use Rattle.dep_model.specs.Schemas.{width_of}
 use Rattle.dep_model.specs.declared.schema.Schema.{Schema}
 use Rattle.desk_implication.specs.Projections.{IsProjected, ProjectsSet, Projects, overlong_text, projection_text}
 use Rattle.desk_responses.specs.ResponseValues.{ResponseValue, text_only}

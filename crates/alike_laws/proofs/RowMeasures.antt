@@ -1,15 +1,19 @@
 -- The answers of `measure`, `offences` and `kept` move to a schema that is built again, and so does the schema of
 -- text columns alone.
-use Rattle.std.proofs.Common.{◌≡◌, ◌∙◌, ℕ, zero, suc, Bool, true, false, Some, None, Option, List, length, sym, inl, inr}
-use Rattle.std.specs.Prelude.{MatchOption, not, slice_get, ◌==◌}
+use Rattle.std.proofs.Common.{◌≡◌, ◌∙◌, ℕ, zero, suc, Bool, true, false, Some, None, Option, List, length, subst, inl, inr}
+use Rattle.std.specs.Prelude.{MatchOption, not, slice_get, ◌==◌, ◌<◌, ◌↔◌}
 use Rattle.armstrong_rel.specs.Refusals.{IsFirstMvd}
 use Rattle.attr_sets.specs.Attributes.{Attributes, difference}
+use Rattle.column_values.specs.Values.{FitsColumn}
+use Rattle.csv_rows.specs.RefusalTexts.{type_of}
 use Rattle.dep_model.specs.Dependencies.{Dependency, fd, mvd, functional_part}
 use Rattle.dep_model.specs.Implication.{IsLegal}
 use Rattle.dep_model.specs.Schemas.{theory_of, width_of}
-use Rattle.dep_model.specs.Tuples.{Tuple, Relation}
+use Rattle.dep_model.specs.Tuples.{Tuple, Relation, value_at}
 use Rattle.dep_model.specs.declared.schema.Schema.{Schema}
+use Rattle.legality.specs.Parts.{flag_at}
 use Rattle.row_measures.specs.Answers.{AreKept}
+use Rattle.row_store.specs.Rows.{row_at}
 use Rattle.schema_printer.specs.Spelling.{printed_names_of}
 use Rattle.desk_responses.specs.ResponseValues.{ResponseValue}
 use Rattle.desk_measures.specs.Findings.{Finding, FindsBelow, FindsBoth, FindsNothing}
@@ -96,7 +100,12 @@ module _ (s : Schema) (f : Frame s) where
   unfolding printed_names_of
   column_moved rows a clean text is = record {
     flags = is.flags;
-    are = record { one_each = is.are.one_each; told = is.are.told };
+    are = record {
+      one_each = is.are.one_each;
+      told = subst (λ (nullable : Attributes). (i : ℕ) → i < length rows
+          → (flag_at is.flags i ≡ true) ↔ (FitsColumn (type_of s a) (nullable a) (value_at (row_at rows i) a) → ⊥))
+          f.nullable is.are.told;
+    };
     none = is.none;
     says = is.says;
   }

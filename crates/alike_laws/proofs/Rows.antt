@@ -1,10 +1,11 @@
 -- The answers of `check rows`, `migrate` and `rejoin` move to a schema that is built again.
-use Rattle.std.proofs.Common.{◌≡◌, ℕ, List, ◌++◌, codes, slice_get, ap, ◌∙◌, inl, inr}
+use Rattle.std.proofs.Common.{◌≡◌, ℕ, ◌+◌, List, [], ◌∷◌, ◌++◌, codes, map, slice_get, refl, ap, ap₂, ◌∙◌, inl, inr}
 use Rattle.std.specs.Fmt.{decimal}
 use Rattle.std.specs.List.{flat_map}
 use Rattle.attr_sets.specs.Attributes.{Attributes}
+use Rattle.csv_migrate.specs.Migration.{column_names, tables_from}
 use Rattle.dep_model.specs.Implication.{IsLegal}
-use Rattle.dep_model.specs.Plans.{schemes_of}
+use Rattle.dep_model.specs.Projections.{members_below, ordered_projection}
 use Rattle.dep_model.specs.Schemas.{width_of, lines_of, LegalFor}
 use Rattle.dep_model.specs.Tuples.{Relation}
 use Rattle.dep_model.specs.declared.schema.Schema.{Schema}
@@ -13,19 +14,19 @@ use Rattle.desk_responses.specs.Lines.{line_number_text}
 use Rattle.desk_responses.specs.ResponseValues.{Allowed, ResponseValue, Says, text_only}
 use Rattle.desk_responses.specs.declared.status.Status.TheVariants.{Yes, No}
 use Rattle.desk_tables.specs.Legality.{JudgesRows, WithLegal, legal_text, offence_text, offences_text}
-use Rattle.desk_tables.specs.Migrations.{AreTablesOf, GivesTables, Migrates, MigratesPlan, MigratesRows}
+use Rattle.desk_tables.specs.Migrations.{AreTablesOf, GivesTables, MigratesPlan, MigratesRows}
 use Rattle.desk_tables.specs.Rejoining.{JoinsTables}
 use Rattle.desk_texts.specs.Texts.{line}
 use Rattle.legality.specs.Offences.{OffencesOf}
 use Rattle.legality.specs.declared.offence.Offence.{Offence}
 use Rattle.named_tables.specs.Tables.{TableValue}
-use Rattle.normal_forms.specs.declared.forms.Form.{Form}
 use Rattle.schema_printer.specs.Spelling.{printed_names_of}
 use Rattle.table_join.specs.Answers.{GivesBack}
 use Rattle.table_join.specs.Tables.{PartialRelation}
+use Rattle.table_names.specs.TableNames.{table_name}
 use Rattle.alike_laws.proofs.Derivations.{said, said_back}
 use Rattle.alike_laws.proofs.Implication.{dep_text_moved}
-use Rattle.alike_laws.proofs.Plans.{with_plan_moved, without_loss_moved}
+use Rattle.alike_laws.proofs.Plans.{without_loss_moved}
 use Rattle.alike_laws.proofs.Rebuilt.{Frame, rebuilt}
 
 module _ (s : Schema) (f : Frame s) where
@@ -72,12 +73,24 @@ module _ (s : Schema) (f : Frame s) where
   rows_moved rows = with_legal_moved rows (Says Yes legal_text) (Says Yes legal_text) (λ response says. says)
 
   -- ---- `migrate`
+  tables_same : {rows : Relation} (number : ℕ) (plan : List Attributes)
+      → tables_from s rows number plan ≡ tables_from built rows number plan
+  tables_same {rows} number [] = refl
+  tables_same {rows} number (scheme ∷ plan) =
+      ap₂ (λ (nullable : Attributes) (tables : List TableValue).
+      record {
+        name = table_name number;
+        columns = column_names s scheme;
+        nullable = map nullable (members_below (width_of s) scheme);
+        rows = ordered_projection scheme rows;
+      } ∷ tables) f.nullable (tables_same (number + 1) plan)
+
   tables_moved : (plan : List Attributes) (rows : Relation) (tables : List TableValue)
       → AreTablesOf s plan rows tables → AreTablesOf built plan rows tables
   tables_moved plan rows tables are = record {
     ordered = are.ordered;
     order = said s f (λ ds. IsInDesignOrder (width_of s) ds plan are.ordered) are.order;
-    projections = are.projections;
+    projections = are.projections ∙ tables_same 1 are.ordered;
     joins = are.joins;
   }
 
@@ -87,13 +100,6 @@ module _ (s : Schema) (f : Frame s) where
       with_legal_moved rows (GivesTables s plan rows) (GivesTables built plan rows)
       (λ response given. (given.0, tables_moved plan rows given.0 given.1, given.2))
 
-  pub form_migrated_moved : (form : Form) (rows : Relation) (response : ResponseValue) → Migrates s form rows response
-      → Migrates built form rows response
-  form_migrated_moved form rows =
-      with_plan_moved s f form (λ plan. MigratesRows s (schemes_of plan) rows)
-      (λ plan. MigratesRows built (schemes_of plan) rows)
-      (λ plan. migrated_moved (schemes_of plan) rows)
-
   pub plan_migrated_moved : (plan : List Attributes) (rows : Relation) (response : ResponseValue)
       → MigratesPlan s plan rows response → MigratesPlan built plan rows response
   plan_migrated_moved plan rows =
@@ -102,6 +108,7 @@ module _ (s : Schema) (f : Frame s) where
   -- ---- `rejoin`
   pub rejoined_moved : (tables : List PartialRelation) (response : ResponseValue) → JoinsTables s tables response
       → JoinsTables built tables response
+  unfolding printed_names_of
   rejoined_moved tables response (inl (rows, is, says)) =
       inl (
         rows,

@@ -15,5 +15,6 @@ pub record DeclareTheSame (s t : Schema) : Type 0 where
 
 -- the same names and dependencies
 pub record AreAlike (s t : Schema) : Type 0 where
+  pub naming : naming_of s ≡ naming_of t
   pub names : names_of s ≡ names_of t
   pub theory : theory_of s ≡ theory_of t

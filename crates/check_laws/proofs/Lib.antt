@@ -14,3 +14,4 @@ pub mod MissingLemmas
 pub mod IntegerLemmas
 pub mod WitnessLemmas
 pub mod ScriptLemmas
+pub mod EmptyLemmas

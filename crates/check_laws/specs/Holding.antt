@@ -1,12 +1,12 @@
 -- A table of an engine that holds a relation: for the laws of the queries of `sql check`.
-use Rattle.std.specs.Prelude.{◌≡◌, ℕ, ℤ, ◌<◌, if◌then◌else◌, Option, Some, List, [], ◌∷◌, Contains}
+use Rattle.std.specs.Prelude.{◌≡◌, ℕ, ℤ, ◌<◌, Bool, if◌then◌else◌, Option, Some, List, [], ◌∷◌, Contains}
 use Rattle.dep_model.specs.declared.schema.Schema.{Schema}
 use Rattle.dep_model.specs.Columns.{is_plain_type}
 use Rattle.dep_model.specs.Integers.{IsIntegerText}
-use Rattle.dep_model.specs.Schemas.{width_of}
+use Rattle.dep_model.specs.Schemas.{width_of, nullable_of}
 use Rattle.dep_model.specs.Tuples.{Tuple, Relation, value_at}
 use Rattle.check_queries.specs.Columns.{name_at, type_at}
-use Rattle.sql_evaluation.specs.Cells.{Cell, integer_text, text_of}
+use Rattle.sql_evaluation.specs.Cells.{Cell, missing, text, integer_text, text_of}
 use Rattle.sql_evaluation.specs.Values.{named_cell}
 use Rattle.sql_evaluation.specs.Evaluation.{Rows, Engine}
 
@@ -43,3 +43,13 @@ pub record Holds (e : Engine) (table : List ℕ) (s : Schema) (cell : ℕ → Li
 pub record CastsIntegers (cast : List ℕ → Option ℤ) : Type 0 where
   pub exact : (t : List ℕ) → IsIntegerText t → (n : ℤ) × (cast t ≡ Some n) × (integer_text n ≡ t)
   pub within : (t : List ℕ) (n : ℤ) → cast t ≡ Some n → IsIntegerText (integer_text n)
+
+-- ---- missing values
+-- a text in a column: the empty one is missing where values may be missing
+abbrev pub held_text : Bool → List ℕ → Cell
+held_text nullable [] = if nullable then missing else text []
+held_text nullable (b ∷ bytes) = text (b ∷ bytes)
+
+-- the values of a schema's columns as texts, the empty one missing in the columns in which values may be missing
+abbrev pub cell_of : Schema → ℕ → List ℕ → Cell
+cell_of s k v = held_text (nullable_of s k) v

@@ -5,14 +5,14 @@
 //! Each law is a function that does nothing, whose clauses are the law; so the gate asks for its proof.
 #![tactic(auto)]
 
-ghost use Rattle.std.specs.Prelude.{◌≡◌, ◌↔◌, ◌<◌, ℕ, List, All};
+ghost use Rattle.std.specs.Prelude.{◌≡◌, ◌↔◌, ◌<◌, ℕ, List, [], All, true};
 ghost use Rattle.dep_model.specs.declared.schema.Schema.{Schema};
-ghost use Rattle.dep_model.specs.Schemas.{width_of, theory_of, LegalFor};
+ghost use Rattle.dep_model.specs.Schemas.{width_of, theory_of, nullable_of, LegalFor};
 ghost use Rattle.dep_model.specs.Tuples.{Relation, IsOver};
 ghost use Rattle.check_queries.specs.Checks.{required_query};
-ghost use Rattle.sql_evaluation.specs.Cells.{Cell, text};
+ghost use Rattle.sql_evaluation.specs.Cells.{Cell, missing, text};
 ghost use Rattle.sql_evaluation.specs.Evaluation.{Engine};
-ghost use Rattle.check_laws.specs.Holding.{AreApart, Holds, CastsIntegers};
+ghost use Rattle.check_laws.specs.Holding.{AreApart, Holds, CastsIntegers, cell_of};
 ghost use Rattle.check_laws.specs.Telling.{Tells, NoneMissing, AreIntegers, ShowsIntegers, TellsDependency, NoBreachShown, RulesHold, NothingShown};
 
 /// Over a table that holds a relation, whatever engine it is, the query of each dependency ends without an
@@ -55,4 +55,18 @@ pub fn engines_hold_relations()
         → AreApart s cell r → (e : Engine) × CastsIntegers e.cast × Holds e table s cell r }
     ensures texts { (table : List ℕ) (s : Schema) (r : Relation)
         → (e : Engine) × CastsIntegers e.cast × Holds e table s (λ k v. text v) r }
+{}
+
+/// In such an engine the empty text may be the missing value of the columns in which values may be missing, and
+/// of no other: then it is missing nowhere else, and no value is missing that may not be. A missing value is like
+/// itself and like no text, so the queries of dependencies tell of these relations too, whatever types the columns
+/// have.
+pub fn missing_values_are_told()
+    ensures holds { (table : List ℕ) (s : Schema) (r : Relation)
+        → (e : Engine) × CastsIntegers e.cast × Holds e table s (cell_of s) r }
+    ensures empty { (s : Schema) (k : ℕ) (v : List ℕ) → nullable_of s k ≡ true
+        → (cell_of s k v ≡ missing) ↔ (v ≡ []) }
+    ensures none_missing { (s : Schema) (r : Relation) → NoneMissing s (cell_of s) r }
+    ensures told { (e : Engine) (table : List ℕ) (s : Schema) (r : Relation)
+        → Holds e table s (cell_of s) r → IsOver (width_of s) r → All (TellsDependency e s table r) (theory_of s) }
 {}

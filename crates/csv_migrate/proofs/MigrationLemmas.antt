@@ -1,5 +1,5 @@
 -- The tables of schemes one after the other, and their join.
-use Rattle.std.proofs.Common.{◌≡◌, ◌+◌, ◌<◌, ◌≤◌, ℕ, List, [], ◌∷◌, ◌++◌, length, get_or, take, sym, ap, subst, ◌∙◌, arith, add-one}
+use Rattle.std.proofs.Common.{◌≡◌, ◌+◌, ◌<◌, ◌≤◌, ℕ, Bool, List, [], ◌∷◌, ◌++◌, length, get_or, take, sym, ap, subst, ◌∙◌, arith, add-one}
 use Rattle.std.specs.Prelude.{Contains}
 use Rattle.std.specs.List.{AllZip}
 use Rattle.std.proofs.lemmas.List.{length-map, length-take-le, map-append, take_all}
@@ -52,11 +52,11 @@ next_table schema rows sets k d l =
     ∙ ap (λ (n : ℕ). tables_of_migration schema (take k (schemes_of sets)) rows ++ table_of schema rows n
     (attributes (get_or sets k d)) ∷ []) at
 
-pub same_table : (name name' : List ℕ) (columns columns' : List (List ℕ)) (rows rows' : Relation) → name ≡ name'
-    → columns ≡ columns' → rows ≡ rows'
-    → ◌≡◌ {A = TableValue} (record { name = name; columns = columns; rows = rows })
-    (record { name = name'; columns = columns'; rows = rows' })
-same_table name name' columns columns' rows rows' e f g = cc
+pub same_table : (name name' : List ℕ) (columns columns' : List (List ℕ)) (nullable nullable' : List Bool)
+    (rows rows' : Relation) → name ≡ name' → columns ≡ columns' → nullable ≡ nullable' → rows ≡ rows'
+    → ◌≡◌ {A = TableValue} (record { name = name; columns = columns; nullable = nullable; rows = rows })
+    (record { name = name'; columns = columns'; nullable = nullable'; rows = rows' })
+same_table name name' columns columns' nullable nullable' rows rows' e f g h = cc
 
 -- one table more, of the next scheme
 pub table_added : (schema : Schema) (rows : Relation) (sets listed : List AttrSet) (k : ℕ) (d : AttrSet)

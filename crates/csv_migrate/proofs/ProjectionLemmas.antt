@@ -146,3 +146,14 @@ table_even names rows x numbers firsts chosen columns over groups are same is_co
           ∙ ap (count_below x) (row_width (length names) rows (get_or chosen g d) over within)
           ∙ sym (ap length is_columns ∙ column_count x names),
     )
+
+-- ---- whether values of a scheme's attributes may be missing
+pub flag_taken : (nullable x : Attributes) (n : ℕ) → x n ≡ true
+    → map nullable (members_below (n + 1) x) ≡ map nullable (members_below n x) ++ nullable n ∷ []
+flag_taken nullable x n member =
+    rw add-one (ap (map nullable) (members_below-member n x member)
+    ∙ map-append nullable (members_below n x) (n ∷ []))
+
+pub flag_passed : (nullable x : Attributes) (n : ℕ) → x n ≡ false
+    → map nullable (members_below (n + 1) x) ≡ map nullable (members_below n x)
+flag_passed nullable x n outside = rw add-one (ap (map nullable) (members_below-outside n x outside))

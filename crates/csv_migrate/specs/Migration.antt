@@ -1,11 +1,11 @@
 -- The tables of a migration, and their join: for `tables`, and for `migrate` and `sample`
 -- (`desk_tables/Migrations`).
-use Rattle.std.specs.Prelude.{ℕ, ◌+◌, ◌↔◌, List, [], ◌∷◌, map, Contains}
+use Rattle.std.specs.Prelude.{ℕ, Bool, ◌+◌, ◌↔◌, List, [], ◌∷◌, map, Contains}
 use Rattle.attr_sets.specs.Attributes.{Attributes}
 use Rattle.attr_sets.specs.declared.set.AttrSet.{AttrSet}
 use Rattle.dep_model.specs.Tuples.{Tuple, Relation}
-use Rattle.dep_model.specs.Projections.{ordered_projection, InJoin}
-use Rattle.dep_model.specs.Schemas.{names_of}
+use Rattle.dep_model.specs.Projections.{ordered_projection, members_below, InJoin}
+use Rattle.dep_model.specs.Schemas.{names_of, width_of, nullable_of}
 use Rattle.dep_model.specs.declared.schema.Schema.{Schema}
 use Rattle.schema_printer.specs.Printing.{members_from}
 use Rattle.table_names.specs.TableNames.{table_name}
@@ -16,12 +16,17 @@ use Rattle.named_tables.specs.declared.table.ChosenTable.{ChosenTable}
 abbrev pub column_names : Schema → Attributes → List (List ℕ)
 column_names schema scheme = members_from scheme 0 (names_of schema)
 
+-- whether a value of each attribute of a scheme may be missing, ascending
+abbrev pub nullable_columns : Schema → Attributes → List Bool
+nullable_columns schema scheme = map (nullable_of schema) (members_below (width_of schema) scheme)
+
 -- the table of a scheme: its attributes are the columns, and each distinct projection of the rows
 -- stands in it once, at its first occurrence
 abbrev pub table_of : Schema → Relation → ℕ → Attributes → TableValue
 table_of schema rows number scheme = record {
   name = table_name number;
   columns = column_names schema scheme;
+  nullable = nullable_columns schema scheme;
   rows = ordered_projection scheme rows;
 }
 

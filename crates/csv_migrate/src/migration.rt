@@ -1,7 +1,7 @@
 ghost use Rattle.std.specs.Prelude.{◌≡◌, ◌<◌, ◌≤◌, ◌^◌, length, All, IfOk};
 ghost use Rattle.attr_sets.specs.Attributes.{IsSubset, below};
 ghost use Rattle.attr_sets.specs.Sets.{attributes};
-ghost use Rattle.csv_migrate.specs.Migration.{JoinIs, column_names, tables_of_migration, schemes_in, table_of};
+ghost use Rattle.csv_migrate.specs.Migration.{JoinIs, column_names, nullable_columns, tables_of_migration, schemes_in, table_of};
 ghost use Rattle.named_tables.specs.Choices.{HasRows};
 ghost use Rattle.named_tables.specs.Tables.{chosen_value, chosen_values, table_values};
 ghost use Rattle.csv_rows.specs.Interning.{IsInterned};
@@ -92,10 +92,12 @@ fn table(
 {
     let groups = Groups::by_agreement(alloc, codes, scheme)?;
     let columns = columns(alloc, schema, scheme)?;
+    let nullable = nullable_columns(alloc, schema, scheme)?;
     let name = table_name(number);
     Ok(ChosenTable {
         name,
         columns,
+        nullable,
         scheme,
         chosen: groups.into_firsts(),
     })
@@ -113,4 +115,24 @@ fn columns(alloc: Global, schema: &Schema, scheme: AttrSet) -> Result<Vec<Name>,
         }
     }
     Ok(names)
+}
+
+// Whether a value of each attribute of a scheme may be missing.
+fn nullable_columns(
+    alloc: Global,
+    schema: &Schema,
+    scheme: AttrSet,
+) -> Result<Vec<bool>, OutOfMemory>
+    ensures flags { IfOk result (λ v. v.items ≡ nullable_columns schema.now (attributes scheme)) }
+{
+    let nullable = schema.nullable();
+    let mut flags = Vec::with_capacity(alloc, scheme.len() as usize)?;
+    for attribute in 0..schema.width() {
+        if !scheme.contains(attribute) {
+            continue;
+        }
+        let may_be_missing = nullable.contains(attribute);
+        flags.push(may_be_missing)?;
+    }
+    Ok(flags)
 }

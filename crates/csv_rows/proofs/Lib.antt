@@ -4,5 +4,6 @@ pub mod HeaderLemmas
 pub mod QuoteLemmas
 pub mod ReadingLemmas
 pub mod NumberingLemmas
+pub mod PairLemmas
 pub mod UniqueRows
 pub mod PrintedRows

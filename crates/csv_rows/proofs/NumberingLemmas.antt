@@ -1,42 +1,38 @@
 -- Numbers in the order of first occurrence.
-use Rattle.std.proofs.Common.{inl, inr, true≢false, unwrap_or, option_map, ◌||◌, ◌&&◌, ◌==◌, nat_lt, replicate, Bor, ◌≡◌, ◌≢◌, ◌+◌, ◌<◌, ◌≤◌, ◌↔◌, ◌⊎◌, ℕ, zero, suc, Bool, true, false, if◌then◌else◌, nat_eq, List, [], ◌∷◌, ◌++◌, length, map, Option, Some, slice_index_or, get_or, refl, sym, ap, subst, ◌∙◌, arith}
+use Rattle.std.proofs.Common.{inl, inr, true≢false, unwrap_or, option_map, ◌||◌, ◌&&◌, ◌==◌, not, nat_lt, replicate, Bor, ◌≡◌, ◌≢◌, ◌+◌, ◌<◌, ◌≤◌, ◌↔◌, ◌⊎◌, ℕ, zero, suc, Bool, true, false, if◌then◌else◌, nat_eq, List, [], ◌∷◌, ◌++◌, length, map, Option, Some, slice_index_or, get_or, refl, sym, ap, subst, ◌∙◌, arith}
 use mathlib.Core.Path.{fun_ext}
 use Rattle.std.specs.List.{slice_get, list_any, position_or_len}
 use Rattle.std.proofs.Math.Seq.{get_or-append_seam}
 use Rattle.std.proofs.lemmas.Bool.{cases_Bool, cases_lt, eqb-true, eq-eqb}
-use Rattle.std.proofs.lemmas.List.{length-append, length-map, map-append, get_or_append_left, get_or_default}
+use Rattle.std.proofs.lemmas.List.{length-append, length-map, length-replicate, map-append, get_or_append_left, get_or_default}
 use Rattle.std.proofs.lemmas.List.Folds.{list_any_at, list_any_none}
 use Rattle.std.proofs.lemmas.List.Sums.{position_or_len_is, fails_before_first, passes_at_first}
 use Rattle.std.proofs.lemmas.Slice.Eq.{bytes_eq-Decides}
 use Rattle.std.specs.Cmp.Lexicographic.{pointwise}
 use Rattle.std.proofs.lemmas.Option.{slice_get-map, slice_get_within, slice_get-get_or}
-use Rattle.attr_sets.specs.Attributes.{Attributes, IsSubset, below, intersection, only, union, none}
+use Rattle.attr_sets.specs.Attributes.{Attributes, IsSubset, below, difference, intersection, only, union, none}
 use Rattle.dep_model.specs.Tuples.{Tuple, Relation, AgreeOn, value_at}
 use Rattle.indexmap.specs.IndexSet.{insert_key}
 use Rattle.csv_rows.specs.Numberings.{number_at, AreGroups, AreNumbered, AreInOrder}
+use Rattle.csv_rows.specs.Pairs.{Gets}
 use Rattle.row_store.specs.Rows.{row_at}
 use Rattle.dep_model.proofs.TwoRowLemmas.{AgreeOn-union, AgreeOn-left, AgreeOn-right}
 use Rattle.std.specs.Prelude.{Contains}
 use Rattle.attr_sets.proofs.AttributesLemmas.{same_at}
 
--- a value is given a number: that of an equal one that was seen, or the next one
-pub record Gets {X : Type 0} (v : X) (seen after : List X) (r : ℕ) : Type 0 where
-  pub number : ((after ≡ seen) × (slice_get seen r ≡ Some v))
-      ⊎ ((after ≡ seen ++ v ∷ []) × (r ≡ length seen) × ((g : ℕ) → slice_get seen g ≡ Some v → ⊥))
-
-some_inj : {X : Type 0} (v w : X) → Some v ≡ Some w → v ≡ w
+pub some_inj : {X : Type 0} (v w : X) → Some v ≡ Some w → v ≡ w
 some_inj {X} v w e = ap (λ (o : Option X). unwrap_or o v) e
 
-get_or-front : {X : Type 0} (xs ys : List X) (g : ℕ) (v : X) → slice_get xs g ≡ Some v → slice_get (xs ++ ys) g ≡ Some v
+pub get_or-front : {X : Type 0} (xs ys : List X) (g : ℕ) (v : X) → slice_get xs g ≡ Some v → slice_get (xs ++ ys) g ≡ Some v
 get_or-front [] ys g v h = cc
 get_or-front (x ∷ xs) ys zero v h = h
 get_or-front (x ∷ xs) ys (suc g) v h = get_or-front xs ys g v h
 
-get_or-last : {X : Type 0} (xs : List X) (v : X) → slice_get (xs ++ v ∷ []) (length xs) ≡ Some v
+pub get_or-last : {X : Type 0} (xs : List X) (v : X) → slice_get (xs ++ v ∷ []) (length xs) ≡ Some v
 get_or-last [] v = refl
 get_or-last (x ∷ xs) v = get_or-last xs v
 
-get_or-either : {X : Type 0} (xs : List X) (w v : X) (g : ℕ) → slice_get (xs ++ w ∷ []) g ≡ Some v → (slice_get xs g ≡ Some v) ⊎ ((g ≡ length xs) × (w ≡ v))
+pub get_or-either : {X : Type 0} (xs : List X) (w v : X) (g : ℕ) → slice_get (xs ++ w ∷ []) g ≡ Some v → (slice_get xs g ≡ Some v) ⊎ ((g ≡ length xs) × (w ≡ v))
 get_or-either [] w v zero h = inr (refl, some_inj w v h)
 get_or-either [] w v (suc g) h = cc
 get_or-either (x ∷ xs) w v zero h = inl h
@@ -46,10 +42,10 @@ get_or-either (x ∷ xs) w v (suc g) h = elim (get_or-either xs w v g h) [
 ]
 
 -- the numbers after one more
-at_front : (numbers : List ℕ) (n r i : ℕ) → length numbers ≡ n → i < n → number_at (numbers ++ r ∷ []) i ≡ number_at numbers i
+pub at_front : (numbers : List ℕ) (n r i : ℕ) → length numbers ≡ n → i < n → number_at (numbers ++ r ∷ []) i ≡ number_at numbers i
 at_front numbers n r i size l = get_or_append_left numbers (r ∷ []) 0 i (omega (arith, size, l))
 
-at_last : (numbers : List ℕ) (n r : ℕ) → length numbers ≡ n → number_at (numbers ++ r ∷ []) n ≡ r
+pub at_last : (numbers : List ℕ) (n r : ℕ) → length numbers ≡ n → number_at (numbers ++ r ∷ []) n ≡ r
 at_last numbers n r size = ap (λ (j : ℕ). number_at (numbers ++ r ∷ []) j) (sym size) ∙ get_or-append_seam numbers r [] 0
 
 at_end : (i n : ℕ) → i < n + 1 → n ≤ i → n ≡ i
@@ -237,17 +233,18 @@ pair_same (a, b) (c, d) h = by (eqb-true a c (and_left (a == c) (b == d) h)) (eq
 pair_back : (x y : ℕ × ℕ) → x ≡ y → ((x.0 == y.0) && (x.1 == y.1)) ≡ true
 pair_back (a, b) (c, d) e = ap (λ (t : Bool). t && (b == d)) (eq-eqb a c (ap (λ (p : ℕ × ℕ). p.0) e)) ∙ eq-eqb b d (ap (λ (p : ℕ × ℕ). p.1) e)
 
--- one pair more
-pub pair_step : (first second : List ℕ) (n : ℕ) (keys after : List (ℕ × ℕ)) (key : ℕ × ℕ) (numbers items : List ℕ) (r : ℕ)
-    → AreNumbered (λ i. (number_at first i, number_at second i)) n (map (λ (p : ℕ × ℕ). p) keys) numbers
-    → key ≡ (number_at first n, number_at second n)
+-- what a set of pairs does with a pair
+pub pair-Gets : (keys after : List (ℕ × ℕ)) (key : ℕ × ℕ) (r : ℕ)
     → after ≡ insert_key (λ (x y : ℕ × ℕ). (x.0 == y.0) && (x.1 == y.1)) keys key → r ≡ position_or_len (λ (y : ℕ × ℕ). (key.0 == y.0) && (key.1 == y.1)) keys
-    → items ≡ numbers ++ r ∷ []
-    → AreNumbered (λ i. (number_at first i, number_at second i)) (n + 1) (map (λ (p : ℕ × ℕ). p) after) items
-pair_step first second n keys after key numbers items r old is_key grown at pushed =
-    let gets = insert_full-Gets (λ (x y : ℕ × ℕ). (x.0 == y.0) && (x.1 == y.1)) (λ (p : ℕ × ℕ). p) pair_same pair_back keys after key r grown at in
-    subst (λ (l : List ℕ). AreNumbered (λ i. (number_at first i, number_at second i)) (n + 1) (map (λ (p : ℕ × ℕ). p) after) l) (sym pushed)
-    (numbered_more (λ i. (number_at first i, number_at second i)) n _ _ numbers r old (subst (λ (v : ℕ × ℕ). Gets v (map (λ (p : ℕ × ℕ). p) keys) (map (λ (p : ℕ × ℕ). p) after) r) is_key gets))
+    → Gets key keys after r
+pair-Gets keys after key r grown at =
+    subst (λ (l : List (ℕ × ℕ)). Gets key l after r) (same_list keys)
+    (subst (λ (l : List (ℕ × ℕ)). Gets key (map (λ (p : ℕ × ℕ). p) keys) l r) (same_list after)
+    (insert_full-Gets (λ (x y : ℕ × ℕ). (x.0 == y.0) && (x.1 == y.1)) (λ (p : ℕ × ℕ). p) pair_same pair_back keys after key r grown at))
+  where
+    same_list : (l : List (ℕ × ℕ)) → map (λ (p : ℕ × ℕ). p) l ≡ l
+    same_list [] = refl
+    same_list (p ∷ l) = ap (λ (m : List (ℕ × ℕ)). p ∷ m) (same_list l)
 
 -- the columns so far, and one more
 pub one_column_more : (rows : Relation) (columns : List (List ℕ)) (column : List ℕ) (n : ℕ) → length columns ≡ n
@@ -298,6 +295,48 @@ intersection_out x k h = fun_ext (λ m. elim (cases_Bool (m == k)) [
       ap (λ (b : Bool). b && nat_lt m k) has ∙ sym (ap (λ (b : Bool). b && nat_lt m (k + 1)) has)
   | inr other ↦ let low : nat_lt m k ≡ nat_lt m (k + 1) = grind (arith, other) in ap (λ (b : Bool). x m && b) low
 ])
+
+pub union-none : (x : Attributes) → union none x ≡ x
+union-none x = refl
+
+pub union-assoc : (x y z : Attributes) → union (union x y) z ≡ union x (union y z)
+union-assoc x y z = fun_ext (λ k. by (x k) (y k) (z k))
+  where
+    by : (a b c : Bool) → ((a || b) || c) ≡ (a || (b || c))
+    by true b c = refl
+    by false b c = refl
+
+-- what a set adds to another
+pub union-difference : (x y : Attributes) → union x (difference y x) ≡ union x y
+union-difference x y = fun_ext (λ k. by (x k) (y k))
+  where
+    by : (a b : Bool) → (a || (b && not a)) ≡ (a || b)
+    by true b = refl
+    by false true = refl
+    by false false = refl
+
+pub difference_within : (n : ℕ) (x y : Attributes) → IsSubset y (below n) → IsSubset (difference y x) (below n)
+difference_within n x y within k has = within k (by (y k) (x k) has)
+  where
+    by : (a b : Bool) → (a && not b) ≡ true → a ≡ true
+    by true b h = refl
+    by false b h = h
+
+pub union-rest : (n : ℕ) (x : Attributes) → IsSubset x (below n) → union x (difference (below n) x) ≡ below n
+union-rest n x within = fun_ext (λ k. by (x k) (nat_lt k n) (within k))
+  where
+    by : (a b : Bool) → (a ≡ true → b ≡ true) → (a || (b && not a)) ≡ b
+    by true b h = sym (h refl)
+    by false true h = refl
+    by false false h = refl
+
+-- all rows are one group where nothing is looked at
+pub zero_groups : (rows : Relation) (n : ℕ) → n ≡ length rows → AreGroups rows none (replicate n 0)
+zero_groups rows n size = record {
+  one_each = length-replicate n 0 ∙ size;
+  equal = λ i j i_in j_in. ((λ e m has. absurd (true≢false (sym has))), (λ a. zeros_at n i ∙ sym (zeros_at n j)));
+  in_order = λ i g i_in more. absurd (omega (arith, zeros_at n i, more));
+}
 
 pub intersection_all : (x : Attributes) (n : ℕ) → IsSubset x (below n) → intersection x (below n) ≡ x
 intersection_all x n within = fun_ext (λ k. by k (x k) (within k))

@@ -1,7 +1,7 @@
 -- Printed rows: the records of the printed text, the columns of its header, and the rows.
 use Rattle.std.proofs.Common.{◌≡◌, ◌+◌, ◌<◌, ◌≤◌, ◌==◌, ◌&&◌, ◌||◌, ℕ, zero, suc, Bool, true, false, nat_lt, nat_eq, List, [], ◌∷◌, ◌++◌, length, map, Option, Some, None, Result, Ok, IsTrue, slice_index_or, get_or, refl, sym, ap, subst, ◌∙◌, arith}
 use Rattle.std.specs.Prelude.{All, AllPairs}
-use Rattle.std.specs.List.{slice_get, position_or_len, range_with_len, list_any}
+use Rattle.std.specs.List.{position_or_len, range_with_len, list_any}
 use Rattle.std.specs.Char.{is_ascii_alphabetic}
 use Rattle.std.proofs.Math.ListN.{get_or-map}
 use Rattle.std.proofs.lemmas.Bool.{false≢true}
@@ -17,12 +17,11 @@ use Rattle.csv.specs.Reading.{records_from, default_config, strip_bom}
 use Rattle.csv.specs.Writing.{default_writer, row_text, field_text, fields_text, needs_byte, read_back}
 use Rattle.csv.specs.declared.parser.State.TheVariants as st
 use Rattle.csv.proofs.RoundTrip.{read-write}
-use Rattle.dep_model.specs.Integers.{IsIntegerText}
 use Rattle.dep_model.specs.Names.{is_bare_name, same_name}
 use Rattle.dep_model.specs.Projections.{members_below}
-use Rattle.dep_model.specs.Schemas.{names_of, width_of, attribute_named, types_of as types_of, TypedFor}
+use Rattle.dep_model.specs.Schemas.{names_of, width_of, attribute_named, types_of, nullable_of}
 use Rattle.dep_model.specs.Tuples.{Tuple, Relation, IsOver, value_at}
-use Rattle.dep_model.specs.declared.column_type.ColumnType.TheVariants.{Integer}
+use Rattle.column_values.specs.Values.{FitsColumn, FitsColumns, FitsEach}
 use Rattle.dep_model.specs.declared.schema.Schema.{Schema}
 use Rattle.dep_model.proofs.SchemeLemmas.{length-members_below, members_below-at}
 use Rattle.dep_model.proofs.NameLemmas.{attribute_named-append}
@@ -243,21 +242,21 @@ tuple_is n t size =
     sym (same_default (map (value_of columns t) ms) k [] (value_of columns t k) inside ∙ get_or-map (value_of columns t) ms k k ∙ ap (value_of columns t) at ∙ value_is n k t small))
 
 row_is : (s : Schema) (row : ℕ) (t : Tuple) → length t ≡ width_of s → row ≤ MOST_ROWS
-    → ((k : ℕ) → slice_get (types_of s) k ≡ Some Integer → IsIntegerText (value_at t k))
+    → FitsEach (types_of s) (nullable_of s) t
     → ClosedRowOf s (range_with_len 0 (width_of s)) row t (Ok t)
-row_is s row t size within_limit typed =
+row_is s row t size within_limit fits =
     let n = width_of s in (
       (size ∙ sym (length-range_with_len 0 n), within_limit),
       tuple_is n t size,
-      λ k has.
-          let small : k < n = grind (arith, nat_tests, sym (named_range n k) ∙ has.0) in
-          subst IsIntegerText (sym (value_is n k t small)) (typed k has.1),
+      λ k has column type.
+          let small : k < n = grind (arith, nat_tests, sym (named_range n k) ∙ has) in
+          subst (FitsColumn column (nullable_of s k)) (sym (value_is n k t small)) (fits k column type),
     )
 
 pub printed_back : (s : Schema) (rows : Relation) → All (λ name. IsTrue (is_bare_name name)) (names_of s)
-    → IsOver (width_of s) rows → TypedFor s rows → length rows ≤ MOST_ROWS
+    → IsOver (width_of s) rows → FitsColumns s rows → length rows ≤ MOST_ROWS
     → RowsOf s (rows_text (names_of s) rows) (Ok rows)
-printed_back s rows proper over typed within_limit =
+printed_back s rows proper over fits within_limit =
     let n = width_of s in
     let names = names_of s in
     let columns = range_with_len 0 n in
@@ -269,7 +268,7 @@ printed_back s rows proper over typed within_limit =
     let first : AreFirstRows s columns None rows rows = record {
       within = omega arith;
       each =
-          λ i less. row_is s (i + 1) (slice_index_or rows i []) (over i [] less) (omega (arith, less, within_limit)) (λ k integer. typed i [] less k integer);
+          λ i less. row_is s (i + 1) (slice_index_or rows i []) (over i [] less) (omega (arith, less, within_limit)) (fits i [] less);
     } in
     subst (λ (rs : List (List (List ℕ))). TableOf s (IsHeaderOf n names) (open_record (rows_text names rows)) rs (Ok rows)) (sym records)
     (subst (λ (o : Option ℕ). TableOf s (IsHeaderOf n names) o (names ∷ rows) (Ok rows)) (sym closed) (Ok columns, header, (first, refl)))

@@ -14,15 +14,15 @@ use Rattle.dep_model.specs.Failures.{RefusesAs}
 use Rattle.dep_model.specs.declared.failure.Failure.{Failure}
 use Rattle.dep_model.specs.declared.failure.Failure.TheVariants.{Refused, OutOfMemory}
 use Rattle.dep_model.proofs.FailureLemmas.{refuses_also}
-use Rattle.dep_model.specs.Integers.{IsIntegerText}
 use Rattle.dep_model.specs.Projections.{members_below}
-use Rattle.dep_model.specs.Schemas.{names_of, width_of, attribute_named, types_of, TypedFor}
+use Rattle.dep_model.specs.Schemas.{names_of, width_of, attribute_named, types_of, nullable_of}
 use Rattle.dep_model.specs.Tuples.{Tuple, Relation, IsOver, value_at}
 use Rattle.dep_model.specs.declared.column_type.ColumnType.{ColumnType}
-use Rattle.dep_model.specs.declared.column_type.ColumnType.TheVariants.{Integer}
+use Rattle.column_values.specs.Values.{FitsColumn, FitsColumns, FitsEach}
 use Rattle.dep_model.specs.declared.schema.Schema.{Schema}
 use Rattle.dep_model.proofs.SchemeLemmas.{length-members_below, members_below-at}
 use Rattle.attr_sets.specs.Sets.{attributes}
+use Rattle.attr_sets.specs.declared.set.TheConstants.{MOST_ATTRIBUTES}
 use Rattle.csv_rows.proofs.NumberingLemmas.{same_default}
 use Rattle.csv_rows.specs.declared.header.Header.{Header}
 use Rattle.csv_rows.specs.declared.header.ColumnOfAttribute.{ColumnOfAttribute}
@@ -31,7 +31,7 @@ use Rattle.csv_rows.specs.declared.refusal.RowRefusal.TheVariants as refusal
 use Rattle.csv_rows.specs.Records.{HasLeft, TakesRecord, records_of}
 use Rattle.csv_rows.specs.Columns.{with_columns, attribute_with_column, order_of, column_of, columns_from, columns_of_header, ◌>>=◌, IsHeader, IsHeaderOf}
 use Rattle.csv_rows.specs.Quotes.{open_record, is_open}
-use Rattle.csv_rows.specs.Reading.{value_of, HasInteger, ClosedRowOf, RowOf, HeaderOf, RowAt, AreFirstRows, RowsUnder, TableOf, RowsOf, PartOf, ReadsHeader, RefusesHeader}
+use Rattle.csv_rows.specs.Reading.{value_of, FitsAt, ClosedRowOf, RowOf, HeaderOf, RowAt, AreFirstRows, RowsUnder, TableOf, RowsOf, PartOf, ReadsHeader, RefusesHeader}
 
 -- the first record is the header
 pub header_read : (s : Schema) (unclosed : Option ℕ) (old new : Reader (Bor (List ℕ))) (fields : List (List ℕ)) (b : Bool) (r : Result Header (Failure RowRefusal)) (rs : List (List (List ℕ)))
@@ -101,7 +101,7 @@ refused_whole s unclosed (header ∷ records) e h = (Err e, under (is_open unclo
         whole (refusal.DoubleColumn c) h = h
         whole (refusal.UnevenRow r) h = h
         whole refusal.TooManyRows h = h
-        whole (refusal.NotInteger r a) h = h
+        whole (refusal.NotOfType r a) h = h
         whole refusal.OpenHeader h = h
         whole (refusal.OpenRow r) h = h
 
@@ -216,13 +216,18 @@ entry_in n columns h items i d kept e l =
     let within : i < length h.order.items = omega (arith, l, ap length e) in
     entry_at n columns h i (get_or items i d) kept within (ap (λ (o : List ColumnOfAttribute). get_or o i d) e ∙ same_default h.order.items i d (get_or items i d) within)
 
+-- its attribute is one of a schema's
+pub small_attribute : (s : Schema) (columns : List ℕ) (i : ℕ) (p : ColumnOfAttribute) → IsColumnOfAttribute (width_of s) columns i p
+    → p.attribute < MOST_ATTRIBUTES
+small_attribute s columns i p at = omega (arith, at.small, s.valid.names_within_limit)
+
 -- the values of the first attributes that have a column
 pub record Takes (s : Schema) (columns : List ℕ) (fields : List (List ℕ)) (i : ℕ) (values : List (List ℕ)) : Type 0 where
   pub so_far : values ≡ map (value_of columns fields) (take i (members_below (width_of s) (with_columns columns)))
-  pub typed : (b : ℕ) → HasInteger s columns b → count_below (with_columns columns) b < i → IsIntegerText (value_of columns fields b)
+  pub fits : (b : ℕ) → with_columns columns b ≡ true → count_below (with_columns columns) b < i → FitsAt s columns fields b
 
 pub takes_none : (s : Schema) (columns : List ℕ) (fields values : List (List ℕ)) → values ≡ [] → Takes s columns fields 0 values
-takes_none s columns fields values e = record { so_far = e; typed = λ b h l. absurd (omega (arith, l)) }
+takes_none s columns fields values e = record { so_far = e; fits = λ b h l. absurd (omega (arith, l)) }
 
 -- two attributes with columns that have as many before them are one
 pub same_count : (x : Attributes) (a b : ℕ) → x a ≡ true → x b ≡ true → count_below x a ≡ count_below x b → a ≡ b
@@ -234,11 +239,21 @@ same_count x a b ha hb e = elim (cases_lt a b) [
   ]
 ]
 
-pub takes_one : (s : Schema) (columns : List ℕ) (fields values : List (List ℕ)) (i : ℕ) (p : ColumnOfAttribute) (value : List ℕ) (column : ColumnType)
+some_same : (o : Option ColumnType) (c d : ColumnType) → o ≡ Some c → o ≡ Some d → c ≡ d
+some_same o c d e f = let same : Some c ≡ Some d = sym e ∙ f in cc
+
+-- the value at hand fits its column
+fits_at : (s : Schema) (columns : List ℕ) (fields : List (List ℕ)) (a : ℕ) (value : List ℕ) (column : ColumnType) (nullable : Bool) → value ≡ value_of columns fields a
+    → slice_get (types_of s) a ≡ Some column → nullable ≡ nullable_of s a → FitsColumn column nullable value → FitsAt s columns fields a
+fits_at s columns fields a value column nullable is type may fits other also =
+    subst (λ (c : ColumnType). FitsColumn c (nullable_of s a) (value_of columns fields a)) (some_same _ column other type also)
+    (subst (λ (n : Bool). FitsColumn column n (value_of columns fields a)) may (subst (FitsColumn column nullable) is fits))
+
+pub takes_one : (s : Schema) (columns : List ℕ) (fields values : List (List ℕ)) (i : ℕ) (p : ColumnOfAttribute) (value : List ℕ) (column : ColumnType) (nullable : Bool)
     → Takes s columns fields i values → IsColumnOfAttribute (width_of s) columns i p → value ≡ slice_index_or fields p.column []
-    → slice_get (types_of s) p.attribute ≡ Some column → (column ≡ Integer → IsIntegerText value)
+    → slice_get (types_of s) p.attribute ≡ Some column → nullable ≡ nullable_of s p.attribute → FitsColumn column nullable value
     → Takes s columns fields (i + 1) (values ++ value ∷ [])
-takes_one s columns fields values i p value column takes at is type fits =
+takes_one s columns fields values i p value column nullable takes at is type may fits =
     let ms = members_below (width_of s) (with_columns columns) in
     let here : value ≡ value_of columns fields p.attribute = is ∙ ap (λ (j : ℕ). slice_index_or fields j []) at.column in
     let next : take (i + 1) ms ≡ take i ms ++ p.attribute ∷ [] =
@@ -246,17 +261,13 @@ takes_one s columns fields values i p value column takes at is type fits =
     record {
       so_far = ap (λ (l : List (List ℕ)). l ++ value ∷ []) takes.so_far ∙ ap (λ (v : List ℕ). map (value_of columns fields) (take i ms) ++ v ∷ []) here
           ∙ sym (ap (map (value_of columns fields)) next ∙ map-append (value_of columns fields) (take i ms) (p.attribute ∷ []));
-      typed = λ b h l. elim (cases_lt (count_below (with_columns columns) b) i) [
-        | inl before ↦ takes.typed b h before
+      fits = λ b h l. elim (cases_lt (count_below (with_columns columns) b) i) [
+        | inl before ↦ takes.fits b h before
         | inr last ↦
-            let same : b ≡ p.attribute = same_count (with_columns columns) b p.attribute h.0 at.has (omega (arith, l, last, at.before)) in
-            let integer : Some column ≡ Some Integer = sym type ∙ ap (slice_get (types_of s)) (sym same) ∙ h.1 in
-            subst IsIntegerText (here ∙ ap (value_of columns fields) (sym same)) (fits (some_inj integer))
+            let same : b ≡ p.attribute = same_count (with_columns columns) b p.attribute h at.has (omega (arith, l, last, at.before)) in
+            subst (FitsAt s columns fields) (sym same) (fits_at s columns fields p.attribute value column nullable here type may fits)
       ];
     }
-  where
-    some_inj : {c d : ColumnType} → Some c ≡ Some d → c ≡ d
-    some_inj e = cc
 
 -- all values are taken
 pub takes_all : (s : Schema) (columns : List ℕ) (fields values : List (List ℕ)) (h : Header) (i row : ℕ) → IsHeader (width_of s) columns h → Takes s columns fields i values → i ≡ length h.order.items
@@ -267,24 +278,23 @@ takes_all s columns fields values h i row kept takes end even within_limit =
     let all : take i ms ≡ ms = take_all i ms (omega (arith, end, size)) in (
       (even ∙ kept.count, within_limit),
       takes.so_far ∙ ap (map (value_of columns fields)) all,
-      λ a has.
-          let small : a < width_of s = omega (arith, slice_get_within (types_of s) a Integer has.1, s.typed.one_each) in
-          takes.typed a has (omega (arith, count_below-before_member (width_of s) a (with_columns columns) small has.0, length-members_below (width_of s) (with_columns columns), end, size)),
+      λ a has column type.
+          let small : a < width_of s = omega (arith, slice_get_within (types_of s) a column type, s.typed.one_each) in
+          takes.fits a has (omega (arith, count_below-before_member (width_of s) a (with_columns columns) small has, length-members_below (width_of s) (with_columns columns), end, size)) column type,
     )
 
 -- the value at hand is refused
-pub not_integer : (s : Schema) (columns : List ℕ) (fields values : List (List ℕ)) (h : Header) (i row : ℕ) (p : ColumnOfAttribute) (value : List ℕ) (column : ColumnType)
+pub not_of_type : (s : Schema) (columns : List ℕ) (fields values : List (List ℕ)) (h : Header) (i row : ℕ) (p : ColumnOfAttribute) (value : List ℕ) (column : ColumnType) (nullable : Bool)
     → IsHeader (width_of s) columns h → Takes s columns fields i values → IsColumnOfAttribute (width_of s) columns i p → value ≡ slice_index_or fields p.column []
-    → slice_get (types_of s) p.attribute ≡ Some column → (column ≡ Integer) × (IsIntegerText value → ⊥)
-    → length fields ≡ h.columns → row ≤ 10000000 → ClosedRowOf s columns row fields (Err (refusal.NotInteger row p.attribute))
-not_integer s columns fields values h i row p value column kept takes at is type breaks even within_limit =
+    → slice_get (types_of s) p.attribute ≡ Some column → nullable ≡ nullable_of s p.attribute → (FitsColumn column nullable value → ⊥)
+    → length fields ≡ h.columns → row ≤ 10000000 → ClosedRowOf s columns row fields (Err (refusal.NotOfType row p.attribute))
+not_of_type s columns fields values h i row p value column nullable kept takes at is type may breaks even within_limit =
     let here : value ≡ value_of columns fields p.attribute = is ∙ ap (λ (j : ℕ). slice_index_or fields j []) at.column in (
       (even ∙ kept.count, within_limit),
       refl,
-      (at.has, type ∙ ap Some breaks.0),
-      (λ t. breaks.1 (subst IsIntegerText (sym here) t)),
-      λ b less has.
-          takes.typed b has (omega (arith, count_below-before_member p.attribute b (with_columns columns) less has.0, at.before)),
+      at.has,
+      (λ t. breaks (subst (FitsColumn column nullable) (sym here) (subst (λ (n : Bool). FitsColumn column n (value_of columns fields p.attribute)) (sym may) (t column type)))),
+      λ b less has. takes.fits b has (omega (arith, count_below-before_member p.attribute b (with_columns columns) less has, at.before)),
     )
 
 -- records of which some were taken, each giving a row
@@ -382,20 +392,20 @@ whole_count n x within k l =
 
 -- a row of a text in which each attribute has a column
 row_whole : (s : Schema) (columns : List ℕ) (row : ℕ) (fields : List (List ℕ)) (t : Tuple) → IsSubset (below (width_of s)) (with_columns columns) → ClosedRowOf s columns row fields (Ok t)
-    → (length t ≡ width_of s) × ((k : ℕ) → slice_get (types_of s) k ≡ Some Integer → IsIntegerText (value_at t k))
-row_whole s columns row fields t within (fits, is, typed) =
+    → (length t ≡ width_of s) × FitsEach (types_of s) (nullable_of s) t
+row_whole s columns row fields t within (even, is, fits) =
     let n : ℕ = width_of s in
     let ms : List ℕ = members_below n (with_columns columns) in
     let size : length ms ≡ n = length-members_below n (with_columns columns) ∙ whole_count n (with_columns columns) within n (omega arith) in (
       ap length is ∙ length-map ms (value_of columns fields) ∙ size,
-      λ k integer.
-          let small : k < n = omega (arith, slice_get_within (types_of s) k Integer integer, s.typed.one_each) in
+      λ k column type.
+          let small : k < n = omega (arith, slice_get_within (types_of s) k column type, s.typed.one_each) in
           let has : with_columns columns k ≡ true = within k (grind (arith, small)) in
           let at : get_or ms k k ≡ k = ap (λ (j : ℕ). get_or ms j k) (sym (whole_count n (with_columns columns) within k (omega (arith, small)))) ∙ members_below-at n (with_columns columns) k k small has in
           let long : k < length (map (value_of columns fields) ms) = omega (arith, length-map ms (value_of columns fields), size, small) in
           let value : value_at t k ≡ value_of columns fields k =
           ap (λ (u : Tuple). value_at u k) is ∙ same_default (map (value_of columns fields) ms) k [] (value_of columns fields k) long ∙ get_or-map (value_of columns fields) ms k k ∙ ap (value_of columns fields) at in
-          subst IsIntegerText (sym value) (typed k (has, integer)),
+          subst (FitsColumn column (nullable_of s k)) (sym value) (fits k has column type),
     )
 
 -- a row that is given has no open quote
@@ -412,7 +422,7 @@ closed_means false Means columns h = h
 
 whole_table : (s : Schema) (unclosed : Option ℕ) (rs : List (List (List ℕ))) (rows : Relation) → TableOf s (IsHeaderOf (width_of s) (names_of s)) unclosed rs (Ok rows)
     → (i : ℕ) → i < length rows
-    → (length (slice_index_or rows i []) ≡ width_of s) × ((k : ℕ) → slice_get (types_of s) k ≡ Some Integer → IsIntegerText (value_at (slice_index_or rows i []) k))
+    → (length (slice_index_or rows i []) ≡ width_of s) × FitsEach (types_of s) (nullable_of s) (slice_index_or rows i [])
 whole_table s unclosed [] rows h i l = cc
 whole_table s unclosed (header ∷ records) rows (Err e, means, under) i l = cc
 whole_table s unclosed (header ∷ records) rows (Ok columns, means, under) i l =
@@ -420,10 +430,10 @@ whole_table s unclosed (header ∷ records) rows (Ok columns, means, under) i l 
     (closed_means _ (IsHeaderOf (width_of s) (names_of s) header) columns means).1
     (closed_row s columns _ (i + 1) _ _ (under.0.each i l))
 
--- the rows have a value for each attribute, and fit the types of the columns
+-- the rows have a value for each attribute, which fits its column
 pub rows_over : (s : Schema) (text : List ℕ) (rows : Relation) → RowsOf s text (Ok rows) → IsOver (width_of s) rows
 rows_over s text rows h k d l = ap length (same_default rows k d [] l) ∙ (whole_table s (open_record text) (records_of text) rows h k l).0
 
-pub rows_typed : (s : Schema) (text : List ℕ) (rows : Relation) → RowsOf s text (Ok rows) → TypedFor s rows
-rows_typed s text rows h k d l j integer =
-    subst (λ (t : Tuple). IsIntegerText (value_at t j)) (sym (same_default rows k d [] l)) ((whole_table s (open_record text) (records_of text) rows h k l).1 j integer)
+pub rows_fit : (s : Schema) (text : List ℕ) (rows : Relation) → RowsOf s text (Ok rows) → FitsColumns s rows
+rows_fit s text rows h k d l =
+    subst (FitsEach (types_of s) (nullable_of s)) (sym (same_default rows k d [] l)) (whole_table s (open_record text) (records_of text) rows h k l).1

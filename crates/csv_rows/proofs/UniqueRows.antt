@@ -16,24 +16,24 @@ use Rattle.csv_rows.specs.declared.refusal.RowRefusal.TheVariants as refusal
 at_most_not_beyond : (row : ℕ) → row ≤ MOST_ROWS → MOST_ROWS < row → ⊥
 at_most_not_beyond row within beyond = omega (arith, within, beyond)
 
-same_integer : (r u k l : ℕ) → r ≡ u → k ≡ l → ◌≡◌ {A = Result Tuple RowRefusal} (Err (refusal.NotInteger r k))
-    (Err (refusal.NotInteger u l))
-same_integer r u k l e f =
-    ap (λ (m : ℕ). Err (refusal.NotInteger m k)) e ∙ ap (λ (m : ℕ). Err (refusal.NotInteger u m)) f
+same_place : (r u k l : ℕ) → r ≡ u → k ≡ l → ◌≡◌ {A = Result Tuple RowRefusal} (Err (refusal.NotOfType r k))
+    (Err (refusal.NotOfType u l))
+same_place r u k l e f =
+    ap (λ (m : ℕ). Err (refusal.NotOfType m k)) e ∙ ap (λ (m : ℕ). Err (refusal.NotOfType u m)) f
 
 -- what a record can give: a tuple, or one of three refusals
 abbrev SeenRow : Schema → List ℕ → ℕ → List (List ℕ) → Result Tuple RowRefusal → Type 0
 SeenRow s columns row fields r =
     let gives : Result Tuple RowRefusal → Type 0 = λ given. (r ≡ given) × ClosedRowOf s columns row fields given in
     ((t : Tuple) × gives (Ok t)) ⊎ ((u : ℕ) × gives (Err (refusal.UnevenRow u))) ⊎ gives (Err refusal.TooManyRows)
-    ⊎ ((u : ℕ) × (a : ℕ) × gives (Err (refusal.NotInteger u a)))
+    ⊎ ((u : ℕ) × (a : ℕ) × gives (Err (refusal.NotOfType u a)))
 
 seen_row : (s : Schema) (columns : List ℕ) (row : ℕ) (fields : List (List ℕ)) (r : Result Tuple RowRefusal)
     → ClosedRowOf s columns row fields r → SeenRow s columns row fields r
 seen_row s columns row fields (Ok t) h = inl (t, (refl, h))
 seen_row s columns row fields (Err (refusal.UnevenRow u)) h = inr (inl (u, (refl, h)))
 seen_row s columns row fields (Err refusal.TooManyRows) h = inr (inr (inl (refl, h)))
-seen_row s columns row fields (Err (refusal.NotInteger u a)) h = inr (inr (inr (u, a, (refl, h))))
+seen_row s columns row fields (Err (refusal.NotOfType u a)) h = inr (inr (inr (u, a, (refl, h))))
 seen_row s columns row fields (Err refusal.NoHeader) h = absurd h
 seen_row s columns row fields (Err (refusal.UnknownColumn c)) h = absurd h
 seen_row s columns row fields (Err (refusal.DoubleColumn c)) h = absurd h
@@ -67,7 +67,7 @@ closed_row_same s columns row fields one other p q = by (seen_row s columns row 
       | inl before ↦ absurd (p.3 (q.4 k before p.2))
       | inr on ↦ elim (cases_lt l k) [
         | inl before ↦ absurd (q.3 (p.4 l before q.2))
-        | inr here ↦ e ∙ same_integer r u k l (p.1 ∙ sym q.1) (omega (arith, on, here)) ∙ sym f
+        | inr here ↦ e ∙ same_place r u k l (p.1 ∙ sym q.1) (omega (arith, on, here)) ∙ sym f
       ]
     ]
 
@@ -138,7 +138,7 @@ seen_header n names header (Err (refusal.MissingColumn a)) (columns, means, leas
     inr (inl (a, refl, columns, means, least))
 seen_header n names header (Err (refusal.UnevenRow r)) h = inr (inr ((refusal.UnevenRow r), refl, h))
 seen_header n names header (Err refusal.TooManyRows) h = inr (inr (refusal.TooManyRows, refl, h))
-seen_header n names header (Err (refusal.NotInteger r k)) h = inr (inr ((refusal.NotInteger r k), refl, h))
+seen_header n names header (Err (refusal.NotOfType r k)) h = inr (inr ((refusal.NotOfType r k), refl, h))
 seen_header n names header (Err refusal.NoHeader) h = inr (inr (refusal.NoHeader, refl, h))
 seen_header n names header (Err (refusal.UnknownColumn m)) h = inr (inr ((refusal.UnknownColumn m), refl, h))
 seen_header n names header (Err (refusal.DoubleColumn m)) h = inr (inr ((refusal.DoubleColumn m), refl, h))

@@ -5,5 +5,6 @@ pub mod Quotes
 pub mod Columns
 pub mod Reading
 pub mod Numberings
+pub mod Pairs
 pub mod Interning
 pub mod RefusalTexts

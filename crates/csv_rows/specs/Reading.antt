@@ -6,10 +6,10 @@ use Rattle.attr_sets.specs.Sets.{attributes}
 use Rattle.attr_sets.specs.declared.set.AttrSet.{AttrSet}
 use Rattle.dep_model.specs.Tuples.{Tuple, Relation}
 use Rattle.dep_model.specs.Projections.{members_below}
-use Rattle.dep_model.specs.Integers.{IsIntegerText}
 use Rattle.dep_model.specs.declared.schema.Schema.{Schema}
-use Rattle.dep_model.specs.declared.column_type.ColumnType.TheVariants.{Integer}
-use Rattle.dep_model.specs.Schemas.{names_of, width_of, types_of as types_of}
+use Rattle.dep_model.specs.declared.column_type.ColumnType.{ColumnType}
+use Rattle.dep_model.specs.Schemas.{names_of, width_of, types_of, nullable_of}
+use Rattle.column_values.specs.Values.{FitsColumn}
 use Rattle.csv_rows.specs.declared.refusal.RowRefusal.{RowRefusal}
 use Rattle.csv_rows.specs.declared.refusal.RowRefusal.TheVariants as refusal
 use Rattle.csv_rows.specs.declared.reading.TheConstants.{MOST_ROWS}
@@ -28,9 +28,11 @@ value_of columns fields a = slice_index_or fields (position_or_len (nat_eq a) co
 abbrev pub tuple_of : ℕ → List ℕ → List (List ℕ) → Tuple
 tuple_of n columns fields = map (value_of columns fields) (members_below n (with_columns columns))
 
--- a record has a value for an attribute whose column in the schema is an integer one
-abbrev pub HasInteger : Schema → List ℕ → ℕ → Type 0
-HasInteger s columns a = (with_columns columns a ≡ true) × (slice_get (types_of s) a ≡ Some Integer)
+-- the value of an attribute in a record fits the attribute's column of the schema
+abbrev pub FitsAt : Schema → List ℕ → List (List ℕ) → ℕ → Type 0
+FitsAt s columns fields a =
+    (column : ColumnType) → slice_get (types_of s) a ≡ Some column
+    → FitsColumn column (nullable_of s a) (value_of columns fields a)
 
 -- a record of as many fields as the header, among the most rows that a file may have
 abbrev pub Fits : List ℕ → ℕ → List (List ℕ) → Type 0
@@ -40,13 +42,13 @@ Fits columns row fields = (length fields ≡ length columns) × (row ≤ MOST_RO
 abbrev pub ClosedRowOf : Schema → List ℕ → ℕ → List (List ℕ) → Result Tuple RowRefusal → Type 0
 ClosedRowOf s columns row fields (Ok t) =
     Fits columns row fields × (t ≡ tuple_of (width_of s) columns fields)
-    × ((a : ℕ) → HasInteger s columns a → IsIntegerText (value_of columns fields a))
+    × ((a : ℕ) → with_columns columns a ≡ true → FitsAt s columns fields a)
 ClosedRowOf s columns row fields (Err (refusal.UnevenRow r)) = (r ≡ row) × (length fields ≢ length columns)
 ClosedRowOf s columns row fields (Err refusal.TooManyRows) = (length fields ≡ length columns) × (MOST_ROWS < row)
-ClosedRowOf s columns row fields (Err (refusal.NotInteger r a)) =
-    Fits columns row fields × (r ≡ row) × HasInteger s columns a
-    × (IsIntegerText (value_of columns fields a) → ⊥)
-    × ((b : ℕ) → b < a → HasInteger s columns b → IsIntegerText (value_of columns fields b))
+ClosedRowOf s columns row fields (Err (refusal.NotOfType r a)) =
+    Fits columns row fields × (r ≡ row) × (with_columns columns a ≡ true)
+    × (FitsAt s columns fields a → ⊥)
+    × ((b : ℕ) → b < a → with_columns columns b ≡ true → FitsAt s columns fields b)
 ClosedRowOf s columns row fields (Err refusal.NoHeader) = ⊥
 ClosedRowOf s columns row fields (Err (refusal.UnknownColumn c)) = ⊥
 ClosedRowOf s columns row fields (Err (refusal.DoubleColumn c)) = ⊥

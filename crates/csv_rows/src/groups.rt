@@ -1,8 +1,9 @@
-ghost use Rattle.std.specs.Prelude.{◌≡◌, ◌<◌, ◌^◌, ℕ, true, List, length, replicate, IfOk};
+ghost use Rattle.std.specs.Prelude.{◌≡◌, ◌<◌, ◌≤◌, ◌^◌, ℕ, true, List, length, replicate, slice_get, Some, None, IfOk, IfSome, OnOk};
 ghost use Rattle.attr_sets.specs.Attributes.{Attributes, IsSubset, below, only, union};
 ghost use Rattle.attr_sets.specs.Sets.{attributes};
-ghost use Rattle.csv_rows.specs.Interning.{IsInterned, firsts_of, groups_of, width_of_rows};
+ghost use Rattle.csv_rows.specs.Interning.{IsInterned, count_of, firsts_of, groups_of, width_of_rows};
 ghost use Rattle.csv_rows.specs.Numberings.{AreFirsts, AreGroups, AreInOrder, AreNumbered, number_at};
+ghost use Rattle.csv_rows.specs.Pairs.{AreKept, Gets};
 ghost use Rattle.dep_model.specs.Tuples.{Relation};
 
 use crate::Interned;
@@ -33,12 +34,30 @@ impl Groups {
         ensures firsts { (n : ℕ) (rows : Relation) → IsInterned n rows codes.now
             → IfOk result (λ g. AreFirsts (groups_of g) (firsts_of g)) }
     {
-        let mut numbers = one_group(alloc, codes.count())?;
-        for attribute in 0..MOST_ATTRIBUTES as u8 {
-            if set.contains(attribute) {
-                numbers = refine_groups(alloc, codes.hashing(), &numbers, codes.column(attribute))?;
-            }
-        }
+        let all = one_group(alloc, codes.count())?;
+        let numbers = refine_by(alloc, codes, all, set)?;
+        let firsts = first_rows(alloc, &numbers)?;
+        Ok(Groups { numbers, firsts })
+    }
+
+    /// The groups of rows that are in one of these groups and agree on a further set.
+    pub fn refined(
+        &self,
+        alloc: Global,
+        codes: &Interned,
+        set: AttrSet,
+    ) -> Result<Groups, OutOfMemory>
+        requires within { IsSubset (attributes set) (below (width_of_rows codes.now)) }
+        requires same_length { length (groups_of self.now) ≡ count_of codes.now }
+        ensures groups { (n : ℕ) (rows : Relation) (x : Attributes) → IsInterned n rows codes.now
+            → AreGroups rows x (groups_of self.now)
+            → IfOk result (λ g. AreGroups rows (union x (attributes set)) (groups_of g)) }
+        ensures firsts { (n : ℕ) (rows : Relation) (x : Attributes) → IsInterned n rows codes.now
+            → AreGroups rows x (groups_of self.now)
+            → IfOk result (λ g. AreFirsts (groups_of g) (firsts_of g)) }
+    {
+        let same = Vec::from_slice(alloc, &self.numbers)?;
+        let numbers = refine_by(alloc, codes, same, set)?;
         let firsts = first_rows(alloc, &numbers)?;
         Ok(Groups { numbers, firsts })
     }
@@ -71,6 +90,29 @@ fn one_group(alloc: Global, count: usize) -> Result<Vec<u32>, OutOfMemory>
 {
     let mut numbers = Vec::new(alloc);
     numbers.resize(count, 0)?;
+    Ok(numbers)
+}
+
+// The groups of rows that are in one group and agree on a set.
+fn refine_by(
+    alloc: Global,
+    codes: &Interned,
+    groups: Vec<u32>,
+    set: AttrSet,
+) -> Result<Vec<u32>, OutOfMemory>
+    requires within { IsSubset (attributes set) (below (width_of_rows codes.now)) }
+    requires same_length { length groups.items ≡ count_of codes.now }
+    ensures count { IfOk result (λ v. length v.items ≡ length groups.items) }
+    ensures groups { (n : ℕ) (rows : Relation) (x : Attributes) → IsInterned n rows codes.now
+        → AreGroups rows x groups.items
+        → IfOk result (λ v. AreGroups rows (union x (attributes set)) v.items) }
+{
+    let mut numbers = groups;
+    for attribute in 0..MOST_ATTRIBUTES as u8 {
+        if set.contains(attribute) {
+            numbers = refine_groups(alloc, codes.hashing(), &numbers, codes.column(attribute))?;
+        }
+    }
     Ok(numbers)
 }
 
@@ -107,7 +149,8 @@ fn are_zeros(groups: &[u32]) -> bool
     true
 }
 
-// The number of each pair, in the order of first occurrence.
+// The number of each pair, in the order of first occurrence, where the first halves are numbered in the
+// order of theirs.
 fn numbered_pairs(
     alloc: Global,
     hashing: Hashing,
@@ -116,18 +159,74 @@ fn numbered_pairs(
 ) -> Result<Vec<u32>, OutOfMemory>
     requires same_length { length first.now ≡ length second.now }
     requires fits_u32 { length first.now < 2 ^ 32 }
-    ensures numbered { IfOk result
+    ensures count { IfOk result (λ v. length v.items ≡ length first.now) }
+    ensures numbered { AreInOrder first.now → IfOk result
         (λ v. (seen : List (ℕ × ℕ))
         × AreNumbered (λ i. (number_at first.now i, number_at second.now i))
         (length first.now) seen v.items) }
 {
-    let mut pairs: IndexSet<(u32, u32), Hashing> = IndexSet::with_hasher(alloc, hashing);
+    let mut leads = Vec::new(alloc);
+    let mut others = IndexSet::with_hasher(alloc, hashing);
+    let mut other_numbers = Vec::new(alloc);
+    let mut count = 0;
     let mut numbers = Vec::with_capacity(alloc, first.len())?;
     for i in 0..first.len() {
-        let (number, _) = pairs.insert_full((first[i], second[i]))?;
-        numbers.push(number as u32)?;
+        let pair = (first[i], second[i]);
+        let number = pair_number(&mut leads, &mut others, &mut other_numbers, count, pair)?;
+        numbers.push(number)?;
+        if number == count {
+            count += 1;
+        }
     }
     Ok(numbers)
+}
+
+// The number of a pair, which is that of an equal one or the next one. The first pair of each first half
+// stands among the leads, at the position of the first half: only the other pairs are hashed.
+fn pair_number(
+    leads: &mut Vec<(u32, u32)>,
+    others: &mut IndexSet<(u32, u32), Hashing>,
+    other_numbers: &mut Vec<u32>,
+    count: u32,
+    pair: (u32, u32),
+) -> Result<u32, OutOfMemory>
+    requires even { length other_numbers.old.items ≡ length others.old.keys }
+    ensures even { OnOk result (length other_numbers.new.items ≡ length others.new.keys) }
+    ensures longer { OnOk result (length leads.old.items ≤ length leads.new.items) }
+    ensures has_lead { OnOk result
+        (pair.0 ≤ length leads.old.items → pair.0 < length leads.new.items) }
+    ensures kept { (seen : List (ℕ × ℕ))
+        → AreKept seen leads.old.items others.old.keys other_numbers.old.items
+        → count ≡ length seen → pair.0 ≤ length leads.old.items
+        → IfOk result (λ number. (after : List (ℕ × ℕ)) × Gets pair seen after number
+        × AreKept after leads.new.items others.new.keys other_numbers.new.items) }
+{
+    if pair.0 as usize == leads.len() {
+        leads.push((pair.1, count))?;
+        return Ok(count);
+    }
+    match lead_number(leads, pair) {
+        Some(number) => return Ok(number),
+        None => {}
+    }
+    let (place, _) = others.insert_full(pair)?;
+    if place == other_numbers.len() {
+        other_numbers.push(count)?;
+        return Ok(count);
+    }
+    Ok(other_numbers[place])
+}
+
+// The number of a pair that stands among the leads.
+fn lead_number(leads: &[(u32, u32)], pair: (u32, u32)) -> Option<u32>
+    ensures found { IfSome result (λ number. slice_get leads.now pair.0 ≡ Some (pair.1, number)) }
+    ensures none { result ≡ None → (lead : ℕ × ℕ) → slice_get leads.now pair.0 ≡ Some lead
+        → lead.0 ≡ pair.1 → ⊥ }
+{
+    match leads.get(pair.0 as usize) {
+        Some(lead) if lead.0 == pair.1 => Some(lead.1),
+        _ => None,
+    }
 }
 
 // The first row of each group, where the groups are numbered in the order of their first rows.

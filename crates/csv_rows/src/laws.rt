@@ -1,8 +1,9 @@
 //! Laws of what CSV texts mean.
 
 ghost use Rattle.std.specs.Prelude.{◌≡◌, ◌≤◌, List, ℕ, length, All, IsTrue, Result, Ok};
+ghost use Rattle.column_values.specs.Values.{FitsColumns};
 ghost use Rattle.dep_model.specs.Names.{is_bare_name};
-ghost use Rattle.dep_model.specs.Schemas.{names_of, width_of, TypedFor};
+ghost use Rattle.dep_model.specs.Schemas.{names_of, width_of};
 ghost use Rattle.dep_model.specs.Tuples.{Relation, IsOver};
 ghost use Rattle.dep_model.specs.declared.schema.Schema.{Schema};
 ghost use Rattle.csv_rows.specs.Reading.{RowsOf, PartOf};
@@ -19,10 +20,10 @@ pub fn one_reading()
         → PartOf s text one → PartOf s text other → one ≡ other }
 {}
 
-/// What is printed of rows is the text of these rows, where they fit the types of the columns and are
-/// no more than a file may have.
+/// What is printed of rows is the text of these rows, where they fit the columns and are no
+/// more than a file may have.
 pub fn printed_rows_are_read_back()
     ensures law { (s : Schema) (rows : Relation) → All (λ name. IsTrue (is_bare_name name)) (names_of s)
-        → IsOver (width_of s) rows → TypedFor s rows → length rows ≤ MOST_ROWS
+        → IsOver (width_of s) rows → FitsColumns s rows → length rows ≤ MOST_ROWS
         → RowsOf s (rows_text (names_of s) rows) (Ok rows) }
 {}

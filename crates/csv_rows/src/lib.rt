@@ -22,6 +22,7 @@ mod quotes;
 mod reading;
 mod records;
 mod refusal;
+mod types;
 
 pub use groups::Groups;
 pub use interning::Interned;
@@ -32,3 +33,4 @@ pub use quotes::{is_open, open_record};
 pub use reading::{MOST_ROWS, read_rows};
 pub use records::{field, open_reader, take_record};
 pub use refusal::RowRefusal;
+pub use types::type_of;

@@ -4,9 +4,8 @@ ghost use Rattle.csv_rows.specs.Columns.{columns_of_header, IsHeader};
 ghost use Rattle.csv_rows.specs.Records.{HasLeft};
 ghost use Rattle.csv_rows.specs.Reading.{ClosedRowOf, RowOf, RowsUnder, RowsOf, ReadsHeader, RefusesHeader};
 ghost use Rattle.dep_model.specs.Failures.{RefusesAs};
-ghost use Rattle.dep_model.specs.Integers.{IsIntegerText};
-ghost use Rattle.dep_model.specs.declared.column_type.ColumnType.TheVariants.{Integer};
-ghost use Rattle.dep_model.specs.Schemas.{TypedFor, names_of, width_of};
+ghost use Rattle.column_values.specs.Values.{FitsColumns};
+ghost use Rattle.dep_model.specs.Schemas.{names_of, width_of};
 ghost use Rattle.dep_model.specs.Tuples.{IsOver};
 
 use crate::RowRefusal;
@@ -14,8 +13,9 @@ use crate::header::Header;
 use crate::quotes::{is_open, open_record};
 use crate::records::{field, open_reader, take_record};
 use attr_sets::AttrSet;
+use column_values::fits_column;
 use csv::{ByteRecord, Reader};
-use dep_model::{ColumnType, Failure, Schema, integer_text};
+use dep_model::{Failure, Schema};
 use row_store::{FlatValues, Rows};
 use std::alloc::Global;
 
@@ -31,7 +31,7 @@ pub fn read_rows(alloc: Global, schema: &Schema, text: &[u8]) -> Result<Rows, Fa
     ensures ok { IfOk result (λ rows. RowsOf schema.now text.now (Ok rows)) }
     ensures over { IfOk result (λ rows. IsOver (width_of schema.now) rows) }
     ensures within_limit { IfOk result (λ rows. length rows ≤ MOST_ROWS) }
-    ensures typed { IfOk result (λ rows. TypedFor schema.now rows) }
+    ensures fits { IfOk result (λ rows. FitsColumns schema.now rows) }
     ensures err { IfErr result (RefusesAs (λ e. RowsOf schema.now text.now (Err e))) }
 {
     let unclosed = open_record(text);
@@ -153,21 +153,12 @@ fn read_closed_row(
     for entry in &header.order {
         let value = field(fields, entry.column);
         let attribute = entry.attribute;
-        if !fits(schema.column(attribute), value) {
-            return Err(Failure::Refused(RowRefusal::NotInteger { row, attribute }));
+        let column = schema.column(attribute);
+        let nullable = schema.nullable().contains(attribute);
+        if !fits_column(&column, nullable, value) {
+            return Err(Failure::Refused(RowRefusal::NotOfType { row, attribute }));
         }
         values.push(value)?;
     }
     Ok(())
-}
-
-// Whether a column of this type takes the value.
-fn fits(column: ColumnType, value: &[u8]) -> bool
-    ensures fits { result ≡ true → column ≡ Integer → IsIntegerText value.now }
-    ensures breaks { result ≡ false → (column ≡ Integer) × (IsIntegerText value.now → ⊥) }
-{
-    match column {
-        ColumnType::Integer => integer_text(value),
-        _ => true,
-    }
 }

@@ -16,9 +16,9 @@ pub enum RowRefusal {
     UnevenRow { row: u32 },
     /// 6: one row more than a file may have.
     TooManyRows,
-    /// 7: in the row, from 1, the value of an integer column is no integer text. The attribute is
-    /// the least such one.
-    NotInteger { row: u32, attribute: u8 },
+    /// 7: in the row, from 1, the value of the attribute does not fit its column. The attribute is the
+    /// least such one.
+    NotOfType { row: u32, attribute: u8 },
     /// 8: a quote of the header is never closed.
     OpenHeader,
     /// 8: a quote of the row, from 1, is never closed. It is the last row.
@@ -37,7 +37,7 @@ impl RowRefusal {
             RowRefusal::MissingColumn { .. } => 4,
             RowRefusal::UnevenRow { .. } => 5,
             RowRefusal::TooManyRows => 6,
-            RowRefusal::NotInteger { .. } => 7,
+            RowRefusal::NotOfType { .. } => 7,
             RowRefusal::OpenHeader => 8,
             RowRefusal::OpenRow { .. } => 8,
         }

@@ -12,11 +12,12 @@ use Rattle.attr_sets.specs.declared.set.AttrSet.{AttrSet}
 use Rattle.attr_sets.specs.Attributes.{Attributes, IsSubset}
 use Rattle.attr_sets.specs.Sets.{attributes, is_same}
 use Rattle.dep_model.specs.declared.schema.Schema.{Schema}
-use Rattle.dep_model.specs.Keys.{IsGreedyKey, IsKey}
+use Rattle.dep_model.specs.Keys.{IsKey}
 use Rattle.dep_model.specs.Plans.{schemes_of}
-use Rattle.dep_model.specs.Schemas.{width_of, universe_of, theory_of}
+use Rattle.dep_model.specs.Schemas.{width_of, universe_of, theory_of, nullable_of}
 use Rattle.dep_model.proofs.DistinctLemmas.{filter-member}
 use Rattle.dep_model.proofs.ListLemmas.{map-member}
+use Rattle.primary_keys.specs.PrimaryKeys.{IsPrimaryKey}
 use Rattle.ddl_text.specs.declared.table.TableDesign.{TableDesign}
 use Rattle.ddl_text.specs.Designs.{RefersTo, AreReferences, AreOtherKeys, known_keys, IsTableOf, IsDesign, ReferToEarlier}
 use Rattle.ddl_text.specs.Laws.{KeysHold, OtherKeysHold, ReferencesHold}
@@ -205,10 +206,10 @@ pub design_keys : (s : Schema) (schemes : List AttrSet) (tables : List TableDesi
 design_keys s schemes tables design within r legal table has =
     let is = table_at s schemes tables has.0 table design (slice_get-member tables table has) in
     let inside = within has.0 table.scheme (omega (arith, has.1, design.one_each)) in
-    key_holds (width_of s) (theory_of s) (attributes table.scheme) (attributes table.key) r
+    key_holds (width_of s) (theory_of s) (nullable_of s) (attributes table.scheme) (attributes table.key) r
     (subst (λ (x : AttrSet). IsSubset (attributes x) (universe_of s)) (sym is.columns) inside) legal
-    (subst (λ (x : AttrSet). IsGreedyKey (width_of s) (theory_of s) (attributes x) (attributes table.key)) (sym is.columns)
-    is.key)
+    (subst (λ (x : AttrSet). IsPrimaryKey (width_of s) (theory_of s) (nullable_of s) (attributes x)
+    (attributes table.key)) (sym is.columns) is.key)
 
 pub design_other_keys : (s : Schema) (schemes : List AttrSet) (tables : List TableDesign) → IsDesign s schemes tables
     → All (λ (scheme : AttrSet). IsSubset (attributes scheme) (universe_of s)) schemes → OtherKeysHold s tables
@@ -239,4 +240,5 @@ design_references s schemes tables design r legal table other j has named at =
     ((is.refs.exactly j).0 named) at in
     reference_holds (attributes table.scheme) (attributes other.scheme) (attributes other.key) r
     (subst (λ (x : AttrSet). IsSubset (attributes other.key) (attributes x)) (sym is.columns) refers.within)
-    (subst (λ (x : AttrSet). IsSubset (attributes other.key) (attributes x)) (sym other_is.columns) other_is.key.within)
+    (subst (λ (x : AttrSet). IsSubset (attributes other.key) (attributes x)) (sym other_is.columns)
+    (λ k member. other_is.key.nullable_first.within k (other_is.key.others_next.within k member)))

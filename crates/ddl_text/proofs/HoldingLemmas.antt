@@ -8,12 +8,13 @@ use Rattle.dep_model.specs.Dependencies.{Dependency}
 use Rattle.dep_model.specs.Implication.{IsLegal}
 use Rattle.dep_model.specs.Projections.{project_tuple, projection, ordered_projection}
 use Rattle.dep_model.specs.OnSchemes.{value_in, AgreeIn}
-use Rattle.dep_model.specs.Keys.{IsGreedyKey, IsKey}
+use Rattle.dep_model.specs.Keys.{IsKey}
 use Rattle.dep_model.proofs.ListLemmas.{Contains-map, map-member}
 use Rattle.dep_model.proofs.DistinctLemmas.{distinct_tuples-to, distinct_tuples-from}
 use Rattle.dep_model.proofs.SchemeLemmas.{value_in-project_tuple, AgreeIn-to}
 use Rattle.dep_model.proofs.JoinLemmas.{project_tuple-same}
-use Rattle.dep_model.proofs.KeyLemmas.{greedy_is_key}
+use Rattle.primary_keys.specs.PrimaryKeys.{IsPrimaryKey}
+use Rattle.primary_keys.proofs.PrimaryLemmas.{primary_is_key}
 use Rattle.ddl_text.specs.Holding.{KeyHolds, ReferenceHolds}
 
 -- a row of a table is the projection of a tuple
@@ -35,10 +36,11 @@ is_key_holds n ds scheme key r inside legal is_key t u t_in u_in agree =
     let second_long = All-contains (λ (v : Tuple). length v ≡ n) r second.0 legal.over second.1 in
     sym first.2 ∙ project_tuple-same scheme first.0 second.0 (first_long ∙ sym second_long) on_scheme ∙ second.2
 
-pub key_holds : (n : ℕ) (ds : List Dependency) (scheme key : Attributes) (r : Relation) → IsSubset scheme (below n)
-    → IsLegal n ds r → IsGreedyKey n ds scheme key → KeyHolds scheme (ordered_projection scheme r) key
-key_holds n ds scheme key r inside legal greedy =
-    is_key_holds n ds scheme key r inside legal (greedy_is_key n ds scheme key inside greedy)
+pub key_holds : (n : ℕ) (ds : List Dependency) (nullable scheme key : Attributes) (r : Relation)
+    → IsSubset scheme (below n) → IsLegal n ds r → IsPrimaryKey n ds nullable scheme key
+    → KeyHolds scheme (ordered_projection scheme r) key
+key_holds n ds nullable scheme key r inside legal primary =
+    is_key_holds n ds scheme key r inside legal (primary_is_key n ds nullable scheme key inside primary)
 
 pub reference_holds : (scheme other key : Attributes) (r : Relation) → IsSubset key scheme → IsSubset key other
     → ReferenceHolds scheme (ordered_projection scheme r) other (ordered_projection other r) key

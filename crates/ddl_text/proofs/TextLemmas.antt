@@ -1,9 +1,10 @@
 -- Lists of quoted names, and elements on their lines: one more at the end.
-use Rattle.std.proofs.Common.{◌≡◌, ◌<◌, ◌+◌, ℕ, Bool, true, false, ◌||◌, List, [], ◌∷◌, ◌++◌, length, get_or, map, take, Option, Some, Result, Ok, Err, refl, sym, ap, ◌∙◌, append_assoc, append-nil, add-one}
-use Rattle.std.specs.Prelude.{if◌then◌else◌, codes, slice_get, slice_index_or, unwrap_or, option_map, is_some, OnOk}
+use Rattle.std.proofs.Common.{◌≡◌, ◌<◌, ◌+◌, ℕ, Bool, true, false, cond, ◌||◌, List, [], ◌∷◌, ◌++◌, length, get_or, map, take, Option, Some, Result, Ok, Err, refl, sym, ap, ◌∙◌, append_assoc, append-nil, add-one}
+use Rattle.std.specs.Prelude.{not, filter, if◌then◌else◌, codes, slice_get, slice_index_or, unwrap_or, option_map, OnOk}
 use Rattle.std.proofs.Math.Bool.{or-false}
 use Rattle.std.proofs.lemmas.Bool.{true≢false, false_from_ne_true}
 use Rattle.std.proofs.lemmas.List.{map-append, take_more, flat_map_more}
+use Rattle.std.proofs.lemmas.List.Elements.{filter-append}
 use Rattle.std.proofs.lemmas.Option.{get_or_from_slice_get, slice_get_read}
 use Rattle.attr_sets.specs.declared.set.AttrSet.{AttrSet}
 use Rattle.attr_sets.specs.Attributes.{Attributes, none, IsEmpty}
@@ -18,7 +19,7 @@ use Rattle.dep_model.specs.Projections.{members_below}
 use Rattle.dep_model.proofs.SchemeLemmas.{members_below-member, members_below-outside}
 use Rattle.sql_names.specs.Names.{quoted_name, name_list, is_not_empty}
 use Rattle.ddl_text.specs.declared.table.TableDesign.{TableDesign}
-use Rattle.ddl_text.specs.Ddl.{column_type, column_element, is_empty, key_element, key_elements, unique_element, reference_element, reference_elements, elements, opening, element_lines, comment, table_text}
+use Rattle.ddl_text.specs.Ddl.{column_type, column_element, is_empty, key_element, key_elements, unique_element, is_never_missing, unique_elements, reference_element, reference_elements, elements, opening, element_lines, left_out_line, left_out_lines, key_comment, comment, table_text}
 use Rattle.std.specs.List.{flat_map}
 use Rattle.sql_names.proofs.ListLemmas.{append_two}
 use Rattle.sql_names.proofs.NameLemmas.{or_true, not_empty_more, name_is}
@@ -119,30 +120,105 @@ pub key_not_empty : (s : Schema) (key : AttrSet) (any_before : Bool) → (IsEmpt
 key_not_empty s key any_before not_empty = sym (ap (λ (es : List (List ℕ)). any_before || is_not_empty es) (one_key s key not_empty)
     ∙ or_true any_before)
 
+-- a text with one item more
+pub item_more : {X : Type 0} (f : X → List ℕ) (old text next piece : List ℕ) (xs more : List X) (x : X)
+    → text ≡ old ++ flat_map f xs → piece ≡ f x → next ≡ text ++ piece → more ≡ xs ++ x ∷ []
+    → next ≡ old ++ flat_map f more
+item_more {X} f old text next piece xs more x so_far is added pushed =
+    added ∙ ap (λ (t : List ℕ). t ++ piece) so_far ∙ ap (λ (p : List ℕ). old ++ flat_map f xs ++ p) is
+    ∙ flat_map_more f old xs x ∙ ap (λ (ys : List X). old ++ flat_map f ys) (sym pushed)
+
 -- ---- other keys
+-- what the test of a key says of it
+pub missing_from : (result never : Bool) → result ≡ true → result ≡ not never → never ≡ false
+missing_from result true is says = absurd (true≢false (sym is ∙ says))
+missing_from result false is says = refl
+
+pub never_from : (result never : Bool) → result ≡ false → result ≡ not never → never ≡ true
+never_from result true is says = refl
+never_from result false is says = absurd (true≢false (sym says ∙ is))
+
+-- the keys before a position that pass a test, and the one that is there
+passing_next : (test : Attributes → Bool) (keys : List AttrSet) (i : ℕ) (d : AttrSet) → i < length keys
+    → filter test (schemes_of (take (i + 1) keys))
+    ≡ filter test (schemes_of (take i keys))
+    ++ cond (test (attributes (get_or keys i d))) (attributes (get_or keys i d) ∷ []) []
+passing_next test keys i d lt =
+    ap (λ (ks : List AttrSet). filter test (schemes_of ks)) (take_more keys i d lt)
+    ∙ ap (filter test) (map-append attributes (take i keys) (get_or keys i d ∷ []))
+    ∙ filter-append test (schemes_of (take i keys)) (attributes (get_or keys i d) ∷ [])
+
+pub uniques_passed : (s : Schema) (keys : List AttrSet) (i : ℕ) (d : AttrSet) → i < length keys
+    → is_never_missing s (attributes (get_or keys i d)) ≡ false
+    → unique_elements s (schemes_of (take (i + 1) keys)) ≡ unique_elements s (schemes_of (take i keys))
+uniques_passed s keys i d lt missing =
+    let so_far = filter (is_never_missing s) (schemes_of (take i keys)) in
+    ap (map (unique_element s)) (passing_next (is_never_missing s) keys i d lt
+    ∙ ap (λ (b : Bool). so_far ++ cond b (attributes (get_or keys i d) ∷ []) []) missing
+    ∙ append-nil so_far)
+
 uniques_next : (s : Schema) (keys : List AttrSet) (i : ℕ) (d : AttrSet) → i < length keys
-    → map (unique_element s) (schemes_of (take (i + 1) keys))
-    ≡ map (unique_element s) (schemes_of (take i keys)) ++ unique_element s (attributes (get_or keys i d)) ∷ []
-uniques_next s keys i d lt =
-    ap (λ (ks : List AttrSet). map (unique_element s) (schemes_of ks)) (take_more keys i d lt)
-    ∙ ap (map (unique_element s)) (map-append attributes (take i keys) (get_or keys i d ∷ []))
-    ∙ map-append (unique_element s) (schemes_of (take i keys)) (attributes (get_or keys i d) ∷ [])
+    → is_never_missing s (attributes (get_or keys i d)) ≡ true
+    → unique_elements s (schemes_of (take (i + 1) keys))
+    ≡ unique_elements s (schemes_of (take i keys)) ++ unique_element s (attributes (get_or keys i d)) ∷ []
+uniques_next s keys i d lt never =
+    let so_far = filter (is_never_missing s) (schemes_of (take i keys)) in
+    ap (map (unique_element s)) (passing_next (is_never_missing s) keys i d lt
+    ∙ ap (λ (b : Bool). so_far ++ cond b (attributes (get_or keys i d) ∷ []) []) never)
+    ∙ map-append (unique_element s) so_far (attributes (get_or keys i d) ∷ [])
 
-pub uniques_more : (s : Schema) (keys : List AttrSet) (i : ℕ) (d : AttrSet) (first any_before : Bool) (before text mid next : List ℕ) → i < length keys
-    → text ≡ before ++ element_lines first (map (unique_element s) (schemes_of (take i keys)))
-    → any_before ≡ (first || is_not_empty (map (unique_element s) (schemes_of (take i keys))))
+pub uniques_more : (s : Schema) (keys : List AttrSet) (i : ℕ) (d : AttrSet) (first any_before : Bool)
+    (before text mid next : List ℕ) → i < length keys → is_never_missing s (attributes (get_or keys i d)) ≡ true
+    → text ≡ before ++ element_lines first (unique_elements s (schemes_of (take i keys)))
+    → any_before ≡ (first || is_not_empty (unique_elements s (schemes_of (take i keys))))
     → mid ≡ text ++ opening any_before → next ≡ mid ++ unique_element s (attributes (get_or keys i d))
-    → next ≡ before ++ element_lines first (map (unique_element s) (schemes_of (take (i + 1) keys)))
-uniques_more s keys i d first any_before before text mid next lt so_far is_some opened added =
-    lines_more first any_before (map (unique_element s) (schemes_of (take i keys))) (unique_element s (attributes (get_or keys i d)))
-    before text mid next so_far is_some opened added
-    ∙ ap (λ (es : List (List ℕ)). before ++ element_lines first es) (sym (uniques_next s keys i d lt))
+    → next ≡ before ++ element_lines first (unique_elements s (schemes_of (take (i + 1) keys)))
+uniques_more s keys i d first any_before before text mid next lt never so_far is_some opened added =
+    lines_more first any_before (unique_elements s (schemes_of (take i keys)))
+    (unique_element s (attributes (get_or keys i d))) before text mid next so_far is_some opened added
+    ∙ ap (λ (es : List (List ℕ)). before ++ element_lines first es) (sym (uniques_next s keys i d lt never))
 
-pub uniques_not_empty : (s : Schema) (keys : List AttrSet) (i : ℕ) (d : AttrSet) (first : Bool) → i < length keys
-    → true ≡ (first || is_not_empty (map (unique_element s) (schemes_of (take (i + 1) keys))))
-uniques_not_empty s keys i d first lt =
-    not_empty_more first (map (unique_element s) (schemes_of (take i keys))) (unique_element s (attributes (get_or keys i d)))
-    ∙ ap (λ (es : List (List ℕ)). first || is_not_empty es) (sym (uniques_next s keys i d lt))
+pub uniques_not_empty : (s : Schema) (keys : List AttrSet) (i : ℕ) (d : AttrSet) (first : Bool)
+    → i < length keys → is_never_missing s (attributes (get_or keys i d)) ≡ true
+    → true ≡ (first || is_not_empty (unique_elements s (schemes_of (take (i + 1) keys))))
+uniques_not_empty s keys i d first lt never =
+    not_empty_more first (unique_elements s (schemes_of (take i keys)))
+    (unique_element s (attributes (get_or keys i d)))
+    ∙ ap (λ (es : List (List ℕ)). first || is_not_empty es) (sym (uniques_next s keys i d lt never))
+
+-- ---- keys that are left out
+pub left_out_added : {T E : Type 0} (r : Result T E) (s : Schema) (key : Attributes) (old t u new : List ℕ)
+    → t ≡ old ++ codes "-- UNIQUE (" → u ≡ t ++ name_list s key
+    → OnOk r (new ≡ u ++ codes ") is left out: missing values are not compared\n")
+    → OnOk r (new ≡ old ++ left_out_line s key)
+unfolding left_out_line
+left_out_added r s key old t u new to_t to_u to_new =
+    let head : List ℕ = codes "-- UNIQUE (" in
+    let names = name_list s key in
+    adds_last r old (head ++ names) (codes ") is left out: missing values are not compared\n") u new
+    (append_two old head names t u to_t to_u) to_new
+
+pub left_out_more : (s : Schema) (keys : List AttrSet) (i : ℕ) (d : AttrSet) (before text next : List ℕ)
+    → i < length keys → is_never_missing s (attributes (get_or keys i d)) ≡ false
+    → text ≡ before ++ left_out_lines s (schemes_of (take i keys))
+    → next ≡ text ++ left_out_line s (attributes (get_or keys i d))
+    → next ≡ before ++ left_out_lines s (schemes_of (take (i + 1) keys))
+left_out_more s keys i d before text next lt missing so_far added =
+    let test = λ (key : Attributes). not (is_never_missing s key) in
+    let kept = filter test (schemes_of (take i keys)) in
+    let key = attributes (get_or keys i d) in
+    item_more (left_out_line s) before text next (left_out_line s key) kept
+    (filter test (schemes_of (take (i + 1) keys))) key so_far refl added
+    (passing_next test keys i d lt ∙ ap (λ (b : Bool). kept ++ cond (not b) (key ∷ []) []) missing)
+
+pub left_out_passed : (s : Schema) (keys : List AttrSet) (i : ℕ) (d : AttrSet) → i < length keys
+    → is_never_missing s (attributes (get_or keys i d)) ≡ true
+    → left_out_lines s (schemes_of (take (i + 1) keys)) ≡ left_out_lines s (schemes_of (take i keys))
+left_out_passed s keys i d lt never =
+    let test = λ (key : Attributes). not (is_never_missing s key) in
+    let kept = filter test (schemes_of (take i keys)) in
+    ap (flat_map (left_out_line s)) (passing_next test keys i d lt
+    ∙ ap (λ (b : Bool). kept ++ cond (not b) (attributes (get_or keys i d) ∷ []) []) never ∙ append-nil kept)
 
 -- ---- references
 pub reference_added : {T E : Type 0} (r : Result T E) (s : Schema) (other : TableDesign) (old t u v w x y new : List ℕ)
@@ -227,27 +303,27 @@ elements_added r columns keys references one two old t u new to_t is_one to_u is
     ∙ ap (λ (b : Bool). old ++ (element_lines false (columns ++ keys) ++ element_lines b references)) any_before
     ∙ ap (λ (t : List ℕ). old ++ t) (sym (lines_append false (columns ++ keys) references))) to_new
 
-pub comment-empty_key : (key : Attributes) (are_known : Bool) → IsEmpty key → comment key are_known ≡ codes "-- at most one row\n"
-unfolding comment
-comment-empty_key key are_known empty = rw (empty_passes key empty) refl
+pub comment-empty_key : (s : Schema) (table : TableDesign) → IsEmpty (attributes table.key)
+    → comment s table ≡ codes "-- at most one row\n"
+comment-empty_key s table empty =
+    ap (λ (b : Bool). if b then codes "-- at most one row\n" else key_comment s table.other_keys)
+    (empty_passes (attributes table.key) empty)
 
-pub comment-known : (key : AttrSet) → (IsEmpty (attributes key) → ⊥) → comment (attributes key) true ≡ []
-unfolding comment
-comment-known key not_empty = rw (empty_fails key not_empty) refl
-
-pub comment-unknown : (key : AttrSet) → (IsEmpty (attributes key) → ⊥) → comment (attributes key) false ≡ codes "-- further keys are not looked for\n"
-unfolding comment
-comment-unknown key not_empty = rw (empty_fails key not_empty) refl
+pub comment-other_keys : (s : Schema) (table : TableDesign) → (IsEmpty (attributes table.key) → ⊥)
+    → comment s table ≡ key_comment s table.other_keys
+comment-other_keys s table not_empty =
+    ap (λ (b : Bool). if b then codes "-- at most one row\n" else key_comment s table.other_keys)
+    (empty_fails table.key not_empty)
 
 pub table_added : {T E : Type 0} (r : Result T E) (s : Schema) (tables : List TableDesign) (table : TableDesign)
     (old t u v w x new : List ℕ)
-    → t ≡ old ++ comment (attributes table.key) (is_some table.other_keys) → u ≡ t ++ codes "CREATE TABLE " → v ≡ u ++ quoted_name table.name
+    → t ≡ old ++ comment s table → u ≡ t ++ codes "CREATE TABLE " → v ≡ u ++ quoted_name table.name
     → w ≡ v ++ codes " (\n"
     → x ≡ w ++ element_lines false (elements s tables table) → OnOk r (new ≡ x ++ codes "\n);\n")
     → OnOk r (new ≡ old ++ table_text s tables table)
 unfolding table_text
 table_added r s tables table old t u v w x new to_t to_u to_v to_w to_x to_new =
-    let head = comment (attributes table.key) (is_some table.other_keys) in
+    let head = comment s table in
     let create : List ℕ = codes "CREATE TABLE " in
     let name = quoted_name table.name in
     let begin_lines : List ℕ = codes " (\n" in
@@ -257,11 +333,3 @@ table_added r s tables table old t u v w x new to_t to_u to_v to_w to_x to_new =
     let at_w = append_two old (head ++ create ++ name) begin_lines v w at_v to_w in
     let at_x = append_two old (head ++ create ++ name ++ begin_lines) lines w x at_w to_x in
     adds_last r old (head ++ create ++ name ++ begin_lines ++ lines) (codes "\n);\n") x new at_x to_new
-
--- a text with one item more
-pub item_more : {X : Type 0} (f : X → List ℕ) (old text next piece : List ℕ) (xs more : List X) (x : X)
-    → text ≡ old ++ flat_map f xs → piece ≡ f x → next ≡ text ++ piece → more ≡ xs ++ x ∷ []
-    → next ≡ old ++ flat_map f more
-item_more {X} f old text next piece xs more x so_far is added pushed =
-    added ∙ ap (λ (t : List ℕ). t ++ piece) so_far ∙ ap (λ (p : List ℕ). old ++ flat_map f xs ++ p) is
-    ∙ flat_map_more f old xs x ∙ ap (λ (ys : List X). old ++ flat_map f ys) (sym pushed)

@@ -1,12 +1,15 @@
 -- A design as SQL: for `print_ddl` and the command `ddl` (`desk_designs/Designs`), and for the
 -- statements of `sql migrate`.
-use Rattle.std.specs.Prelude.{ℕ, Bool, true, false, if◌then◌else◌, List, [], ◌∷◌, ◌++◌, map, codes, decimal, slice_get, slice_index_or, unwrap_or, option_map, is_some}
+use Rattle.std.specs.Prelude.{ℕ, Bool, true, false, if◌then◌else◌, not, List, [], ◌∷◌, ◌++◌, map, filter, codes, decimal, slice_get, slice_index_or, Option, Some, None, unwrap_or, option_map, Vec}
 use Rattle.std.specs.List.{flat_map}
+use Rattle.std.specs.declared.alloc.Global.{Global}
 use Rattle.attr_sets.specs.Attributes.{Attributes, none}
-use Rattle.attr_sets.specs.Sets.{attributes, is_subset}
+use Rattle.attr_sets.specs.Sets.{attributes, is_subset, is_disjoint}
+use Rattle.attr_sets.specs.declared.set.AttrSet.{AttrSet}
 use Rattle.dep_model.specs.declared.column_type.ColumnType.{ColumnType}
 use Rattle.dep_model.specs.declared.column_type.ColumnType.TheVariants.{Text, Integer, Date, Timestamp, Decimal, Uuid, Other}
 use Rattle.dep_model.specs.declared.schema.Schema.{Schema}
+use Rattle.dep_model.specs.Plans.{schemes_of}
 use Rattle.dep_model.specs.Projections.{members_below}
 use Rattle.dep_model.specs.Schemas.{names_of, width_of, types_of, nullable_of}
 use Rattle.sql_names.specs.Names.{name_list, quoted_name}
@@ -51,10 +54,17 @@ key_elements s key = if is_empty key then [] else key_element s key ∷ []
 unfoldable pub unique_element : Schema → Attributes → List ℕ
 unique_element s key = codes "UNIQUE (" ++ name_list s key ++ codes ")"
 
+-- whether no value of a key may be missing
+abbrev pub is_never_missing : Schema → Attributes → Bool
+is_never_missing s key = is_disjoint key (nullable_of s)
+
+-- those other keys of which no value may be missing
+abbrev pub unique_elements : Schema → List Attributes → List (List ℕ)
+unique_elements s keys = map (unique_element s) (filter (is_never_missing s) keys)
+
 -- the key and the other keys of a table
 abbrev pub keys_elements : Schema → TableDesign → List (List ℕ)
-keys_elements s table =
-    key_elements s (attributes table.key) ++ map (unique_element s) (known_keys table.other_keys)
+keys_elements s table = key_elements s (attributes table.key) ++ unique_elements s (known_keys table.other_keys)
 
 -- a reference to a table by its key
 unfoldable pub reference_element : Schema → TableDesign → List ℕ
@@ -84,17 +94,29 @@ abbrev pub element_lines : Bool → List (List ℕ) → List ℕ
 element_lines any_before [] = []
 element_lines any_before (e ∷ es) = opening any_before ++ e ++ element_lines true es
 
--- what stands before a table: a comment where its key is empty, or where its other keys are not known
-unfoldable pub comment : Attributes → Bool → List ℕ
-comment key are_known =
-    if is_empty key then codes "-- at most one row\n"
-    else if are_known then [] else codes "-- further keys are not looked for\n"
+-- what stands for a key of which a value may be missing
+unfoldable pub left_out_line : Schema → Attributes → List ℕ
+left_out_line s key =
+    codes "-- UNIQUE (" ++ name_list s key ++ codes ") is left out: missing values are not compared\n"
+
+-- such a line for each of those keys
+abbrev pub left_out_lines : Schema → List Attributes → List ℕ
+left_out_lines s keys = flat_map (left_out_line s) (filter (λ key. not (is_never_missing s key)) keys)
+
+-- what is said of the keys beside one that is not empty: those that are not stated, or that none are known
+abbrev pub key_comment : Schema → Option (Vec AttrSet Global) → List ℕ
+key_comment s None = codes "-- further keys are not looked for\n"
+key_comment s (Some keys) = left_out_lines s (schemes_of keys.items)
+
+-- what stands before a table
+abbrev pub comment : Schema → TableDesign → List ℕ
+comment s table =
+    if is_empty (attributes table.key) then codes "-- at most one row\n" else key_comment s table.other_keys
 
 -- the statement that creates a table
 unfoldable pub table_text : Schema → List TableDesign → TableDesign → List ℕ
 table_text s tables table =
-    comment (attributes table.key) (is_some table.other_keys)
-    ++ codes "CREATE TABLE " ++ quoted_name table.name ++ codes " (\n"
+    comment s table ++ codes "CREATE TABLE " ++ quoted_name table.name ++ codes " (\n"
     ++ element_lines false (elements s tables table) ++ codes "\n);\n"
 
 -- the statements that create the tables of a design, in order

@@ -5,13 +5,13 @@ use Rattle.std.specs.declared.alloc.Global.{Global}
 use Rattle.attr_sets.specs.Attributes.{Attributes, IsSubset, IsEmpty}
 use Rattle.attr_sets.specs.Sets.{attributes, is_same}
 use Rattle.attr_sets.specs.declared.set.AttrSet.{AttrSet}
-use Rattle.dep_model.specs.Keys.{IsGreedyKey}
 use Rattle.dep_model.specs.Plans.{schemes_of}
-use Rattle.dep_model.specs.Schemas.{width_of, theory_of}
+use Rattle.dep_model.specs.Schemas.{width_of, theory_of, nullable_of}
 use Rattle.dep_model.specs.declared.schema.Schema.{Schema}
 use Rattle.fd_closure.specs.LeftSides.{IsWide}
 use Rattle.key_listing.specs.declared.refusal.TheConstants.{MOST_KEYS}
 use Rattle.key_listing.specs.Listing.{AreAllKeys, AreManyKeys}
+use Rattle.primary_keys.specs.PrimaryKeys.{IsPrimaryKey}
 use Rattle.table_names.specs.TableNames.{table_name}
 use Rattle.ddl_text.specs.declared.table.TableDesign.{TableDesign}
 
@@ -57,7 +57,7 @@ pub record IsTableOf (s : Schema) (earlier : List TableDesign) (scheme : AttrSet
     : Type 0 where
   pub name : table.name ≡ table_name (length earlier + 1)
   pub columns : table.scheme ≡ scheme
-  pub key : IsGreedyKey (width_of s) (theory_of s) (attributes scheme) (attributes table.key)
+  pub key : IsPrimaryKey (width_of s) (theory_of s) (nullable_of s) (attributes scheme) (attributes table.key)
   pub other_keys : AreOtherKeys s (attributes scheme) (attributes table.key) table.other_keys
   pub refs : AreReferences earlier (attributes scheme) table.refs.items
 

@@ -11,8 +11,8 @@ use crate::TableDesign;
 use crate::other_keys::other_keys;
 use attr_sets::AttrSet;
 use dep_model::{OutOfMemory, Schema};
-use key_listing::one_key;
 use plans::Plan;
+use primary_keys::primary_key;
 use std::alloc::Global;
 use std::marker::Model;
 use table_names::table_name;
@@ -46,8 +46,8 @@ impl DesignList {
 }
 
 /// The tables of a plan, one for each scheme, in order. They are named `t1`, `t2` and so on. The key of a
-/// table is its scheme without each attribute, tried from the last to the first, that the rest still
-/// determines by all dependencies. Its other keys are those that `key_listing::keys_of_scheme` lists beside
+/// table is the primary key of its scheme, of which no value may be missing where some key of the scheme is
+/// so. Its other keys are those that `key_listing::keys_of_scheme` lists beside
 /// this one; they are not looked for where that is refused and the key is not empty. It refers to each earlier
 /// table whose key lies within its scheme and is not empty.
 pub fn design(alloc: Global, schema: &Schema, plan: &Plan) -> Result<DesignList, OutOfMemory>
@@ -92,7 +92,7 @@ fn table_of(
     requires within_limit { length earlier.now < MOST_TABLES }
     ensures table { IfOk result (IsTableOf schema.now earlier.now scheme) }
 {
-    let key = one_key(schema, scheme);
+    let key = primary_key(schema, scheme);
     Ok(TableDesign {
         name: table_name(earlier.len() as u32 + 1),
         scheme,

@@ -1,11 +1,12 @@
-ghost use Rattle.std.specs.Prelude.{◌≡◌, ◌<◌, ◌++◌, ◌||◌, false, length, map, All, IfOk, OnOk};
+ghost use Rattle.std.specs.Prelude.{◌≡◌, ◌<◌, ◌++◌, ◌||◌, false, length, All, IfOk, OnOk};
 ghost use Rattle.attr_sets.specs.Sets.{attributes};
 ghost use Rattle.dep_model.specs.Plans.{schemes_of};
-ghost use Rattle.ddl_text.specs.Ddl.{opening, elements, element_lines, key_elements, keys_elements, unique_element};
+ghost use Rattle.ddl_text.specs.Ddl.{opening, elements, element_lines, key_elements, keys_elements, unique_element, unique_elements};
 ghost use Rattle.sql_names.specs.Names.{is_not_empty};
 
 use crate::TableDesign;
 use crate::columns::add_columns;
+use crate::other_keys::may_be_missing;
 use crate::references::add_references;
 use attr_sets::AttrSet;
 use dep_model::{OutOfMemory, Schema};
@@ -47,7 +48,7 @@ fn add_keys(
     }
 }
 
-// Adds other keys, and says whether there are some elements.
+// Adds those of other keys of which no value may be missing, and says whether there are some elements.
 fn add_unique_keys(
     text: &mut Vec<u8>,
     any_before: bool,
@@ -55,12 +56,15 @@ fn add_unique_keys(
     keys: &[AttrSet],
 ) -> Result<bool, OutOfMemory>
     ensures added { OnOk result (text.new.items ≡ text.old.items
-        ++ element_lines any_before (map (unique_element schema.now) (schemes_of keys.now))) }
+        ++ element_lines any_before (unique_elements schema.now (schemes_of keys.now))) }
     ensures any_written { IfOk result (λ more. more
-        ≡ (any_before || is_not_empty (map (unique_element schema.now) (schemes_of keys.now)))) }
+        ≡ (any_before || is_not_empty (unique_elements schema.now (schemes_of keys.now)))) }
 {
     let mut any_before = any_before;
     for key in keys {
+        if may_be_missing(schema, *key) {
+            continue;
+        }
         add_opening(text, any_before)?;
         add_unique_key(text, schema, *key)?;
         any_before = true;

@@ -1,6 +1,6 @@
 //! Tables for the schemes of a plan: their names, keys and references, and these as SQL.
 //!
-//! `design` gives each scheme a table, whose key is the greedy key by all dependencies, beside all other
+//! `design` gives each scheme a table, whose key is its primary key by all dependencies, beside all other
 //! keys of the scheme where these can be listed, and which refers to each earlier table whose key lies within
 //! it. In the tables of every legal relation each key and each reference holds. `print_ddl` prints a design as
 //! `CREATE TABLE` statements.

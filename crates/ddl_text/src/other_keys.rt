@@ -1,7 +1,8 @@
-ghost use Rattle.std.specs.Prelude.{◌≡◌, IfOk};
+ghost use Rattle.std.specs.Prelude.{◌≡◌, not, IfOk};
 ghost use Rattle.attr_sets.specs.Attributes.{IsSubset};
 ghost use Rattle.attr_sets.specs.Sets.{attributes};
 ghost use Rattle.dep_model.specs.Schemas.{universe_of};
+ghost use Rattle.ddl_text.specs.Ddl.{is_never_missing};
 ghost use Rattle.ddl_text.specs.Designs.{without_key, AreOtherKeys};
 
 use attr_sets::AttrSet;
@@ -41,4 +42,11 @@ fn without_key(alloc: Global, keys: &[AttrSet], key: AttrSet) -> Result<Vec<Attr
         }
     }
     Ok(others)
+}
+
+// Whether a value of a key may be missing.
+pub fn may_be_missing(schema: &Schema, key: AttrSet) -> bool
+    ensures missing { result ≡ not (is_never_missing schema.now (attributes key)) }
+{
+    key.intersects(schema.nullable())
 }

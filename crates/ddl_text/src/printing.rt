@@ -1,19 +1,22 @@
 ghost use Rattle.std.specs.Prelude.{◌≡◌, ◌<◌, ◌++◌, length, All, IfOk, OnOk};
 ghost use Rattle.attr_sets.specs.Sets.{attributes};
+ghost use Rattle.dep_model.specs.Plans.{schemes_of};
 ghost use Rattle.ddl_text.specs.Designs.{ReferToEarlier};
-ghost use Rattle.ddl_text.specs.Ddl.{comment, table_text, ddl_text};
+ghost use Rattle.ddl_text.specs.Ddl.{comment, left_out_lines, left_out_line, table_text, ddl_text};
 
 use crate::elements::add_elements;
+use crate::other_keys::may_be_missing;
 use crate::{DesignList, TableDesign};
 use attr_sets::AttrSet;
 use dep_model::{OutOfMemory, Schema};
 use schema_printer::add;
-use sql_names::add_quoted;
+use sql_names::{add_name_list, add_quoted};
 use std::alloc::Global;
 
 /// A `CREATE TABLE` statement for each table of a design, in order: its columns, its key, if this is not
 /// empty, its other keys and its references. A table with an empty key has a comment before it, since SQL knows
-/// no such key; so has one whose other keys are not looked for.
+/// no such key; so has one whose other keys are not looked for, and one for each other key of which a value
+/// may be missing, which is not stated.
 pub fn print_ddl(
     alloc: Global,
     schema: &Schema,
@@ -52,7 +55,7 @@ fn add_table(
     ensures added { OnOk result (text.new.items
         ≡ text.old.items ++ table_text schema.now tables.now table.now) }
 {
-    add_comment(text, table.key, table.other_keys.is_some())?;
+    add_comment(text, schema, table)?;
     add(text, b"CREATE TABLE ")?;
     add_quoted(text, &table.name)?;
     add(text, b" (\n")?;
@@ -60,16 +63,43 @@ fn add_table(
     add(text, b"\n);\n")
 }
 
-// Adds a comment where a key is empty, or where the other keys are not known.
-fn add_comment(text: &mut Vec<u8>, key: AttrSet, are_known: bool) -> Result<(), OutOfMemory>
-    ensures added { OnOk result (text.new.items ≡ text.old.items
-        ++ comment (attributes key) are_known) }
+// Adds what stands before the statement of a table.
+fn add_comment(text: &mut Vec<u8>, schema: &Schema, table: &TableDesign) -> Result<(), OutOfMemory>
+    ensures added { OnOk result (text.new.items ≡ text.old.items ++ comment schema.now table.now) }
 {
-    if key.is_empty() {
+    if table.key.is_empty() {
         return add(text, b"-- at most one row\n");
     }
-    if are_known {
-        return Ok(());
+    match &table.other_keys {
+        Some(keys) => add_left_out_keys(text, schema, keys),
+        None => add(text, b"-- further keys are not looked for\n"),
     }
-    add(text, b"-- further keys are not looked for\n")
+}
+
+// Adds a line for each key of which a value may be missing.
+fn add_left_out_keys(
+    text: &mut Vec<u8>,
+    schema: &Schema,
+    keys: &[AttrSet],
+) -> Result<(), OutOfMemory>
+    ensures added { OnOk result (text.new.items
+        ≡ text.old.items ++ left_out_lines schema.now (schemes_of keys.now)) }
+{
+    for key in keys {
+        if !may_be_missing(schema, *key) {
+            continue;
+        }
+        add_left_out_key(text, schema, *key)?;
+    }
+    Ok(())
+}
+
+// Adds the line for such a key.
+fn add_left_out_key(text: &mut Vec<u8>, schema: &Schema, key: AttrSet) -> Result<(), OutOfMemory>
+    ensures added { OnOk result (text.new.items
+        ≡ text.old.items ++ left_out_line schema.now (attributes key)) }
+{
+    add(text, b"-- UNIQUE (")?;
+    add_name_list(text, schema, key)?;
+    add(text, b") is left out: missing values are not compared\n")
 }

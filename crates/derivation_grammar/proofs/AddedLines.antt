@@ -1,5 +1,5 @@
 -- A line is added exactly where nothing is wrong with it, and refused for its first diagnostic.
-use Rattle.std.proofs.Common.{◌≡◌, ◌<◌, ◌≤◌, ◌+◌, ◌==◌, inl, inr, ⊎_elim, ℕ, Bool, true, false, cond, List, [], ◌∷◌, ◌++◌, length, Option, Some, None, Result, Ok, Err, refl, sym, ◌∙◌, ap, subst, arith}
+use Rattle.std.proofs.Common.{◌≡◌, ◌<◌, ◌≤◌, ◌+◌, ◌==◌, inl, inr, ⊎_elim, ℕ, Bool, true, false, cond, List, [], ◌∷◌, ◌++◌, length, Option, Some, None, Result, Ok, Err, refl, sym, ◌∙◌, ap, arith}
 use Rattle.std.specs.Prelude.{All, nat_le}
 use Rattle.std.proofs.lemmas.Bool.{true≢false, cases_lt}
 use Rattle.std.proofs.lemmas.Bool.Decides.{nat_tests}
@@ -7,7 +7,7 @@ use Rattle.std.proofs.lemmas.Option.{none-some}
 use Rattle.attr_sets.specs.Attributes.{Attributes, IsSubset}
 use Rattle.dep_model.specs.declared.schema.Schema.{Schema}
 use Rattle.dep_model.specs.Dependencies.{Dependency, left_of, right_of, IsWithin}
-use Rattle.dep_model.specs.Schemas.{names_of, universe_of}
+use Rattle.dep_model.specs.Schemas.{names_of, universe_of, naming_of}
 use Rattle.derivation.specs.declared.fault.FaultKind.{FaultKind}
 use Rattle.derivation.specs.declared.measures.TheConstants.{MOST_NODES}
 use Rattle.derivation.proofs.WithinLemmas.{OfAttributes}
@@ -40,12 +40,14 @@ side_within : (s : Schema) (ms : List Mark) (x : Attributes) → IsSide format.P
 side_within s ms x (inl empty) = rw empty.nothing (λ k e. cc)
 side_within s ms x (inr words) = rw words.members (named_within (names_of s) ms)
 
-body_of_line : (s : Schema) (ms : List Mark) (b : DerivationBody) → IsLineRule (names_of s) ms b → BodyOfLine b
+body_of_line : (s : Schema) (ms : List Mark) (b : DerivationBody) → IsLineRule (names_of s) ms b
+    → BodyOfLine b
 body_of_line s ms (by_rule b) is = rule_of_attributes s ms b is
 body_of_line s ms (by_decomposition p) is = tt {0}
 body_of_line s ms (by_further r p q) is = tt {0}
 
-pub line_of_schema : (s : Schema) (text : List ℕ) (l : DerivationLine) → MeansDerivationLine (names_of s) text l
+pub line_of_schema : (s : Schema) (text : List ℕ) (l : DerivationLine)
+    → MeansDerivationLine (naming_of s) (names_of s) text l
     → IsOfSchema s l
 line_of_schema s text l means =
     let d = means.is_line.dependency in
@@ -88,7 +90,8 @@ Adds s before l (Ok next) =
     IsDerived s before l × (length before < MOST_NODES) × (next ≡ before ++ l.stated ∷ [])
 Adds s before l (Err c) = IsFirstWrong s before l c
 
-pub adds : (s : Schema) (before : List Dependency) (l : DerivationLine) → All (IsWithin (universe_of s)) before
+pub adds : (s : Schema) (before : List Dependency) (l : DerivationLine)
+    → All (IsWithin (universe_of s)) before
     → IsOfSchema s l → Adds s before l (add_line s before l)
 unfolding add_line
 adds s before l within own = by_number (l.number == length before + 1) refl
@@ -96,7 +99,8 @@ adds s before l within own = by_number (l.number == length before + 1) refl
     none_late : (j : ℕ) → j < j → ⊥
     none_late j low = omega (arith, low)
 
-    stated_is : (d : Dependency) → IsWithin (universe_of s) d → same_dependency l.stated d ≡ true → l.stated ≡ d
+    stated_is : (d : Dependency) → IsWithin (universe_of s) d → same_dependency l.stated d ≡ true
+        → l.stated ≡ d
     stated_is d inside same =
         same_there l.stated d (of_attributes s (left_of l.stated) own.stated.0)
         (of_attributes s (right_of l.stated) own.stated.1) (of_attributes s (left_of d) inside.0)
@@ -123,7 +127,8 @@ adds s before l within own = by_number (l.number == length before + 1) refl
           let wrong : ◌≡◌ {A = Option (Result Dependency FaultKind)} (Some (Ok d)) (Some (Err why)) = sym outcome ∙ fault in cc);
     }
 
-    by_rule_table : (r : Result Dependency FaultKind) → l.number ≡ length before + 1 → length before < MOST_NODES
+    by_rule_table : (r : Result Dependency FaultKind) → l.number ≡ length before + 1
+        → length before < MOST_NODES
         → outcome_of_line s before l.stated l.body ≡ Some r → Adds s before l (add_concluded before l r)
     by_rule_table (Ok d) number fits outcome = by_same d (same_dependency l.stated d) refl number fits outcome
     by_rule_table (Err why) number fits outcome = record {
@@ -163,7 +168,8 @@ adds s before l within own = by_number (l.number == length before + 1) refl
     }
 
 -- ---- what is wrong with a line is one diagnostic of each rank
-one_of_rank : (s : Schema) (before : List Dependency) (l : DerivationLine) (c d : Diagnostic) → rank c ≡ rank d
+one_of_rank : (s : Schema) (before : List Dependency) (l : DerivationLine) (c d : Diagnostic)
+    → rank c ≡ rank d
     → Wrong s before l c → Wrong s before l d → c ≡ d
 one_of_rank s before l wrong_number wrong_number e wrong other = refl
 one_of_rank s before l no_such_line no_such_line e wrong other = refl
@@ -187,7 +193,8 @@ one_of_rank s before l empty_proof d e wrong other = absurd wrong
 one_of_rank s before l c d e wrong other = absurd (omega (arith, e))
 
 -- nothing is wrong with a line that is added
-none_wrong : (s : Schema) (before : List Dependency) (l : DerivationLine) (c : Diagnostic) → IsDerived s before l
+none_wrong : (s : Schema) (before : List Dependency) (l : DerivationLine) (c : Diagnostic)
+    → IsDerived s before l
     → length before < MOST_NODES → Wrong s before l c → ⊥
 none_wrong s before l wrong_number is fits wrong = wrong is.number
 none_wrong s before l no_such_line is fits wrong = none-some _ (sym wrong ∙ is.states)

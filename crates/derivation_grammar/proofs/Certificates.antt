@@ -1,5 +1,5 @@
 -- What derived lines state is implied; and a certificate is a derivation of what it proves.
-use Rattle.std.proofs.Common.{◌≡◌, ◌≤◌, ◌+◌, ◌-◌, ◌==◌, ℕ, zero, suc, false, List, [], ◌∷◌, ◌++◌, length, Option, Some, None, Result, Ok, Err, refl, sym, ◌∙◌, ap, subst, arith}
+use Rattle.std.proofs.Common.{◌≡◌, ◌+◌, ◌-◌, ◌==◌, ℕ, zero, suc, false, List, [], ◌∷◌, ◌++◌, length, Some, Ok, refl, ◌∙◌, ap, subst, arith}
 use Rattle.std.specs.Prelude.{All, map, slice_get}
 use Rattle.std.proofs.lemmas.Bool.Decides.{nat_tests}
 use Rattle.std.proofs.lemmas.List.{length-map, map-append}
@@ -7,13 +7,14 @@ use Rattle.std.proofs.lemmas.List.Elements.{All-cons, All-head, All-tail, All-pu
 use Rattle.std.proofs.lemmas.Option.{same_Some}
 use Rattle.dep_model.specs.declared.schema.Schema.{Schema}
 use Rattle.dep_model.specs.Dependencies.{Dependency}
-use Rattle.dep_model.specs.Schemas.{names_of, ImpliedBy}
-use Rattle.derivation.specs.Trees.{Tree, leaf, step, pair, given, reflexivity, mreflexivity}
+use Rattle.dep_model.specs.Schemas.{names_of, ImpliedBy, naming_of}
+use Rattle.derivation.specs.Trees.{Tree, step, pair}
 use Rattle.derivation.specs.Table.{step_conclusion, pair_conclusion}
 use Rattle.derivation.specs.Conclusions.{Proves}
 use Rattle.derivation.proofs.ConclusionLemmas.{Proves-one}
+use Rattle.dep_model.specs.declared.naming.Naming.{Naming}
 use Rattle.proof_grammar.specs.Lines.{Body, by_given, by_reflexivity, by_mreflexivity, by_step, by_pair, Line}
-use Rattle.proof_grammar.specs.Meanings.{MeansLine, MeanLines, certificate_lines}
+use Rattle.proof_grammar.specs.Meanings.{MeanLines, certificate_lines}
 use Rattle.proof_grammar.specs.Spelling.{IsTreeAt, IsTreeOf, AreNodes, SpellsWithin}
 use Rattle.derivation_grammar.specs.Derivations.{stated_at, over_one, over_two, outcome_of_rule, outcome_of_line, AreDerived, Derives}
 use Rattle.derivation_grammar.specs.Lines.{by_rule, DerivationLine}
@@ -21,7 +22,8 @@ use Rattle.derivation_grammar.specs.Meanings.{MeanDerivationLines}
 use Rattle.derivation_grammar.proofs.OutcomeLemmas.{outcome_implied}
 
 -- ---- soundness
-lines_implied : (s : Schema) (before : List Dependency) (lines : List DerivationLine) → All (ImpliedBy s) before
+lines_implied : (s : Schema) (before : List Dependency) (lines : List DerivationLine)
+    → All (ImpliedBy s) before
     → AreDerived s before lines → All (λ l. ImpliedBy s l.stated) lines
 lines_implied s before [] all are = λ k d h. absurd (omega (arith, h))
 lines_implied s before (l ∷ ls) all are =
@@ -52,13 +54,14 @@ as_line l = record { number = l.number; stated = l.stated; body = by_rule l.body
 as_lines : List Line → List DerivationLine
 as_lines lines = map as_line lines
 
-lines_mean : (names : List (List ℕ)) (texts : List (List ℕ)) (lines : List Line) → MeanLines names texts lines
-    → MeanDerivationLines names texts (as_lines lines)
+lines_mean : (naming : Naming) (names : List (List ℕ)) (texts : List (List ℕ)) (lines : List Line)
+    → MeanLines naming names texts lines
+    → MeanDerivationLines naming names texts (as_lines lines)
 unfolding as_lines as_line
-lines_mean names [] [] mean = tt
-lines_mean names [] (l ∷ ls) mean = absurd mean
-lines_mean names (t ∷ ts) [] mean = absurd mean
-lines_mean names (t ∷ ts) (l ∷ ls) mean =
+lines_mean naming names [] [] mean = tt
+lines_mean naming names [] (l ∷ ls) mean = absurd mean
+lines_mean naming names (t ∷ ts) [] mean = absurd mean
+lines_mean naming names (t ∷ ts) (l ∷ ls) mean =
     let line = mean.0.is_line in (
       record {
         marks = mean.0.marks;
@@ -77,7 +80,7 @@ lines_mean names (t ∷ ts) (l ∷ ls) mean =
           is_rule = line.is_rule;
         };
       },
-      lines_mean names ts ls mean.1,
+      lines_mean naming names ts ls mean.1,
     )
 
 -- trees prove dependencies, one each
@@ -92,7 +95,8 @@ proved_size s [] (d ∷ ds) are = absurd are
 proved_size s (t ∷ ts) [] are = absurd are
 proved_size s (t ∷ ts) (d ∷ ds) are = ap suc (proved_size s ts ds are.1)
 
-proved_push : (s : Schema) (ts : List Tree) (ds : List Dependency) (t : Tree) (d : Dependency) → AreProved s ts ds
+proved_push : (s : Schema) (ts : List Tree) (ds : List Dependency) (t : Tree) (d : Dependency)
+    → AreProved s ts ds
     → Proves s t d → AreProved s (ts ++ t ∷ []) (ds ++ d ∷ [])
 proved_push s [] [] t d are proves = (proves, tt)
 proved_push s [] (e ∷ ds) t d are proves = absurd are
@@ -118,7 +122,8 @@ premise_stated s ts ds p t x are at proves =
     let place : p - 1 ≡ at.before = omega (arith, at.number) in
     rw (not_zero, place) (found.1 ∙ ap Some same)
 
-rule_states : (s : Schema) (ts : List Tree) (ds : List Dependency) (l : Line) (b : Body) (t : Tree) → AreProved s ts ds
+rule_states : (s : Schema) (ts : List Tree) (ds : List Dependency) (l : Line) (b : Body) (t : Tree)
+    → AreProved s ts ds
     → IsTreeOf ts l b t → Proves s t l.stated → outcome_of_rule s ds l.stated b ≡ Some (Ok l.stated)
 unfolding outcome_of_rule
 rule_states s ts ds l (by_given k) t are tree proves =
@@ -179,7 +184,8 @@ last_states s ts (l ∷ ls) (u ∷ us) t nodes =
       proves = rest.proves;
     }
 
-pub certificate_derives : (s : Schema) (text : List ℕ) (t : Tree) (d : Dependency) → SpellsWithin s text t → Proves s t d
+pub certificate_derives : (s : Schema) (text : List ℕ) (t : Tree) (d : Dependency)
+    → SpellsWithin s text t → Proves s t d
     → Derives s text d
 unfolding as_lines as_line
 certificate_derives s text t d spelled proves =
@@ -191,8 +197,8 @@ certificate_derives s text t d spelled proves =
     record {
       before = as_lines end.before;
       last = as_line end.last;
-      mean = subst (MeanDerivationLines (names_of s) (certificate_lines text)) whole
-          (lines_mean (names_of s) (certificate_lines text) lines spelled.spells.mean);
+      mean = subst (MeanDerivationLines (naming_of s) (names_of s) (certificate_lines (naming_of s) text)) whole
+          (lines_mean (naming_of s) (names_of s) (certificate_lines (naming_of s) text) lines spelled.spells.mean);
       derived = subst (AreDerived s []) whole (nodes_derived s [] [] lines (are.before ++ t ∷ []) tt are.nodes);
       lines_fit = omega (arith, spelled.lines_fit, ap length whole, length-map lines as_line);
       states = Proves-one s t end.last.stated d end.proves proves;

@@ -2,23 +2,23 @@
 use Rattle.std.specs.Prelude.{ok_or, codes}
 use Rattle.std.proofs.Common.{◌≡◌, ℕ, List, [], ◌∷◌, ◌++◌, Some, None, Ok, refl, sym, ◌∙◌, ap, subst, append_assoc}
 use Rattle.derivation.proofs.RuleTableLemmas.{some_of_ok, the_ok}
+use Rattle.dep_model.specs.declared.naming.Naming.{Naming}
 use Rattle.lexer.specs.Modes as mode
 use Rattle.lexer.specs.declared.token.TokenKind.{TokenKind}
 use Rattle.lexer.specs.declared.token.TokenKind.TheVariants as token
 use Rattle.lexer.specs.Tokens.{Mark, lex}
 use Rattle.schema_grammar.specs.declared.refusal.What.TheVariants as what
-use Rattle.schema_grammar.specs.Rests.{Rest, rest_from, take, refusal_of_token, number, arrow, refusal_at_end, side, number_in}
+use Rattle.schema_grammar.specs.Rests.{Rest, rest_from, take, refusal_of_token, number, arrow, refusal_at_end, number_in}
 use Rattle.schema_grammar.specs.Words.{is_word_token}
 use Rattle.proof_grammar.specs.declared.rule_name.RuleName.{RuleName}
 use Rattle.proof_grammar.specs.Lines.{body, stated_dependency}
-use Rattle.proof_grammar.specs.Meanings.{IsKeyword}
 use Rattle.proof_grammar.specs.Readers.{colon, rule_name}
 use Rattle.proof_grammar.specs.Tokens.{rule_named}
 use Rattle.proof_grammar.proofs.CheckedLemmas.{bind_ok}
 use Rattle.proof_grammar.proofs.LineLaws.{arrow_law, arrow_other, dependency_there, unless_there}
 use Rattle.proof_grammar.proofs.RuleLaws.{rule_there, rule_back}
 use Rattle.proof_grammar.proofs.SideLaws.{side-from}
-use Rattle.proof_grammar.proofs.TokenLaws.{Reads, reads_value, after_of, number_there, colon_there, rest_at}
+use Rattle.proof_grammar.proofs.TokenLaws.{reads_value, after_of, number_there, colon_there, rest_at}
 use Rattle.derivation_rules.specs.declared.rule.FurtherRule.{FurtherRule}
 use Rattle.derivation_rules.specs.declared.rule.FurtherRule.TheVariants as further
 use Rattle.derivation_rules.specs.FurtherRules as table
@@ -156,18 +156,20 @@ line_reads names start l e =
     })
 
 -- a line that is read means what is read
-pub line_there : (names : List (List ℕ)) (number : ℕ) (text : List ℕ) (l : DerivationLine)
-    → derivation_line names (rest_from number 1 (lex mode.numbered text)) ≡ Ok l → MeansDerivationLine names text l
-line_there names number text l e =
-    let reads = line_reads names (rest_from number 1 (lex mode.numbered text)) l e in
+pub line_there : (naming : Naming) (names : List (List ℕ)) (number : ℕ) (text : List ℕ) (l : DerivationLine)
+    → derivation_line names (rest_from number 1 (lex (mode.numbered naming) text)) ≡ Ok l
+    → MeansDerivationLine naming names text l
+line_there naming names number text l e =
+    let reads = line_reads names (rest_from number 1 (lex (mode.numbered naming) text)) l e in
     record {
-      marks = (lex mode.numbered text).marks;
-      tokens = λ i. record { marks = (lex mode.numbered text).marks; stop = reads.stop i };
+      marks = (lex (mode.numbered naming) text).marks;
+      tokens = λ i. record { marks = (lex (mode.numbered naming) text).marks; stop = reads.stop i };
       is_line = reads.is_line;
     }
 
 -- ---- back
-further_back : (f : table.Further) → (c : FurtherRule) × (further_of c ≡ f) × (line_rule_word (further_name f) ≡ Some (rule.Further c))
+further_back : (f : table.Further)
+    → (c : FurtherRule) × (further_of c ≡ f) × (line_rule_word (further_name f) ≡ Some (rule.Further c))
 unfolding line_rule_word
 further_back table.union = (further.Union, refl, refl)
 further_back table.pseudotransitivity = (further.Pseudotransitivity, refl, refl)
@@ -199,7 +201,8 @@ ten_named c token.Arrow word e = cc
 ten_named c token.DoubleArrow word e = cc
 ten_named c token.Empty word e = cc
 
-ten_back : (r next : Rest) (c : RuleName) → rule_name r ≡ Ok (c, next) → line_rule_name r ≡ Ok (rule.Certificate c, next)
+ten_back : (r next : Rest) (c : RuleName) → rule_name r ≡ Ok (c, next)
+    → line_rule_name r ≡ Ok (rule.Certificate c, next)
 unfolding line_rule_name rule_name
 ten_back r next c e =
     let t = bind_ok (take what.Rule r) _ (c, next) e in
@@ -211,7 +214,8 @@ ten_back r next c e =
     ten_named c t.0.0.kind t.0.0.word found in
     rw (t.1, named) (ap (λ (u : RuleName × Rest). Ok (rule.Certificate c, u.1)) same)
 
-rule_read : (names : List (List ℕ)) (line from : ℕ) (marks : List Mark) (b : DerivationBody) → IsLineRule names marks b
+rule_read : (names : List (List ℕ)) (line from : ℕ) (marks : List Mark) (b : DerivationBody)
+    → IsLineRule names marks b
     → RuleRead names line from marks b
 unfolding derivation_body line_rule_name number take
 rule_read names line from marks (by_rule b) is =
@@ -241,7 +245,8 @@ rule_read names line from marks (by_further f p q) is =
     }
 
 -- tokens that are a line are read as it, from any column
-marks_read : (names : List (List ℕ)) (at from : ℕ) (ms : List Mark) (l : DerivationLine) → IsDerivationLine names ms l
+marks_read : (names : List (List ℕ)) (at from : ℕ) (ms : List Mark) (l : DerivationLine)
+    → IsDerivationLine names ms l
     → derivation_line names (rest_at at from ms) ≡ Ok l
 unfolding derivation_line derivation_line_from stated_dependency arrow take colon refusal_at_end
 marks_read names at from ms l is =
@@ -269,7 +274,8 @@ marks_read names at from ms l is =
     (ap (λ z. Ok (record { number = l.number; stated = z; body = l.body })) (sym d.states))
 
 -- and a line that has a meaning is read as it
-pub line_back : (names : List (List ℕ)) (number : ℕ) (text : List ℕ) (l : DerivationLine)
-    → MeansDerivationLine names text l → derivation_line names (rest_from number 1 (lex mode.numbered text)) ≡ Ok l
-line_back names at text l means =
+pub line_back : (naming : Naming) (names : List (List ℕ)) (number : ℕ) (text : List ℕ) (l : DerivationLine)
+    → MeansDerivationLine naming names text l
+    → derivation_line names (rest_from number 1 (lex (mode.numbered naming) text)) ≡ Ok l
+line_back naming names at text l means =
     ap (λ t. derivation_line names (rest_from at 1 t)) means.tokens ∙ marks_read names at 1 means.marks l means.is_line

@@ -1,5 +1,5 @@
 -- What the rule of a line gives, where what lines before state is implied, or lies within the universe.
-use Rattle.std.proofs.Common.{◌≡◌, ◌-◌, ◌==◌, ℕ, Bool, true, false, cond, List, Option, Some, None, Result, Ok, Err, refl, arith}
+use Rattle.std.proofs.Common.{◌≡◌, ◌-◌, ◌==◌, ℕ, Bool, true, false, cond, List, Option, Some, None, Result, Ok, Err, refl}
 use Rattle.std.specs.Prelude.{All, slice_get}
 use Rattle.std.proofs.lemmas.List.Elements.{All-contains}
 use Rattle.std.proofs.lemmas.Option.{same_Some, slice_get_within, get_or_from_slice_get}
@@ -43,7 +43,8 @@ over_two_some f None u r e = cc
 over_two_some f (Some x) None r e = cc
 over_two_some f (Some x) (Some y) r e = (x, y, refl, refl, same_Some (f x y) r e)
 
-given_leaf : (s : Schema) (k : ℕ) (d : Dependency) → given_conclusion s k ≡ Ok d → leaf_conclusion s (given (k - 1)) ≡ Ok d
+given_leaf : (s : Schema) (k : ℕ) (d : Dependency) → given_conclusion s k ≡ Ok d
+    → leaf_conclusion s (given (k - 1)) ≡ Ok d
 given_leaf s k d h = by_cases (k == 0) h
   where
     by_cases : (b : Bool) → cond b (Err NoSuchGiven) (leaf_conclusion s (given (k - 1))) ≡ Ok d

@@ -2,7 +2,6 @@
 use Rattle.std.proofs.Common.{◌≡◌, ℕ, Bool, true, false, cond, List, Option, Some, None, refl, sym, ◌∙◌, ap, subst}
 use Rattle.std.specs.Prelude.{codes, option_map}
 use Rattle.std.specs.Str.{bytes_eq}
-use Rattle.std.proofs.lemmas.Bool.{true≢false}
 use Rattle.std.proofs.lemmas.Option.{none-some, same_Some}
 use Rattle.std.proofs.lemmas.Slice.Eq.{bytes_eq-Decides}
 use Rattle.proof_grammar.specs.declared.rule_name.RuleName.{RuleName}
@@ -20,7 +19,8 @@ Named word (rule.Certificate c) = rule_word word ≡ Some c
 Named word rule.Decomposition = word ≡ codes "decomposition"
 Named word (rule.Further f) = word ≡ further_name (further_of f)
 
-peel : (P : LineRule → Type 0) (b : Bool) (first x : LineRule) (others : Option LineRule) → (b ≡ true → P first)
+peel : (P : LineRule → Type 0) (b : Bool) (first x : LineRule) (others : Option LineRule)
+    → (b ≡ true → P first)
     → (others ≡ Some x → P x) → cond b (Some first) others ≡ Some x → P x
 peel P true first x others here more e = subst P (same_Some first x e) (here refl)
 peel P false first x others here more e = more e

@@ -1,10 +1,9 @@
 -- A line of a derivation is read as the line of a certificate that has one of the ten in the place of a
 -- further rule.
 use Rattle.std.proofs.Common.{◌≡◌, ◌+◌, ℕ, suc, Bool, true, false, cond, List, [], ◌∷◌, Option, Some, None, Result, Ok, Err, refl, sym, ◌∙◌, ap}
-use Rattle.std.specs.Prelude.{ok_or, option_map, codes}
+use Rattle.std.specs.Prelude.{ok_or, option_map}
 use Rattle.std.proofs.lemmas.Option.{none-some}
 use Rattle.attr_sets.specs.Attributes.{Attributes, only, union}
-use Rattle.dep_model.specs.Dependencies.{Dependency}
 use Rattle.derivation.specs.Trees.{complementation, transitivity}
 use Rattle.lexer.specs.declared.token.LexError.{LexError}
 use Rattle.lexer.specs.declared.token.TokenKind.{TokenKind}
@@ -12,8 +11,7 @@ use Rattle.lexer.specs.declared.token.TokenKind.TheVariants as token
 use Rattle.lexer.specs.Tokens.{Mark}
 use Rattle.schema_grammar.specs.declared.refusal.SchemaRefusal.{SchemaRefusal}
 use Rattle.schema_grammar.specs.declared.refusal.What.TheVariants as what
-use Rattle.schema_grammar.specs.declared.symbol.Sign.{Sign}
-use Rattle.schema_grammar.specs.Rests.{Rest, ◌>>=◌, take, refusal_of_token, number, number_in, arrow, arrow_in, attribute_of_word, words_from, side, refusal_at_end, unless}
+use Rattle.schema_grammar.specs.Rests.{Rest, ◌>>=◌, take, refusal_of_token, number, arrow, attribute_of_word, words_from, side, refusal_at_end, unless}
 use Rattle.proof_grammar.specs.declared.rule_name.RuleName.{RuleName}
 use Rattle.proof_grammar.specs.declared.rule_name.RuleName.TheVariants as ten
 use Rattle.proof_grammar.specs.Lines.{Body, by_step, by_pair, Line, body, one_premise, two_premises, stated_dependency, certificate_line, certificate_line_from}
@@ -22,8 +20,8 @@ use Rattle.proof_grammar.specs.Tokens.{is_colon, rule_word, rule_named}
 use Rattle.proof_grammar.proofs.TokenLaws.{named_back}
 use Rattle.derivation_grammar.specs.declared.line_rule.LineRule.{LineRule}
 use Rattle.derivation_grammar.specs.declared.line_rule.LineRule.TheVariants as rule
-use Rattle.derivation_grammar.specs.Lines.{DerivationBody, by_rule, by_decomposition, by_further, DerivationLine, line_rule_word, line_rule_named, line_rule_name, derivation_body, derivation_line, derivation_line_from}
-use Rattle.derivation_grammar.specs.LineDiagnostics.{stand_in, stand_in_token, as_certificate}
+use Rattle.derivation_grammar.specs.Lines.{DerivationBody, by_rule, by_decomposition, by_further, DerivationLine, line_rule_word, line_rule_name, derivation_body, derivation_line, derivation_line_from}
+use Rattle.derivation_grammar.specs.LineDiagnostics.{stand_in, as_certificate}
 use Rattle.derivation_grammar.proofs.RuleWords.{word_names, certificate_word}
 
 -- ---- what stands in the place of what
@@ -155,7 +153,8 @@ side_same names n r = by_cases r.marks r.stop
     by_cases [] (Some stop) = refl
     by_cases (m ∷ ms) stop = by_kind m.kind
       where
-        later : (a : ℕ) → words_from names r.line (only a) (m.column + m.length) (as_certificate (suc n) ms) stop
+        later : (a : ℕ)
+            → words_from names r.line (only a) (m.column + m.length) (as_certificate (suc n) ms) stop
             ≡ map_ok (after_ten (suc n)) (words_from names r.line (only a) (m.column + m.length) ms stop)
         later a = words_same names r.line n (only a) (m.column + m.length) ms stop
 
@@ -230,14 +229,16 @@ body_same : (names : List (List ℕ)) (x : LineRule) (r : Rest)
 unfolding body one_premise two_premises derivation_body ten_body
 body_same names (rule.Certificate c) r = by_cases (body names c r)
   where
-    by_cases : (b : Result (Body × Rest) SchemaRefusal) → b ≡ map_ok ten_body (b >>= λ x. Ok (by_rule x.0, x.1))
+    by_cases : (b : Result (Body × Rest) SchemaRefusal)
+        → b ≡ map_ok ten_body (b >>= λ x. Ok (by_rule x.0, x.1))
     by_cases (Ok b) = refl
     by_cases (Err e) = refl
 body_same names rule.Decomposition r = bind_same (number r) _ _ _ (λ p. refl)
 body_same names (rule.Further f) r = bind_same (number r) _ _ _ (λ p. bind_same (number p.1) _ _ _ (λ q. refl))
 
 -- ---- the line
-ends_same : (o : Option SchemaRefusal) (l : DerivationLine) → unless o (line_by_ten l) ≡ map_ok line_by_ten (unless o l)
+ends_same : (o : Option SchemaRefusal) (l : DerivationLine)
+    → unless o (line_by_ten l) ≡ map_ok line_by_ten (unless o l)
 ends_same None l = refl
 ends_same (Some e) l = refl
 
@@ -268,7 +269,8 @@ line_same names r = by_cases r.marks r.stop
     by_cases [] (Some stop) = refl
     by_cases (m ∷ ms) stop = by_kind m.kind
       where
-        by_kind : (k : TokenKind) → certificate_line names (rest_by_ten 2 (rest_with r (of_kind k m ∷ ms) stop))
+        by_kind : (k : TokenKind)
+            → certificate_line names (rest_by_ten 2 (rest_with r (of_kind k m ∷ ms) stop))
             ≡ map_ok line_by_ten (derivation_line names (rest_with r (of_kind k m ∷ ms) stop))
         by_kind token.Identifier = refl
         by_kind token.Quoted = refl

@@ -1,9 +1,9 @@
 -- The reading of lines that are derived comes to what they state.
-use Rattle.std.proofs.Common.{◌≡◌, ◌<◌, ◌≤◌, ◌+◌, ℕ, suc, Bool, true, false, List, [], ◌∷◌, ◌++◌, length, refl, sym, ◌∙◌, ap, subst, arith, length-append, append_assoc}
+use Rattle.std.proofs.Common.{◌≡◌, ◌<◌, ◌≤◌, ◌+◌, ℕ, suc, Bool, false, List, [], ◌∷◌, ◌++◌, length, refl, sym, ◌∙◌, ap, subst, arith, length-append, append_assoc}
 use Rattle.std.proofs.lemmas.List.{append-nil}
 use Rattle.dep_model.specs.declared.schema.Schema.{Schema}
 use Rattle.dep_model.specs.Dependencies.{Dependency}
-use Rattle.dep_model.specs.Schemas.{names_of}
+use Rattle.dep_model.specs.Schemas.{names_of, naming_of}
 use Rattle.derivation.specs.declared.measures.TheConstants.{MOST_NODES}
 use Rattle.lexer.specs.Modes as mode
 use Rattle.lexer.specs.Tokens.{lex}
@@ -16,7 +16,7 @@ use Rattle.derivation_grammar.specs.Derivations.{AreDerived}
 use Rattle.derivation_grammar.specs.Lines.{DerivationLine}
 use Rattle.derivation_grammar.specs.Meanings.{MeanDerivationLines}
 use Rattle.derivation_grammar.specs.Refusals.{stated_by}
-use Rattle.derivation_grammar.specs.Texts.{read_as, read_one, read_lines}
+use Rattle.derivation_grammar.specs.Texts.{read_one, read_lines}
 use Rattle.derivation_grammar.proofs.AddedLines.{derived_added}
 use Rattle.derivation_grammar.proofs.LineLaws.{line_back}
 
@@ -24,47 +24,49 @@ use Rattle.derivation_grammar.proofs.LineLaws.{line_back}
 pub record IsWalked (s : Schema) (fresh : Bool) (number : ℕ) (before : List Dependency) (texts after : List (List ℕ))
     (lines : List DerivationLine) : Type 0 where
   pub still : Bool
-  pub counts : (rest : List (List ℕ)) → lines_to_read fresh (texts ++ rest) ≡ lines_to_read fresh texts ++ lines_to_read still rest
+  pub counts : (rest : List (List ℕ))
+      → lines_to_read (naming_of s) fresh (texts ++ rest) ≡ lines_to_read (naming_of s) fresh texts ++ lines_to_read (naming_of s) still rest
   pub same : read_lines s fresh number before (texts ++ after)
       ≡ read_lines s still (number + length texts) (before ++ stated_by lines) after
 
 abbrev pub Walks : Schema → List (List ℕ) → List (List ℕ) → Type 0
 Walks s texts after =
     (fresh : Bool) (number : ℕ) (before : List Dependency) (lines : List DerivationLine)
-    → MeanDerivationLines (names_of s) (lines_to_read fresh texts) lines → AreDerived s before lines
+    → MeanDerivationLines (naming_of s) (names_of s) (lines_to_read (naming_of s) fresh texts) lines
+    → AreDerived s before lines
     → length before + length lines ≤ MOST_NODES → IsWalked s fresh number before texts after lines
 
 -- one line of the text earlier
 walk_more : (k : LineKind) (s : Schema) (here : List ℕ) (texts after : List (List ℕ)) (fresh : Bool) (number : ℕ)
-    (before : List Dependency) (lines : List DerivationLine) → line_kind fresh (lex mode.numbered here) ≡ k
-    → Counts k fresh here → Walks s texts after
-    → MeanDerivationLines (names_of s) (lines_to_read fresh (here ∷ texts)) lines → AreDerived s before lines
+    (before : List Dependency) (lines : List DerivationLine) → line_kind fresh (lex (mode.numbered (naming_of s)) here) ≡ k
+    → Counts (naming_of s) k fresh here → Walks s texts after
+    → MeanDerivationLines (naming_of s) (names_of s) (lines_to_read (naming_of s) fresh (here ∷ texts)) lines → AreDerived s before lines
     → length before + length lines ≤ MOST_NODES → IsWalked s fresh number before (here ∷ texts) after lines
 unfolding read_lines read_one
 walk_more Blank s here texts after fresh number before lines is counts on mean derived fit =
-    let of : List (List ℕ) → Type 0 = λ ls. MeanDerivationLines (names_of s) ls lines in
+    let of : List (List ℕ) → Type 0 = λ ls. MeanDerivationLines (naming_of s) (names_of s) ls lines in
     let w = on fresh (number + 1) before lines (subst of (counts texts) mean) derived fit in
     let size : number + 1 + length texts ≡ number + suc (length texts) = omega arith in
     record {
       still = w.still;
       counts = λ rest. counts (texts ++ rest) ∙ w.counts rest
-          ∙ ap (λ (ls : List (List ℕ)). ls ++ lines_to_read w.still rest) (sym (counts texts));
+          ∙ ap (λ (ls : List (List ℕ)). ls ++ lines_to_read (naming_of s) w.still rest) (sym (counts texts));
       same = rw is (w.same ∙ ap (λ n. read_lines s w.still n (before ++ stated_by lines) after) size);
     }
 walk_more Opening s here texts after fresh number before lines is counts on mean derived fit =
-    let of : List (List ℕ) → Type 0 = λ ls. MeanDerivationLines (names_of s) ls lines in
+    let of : List (List ℕ) → Type 0 = λ ls. MeanDerivationLines (naming_of s) (names_of s) ls lines in
     let w = on false (number + 1) before lines (subst of (counts texts) mean) derived fit in
     let size : number + 1 + length texts ≡ number + suc (length texts) = omega arith in
     record {
       still = w.still;
       counts = λ rest. counts (texts ++ rest) ∙ w.counts rest
-          ∙ ap (λ (ls : List (List ℕ)). ls ++ lines_to_read w.still rest) (sym (counts texts));
+          ∙ ap (λ (ls : List (List ℕ)). ls ++ lines_to_read (naming_of s) w.still rest) (sym (counts texts));
       same = rw is (w.same ∙ ap (λ n. read_lines s w.still n (before ++ stated_by lines) after) size);
     }
 walk_more Certificate s here texts after fresh number before [] is counts on mean derived fit =
-    absurd (subst (λ (ls : List (List ℕ)). MeanDerivationLines (names_of s) ls []) (counts texts) mean)
+    absurd (subst (λ (ls : List (List ℕ)). MeanDerivationLines (naming_of s) (names_of s) ls []) (counts texts) mean)
 walk_more Certificate s here texts after fresh number before (l ∷ lines) is counts on mean derived fit =
-    let of : List (List ℕ) → Type 0 = λ ls. MeanDerivationLines (names_of s) ls (l ∷ lines) in
+    let of : List (List ℕ) → Type 0 = λ ls. MeanDerivationLines (naming_of s) (names_of s) ls (l ∷ lines) in
     let means = subst of (counts texts) mean in
     let next = before ++ l.stated ∷ [] in
     let room : length before < MOST_NODES = omega (arith, fit) in
@@ -77,8 +79,8 @@ walk_more Certificate s here texts after fresh number before (l ∷ lines) is co
       still = w.still;
       counts = λ rest. counts (texts ++ rest)
           ∙ ap (λ (ls : List (List ℕ)). here ∷ ls) (w.counts rest)
-          ∙ ap (λ (ls : List (List ℕ)). ls ++ lines_to_read w.still rest) (sym (counts texts));
-      same = rw (is, line_back (names_of s) number here l means.0, derived_added s before l derived.0 room)
+          ∙ ap (λ (ls : List (List ℕ)). ls ++ lines_to_read (naming_of s) w.still rest) (sym (counts texts));
+      same = rw (is, line_back (naming_of s) (names_of s) number here l means.0, derived_added s before l derived.0 room)
           (w.same
           ∙ ap (λ n. read_lines s w.still n (next ++ stated_by lines) after) size
           ∙ ap (λ (ds : List Dependency). read_lines s w.still (number + suc (length texts)) ds after) whole);
@@ -89,12 +91,12 @@ walk s [] after fresh number before [] mean derived fit =
     let size : number ≡ number + 0 = omega arith in
     record {
       still = fresh;
-      counts = λ rest. ap (λ (ls : List (List ℕ)). ls ++ lines_to_read fresh rest) (sym (nothing_counts fresh));
+      counts = λ rest. ap (λ (ls : List (List ℕ)). ls ++ lines_to_read (naming_of s) fresh rest) (sym (nothing_counts (naming_of s) fresh));
       same = ap (λ n. read_lines s fresh n before after) size
           ∙ ap (λ (ds : List Dependency). read_lines s fresh (number + 0) ds after) (sym (append-nil before));
     }
 walk s [] after fresh number before (l ∷ lines) mean derived fit =
-    absurd (subst (λ (ls : List (List ℕ)). MeanDerivationLines (names_of s) ls (l ∷ lines)) (nothing_counts fresh) mean)
+    absurd (subst (λ (ls : List (List ℕ)). MeanDerivationLines (naming_of s) (names_of s) ls (l ∷ lines)) (nothing_counts (naming_of s) fresh) mean)
 walk s (here ∷ texts) after fresh number before lines mean derived fit =
-    walk_more (line_kind fresh (lex mode.numbered here)) s here texts after fresh number before lines refl
-    (kind_counts fresh here _ refl) (walk s texts after) mean derived fit
+    walk_more (line_kind fresh (lex (mode.numbered (naming_of s)) here)) s here texts after fresh number before lines refl
+    (kind_counts (naming_of s) fresh here _ refl) (walk s texts after) mean derived fit

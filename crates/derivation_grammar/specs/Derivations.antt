@@ -2,7 +2,7 @@
 use Rattle.std.specs.Prelude.{◌≡◌, ◌≤◌, ℕ, ◌+◌, ◌-◌, ◌==◌, if◌then◌else◌, List, [], ◌∷◌, ◌++◌, length, slice_get, Option, None, Some, Result, Ok, Err}
 use Rattle.dep_model.specs.declared.schema.Schema.{Schema}
 use Rattle.dep_model.specs.Dependencies.{Dependency, left_of, right_of}
-use Rattle.dep_model.specs.Schemas.{names_of}
+use Rattle.dep_model.specs.Schemas.{names_of, naming_of}
 use Rattle.derivation.specs.declared.fault.FaultKind.{FaultKind}
 use Rattle.derivation.specs.declared.fault.FaultKind.TheVariants.{NoSuchGiven}
 use Rattle.derivation.specs.declared.measures.TheConstants.{MOST_NODES}
@@ -29,13 +29,15 @@ abbrev pub over_one : (Dependency → Result Dependency FaultKind) → Option De
 over_one rule None = None
 over_one rule (Some x) = Some (rule x)
 
-abbrev pub over_two : (Dependency → Dependency → Result Dependency FaultKind) → Option Dependency → Option Dependency
+abbrev pub over_two : (Dependency → Dependency → Result Dependency FaultKind) → Option Dependency
+    → Option Dependency
     → Option (Result Dependency FaultKind)
 over_two rule (Some x) (Some y) = Some (rule x y)
 over_two rule _ _ = None
 
 -- what a rule of certificates gives, over what the lines before state
-unfoldable pub outcome_of_rule : Schema → List Dependency → Dependency → Body → Option (Result Dependency FaultKind)
+unfoldable pub outcome_of_rule : Schema → List Dependency → Dependency → Body
+    → Option (Result Dependency FaultKind)
 outcome_of_rule s before stated (by_given k) = Some (given_conclusion s k)
 outcome_of_rule s before stated by_reflexivity =
     Some (leaf_conclusion s (reflexivity (left_of stated) (right_of stated)))
@@ -69,7 +71,8 @@ AreDerived s before (l ∷ ls) = IsDerived s before l × AreDerived s (before ++
 pub record Derives (s : Schema) (text : List ℕ) (d : Dependency) : Type 0 where
   pub before : List DerivationLine
   pub last : DerivationLine
-  pub mean : MeanDerivationLines (names_of s) (certificate_lines text) (before ++ last ∷ [])
+  pub mean : MeanDerivationLines (naming_of s) (names_of s) (certificate_lines (naming_of s) text)
+      (before ++ last ∷ [])
   pub derived : AreDerived s [] (before ++ last ∷ [])
   pub lines_fit : length (before ++ last ∷ []) ≤ MOST_NODES
   pub states : last.stated ≡ d

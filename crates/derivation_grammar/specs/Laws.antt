@@ -6,6 +6,7 @@ use Rattle.dep_model.specs.Dependencies.{Dependency}
 use Rattle.dep_model.specs.Schemas.{ImpliedBy}
 use Rattle.derivation.specs.Conclusions.{Proves}
 use Rattle.derivation.specs.Trees.{Tree}
+use Rattle.dep_model.specs.declared.naming.Naming.{Naming}
 use Rattle.lexer.specs.Modes as mode
 use Rattle.lexer.specs.Tokens.{lex}
 use Rattle.schema_grammar.specs.declared.refusal.SchemaRefusal.{SchemaRefusal}
@@ -23,20 +24,21 @@ use Rattle.derivation_grammar.specs.Texts.{read_derivation}
 -- a line is read exactly as what it means
 abbrev pub LineMeaning : Type 0
 LineMeaning =
-    (names : List (List ℕ)) (number : ℕ) (text : List ℕ) (l : DerivationLine)
-    → (derivation_line names (rest_from number 1 (lex mode.numbered text)) ≡ Ok l)
-    ↔ MeansDerivationLine names text l
+    (naming : Naming) (names : List (List ℕ)) (number : ℕ) (text : List ℕ) (l : DerivationLine)
+    → (derivation_line names (rest_from number 1 (lex (mode.numbered naming) text)) ≡ Ok l)
+    ↔ MeansDerivationLine naming names text l
 
 -- the reading of a line refuses it exactly as the grammar does
 abbrev pub LineRefusal : Type 0
 LineRefusal =
-    (names : List (List ℕ)) (number : ℕ) (text : List ℕ) (e : SchemaRefusal)
-    → (derivation_line names (rest_from number 1 (lex mode.numbered text)) ≡ Err e)
-    ↔ RefusesDerivationLine names number text e
+    (naming : Naming) (names : List (List ℕ)) (number : ℕ) (text : List ℕ) (e : SchemaRefusal)
+    → (derivation_line names (rest_from number 1 (lex (mode.numbered naming) text)) ≡ Err e)
+    ↔ RefusesDerivationLine naming names number text e
 
 -- a text is read exactly as what it derives
 abbrev pub DerivationReading : Type 0
-DerivationReading = (s : Schema) (text : List ℕ) (d : Dependency) → (read_derivation s text ≡ Ok d) ↔ Derives s text d
+DerivationReading = (s : Schema) (text : List ℕ) (d : Dependency)
+    → (read_derivation s text ≡ Ok d) ↔ Derives s text d
 
 -- the reading of a text refuses it exactly as the definition does
 abbrev pub DerivationRefusal : Type 0
@@ -67,5 +69,5 @@ DerivedIsImplied = (s : Schema) (text : List ℕ) (d : Dependency) → Derives s
 
 -- a certificate is a derivation of what it proves
 abbrev pub CertificateIsDerivation : Type 0
-CertificateIsDerivation = (s : Schema) (text : List ℕ) (t : Tree) (d : Dependency) → SpellsWithin s text t → Proves s t d
-    → Derives s text d
+CertificateIsDerivation = (s : Schema) (text : List ℕ) (t : Tree) (d : Dependency)
+    → SpellsWithin s text t → Proves s t d → Derives s text d

@@ -1,6 +1,7 @@
 -- How the grammar refuses a line of a derivation: as that of certificates does, where the name of a
 -- further rule counts as one of the ten with as many premises. For `Refusals`.
 use Rattle.std.specs.Prelude.{ℕ, suc, zero, if◌then◌else◌, List, [], ◌∷◌, Option, Some, codes}
+use Rattle.dep_model.specs.declared.naming.Naming.{Naming}
 use Rattle.lexer.specs.Modes as mode
 use Rattle.lexer.specs.Tokens.{Mark, lex}
 use Rattle.schema_grammar.specs.declared.refusal.SchemaRefusal.{SchemaRefusal}
@@ -31,6 +32,6 @@ as_certificate zero (m ∷ ms) = stand_in_token m ∷ ms
 as_certificate (suc n) (m ∷ ms) = m ∷ as_certificate (if is_colon m.kind then n else suc n) ms
 
 -- the line of this number of a derivation's text is refused so
-abbrev pub RefusesDerivationLine : List (List ℕ) → ℕ → List ℕ → SchemaRefusal → Type 0
-RefusesDerivationLine names line text e =
-    RefusesTokens names line (as_certificate 2 (lex mode.numbered text).marks) (lex mode.numbered text).stop e
+abbrev pub RefusesDerivationLine : Naming → List (List ℕ) → ℕ → List ℕ → SchemaRefusal → Type 0
+RefusesDerivationLine naming names line text e =
+    let l = lex (mode.numbered naming) text in RefusesTokens names line (as_certificate 2 l.marks) l.stop e

@@ -56,7 +56,8 @@ line_rule_name r = do
   Ok (n, t.1)
 
 -- what follows the name of this rule: for a further one, the numbers of its premises
-unfoldable pub derivation_body : List (List ℕ) → LineRule → Rest → Result (DerivationBody × Rest) SchemaRefusal
+unfoldable pub derivation_body : List (List ℕ) → LineRule → Rest
+    → Result (DerivationBody × Rest) SchemaRefusal
 derivation_body names (rule.Certificate r) start = do
   b ← body names r start
   Ok (by_rule b.0, b.1)

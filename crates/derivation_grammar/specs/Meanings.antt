@@ -1,5 +1,6 @@
 -- What the lines of a derivation mean, by their grammar: for what a text derives (`Derivations`).
 use Rattle.std.specs.Prelude.{◌≡◌, ℕ, List, [], ◌∷◌, ◌++◌, codes}
+use Rattle.dep_model.specs.declared.naming.Naming.{Naming}
 use Rattle.lexer.specs.Modes as mode
 use Rattle.lexer.specs.Tokens.{Mark, lex}
 use Rattle.schema_grammar.specs.declared.format.Format.TheVariants as format
@@ -56,14 +57,15 @@ pub record IsDerivationLine (names : List (List ℕ)) (ms : List Mark) (l : Deri
   pub is_rule : IsLineRule names rule l.body
 
 -- a text has the tokens of a line
-pub record MeansDerivationLine (names : List (List ℕ)) (text : List ℕ) (l : DerivationLine) : Type 0 where
+pub record MeansDerivationLine (naming : Naming) (names : List (List ℕ)) (text : List ℕ)
+    (l : DerivationLine) : Type 0 where
   pub marks : List Mark
-  pub tokens : HasTokens (lex mode.numbered text) marks
+  pub tokens : HasTokens (lex (mode.numbered naming) text) marks
   pub is_line : IsDerivationLine names marks l
 
 -- each text means its line
-abbrev pub MeanDerivationLines : List (List ℕ) → List (List ℕ) → List DerivationLine → Type 0
-MeanDerivationLines names [] [] = Unit {0}
-MeanDerivationLines names (text ∷ texts) (l ∷ ls) =
-    MeansDerivationLine names text l × MeanDerivationLines names texts ls
-MeanDerivationLines names _ _ = ⊥
+abbrev pub MeanDerivationLines : Naming → List (List ℕ) → List (List ℕ) → List DerivationLine → Type 0
+MeanDerivationLines naming names [] [] = Unit {0}
+MeanDerivationLines naming names (text ∷ texts) (l ∷ ls) =
+    MeansDerivationLine naming names text l × MeanDerivationLines naming names texts ls
+MeanDerivationLines naming names _ _ = ⊥

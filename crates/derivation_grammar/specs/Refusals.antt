@@ -3,8 +3,9 @@
 use Rattle.std.specs.Prelude.{◌≡◌, ◌⊎◌, ◌≤◌, ℕ, ◌+◌, List, [], length, map, None, Some, Ok, Err}
 use Rattle.dep_model.specs.declared.schema.Schema.{Schema}
 use Rattle.dep_model.specs.Dependencies.{Dependency}
-use Rattle.dep_model.specs.Schemas.{names_of}
+use Rattle.dep_model.specs.Schemas.{names_of, naming_of}
 use Rattle.derivation.specs.declared.measures.TheConstants.{MOST_NODES}
+use Rattle.dep_model.specs.declared.naming.Naming.{Naming}
 use Rattle.lexer.specs.Lines.{line_texts, without_mark}
 use Rattle.schema_grammar.specs.declared.refusal.SchemaRefusal.{SchemaRefusal}
 use Rattle.proof_grammar.specs.declared.refusal.ProofRefusal.{ProofRefusal}
@@ -40,15 +41,16 @@ pub record IsFirstWrong (s : Schema) (before : List Dependency) (l : DerivationL
   pub first : (other : Diagnostic) → Wrong s before l other → rank c ≤ rank other
 
 -- the line breaks the grammar: it is refused by its first diagnostic
-pub record IsBadLine (names : List (List ℕ)) (here : List ℕ) (at : ℕ) (c : Diagnostic) : Type 0 where
+pub record IsBadLine (naming : Naming) (names : List (List ℕ)) (here : List ℕ) (at : ℕ) (c : Diagnostic)
+    : Type 0 where
   pub refusal : SchemaRefusal
-  pub grammar : RefusesDerivationLine names at here refusal
+  pub grammar : RefusesDerivationLine naming names at here refusal
   pub is : c ≡ bad_line refusal
 
 -- or it means a line, with which something is wrong
 pub record IsWrongLine (s : Schema) (lines : List DerivationLine) (here : List ℕ) (c : Diagnostic) : Type 0 where
   pub line : DerivationLine
-  pub means : MeansDerivationLine (names_of s) here line
+  pub means : MeansDerivationLine (naming_of s) (names_of s) here line
   pub wrong : IsFirstWrong s (stated_by lines) line c
 
 -- lines are derived, and within the limit
@@ -60,22 +62,23 @@ pub record AreRead (s : Schema) (lines : List DerivationLine) : Type 0 where
 pub record IsRefusedAt (s : Schema) (text : List ℕ) (e : LineDiagnostic) : Type 0 where
   pub before : List (List ℕ)
   pub here : List ℕ
-  pub stands : StandsAt text before here e.line
+  pub stands : StandsAt (naming_of s) text before here e.line
   pub lines : List DerivationLine
-  pub mean : MeanDerivationLines (names_of s) (certificate_lines_of before) lines
+  pub mean : MeanDerivationLines (naming_of s) (names_of s) (certificate_lines_of (naming_of s) before) lines
   pub read : AreRead s lines
-  pub why : IsBadLine (names_of s) here e.line e.diagnostic ⊎ IsWrongLine s lines here e.diagnostic
+  pub why : IsBadLine (naming_of s) (names_of s) here e.line e.diagnostic
+      ⊎ IsWrongLine s lines here e.diagnostic
 
 -- ---- at the end
 -- there is no line; this is refused at the last line of the text
-pub record IsEmpty (text : List ℕ) (e : LineDiagnostic) : Type 0 where
-  pub none : certificate_lines text ≡ []
+pub record IsEmpty (naming : Naming) (text : List ℕ) (e : LineDiagnostic) : Type 0 where
+  pub none : certificate_lines naming text ≡ []
   pub at : e.line ≡ length (line_texts (without_mark text))
   pub is : e.diagnostic ≡ empty_proof
 
 -- a derivation is refused so
 abbrev pub IsRefusedDerivation : Schema → List ℕ → LineDiagnostic → Type 0
-IsRefusedDerivation s text e = IsRefusedAt s text e ⊎ IsEmpty text e
+IsRefusedDerivation s text e = IsRefusedAt s text e ⊎ IsEmpty (naming_of s) text e
 
 -- the same of a refusal
 abbrev pub RefusesDerivation : Schema → List ℕ → ProofRefusal → Type 0

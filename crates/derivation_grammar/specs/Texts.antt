@@ -3,7 +3,7 @@
 use Rattle.std.specs.Prelude.{ℕ, ◌+◌, ◌-◌, ◌==◌, Bool, true, false, if◌then◌else◌, nat_le, List, [], ◌∷◌, ◌++◌, length, slice_get, Option, None, Some, Result, Ok, Err}
 use Rattle.dep_model.specs.declared.schema.Schema.{Schema}
 use Rattle.dep_model.specs.Dependencies.{Dependency}
-use Rattle.dep_model.specs.Schemas.{names_of}
+use Rattle.dep_model.specs.Schemas.{names_of, naming_of}
 use Rattle.derivation.specs.declared.fault.FaultKind.{FaultKind}
 use Rattle.derivation.specs.declared.measures.TheConstants.{MOST_NODES}
 use Rattle.lexer.specs.Modes as mode
@@ -41,18 +41,20 @@ add_line s before l = if l.number == length before + 1
 
 -- ---- a text
 -- what lines state after a line of this kind, and whether a `yes` may still come
-abbrev pub read_as : LineKind → Schema → Bool → ℕ → List Dependency → List ℕ → Result (Bool × List Dependency) Diagnostic
+abbrev pub read_as : LineKind → Schema → Bool → ℕ → List Dependency → List ℕ
+    → Result (Bool × List Dependency) Diagnostic
 read_as Blank s fresh number before text = Ok (fresh, before)
 read_as Opening s fresh number before text = Ok (false, before)
 read_as Certificate s fresh number before text =
-    in_line (derivation_line (names_of s) (rest_from number 1 (lex mode.numbered text)))
+    in_line (derivation_line (names_of s) (rest_from number 1 (lex (mode.numbered (naming_of s)) text)))
     >>= λ l. add_line s before l
     >>= λ next. Ok (false, next)
 
 -- what lines state after one line of the text more, and whether a `yes` may still come
-unfoldable pub read_one : Schema → Bool → ℕ → List Dependency → List ℕ → Result (Bool × List Dependency) Diagnostic
+unfoldable pub read_one : Schema → Bool → ℕ → List Dependency → List ℕ
+    → Result (Bool × List Dependency) Diagnostic
 read_one s fresh number before text =
-    read_as (line_kind fresh (lex mode.numbered text)) s fresh number before text
+    read_as (line_kind fresh (lex (mode.numbered (naming_of s)) text)) s fresh number before text
 
 -- what the last line states, or the end where there is none
 abbrev pub last_stated : ℕ → Option Dependency → Result Dependency LineDiagnostic
@@ -63,7 +65,8 @@ unfoldable pub finished : ℕ → List Dependency → Result Dependency LineDiag
 finished last before = last_stated last (slice_get before (length before - 1))
 
 -- what the last of these lines states, of which the first has this number
-unfoldable pub read_lines : Schema → Bool → ℕ → List Dependency → List (List ℕ) → Result Dependency LineDiagnostic
+unfoldable pub read_lines : Schema → Bool → ℕ → List Dependency → List (List ℕ)
+    → Result Dependency LineDiagnostic
 read_lines s fresh number before [] = finished (number - 1) before
 read_lines s fresh number before (text ∷ texts) =
     at_line number (read_one s fresh number before text)

@@ -104,7 +104,7 @@ fn read_one(
         (dependencies_of before.old.items) text.now))) }
     ensures within { IfErr result (RefusesAs (IsRefusalWithin (universe_of schema.now))) }
 {
-    let start = Cursor::start(number, Mode::NUMBERED, text);
+    let start = Cursor::start(number, Mode::numbered(schema.naming()), text);
     match start.next() {
         NextToken::End => Ok(fresh),
         NextToken::Refusal(refusal) => Err(Failure::Refused(ProofRefusalKind::BadLine(refusal))),

@@ -1,6 +1,6 @@
 //! The program: it answers its words over the files of the current folder, on standard output, and
 //! ends with the number of the status, or with 6 where no memory was found. Tables that it migrates
-//! become files of the current folder, `t1.csv`, `t1.sql` and so on.
+//! become files of the current folder, `t1.csv`, `t1.sql` and so on, or those of a folder of their own.
 #![tactic(auto)]
 
 mod ending;
@@ -12,17 +12,23 @@ use dep_model::OutOfMemory;
 use desk_cli::desk;
 use desk_outside::{Argument, FileFolder, ProgressLine, RealFiles, StdoutSink};
 use destinations::{Destination, FileDestination, TableFormat};
+use own_folder::{OwnFolderWriter, RealFolders};
 use row_store::Hashing;
 use std::process::ExitCode;
 use std::rt::Runtime;
 
 type TableFiles<R> = FileDestination<FileFolder<R>>;
 
+type FolderFiles<R> = OwnFolderWriter<RealFolders<R>, FileFolder<R>>;
+
 // The trait objects are made here, since a function that hands them out could not be proved for all.
 fn main(rt: HostRuntime) -> ExitCode {
     let alloc = rt.alloc();
-    let (Ok((words, mut source)), Ok((csv, sql))) = (words_and_files(&rt), file_destinations(&rt))
-    else {
+    let (Ok((words, mut source)), Ok((csv, sql)), Ok(mut own)) = (
+        words_and_files(&rt),
+        file_destinations(&rt),
+        own_folder(&rt),
+    ) else {
         return exit_code(Err(OutOfMemory));
     };
     let (Ok(csv), Ok(sql)) = (Box::new(alloc, csv), Box::new(alloc, sql)) else {
@@ -42,6 +48,7 @@ fn main(rt: HostRuntime) -> ExitCode {
         &mut source,
         &mut out,
         &mut destinations,
+        &mut own,
     ))
 }
 
@@ -69,6 +76,14 @@ fn file_destination<R: Runtime + AllocGlobal>(
 ) -> Result<TableFiles<R>, OutOfMemory> {
     let alloc = rt.alloc();
     FileDestination::new(alloc, format, FileFolder::new(alloc, clone_of(rt)?))
+}
+
+// The writer of a folder of its own below the current folder.
+fn own_folder<R: Runtime + AllocGlobal>(rt: &R) -> Result<FolderFiles<R>, OutOfMemory> {
+    let alloc = rt.alloc();
+    let place = RealFolders::new(alloc, clone_of(rt)?);
+    let folder = FileFolder::new(alloc, clone_of(rt)?);
+    OwnFolderWriter::new(alloc, place, folder)
 }
 
 // The runtime once more, for an object that keeps it.

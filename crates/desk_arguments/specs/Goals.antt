@@ -2,7 +2,7 @@
 use Rattle.std.specs.Prelude.{◌⊎◌, ℕ, ◌<◌, ◌≤◌, List, length}
 use Rattle.attr_sets.specs.Attributes.{Attributes}
 use Rattle.dep_model.specs.Dependencies.{Dependency}
-use Rattle.dep_model.specs.Schemas.{names_of}
+use Rattle.dep_model.specs.Schemas.{naming_of, names_of}
 use Rattle.dep_model.specs.declared.schema.Schema.{Schema}
 use Rattle.schema_reader.specs.declared.goal.TheConstants.{MOST_GOAL_BYTES}
 use Rattle.schema_reader.specs.declared.set.TheConstants.{MOST_SET_BYTES}
@@ -18,12 +18,12 @@ use Rattle.desk_texts.specs.Texts.{goal_too_long_text, set_too_long_text, goal_r
 -- a goal is refused so
 pub record IsRefusedGoal (schema : Schema) (goal : List ℕ) (refusal : SchemaRefusal) : Type 0 where
   pub within_limit : length goal ≤ MOST_GOAL_BYTES
-  pub refused : RefusesGoal (names_of schema) goal refusal
+  pub refused : RefusesGoal (naming_of schema) (names_of schema) goal refusal
 
 -- a goal means this dependency
 pub record IsGoal (schema : Schema) (goal : List ℕ) (dep : Dependency) : Type 0 where
   pub within_limit : length goal ≤ MOST_GOAL_BYTES
-  pub means : MeansGoal (names_of schema) goal dep
+  pub means : MeansGoal (naming_of schema) (names_of schema) goal dep
 
 -- how the reading of a goal ends a command
 abbrev pub GoalStops : Schema → List ℕ → Allowed
@@ -40,12 +40,12 @@ WithGoal schema goal = With (GoalStops schema goal) (IsGoal schema goal)
 -- a set is refused so
 pub record IsRefusedSet (schema : Schema) (set : List ℕ) (refusal : SchemaRefusal) : Type 0 where
   pub within_limit : length set ≤ MOST_SET_BYTES
-  pub refused : RefusesSet (names_of schema) set refusal
+  pub refused : RefusesSet (naming_of schema) (names_of schema) set refusal
 
 -- a text means this set of attributes
 pub record IsSetText (schema : Schema) (set : List ℕ) (x : Attributes) : Type 0 where
   pub within_limit : length set ≤ MOST_SET_BYTES
-  pub means : MeansSet (names_of schema) set x
+  pub means : MeansSet (naming_of schema) (names_of schema) set x
 
 -- how the reading of a set ends a command
 abbrev pub SetStops : Schema → List ℕ → Allowed

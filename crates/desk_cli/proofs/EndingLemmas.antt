@@ -13,8 +13,11 @@ use Rattle.table_writing.specs.declared.end.WriteOutcome.TheVariants.{Done, Fail
 use Rattle.table_writing.specs.Writing.{Written, HasAll, BeginsEach, names_of}
 use Rattle.desk_responses.specs.declared.status.Status.{Status}
 use Rattle.desk_responses.specs.declared.status.Status.TheVariants.{Yes, CannotWrite, DestinationFailed}
-use Rattle.desk_responses.specs.ResponseValues.{ResponseValue}
-use Rattle.desk_delivery.specs.Outcomes.{OutcomeValue, DestinationsInCall, WrittenAs, is_done, is_out_of_memory, failures_text, outcome_of_response, reported_outcome, WritesTables, ComesTo, EndsAs, NoneFails, HasTables, AllHave, HaveTables}
+use Rattle.desk_responses.specs.ResponseValues.{OwnFolder, ResponseValue}
+use Rattle.desk_delivery.specs.Outcomes.{OutcomeValue, DestinationsInCall, OwnInCall, OwnIsFine, OwnStays, WrittenAs, is_done, is_out_of_memory, failures_text, outcome_of_response, reported_outcome, WritesFolder, WritesTables, GoesTo, ComesTo, EndsAs, NoneFails, HasTables, AllHave, AreThere, FolderHas}
+use Rattle.own_folder.specs.OwnWriting.{FilesWritten, NotMade, WrittenToFolder}
+use Rattle.own_folder.proofs.WritingLemmas.{all_written_by}
+use Rattle.desk_tables.specs.OwnFolders.{Looks}
 use Rattle.std.specs.Io.KnownBytes.{append_known}
 use Rattle.desk_cli.specs.FilesRead.{files_of_words}
 use Rattle.desk_inputs.specs.FilesBegun.{BeginsFront}
@@ -73,14 +76,60 @@ all_done destinations tables ends written none calm = (
         (none_at is_out_of_memory ends i Done none (omega (arith, within, written.results))) one.written (calm i within x y) in
         (done.0, record { has = done.1; begins = done.2; closed = one.closed })
 
+-- ---- folders of their own
+-- neither a failure of the first call nor one of the second goes unseen by the error count
+raised_first : (before count after : ℕ) → ErrorCountIncreased before count → count ≤ after → ErrorCountIncreased before after
+raised_first before count after raised later = omega (arith, raised, later)
+
+-- where nothing failed and memory was enough, both ends are done
+files_done : (own : OwnInCall) (folder : OwnFolder) (tables : List TableValue) (csv load : WriteOutcome) → FilesWritten folder.name folder.script tables own.folder csv load
+    → list_any is_out_of_memory (csv ∷ load ∷ []) ≡ false → OwnIsFine own → (csv ≡ Done) × (load ≡ Done)
+files_done own folder tables Done Done written memory calm = (refl, refl)
+files_done own folder tables OutOfMemory load written memory calm = absurd cc
+files_done own folder tables Done OutOfMemory written memory calm = absurd cc
+files_done own folder tables Failed OutOfMemory written memory calm = absurd cc
+files_done own folder tables Done Failed written memory calm =
+    absurd (calm.folder (subst (λ (count : ℕ). ErrorCountIncreased count own.folder.after) written.of_csv.1 written.of_load.1))
+files_done own folder tables Failed Done written memory calm = absurd (calm.folder (raised_first own.folder.before written.count own.folder.after written.of_csv.1 written.later))
+files_done own folder tables Failed Failed written memory calm = absurd (calm.folder (raised_first own.folder.before written.count own.folder.after written.of_csv.1 written.later))
+
+-- a folder that could not be made raises the error count of its place, unless memory ran out
+never_made : (own : OwnInCall) (folder : OwnFolder) (csv load : WriteOutcome) → NotMade folder.name own.place own.folder csv load
+    → list_any is_out_of_memory (csv ∷ load ∷ []) ≡ false → OwnIsFine own → ⊥
+never_made own folder Done load not_made memory calm = not_made.undone refl
+never_made own folder Failed load not_made memory calm = calm.place (not_made.failed refl)
+never_made own folder OutOfMemory load not_made memory calm = cc
+
+-- so the folder has the files of its tables, and all is done
+folder_has : (own : OwnInCall) (folder : OwnFolder) (tables : List TableValue) (csv load : WriteOutcome) → WrittenToFolder folder.name folder.script tables own.place own.folder csv load
+    → list_any is_out_of_memory (csv ∷ load ∷ []) ≡ false → OwnIsFine own → (list_all is_done (csv ∷ load ∷ []) ≡ true) × FolderHas own folder tables
+folder_has own folder tables csv load (inl not_made) memory calm = absurd (never_made own folder csv load not_made memory calm)
+folder_has own folder tables csv load (inr made) memory calm =
+    let done = files_done own folder tables csv load made.files memory calm in (
+      subst (λ (c : WriteOutcome). list_all is_done (c ∷ load ∷ []) ≡ true) (sym done.0) (subst (λ (l : WriteOutcome). list_all is_done (Done ∷ l ∷ []) ≡ true) (sym done.1) refl),
+      record { made = made.made; files = all_written_by folder.name folder.script tables own.folder csv load made.files done.0 done.1 },
+    )
+
 -- ---- answers
--- where no destination fails, an answer ends plainly, and the destinations have its tables
-plain_outcome_without_failure : (destinations : DestinationsInCall) (response : ResponseValue) (ending : OutcomeValue) (tables : Option (List TableValue))
-    → MatchOption tables ((destinations.new ≡ destinations.old) × (ending ≡ outcome_of_response response)) (λ ts. WritesTables destinations response ts ending) → NoneFails destinations → (ending ≡ outcome_of_response response) × HaveTables destinations tables
-plain_outcome_without_failure destinations response ending None (same, is) calm = (is, same)
-plain_outcome_without_failure destinations response ending (Some ts) written_tables calm =
-    let all = all_done destinations ts written_tables.ends written_tables.written written_tables.memory calm in
-    (written_tables.reports ∙ ap (λ (b : Bool). if b then outcome_of_response response else record { status = DestinationFailed; text = failures_text 1 written_tables.ends }) all.0, all.1)
+reported_plainly : (response : ResponseValue) (ending : OutcomeValue) (ends : List WriteOutcome) → ending ≡ reported_outcome response ends → list_all is_done ends ≡ true → ending ≡ outcome_of_response response
+reported_plainly response ending ends reports done = reports ∙ ap (λ (b : Bool). if b then outcome_of_response response else record { status = DestinationFailed; text = failures_text 1 ends }) done
+
+-- where nothing fails, an answer ends plainly, and where its tables went has them
+tables_without_failure : (destinations : DestinationsInCall) (own : OwnInCall) (response : ResponseValue) (ending : OutcomeValue) (tables : List TableValue) (into : Option OwnFolder)
+    → MatchOption into (OwnStays own × WritesTables destinations response tables ending) (λ folder. (destinations.new ≡ destinations.old) × WritesFolder own folder response tables ending)
+    → NoneFails destinations → OwnIsFine own → (ending ≡ outcome_of_response response) × AreThere destinations own into tables
+tables_without_failure destinations own response ending tables None (stays, written) calm fine =
+    let all = all_done destinations tables written.ends written.written written.memory calm in
+    (reported_plainly response ending written.ends written.reports all.0, (stays, all.1))
+tables_without_failure destinations own response ending tables (Some folder) (same, written) calm fine =
+    let has = folder_has own folder tables written.csv written.load written.written written.memory fine in
+    (reported_plainly response ending (written.csv ∷ written.load ∷ []) written.reports has.0, (same, has.1))
+
+plain_outcome_without_failure : (destinations : DestinationsInCall) (own : OwnInCall) (response : ResponseValue) (ending : OutcomeValue) (tables : Option (List TableValue))
+    → MatchOption tables (((destinations.new ≡ destinations.old) × OwnStays own) × (ending ≡ outcome_of_response response)) (GoesTo destinations own response ending) → NoneFails destinations → OwnIsFine own
+    → (ending ≡ outcome_of_response response) × MatchOption tables ((destinations.new ≡ destinations.old) × OwnStays own) (AreThere destinations own response.own)
+plain_outcome_without_failure destinations own response ending None (same, is) calm fine = (is, same)
+plain_outcome_without_failure destinations own response ending (Some ts) went calm fine = tables_without_failure destinations own response ending ts response.own went calm fine
 
 yes_or_failed : (response : ResponseValue) (b : Bool) (text : List ℕ) → response.status ≡ Yes
     → ((if b then outcome_of_response response else record { status = DestinationFailed; text = text }).status ≡ Yes) ⊎ ((if b then outcome_of_response response else record { status = DestinationFailed; text = text }).status ≡ DestinationFailed)
@@ -100,25 +149,36 @@ not_written status is (inl other) = cc
 not_written status is (inr (inl other)) = cc
 not_written status is (inr (inr other)) = cc
 
+-- what is reported of tables is yes, or that a destination failed
+reported_not_those : (response : ResponseValue) (ending : OutcomeValue) (ends : List WriteOutcome) → response.status ≡ Yes → ending ≡ reported_outcome response ends → IsNoOrStops ending.status → ⊥
+reported_not_those response ending ends yes_said reports =
+    not_those ending.status
+    (subst (λ (s : Status). (s ≡ Yes) ⊎ (s ≡ DestinationFailed)) (sym (ap (λ (e : OutcomeValue). e.status) reports)) (yes_or_failed response (list_all is_done ends) (failures_text 1 ends) yes_said))
+
+tables_not_those : (destinations : DestinationsInCall) (own : OwnInCall) (response : ResponseValue) (ending : OutcomeValue) (tables : List TableValue) (into : Option OwnFolder)
+    → MatchOption into (OwnStays own × WritesTables destinations response tables ending) (λ folder. (destinations.new ≡ destinations.old) × WritesFolder own folder response tables ending)
+    → IsNoOrStops ending.status → ⊥
+tables_not_those destinations own response ending tables None (stays, written) = reported_not_those response ending written.ends written.yes written.reports
+tables_not_those destinations own response ending tables (Some folder) (same, written) = reported_not_those response ending (written.csv ∷ written.load ∷ []) written.yes written.reports
+
 -- only yes gives tables
-tables_only_with_yes : (destinations : DestinationsInCall) (response : ResponseValue) (ending : OutcomeValue) (tables : Option (List TableValue))
-    → MatchOption tables ((destinations.new ≡ destinations.old) × (ending ≡ outcome_of_response response)) (λ ts. WritesTables destinations response ts ending) → IsNoOrStops ending.status → destinations.new ≡ destinations.old
-tables_only_with_yes destinations response ending None (same, is) other = same
-tables_only_with_yes destinations response ending (Some ts) written_tables other =
-    let status : ending.status ≡ (reported_outcome response written_tables.ends).status = ap (λ (e : OutcomeValue). e.status) written_tables.reports in
-    absurd (not_those ending.status (subst (λ (s : Status). (s ≡ Yes) ⊎ (s ≡ DestinationFailed)) (sym status) (yes_or_failed response (list_all is_done written_tables.ends) (failures_text 1 written_tables.ends) written_tables.yes)) other)
+tables_only_with_yes : (destinations : DestinationsInCall) (own : OwnInCall) (response : ResponseValue) (ending : OutcomeValue) (tables : Option (List TableValue))
+    → MatchOption tables (((destinations.new ≡ destinations.old) × OwnStays own) × (ending ≡ outcome_of_response response)) (GoesTo destinations own response ending) → IsNoOrStops ending.status
+    → (destinations.new ≡ destinations.old) × OwnStays own
+tables_only_with_yes destinations own response ending None (same, is) other = same
+tables_only_with_yes destinations own response ending (Some ts) went other = absurd (tables_not_those destinations own response ending ts response.own went other)
 
 -- ---- the top call
 -- an answer that is allowed, delivered
-pub desk_delivered : (words : List (List ℕ)) (source : FileSourceInCall) (sink : SinkInCall) (destinations : DestinationsInCall) (response : ResponseValue) (result : Result Status MemoryError)
-    → ((last : Option (List ℕ)) → IsLastBegun source last → Answers (reading_in_call source last) words response)
-    → ((files : Files) → source.files ≡ Some files → (ErrorCountIncreased source.before source.after → ⊥) → Answers (known_files files) words response)
-    → Delivered sink destinations response result → source.files_after ≡ source.files → source.before ≤ source.after
-    → BeginsFront (files_of_words words) source.begun_before source.begun_after → Desk words source sink destinations result
-desk_delivered words source sink destinations response result seen_so known_so delivered files reads begun = record {
+pub desk_delivered : (words : List (List ℕ)) (looks : Looks) (source : FileSourceInCall) (sink : SinkInCall) (destinations : DestinationsInCall) (own : OwnInCall) (response : ResponseValue) (result : Result Status MemoryError)
+    → ((last : Option (List ℕ)) → IsLastBegun source last → Answers looks (reading_in_call source last) words response)
+    → ((files : Files) → source.files ≡ Some files → (ErrorCountIncreased source.before source.after → ⊥) → Answers looks (known_files files) words response)
+    → Delivered sink destinations own response result → source.files_after ≡ source.files → source.before ≤ source.after
+    → BeginsFront (files_of_words words) source.begun_before source.begun_after → Desk words looks source sink destinations own result
+desk_delivered words looks source sink destinations own response result seen_so known_so delivered files reads begun = record {
   reads = begun;
   response = λ last named status is. ended last named status (delivered.ends status is);
-  complete = λ files are calm calm_sink calm_destinations status is. whole files are calm calm_sink calm_destinations status (delivered.ends status is);
+  complete = λ files are calm calm_sink calm_destinations fine status is. whole files are calm calm_sink calm_destinations fine status (delivered.ends status is);
   stay = λ status is other. stays status other (delivered.ends status is);
   memory = λ last named e is. ((delivered.memory e is).0, inr (response, seen_so last named, (delivered.memory e is).1));
   destinations_stay = delivered.count;
@@ -127,23 +187,25 @@ desk_delivered words source sink destinations response result seen_so known_so d
   writes_later = delivered.later;
 }
   where
-    ended : (last : Option (List ℕ)) → IsLastBegun source last → (status : Status) → WritesWhole sink (ComesTo destinations response) status ⊎ WritesPart sink (ComesTo destinations response) status
-        → WritesWhole sink (EndsAs destinations (Answers (reading_in_call source last) words)) status ⊎ WritesPart sink (EndsAs destinations (Answers (reading_in_call source last) words)) status
+    ended : (last : Option (List ℕ)) → IsLastBegun source last → (status : Status) → WritesWhole sink (ComesTo destinations own response) status ⊎ WritesPart sink (ComesTo destinations own response) status
+        → WritesWhole sink (EndsAs destinations own (Answers looks (reading_in_call source last) words)) status ⊎ WritesPart sink (EndsAs destinations own (Answers looks (reading_in_call source last) words)) status
     ended last named status (inl (ending, comes, same, written, fine)) = inl (ending, (response, seen_so last named, comes), same, written, fine)
     ended last named status (inr (cannot, increased, (ending, comes, took))) = inr (cannot, increased, (ending, (response, seen_so last named, comes), took))
 
-    whole : (files : Files) → source.files ≡ Some files → (ErrorCountIncreased source.before source.after → ⊥) → (ErrorCountIncreased sink.before sink.after → ⊥) → NoneFails destinations
-        → (status : Status) → WritesWhole sink (ComesTo destinations response) status ⊎ WritesPart sink (ComesTo destinations response) status → Delivers sink destinations (Answers (known_files files) words) status
-    whole files are calm calm_sink calm_destinations status (inl (ending, comes, same, written, fine)) =
-        let end = plain_outcome_without_failure destinations response ending response.tables comes calm_destinations in (
+    whole : (files : Files) → source.files ≡ Some files → (ErrorCountIncreased source.before source.after → ⊥) → (ErrorCountIncreased sink.before sink.after → ⊥) → NoneFails destinations → OwnIsFine own
+        → (status : Status) → WritesWhole sink (ComesTo destinations own response) status ⊎ WritesPart sink (ComesTo destinations own response) status
+        → Delivers sink destinations own (Answers looks (known_files files) words) status
+    whole files are calm calm_sink calm_destinations fine status (inl (ending, comes, same, written, none)) =
+        let end = plain_outcome_without_failure destinations own response ending response.tables comes calm_destinations fine in (
           response,
           known_so files are calm,
           same ∙ ap (λ (e : OutcomeValue). e.status) end.0,
           written ∙ ap (λ (e : OutcomeValue). append_known sink.old e.text) end.0,
           end.1,
         )
-    whole files are calm calm_sink calm_destinations status (inr (cannot, increased, part)) = absurd (calm_sink increased)
+    whole files are calm calm_sink calm_destinations fine status (inr (cannot, increased, part)) = absurd (calm_sink increased)
 
-    stays : (status : Status) → IsNoOrStops status → WritesWhole sink (ComesTo destinations response) status ⊎ WritesPart sink (ComesTo destinations response) status → destinations.new ≡ destinations.old
-    stays status other (inl (ending, comes, same, written, fine)) = tables_only_with_yes destinations response ending response.tables comes (subst IsNoOrStops same other)
+    stays : (status : Status) → IsNoOrStops status → WritesWhole sink (ComesTo destinations own response) status ⊎ WritesPart sink (ComesTo destinations own response) status
+        → (destinations.new ≡ destinations.old) × OwnStays own
+    stays status other (inl (ending, comes, same, written, none)) = tables_only_with_yes destinations own response ending response.tables comes (subst IsNoOrStops same other)
     stays status other (inr (cannot, increased, part)) = absurd (not_written status cannot other)

@@ -8,9 +8,10 @@ use Rattle.desk_outside.specs.Files.{Files}
 use Rattle.desk_responses.specs.declared.status.Status.{Status}
 use Rattle.desk_responses.specs.declared.status.Status.TheVariants.{No, Refused, CannotRead, CannotWrite}
 use Rattle.desk_responses.specs.ResponseValues.{ResponseValue, Allowed}
-use Rattle.desk_delivery.specs.Outcomes.{OutcomeValue, Outcomes, DestinationsInCall, ComesTo, EndsAs, LeavesDestinations, Leaves, NoneFails, HaveTables}
+use Rattle.desk_delivery.specs.Outcomes.{OutcomeValue, Outcomes, DestinationsInCall, OwnInCall, ComesTo, EndsAs, LeavesPart, Leaves, NoneFails, OwnIsFine, OwnStays, HaveTables}
 use Rattle.desk_cli.specs.FilesRead.{files_of_words}
 use Rattle.desk_cli.specs.Performs.{Answers}
+use Rattle.desk_tables.specs.OwnFolders.{Looks}
 use Rattle.desk_inputs.specs.FilesBegun.{BeginsFront, BeginsLast}
 use Rattle.desk_inputs.specs.Readings.{Reading, observed, known_files}
 
@@ -68,45 +69,48 @@ WritesPart sink endings status =
     (status ≡ CannotWrite) × ErrorCountIncreased sink.before sink.after
     × ((ending : OutcomeValue) × endings ending × TookPart sink.old ending.text sink.new)
 
--- the sink took just the text of an answer with this status, and the destinations have its tables
-abbrev pub Delivers : SinkInCall → DestinationsInCall → Allowed → Status → Type 0
-Delivers sink destinations allowed status =
+-- the sink took just the text of an answer with this status, and where its tables went has all of them
+abbrev pub Delivers : SinkInCall → DestinationsInCall → OwnInCall → Allowed → Status → Type 0
+Delivers sink destinations own allowed status =
     (response : ResponseValue) × allowed response × (status ≡ response.status)
-    × (sink.new ≡ append_known sink.old response.text) × HaveTables destinations response.tables
+    × (sink.new ≡ append_known sink.old response.text) × HaveTables destinations own response
 
 -- no, refused, or a file that could not be read
 abbrev pub IsNoOrStops : Status → Type 0
 IsNoOrStops status = (status ≡ No) ⊎ ((status ≡ Refused) ⊎ (status ≡ CannotRead))
 
 -- what becomes of an answer: the sink took the text that it comes to, or writing failed
-pub record Delivered (sink : SinkInCall) (destinations : DestinationsInCall) (response : ResponseValue)
-    (result : Result Status OutOfMemory) : Type 0 where
+pub record Delivered (sink : SinkInCall) (destinations : DestinationsInCall) (own : OwnInCall)
+    (response : ResponseValue) (result : Result Status OutOfMemory) : Type 0 where
   pub ends : (status : Status) → result ≡ Ok status
-      → WritesWhole sink (ComesTo destinations response) status ⊎ WritesPart sink (ComesTo destinations response) status
-  pub memory : (e : OutOfMemory) → result ≡ Err e → (sink.new ≡ sink.old) × LeavesDestinations destinations response
+      → WritesWhole sink (ComesTo destinations own response) status
+      ⊎ WritesPart sink (ComesTo destinations own response) status
+  pub memory : (e : OutOfMemory) → result ≡ Err e → (sink.new ≡ sink.old) × LeavesPart destinations own response
   pub count : length destinations.new ≡ length destinations.old
   pub later : sink.before ≤ sink.after
 
-pub record Desk (words : List (List ℕ)) (source : FileSourceInCall) (sink : SinkInCall)
-    (destinations : DestinationsInCall) (result : Result Status OutOfMemory) : Type 0 where
+pub record Desk (words : List (List ℕ)) (looks : Looks) (source : FileSourceInCall) (sink : SinkInCall)
+    (destinations : DestinationsInCall) (own : OwnInCall) (result : Result Status OutOfMemory) : Type 0 where
   -- the files that were begun are the first of those that the words name, in their order, each once
   pub reads : BeginsFront (files_of_words words) source.begun_before source.begun_after
   -- the call ends as an answer that the words and the files allow, and the sink took the text; no file
   -- but the last that was begun is one that cannot be read
   pub response : (last : Option (List ℕ)) → IsLastBegun source last → (status : Status) → result ≡ Ok status
-      → WritesWhole sink (EndsAs destinations (Answers (reading_in_call source last) words)) status
-      ⊎ WritesPart sink (EndsAs destinations (Answers (reading_in_call source last) words)) status
+      → WritesWhole sink (EndsAs destinations own (Answers looks (reading_in_call source last) words)) status
+      ⊎ WritesPart sink (EndsAs destinations own (Answers looks (reading_in_call source last) words)) status
   -- where the files are known and nothing failed, it is the answer of those files, whole, with all
   -- tables
   pub complete : (files : Files) → source.files ≡ Some files → (ErrorCountIncreased source.before source.after → ⊥)
-      → (ErrorCountIncreased sink.before sink.after → ⊥) → NoneFails destinations
-      → (status : Status) → result ≡ Ok status → Delivers sink destinations (Answers (known_files files) words) status
+      → (ErrorCountIncreased sink.before sink.after → ⊥) → NoneFails destinations → OwnIsFine own
+      → (status : Status) → result ≡ Ok status
+      → Delivers sink destinations own (Answers looks (known_files files) words) status
   -- only the answer yes gives tables
-  pub stay : (status : Status) → result ≡ Ok status → IsNoOrStops status → destinations.new ≡ destinations.old
-  -- where memory ran out nothing was written, and the destinations are as they were or have a part of
-  -- the tables of an answer, since one of them ran out of memory
+  pub stay : (status : Status) → result ≡ Ok status → IsNoOrStops status
+      → (destinations.new ≡ destinations.old) × OwnStays own
+  -- where memory ran out nothing was written, and all is as it was, or where the tables of an answer went has a
+  -- part of them, since that ran out of memory
   pub memory : (last : Option (List ℕ)) → IsLastBegun source last → (e : OutOfMemory) → result ≡ Err e
-      → (sink.new ≡ sink.old) × Leaves destinations (Answers (reading_in_call source last) words)
+      → (sink.new ≡ sink.old) × Leaves destinations own (Answers looks (reading_in_call source last) words)
   pub destinations_stay : length destinations.new ≡ length destinations.old
   pub files_stay : source.files_after ≡ source.files
   pub reads_later : source.before ≤ source.after

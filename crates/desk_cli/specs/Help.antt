@@ -3,7 +3,7 @@ use Rattle.std.specs.Prelude.{ℕ, List, ◌++◌, codes}
 use Rattle.desk_texts.specs.Texts.{line}
 
 abbrev pub version_text : List ℕ
-version_text = line (codes "desk 0.5.0")
+version_text = line (codes "desk 0.6.0")
 
 abbrev pub help_text : List ℕ
 help_text =
@@ -46,6 +46,7 @@ help_text =
     ++ line (codes "desk migrate FORM SCHEMA CSV          "
     ++ codes "the rows in CSV as tables in the form, in files t1.csv, t1.sql and so on")
     ++ line (codes "desk migrate plan SCHEMA PLAN CSV     the same as tables of the plan")
+    ++ line (codes "desk migrate .. into DIR              either of them in a folder of its own, with load.sql")
     ++ line (codes "desk sample N                         the tables of N invented persons")
     ++ line (codes "desk discover CSV                     "
     ++ codes "the functional dependencies that the rows in CSV obey")

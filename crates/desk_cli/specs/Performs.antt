@@ -39,6 +39,7 @@ use Rattle.desk_reasons.specs.SplitReasons.{ExplainsSplit}
 use Rattle.desk_reasons.specs.SynthesisReasons.{ExplainsSynthesis}
 use Rattle.desk_tables.specs.Migrations.{Samples}
 use Rattle.desk_tables.specs.Overwriting.{MigratesHere, MigratesPlanHere}
+use Rattle.desk_tables.specs.OwnFolders.{Looks, MigratesInto, MigratesPlanInto}
 use Rattle.desk_designs.specs.NormalForms.{JudgesForm}
 use Rattle.desk_inputs.specs.Parts.{WithParts}
 use Rattle.desk_implication.specs.Projections.{Projects}
@@ -95,38 +96,44 @@ unfoldable pub WithValues : Reading → Schema → List ℕ → (Relation → Al
 WithValues r schema file rest response =
     (texts : Schema) × HasTextsAlone schema texts × WithFile (rows_file texts) r file rest response
 
--- what is asked of a schema: the files after its own are read in their order, and then it is answered
-unfoldable pub Does : Reading → Schema → Task → Allowed
-Does r schema (form.of_schema question) = AnswersSchema schema question
-Does r schema (form.of_plan file question) =
+-- what is asked of a schema: the files after its own are read in their order, and then it is answered, where a
+-- look at a name may be answered so
+unfoldable pub Does : Looks → Reading → Schema → Task → Allowed
+Does looks r schema (form.of_schema question) = AnswersSchema schema question
+Does looks r schema (form.of_plan file question) =
     WithFile (plan_file schema) r file (λ plan. AnswersPlan schema plan question)
-Does r schema (form.of_rows file question) =
+Does looks r schema (form.of_rows file question) =
     WithFile (rows_file schema) r file (λ rows. AnswersRows schema rows question)
-Does r schema (form.measure file) = WithValues r schema file (MeasuresRows schema)
-Does r schema (form.migrate own file normal) =
+Does looks r schema (form.measure file) = WithValues r schema file (MeasuresRows schema)
+Does looks r schema (form.migrate own file normal) =
     WithFile (rows_file schema) r file (MigratesHere schema normal (own ∷ file ∷ []))
-Does r schema (form.migrate_plan own planned file) =
+Does looks r schema (form.migrate_plan own planned file) =
     WithFile (plan_file schema) r planned
     (λ plan. WithFile (rows_file schema) r file (MigratesPlanHere schema plan (own ∷ planned ∷ file ∷ [])))
-Does r schema (form.check_proof file goal) =
+Does looks r schema (form.migrate_into file normal folder) =
+    WithFile (rows_file schema) r file (MigratesInto looks schema normal folder)
+Does looks r schema (form.migrate_plan_into planned file folder) =
+    WithFile (plan_file schema) r planned
+    (λ plan. WithFile (rows_file schema) r file (MigratesPlanInto looks schema plan folder))
+Does looks r schema (form.check_proof file goal) =
     WithFile (proof_file schema) r file (λ tree. ChecksProof schema tree goal)
-Does r schema (form.check_derivation file goal) =
+Does looks r schema (form.check_derivation file goal) =
     WithFile (derivation_file schema) r file (λ derived. ChecksDerivation schema derived goal)
-Does r schema (form.check_same file other_file) =
+Does looks r schema (form.check_same file other_file) =
     WithFile schema_file r other_file (λ other. ChecksSame schema other file other_file)
-Does r schema (form.check_cover file other_file) =
+Does looks r schema (form.check_cover file other_file) =
     WithFile schema_file r other_file (λ other. ChecksCover schema other file other_file)
-Does r schema (form.rejoin files) = WithParts r schema files (λ parts. JoinsTables schema (tables_of parts))
+Does looks r schema (form.rejoin files) = WithParts r schema files (λ parts. JoinsTables schema (tables_of parts))
 
 -- a command
-unfoldable pub Performs : Reading → CommandForm → Allowed
-Performs r (form.over_schema file task) = WithFile schema_file r file (λ schema. Does r schema task)
-Performs r (form.discover file) = WithFile headed_file r file FindsRules
-Performs r (form.sample persons) = Samples persons
-Performs r form.help = Says Yes help_text
-Performs r form.version = Says Yes version_text
+unfoldable pub Performs : Looks → Reading → CommandForm → Allowed
+Performs looks r (form.over_schema file task) = WithFile schema_file r file (λ schema. Does looks r schema task)
+Performs looks r (form.discover file) = WithFile headed_file r file FindsRules
+Performs looks r (form.sample persons) = Samples persons
+Performs looks r form.help = Says Yes help_text
+Performs looks r form.version = Says Yes version_text
 
 -- the words
-abbrev pub Answers : Reading → List (List ℕ) → Allowed
-Answers r words response =
-    MatchOption (form_of words) (Says Refused unknown_words_text response) (λ form. Performs r form response)
+abbrev pub Answers : Looks → Reading → List (List ℕ) → Allowed
+Answers looks r words response =
+    MatchOption (form_of words) (Says Refused unknown_words_text response) (λ form. Performs looks r form response)

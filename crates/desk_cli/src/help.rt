@@ -36,6 +36,7 @@ desk ddl FORM SCHEMA                  SQL tables in the form
 desk ddl plan SCHEMA PLAN             SQL tables of the plan
 desk migrate FORM SCHEMA CSV          the rows in CSV as tables in the form, in files t1.csv, t1.sql and so on
 desk migrate plan SCHEMA PLAN CSV     the same as tables of the plan
+desk migrate .. into DIR              either of them in a folder of its own, with load.sql
 desk sample N                         the tables of N invented persons
 desk discover CSV                     the functional dependencies that the rows in CSV obey
 desk rejoin SCHEMA CSV..              the join of the tables in files
@@ -64,7 +65,7 @@ pub fn help(alloc: Global) -> Result<Response, EarlyExit>
 pub fn version(alloc: Global) -> Result<Response, EarlyExit>
     ensures response { RespondsAs (Says Status.Yes version_text) result }
 {
-    match Vec::from_slice(alloc, b"desk 0.5.0\n") {
+    match Vec::from_slice(alloc, b"desk 0.6.0\n") {
         Ok(text) => Ok(Response::with_text(Status::Yes, text)),
         Err(_) => Err(EarlyExit::OutOfMemory),
     }

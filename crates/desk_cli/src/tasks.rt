@@ -13,6 +13,7 @@ ghost use Rattle.desk_inputs.specs.Headed.{headed_file};
 ghost use Rattle.desk_derivations.specs.Derivations.{ChecksDerivation};
 ghost use Rattle.desk_inputs.specs.Inputs.{derivation_file, proof_file, schema_file};
 ghost use Rattle.desk_tables.specs.Overwriting.{MigratesHere, MigratesPlanHere};
+ghost use Rattle.desk_tables.specs.OwnFolders.{MigratesInto, MigratesPlanInto};
 ghost use Rattle.desk_inputs.specs.Parts.{WithParts};
 ghost use Rattle.desk_cli.specs.FilesRead.{files_of_task};
 ghost use Rattle.desk_cli.specs.Performs.{AnswersPlan, AnswersRows, Does, WithValues};
@@ -36,17 +37,21 @@ use desk_inputs::{
 use desk_measures::{measure_rows, text_columns_alone};
 use desk_outside::{Argument, FileSource};
 use desk_responses::{EarlyExit, Response};
-use desk_tables::{migrate_form_here, migrate_plan_here, rejoin};
+use desk_tables::{
+    migrate_form_here, migrate_form_into, migrate_plan_here, migrate_plan_into, rejoin,
+};
 use desk_words::{MOST_FILES, PlanQuestion, RowsQuestion, Task};
 use normal_forms::Form;
+use own_folder::FolderMaker;
 use row_store::Hashing;
 use std::alloc::Global;
 
 /// Answers what is asked of the schema of a file.
-pub fn over_schema<F: FileSource>(
+pub fn over_schema<F: FileSource, M: FolderMaker>(
     alloc: Global,
     hashing: Hashing,
     source: &mut F,
+    place: &M,
     file: &Argument,
     task: Task<'_>,
 ) -> Result<Response, EarlyExit>
@@ -55,21 +60,23 @@ pub fn over_schema<F: FileSource>(
     ensures reads { BeginsFront (file.now ∷ files_of_task (task_form task.entry))
         (F.begun source.old) (F.begun source.new) }
     ensures response { (r : Reading) → Shows F.files F.faults F.taken F.begun source.old source.new r
-        → RespondsAs (WithFile schema_file r file.now (λ schema. Does r schema (task_form task.entry))) result }
+        → RespondsAs (WithFile schema_file r file.now
+        (λ schema. Does (M.may_be_free place.now) r schema (task_form task.entry))) result }
 {
     let schema = match open_schema(alloc, source, file) {
         Ok(schema) => schema,
         Err(exit) => return Err(exit),
     };
-    perform_task(alloc, hashing, source, &schema, task)
+    perform_task(alloc, hashing, source, place, &schema, task)
 }
 
 // Answers what is asked of a schema and the files after its own.
 #[tactic(auto, unfolding(crate::specs::Performs::Does))]
-fn perform_task<F: FileSource>(
+fn perform_task<F: FileSource, M: FolderMaker>(
     alloc: Global,
     hashing: Hashing,
     source: &mut F,
+    place: &M,
     schema: &Schema,
     task: Task<'_>,
 ) -> Result<Response, EarlyExit>
@@ -78,7 +85,7 @@ fn perform_task<F: FileSource>(
     ensures reads { BeginsFront (files_of_task (task_form task.entry))
         (F.begun source.old) (F.begun source.new) }
     ensures response { (r : Reading) → Shows F.files F.faults F.taken F.begun source.old source.new r
-        → RespondsAs (Does r schema.now (task_form task.entry)) result }
+        → RespondsAs (Does (M.may_be_free place.now) r schema.now (task_form task.entry)) result }
 {
     match task {
         Task::OfSchema { question } => answer_schema(alloc, schema, question),
@@ -95,6 +102,12 @@ fn perform_task<F: FileSource>(
             plan,
             file,
         } => of_plan_and_rows(alloc, hashing, source, schema, own, plan, file),
+        Task::MigrateInto { file, form, folder } => {
+            of_rows_into(alloc, hashing, source, place, schema, file, form, folder)
+        }
+        Task::MigratePlanInto { plan, file, folder } => {
+            of_plan_and_rows_into(alloc, hashing, source, place, schema, plan, file, folder)
+        }
         Task::CheckProof { file, goal } => of_proof(alloc, source, schema, file, goal),
         Task::CheckDerivation { file, goal } => of_derivation(alloc, source, schema, file, goal),
         Task::CheckSame { file, other } => of_schemas(alloc, source, schema, file, other),
@@ -246,6 +259,65 @@ fn of_plan_and_rows<F: FileSource>(
         file.bytes(),
         rows,
     )
+}
+
+// The rows of a file, as tables in a normal form, in a folder of their own.
+fn of_rows_into<F: FileSource, M: FolderMaker>(
+    alloc: Global,
+    hashing: Hashing,
+    source: &mut F,
+    place: &M,
+    schema: &Schema,
+    file: &Argument,
+    form: Form,
+    folder: &Argument,
+) -> Result<Response, EarlyExit>
+    ensures files { F.files source.new ≡ F.files source.old }
+    ensures later { F.faults source.old ≤ F.faults source.new }
+    ensures reads { BeginsFront (file.now ∷ [])
+        (F.begun source.old) (F.begun source.new) }
+    ensures response { (r : Reading) → Shows F.files F.faults F.taken F.begun source.old source.new r
+        → RespondsAs (WithFile (rows_file schema.now) r file.now
+        (MigratesInto (M.may_be_free place.now) schema.now form folder.now)) result }
+{
+    let rows = match open_rows(alloc, source, schema, file) {
+        Ok(rows) => rows,
+        Err(exit) => return Err(exit),
+    };
+    let is_free = place.is_free(folder.bytes());
+    migrate_form_into(alloc, hashing, schema, form, folder, is_free, rows)
+}
+
+// The rows of a file, as tables of the plan of another, in a folder of their own.
+fn of_plan_and_rows_into<F: FileSource, M: FolderMaker>(
+    alloc: Global,
+    hashing: Hashing,
+    source: &mut F,
+    place: &M,
+    schema: &Schema,
+    planned: &Argument,
+    file: &Argument,
+    folder: &Argument,
+) -> Result<Response, EarlyExit>
+    ensures files { F.files source.new ≡ F.files source.old }
+    ensures later { F.faults source.old ≤ F.faults source.new }
+    ensures reads { BeginsFront (planned.now ∷ file.now ∷ [])
+        (F.begun source.old) (F.begun source.new) }
+    ensures response { (r : Reading) → Shows F.files F.faults F.taken F.begun source.old source.new r
+        → RespondsAs (WithFile (plan_file schema.now) r planned.now
+        (λ plan. WithFile (rows_file schema.now) r file.now
+        (MigratesPlanInto (M.may_be_free place.now) schema.now plan folder.now))) result }
+{
+    let plan = match open_plan(alloc, source, schema, planned) {
+        Ok(plan) => plan,
+        Err(exit) => return Err(exit),
+    };
+    let rows = match open_rows(alloc, source, schema, file) {
+        Ok(rows) => rows,
+        Err(exit) => return Err(exit),
+    };
+    let is_free = place.is_free(folder.bytes());
+    migrate_plan_into(alloc, hashing, schema, &plan, folder, is_free, rows)
 }
 
 // Whether the certificate of a file proves a goal.

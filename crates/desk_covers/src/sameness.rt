@@ -2,11 +2,13 @@ ghost use Rattle.std.specs.Prelude.{◌≡◌, ◌↔◌, ◌++◌, [], IsTrue, 
 ghost use Rattle.desk_responses.specs.ResponseValues.{Says};
 ghost use Rattle.desk_responses.specs.Responses.{response_value, RespondsAs, ExitsAs};
 ghost use Rattle.desk_covers.specs.Sameness.{ChecksSame, Compares, IsDifferenceText, NameStops, SayTheSame, difference_text, differences_text, not_in_text};
-ghost use Rattle.schema_match.specs.Columns.{SameNames, name_of_attribute};
+ghost use Rattle.schema_match.specs.Columns.{SameNames};
+ghost use Rattle.schema_printer.specs.Spelling.{printed_names_of};
+ghost use Rattle.desk_responses.specs.Lines.{name_text};
 
 use dep_model::{OutOfMemory, Schema};
 use desk_outside::Argument;
-use desk_responses::{EarlyExit, Response, Status, name_of, put_dep, put_line};
+use desk_responses::{EarlyExit, Response, Status, put_dep, put_line, put_name};
 use desk_texts::line_of;
 use schema_match::{differences, first_undeclared};
 use schema_printer::add;
@@ -53,7 +55,7 @@ pub fn test_names(
 // A file does not declare the name of an attribute of a schema.
 fn not_declared_exit(alloc: Global, schema: &Schema, attribute: u8, file: &Argument) -> EarlyExit
     ensures says { ExitsAs
-        (Says Status.Refused (not_in_text (name_of_attribute schema.now attribute) file.now)) result }
+        (Says Status.Refused (not_in_text (name_text (printed_names_of schema.now) attribute) file.now)) result }
 {
     EarlyExit::with_text(
         Status::Refused,
@@ -68,11 +70,11 @@ fn not_declared_line(
     file: &Argument,
 ) -> Result<Vec<u8>, OutOfMemory>
     ensures line { IfOk result
-        (λ text. text.items ≡ not_in_text (name_of_attribute schema.now attribute) file.now) }
+        (λ text. text.items ≡ not_in_text (name_text (printed_names_of schema.now) attribute) file.now) }
 {
     let mut text = Vec::new(alloc);
     add(&mut text, b"refused: ")?;
-    add(&mut text, name_of(schema, attribute))?;
+    put_name(&mut text, schema, attribute)?;
     add(&mut text, b" is not in ")?;
     add(&mut text, file.bytes())?;
     add(&mut text, b"\n")?;

@@ -1,18 +1,21 @@
-ghost use Rattle.std.specs.Prelude.{◌≡◌, ◌≤◌, ◌+◌, ◌*◌, List, [], ◌++◌, true, false, length, codes, IfOk, OnOk, OnErr, vec_capacity};
+ghost use Rattle.std.specs.Prelude.{◌≡◌, ◌⊎◌, ◌≤◌, ◌+◌, ◌*◌, List, [], ◌++◌, true, false, length, codes, IfOk, OnOk, OnErr, vec_capacity};
 ghost use Rattle.std.specs.Fmt.{decimal};
 ghost use Rattle.std.specs.List.{list_any, list_all};
-ghost use Rattle.named_tables.specs.Tables.{table_values, TableValue};
-ghost use Rattle.desk_responses.specs.ResponseValues.{yes_with_tables};
+ghost use Rattle.named_tables.specs.Tables.{table_values};
+ghost use Rattle.desk_responses.specs.ResponseValues.{ResponseValue};
+ghost use Rattle.own_folder.specs.OwnWriting.{folder_in_call, place_in_call};
 ghost use Rattle.desk_delivery.specs.declared.finish.TheConstants.{LINE};
-ghost use Rattle.desk_delivery.specs.Outcomes.{destinations_in_call, is_done, is_out_of_memory, end_text, failures_text, reported_outcome, WritesTables, ComesTo, LeavesDestinations, outcome_value};
-ghost use Rattle.desk_responses.specs.Responses.{response_value};
+ghost use Rattle.desk_delivery.specs.Outcomes.{destinations_in_call, is_done, is_out_of_memory, end_text, failures_text, outcome_of_response, own_in_call, reported_outcome, yes_outcome, ComesTo, LeavesPart, LeftInDestinations, LeftInFolder, OwnStays, WritesFolder, WritesTables, outcome_value};
+ghost use Rattle.desk_responses.specs.Responses.{own_folder_value, response_value};
 ghost use Rattle.desk_texts.specs.Texts.{line};
 
 use dep_model::OutOfMemory;
-use desk_responses::{Response, Status};
+use desk_outside::Folder;
+use desk_responses::{OwnFolder, Response, Status};
 use destinations::Destination;
 use itoa::Buffer;
 use named_tables::ChosenTables;
+use own_folder::{FolderMaker, OwnFolderWriter};
 use std::alloc::Global;
 use table_writing::{WriteOutcome, write_tables_to_list};
 
@@ -26,21 +29,26 @@ pub struct Outcome {
     pub text: Vec<u8>,
 }
 
-/// Hands the tables of a response, if it has any, to the destinations.
-pub fn deliver_tables<T: Destination>(
+/// Hands the tables of a response, if it has any, to the destinations, or to a folder of their own.
+pub fn deliver_tables<T: Destination, M: FolderMaker, G: Folder>(
     alloc: Global,
     destinations: &mut Vec<T>,
+    own: &mut OwnFolderWriter<M, G>,
     response: Response,
 ) -> Result<Outcome, OutOfMemory>
     ensures ends { IfOk result
         (λ end. ComesTo
         (destinations_in_call T.is_known T.finished T.begun T.width T.faults destinations.old.items
         destinations.new.items)
+        (own_in_call (place_in_call M.made M.faults own.old.place own.new.place)
+        (folder_in_call G.contents G.begun G.faults own.old.folder.folder own.new.folder.folder))
         (response_value response) (outcome_value end)) }
     ensures err { OnErr result
-        (LeavesDestinations
+        (LeavesPart
         (destinations_in_call T.is_known T.finished T.begun T.width T.faults destinations.old.items
         destinations.new.items)
+        (own_in_call (place_in_call M.made M.faults own.old.place own.new.place)
+        (folder_in_call G.contents G.begun G.faults own.old.folder.folder own.new.folder.folder))
         (response_value response)) }
     ensures count { length destinations.new.items ≡ length destinations.old.items }
 {
@@ -48,11 +56,41 @@ pub fn deliver_tables<T: Destination>(
         status,
         text,
         tables,
+        own: into,
     } = response;
-    match tables {
-        None => Ok(Outcome { status, text }),
-        Some(tables) => hand_over(alloc, destinations, text, &tables),
+    match (tables, into) {
+        (None, _) => Ok(Outcome { status, text }),
+        (Some(tables), None) => hand_over(alloc, destinations, text, &tables),
+        (Some(tables), Some(folder)) => fill_folder(alloc, own, text, &folder, &tables),
     }
+}
+
+// Writes these tables to a folder of their own, and then answers this text, or that the writing of the CSV
+// files or of the script failed.
+fn fill_folder<M: FolderMaker, G: Folder>(
+    alloc: Global,
+    own: &mut OwnFolderWriter<M, G>,
+    text: Vec<u8>,
+    folder: &OwnFolder,
+    tables: &ChosenTables,
+) -> Result<Outcome, OutOfMemory>
+    ensures ends { (response : ResponseValue) → outcome_of_response response ≡ yes_outcome text.items
+        → IfOk result (λ end. WritesFolder
+        (own_in_call (place_in_call M.made M.faults own.old.place own.new.place)
+        (folder_in_call G.contents G.begun G.faults own.old.folder.folder own.new.folder.folder))
+        (own_folder_value folder.now) response (table_values tables.now) (outcome_value end)) }
+    ensures err { OnErr result
+        (OwnStays
+        (own_in_call (place_in_call M.made M.faults own.old.place own.new.place)
+        (folder_in_call G.contents G.begun G.faults own.old.folder.folder own.new.folder.folder))
+        ⊎ LeftInFolder
+        (own_in_call (place_in_call M.made M.faults own.old.place own.new.place)
+        (folder_in_call G.contents G.begun G.faults own.old.folder.folder own.new.folder.folder))
+        (own_folder_value folder.now) (table_values tables.now)) }
+{
+    let room = Vec::with_capacity(alloc, 2 * LINE)?;
+    let ends = own.write(&folder.name, &folder.script, tables);
+    report(text, room, &[ends.csv, ends.load])
 }
 
 // Hands these tables to the destinations, and then answers this text, or which destinations failed.
@@ -64,17 +102,17 @@ fn hand_over<T: Destination>(
     text: Vec<u8>,
     tables: &ChosenTables,
 ) -> Result<Outcome, OutOfMemory>
-    ensures ends { IfOk result
-        (λ end. WritesTables
+    ensures ends { (response : ResponseValue) → outcome_of_response response ≡ yes_outcome text.items
+        → IfOk result (λ end. WritesTables
         (destinations_in_call T.is_known T.finished T.begun T.width T.faults destinations.old.items
         destinations.new.items)
-        (yes_with_tables text.items (table_values tables.now)) (table_values tables.now)
-        (outcome_value end)) }
+        response (table_values tables.now) (outcome_value end)) }
     ensures err { OnErr result
-        (LeavesDestinations
+        ((destinations.new.items ≡ destinations.old.items)
+        ⊎ LeftInDestinations
         (destinations_in_call T.is_known T.finished T.begun T.width T.faults destinations.old.items
         destinations.new.items)
-        (yes_with_tables text.items (table_values tables.now))) }
+        (table_values tables.now)) }
     ensures count { length destinations.new.items ≡ length destinations.old.items }
 {
     let room = Vec::with_capacity(alloc, destinations.len().saturating_mul(LINE))?;
@@ -89,9 +127,8 @@ fn report(text: Vec<u8>, room: Vec<u8>, ends: &[WriteOutcome]) -> Result<Outcome
     requires has_room { length ends.now * LINE ≤ vec_capacity room }
     ensures memory { OnOk result (list_any is_out_of_memory ends.now ≡ false) }
     ensures wanted { OnErr result (list_any is_out_of_memory ends.now ≡ true) }
-    ensures reports { (tables : List TableValue)
-        → IfOk result (λ end. outcome_value end
-        ≡ reported_outcome (yes_with_tables text.items tables) ends.now) }
+    ensures reports { (response : ResponseValue) → outcome_of_response response ≡ yes_outcome text.items
+        → IfOk result (λ end. outcome_value end ≡ reported_outcome response ends.now) }
 {
     if any_out_of_memory(ends) {
         return Err(OutOfMemory);

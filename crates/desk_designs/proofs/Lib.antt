@@ -1,2 +1,4 @@
 pub mod LossLemmas
 pub mod SplitLemmas
+pub mod MissingLemmas
+mod ShownLosses

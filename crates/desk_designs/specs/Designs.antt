@@ -1,9 +1,9 @@
--- SQL tables of a plan: for `ddl`.
-use Rattle.std.specs.Prelude.{◌≡◌, List}
+-- SQL tables of a plan: for `ddl`, and for what else refuses values that may be missing.
+use Rattle.std.specs.Prelude.{◌≡◌, List, Some}
 use Rattle.attr_sets.specs.Attributes.{Attributes}
 use Rattle.attr_sets.specs.declared.set.AttrSet.{AttrSet}
 use Rattle.dep_model.specs.Plans.{schemes_of}
-use Rattle.dep_model.specs.Schemas.{theory_of, width_of}
+use Rattle.dep_model.specs.Schemas.{nullable_of, theory_of, width_of}
 use Rattle.dep_model.specs.declared.schema.Schema.{Schema}
 use Rattle.ddl_text.specs.declared.table.TableDesign.{TableDesign}
 use Rattle.ddl_text.specs.Ddl.{ddl_text}
@@ -11,8 +11,11 @@ use Rattle.ddl_text.specs.Designs.{IsDesign}
 use Rattle.ddl_text.specs.Laws.{KeysHold, OtherKeysHold, ReferencesHold}
 use Rattle.design_order.specs.Order.{IsInDesignOrder}
 use Rattle.normal_forms.specs.declared.forms.Form.{Form}
-use Rattle.desk_responses.specs.declared.status.Status.TheVariants.{Yes}
-use Rattle.desk_responses.specs.ResponseValues.{Allowed, Says}
+use Rattle.missing_values.specs.Missing.{FindsMissing, NeverMissing}
+use Rattle.missing_values.specs.Refusals.{refusal_text}
+use Rattle.missing_values.specs.declared.refusal.MissingRefusal.{MissingRefusal}
+use Rattle.desk_responses.specs.declared.status.Status.TheVariants.{Refused, Yes}
+use Rattle.desk_responses.specs.ResponseValues.{Allowed, Says, Unless}
 use Rattle.desk_designs.specs.Decompositions.{WithPlanInForm}
 use Rattle.desk_designs.specs.Joins.{WithoutLoss}
 
@@ -25,6 +28,30 @@ pub record IsSoundDesign (schema : Schema) (plan : List AttrSet) (tables : List 
   pub other_keys_hold : OtherKeysHold schema tables
   pub references_hold : ReferencesHold schema tables
 
+-- a sound design of a plan of these schemes, as sets of attributes
+pub record IsDesignOf (schema : Schema) (schemes : List Attributes) (tables : List TableDesign) : Type 0 where
+  pub plan : List AttrSet
+  pub same : schemes_of plan ≡ schemes
+  pub sound : IsSoundDesign schema plan tables
+
+-- ---- missing values
+-- no value of a key of the tables may be missing, and none of an attribute of two of them
+abbrev pub AreNeverMissing : Schema → List Attributes → Type 0
+AreNeverMissing schema schemes =
+    (tables : List TableDesign) × IsDesignOf schema schemes tables × NeverMissing (nullable_of schema) tables
+
+-- how a value that may be missing ends a command: the first found decides
+abbrev pub MissingStops : Schema → List Attributes → Allowed
+MissingStops schema schemes response =
+    (tables : List TableDesign) × IsDesignOf schema schemes tables
+    × ((refusal : MissingRefusal) × FindsMissing (nullable_of schema) tables (Some refusal)
+    × Says Refused (refusal_text schema tables refusal) response)
+
+-- no value is missing where it must not be, and then the rest follows
+abbrev pub WithoutMissing : Schema → List Attributes → Allowed → Allowed
+WithoutMissing schema schemes = Unless (MissingStops schema schemes) (AreNeverMissing schema schemes)
+
+-- ---- answers
 -- yes, with the statements that create the tables of a plan
 abbrev pub WritesTables : Schema → List AttrSet → Allowed
 WritesTables schema plan response =
@@ -32,7 +59,8 @@ WritesTables schema plan response =
 
 -- the same of the plan of a normal form
 abbrev pub WritesForm : Schema → Form → Allowed
-WritesForm schema form = WithPlanInForm schema form (WritesTables schema)
+WritesForm schema form =
+    WithPlanInForm schema form (λ plan. WithoutMissing schema (schemes_of plan) (WritesTables schema plan))
 
 -- the same of schemes, as sets of attributes
 abbrev pub WritesSchemes : Schema → List Attributes → Allowed
@@ -41,4 +69,5 @@ WritesSchemes schema schemes response =
 
 -- the same of a plan, where it loses nothing
 abbrev pub WritesPlan : Schema → List Attributes → Allowed
-WritesPlan schema schemes = WithoutLoss schema schemes (WritesSchemes schema schemes)
+WritesPlan schema schemes =
+    WithoutMissing schema schemes (WithoutLoss schema schemes (WritesSchemes schema schemes))

@@ -6,7 +6,7 @@ use Rattle.attr_sets.specs.Sets.{attributes}
 use Rattle.csv_text.specs.Rows.{rows_text}
 use Rattle.dep_model.specs.Preservation.{KeepsDependencies}
 use Rattle.dep_model.specs.Schemas.{names_of, width_of, theory_of, deps_of, lines_of}
-use Rattle.dep_model.specs.TwoTuples.{two_tuples}
+use Rattle.shown_rows.specs.Shown.{shown_tuples}
 use Rattle.dep_model.specs.declared.schema.Schema.{Schema}
 use Rattle.schema_printer.specs.Spelling.{printed_names_of}
 use Rattle.preservation.specs.declared.losing.Loss.{Loss}
@@ -30,7 +30,7 @@ loss_text schema loss =
 abbrev pub two_tuples_text : Schema → Loss → List ℕ
 two_tuples_text schema loss =
     line (codes "shown by")
-    ++ rows_text (names_of schema) (two_tuples (width_of schema) (attributes loss.agreement))
+    ++ rows_text (names_of schema) (shown_tuples schema (attributes loss.agreement))
 
 -- each dependency that is lost, and two tuples that show the first
 abbrev pub losses_text : Schema → Loss → List Loss → List ℕ

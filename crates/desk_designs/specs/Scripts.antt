@@ -13,6 +13,7 @@ use Rattle.sql_evaluation.specs.Evaluation.{Engine}
 use Rattle.sql_evaluation.specs.Running.{State, Cast, Fails, engine_at, ended, stopped, outcome}
 use Rattle.migrate_queries.specs.Script.{migration}
 use Rattle.migrate_laws.specs.Moved.{HasMoved}
+use Rattle.ending_laws.specs.Ending.{IsSoundRun}
 use Rattle.check_laws.specs.Holding.{Holds, CastsIntegers}
 use Rattle.check_laws.specs.Telling.{NoBreachShown, RulesHold, NothingShown}
 use Rattle.table_scripts.specs.Checking.{check_text, NothingBreaks}
@@ -21,7 +22,7 @@ use Rattle.table_scripts.specs.Naming.{is_table_name, quoted_table}
 use Rattle.desk_responses.specs.declared.status.Status.TheVariants.{Yes, Refused}
 use Rattle.desk_responses.specs.ResponseValues.{Allowed, Says, Unless}
 use Rattle.desk_designs.specs.Decompositions.{WithPlanInForm}
-use Rattle.desk_designs.specs.Designs.{IsSoundDesign}
+use Rattle.desk_designs.specs.Designs.{IsSoundDesign, WithoutMissing}
 use Rattle.desk_designs.specs.Joins.{WithoutLoss}
 use Rattle.desk_texts.specs.Texts.{line}
 
@@ -61,7 +62,7 @@ ScriptsCheck schema name = WithTableName name (AsksTable schema name)
 -- what a script that makes tables does. In an engine that holds a relation as this table, whatever it refuses,
 -- a run without an error has moved the relation into the tables, and any other run has changed nothing. Over a
 -- legal relation what fills each table is its ordered projection, and where the plan loses nothing the join of
--- the tables is the relation
+-- the tables is the relation; and then a run ends without an error where the engine refuses only what breaks a rule
 pub record IsSoundScript (schema : Schema) (table : List ℕ) (tables : List TableDesign) : Type 0 where
   pub fills : FillsTables schema tables
   pub view : ViewIsTable schema tables
@@ -71,17 +72,26 @@ pub record IsSoundScript (schema : Schema) (table : List ℕ) (tables : List Tab
       → HasMoved schema cast cell r tables last
   pub undoes : (fails : Fails) (cast : Cast) (start kept : State)
       → outcome fails cast (migration schema table tables) start ≡ stopped kept → kept ≡ start
+  pub ends : (fails : Fails) (cast : Cast) (cell : ℕ → List ℕ → Cell) (r : Relation) (start : State)
+      → IsSoundRun fails cast schema table cell r tables start
+      → (last : State) × (outcome fails cast (migration schema table tables) start ≡ ended last)
 
--- yes, with the statements that make the tables of a plan from the user's
+-- yes, with the statements that make the tables of a design from the user's
+abbrev pub MakesDesign : Schema → List ℕ → List TableDesign → Allowed
+MakesDesign schema name tables response =
+    IsSoundScript schema (quoted_table name) tables
+    × Says Yes (migrate_text schema (quoted_table name) tables) response
+
+-- the same of a plan
 abbrev pub MakesTables : Schema → List ℕ → List AttrSet → Allowed
 MakesTables schema name plan response =
-    (tables : List TableDesign) × IsSoundDesign schema plan tables × IsSoundScript schema (quoted_table name) tables
-    × Says Yes (migrate_text schema (quoted_table name) tables) response
+    (tables : List TableDesign) × IsSoundDesign schema plan tables × MakesDesign schema name tables response
 
 -- the same of the plan of a normal form
 abbrev pub ScriptsMigration : Schema → Form → List ℕ → Allowed
 ScriptsMigration schema form name =
-    WithTableName name (WithPlanInForm schema form (MakesTables schema name))
+    WithTableName name (WithPlanInForm schema form
+    (λ plan. WithoutMissing schema (schemes_of plan) (MakesTables schema name plan)))
 
 -- the same of schemes, as sets of attributes
 abbrev pub MakesSchemes : Schema → List ℕ → List Attributes → Allowed
@@ -91,4 +101,5 @@ MakesSchemes schema name schemes response =
 -- the same of a plan, where it loses nothing
 abbrev pub ScriptsMigrationByPlan : Schema → List Attributes → List ℕ → Allowed
 ScriptsMigrationByPlan schema schemes name =
-    WithTableName name (WithoutLoss schema schemes (MakesSchemes schema name schemes))
+    WithTableName name (WithoutMissing schema schemes
+    (WithoutLoss schema schemes (MakesSchemes schema name schemes)))

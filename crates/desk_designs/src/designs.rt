@@ -2,11 +2,15 @@ ghost use Rattle.std.specs.Prelude.{◌≤◌, length, IfOk};
 ghost use Rattle.dep_model.specs.Projections.{Covers};
 ghost use Rattle.dep_model.specs.Schemas.{width_of};
 ghost use Rattle.plans.specs.Plans.{IsPlanOver, plan_of, scheme_sets};
-ghost use Rattle.desk_designs.specs.Designs.{IsSoundDesign, WritesForm, WritesPlan, WritesTables};
+ghost use Rattle.ddl_text.specs.Ddl.{ddl_text};
+ghost use Rattle.desk_designs.specs.Designs.{IsSoundDesign, WritesForm, WritesPlan};
+ghost use Rattle.desk_responses.specs.ResponseValues.{Says};
 ghost use Rattle.desk_responses.specs.Responses.{response_value, RespondsAs};
+ghost use Rattle.desk_responses.specs.declared.status.Status.TheVariants.{Yes};
 
 use crate::decomposition::plan_in_form;
 use crate::join::test_loss;
+use crate::missing::required_design;
 use ddl_text::{DesignList, design, print_ddl};
 use dep_model::{OutOfMemory, Schema};
 use design_order::in_design_order;
@@ -25,7 +29,11 @@ pub fn write_form(alloc: Global, schema: &Schema, form: Form) -> Result<Response
         Ok(plan) => plan,
         Err(exit) => return Err(exit),
     };
-    Ok(tables_response(alloc, schema, &plan)?)
+    let tables = match required_design(alloc, schema, &plan) {
+        Ok(tables) => tables,
+        Err(exit) => return Err(exit),
+    };
+    Ok(tables_response(alloc, schema, &tables)?)
 }
 
 /// The statements that create the tables of a plan, where it loses nothing.
@@ -35,21 +43,27 @@ pub fn write_plan(alloc: Global, schema: &Schema, plan: &Plan) -> Result<Respons
     requires covers { Covers (width_of schema.now) (plan_of plan.now) }
     ensures response { RespondsAs (WritesPlan schema.now (plan_of plan.now)) result }
 {
+    let tables = match required_design(alloc, schema, plan) {
+        Ok(tables) => tables,
+        Err(exit) => return Err(exit),
+    };
     match test_loss(alloc, schema, plan) {
         Ok(()) => {}
         Err(exit) => return Err(exit),
     }
-    Ok(tables_response(alloc, schema, plan)?)
+    Ok(tables_response(alloc, schema, &tables)?)
 }
 
-// The statements that create the tables of a plan.
-fn tables_response(alloc: Global, schema: &Schema, plan: &Plan) -> Result<Response, OutOfMemory>
-    requires universe { IsPlanOver schema.now plan.now }
-    ensures response { IfOk result (λ response. WritesTables schema.now (scheme_sets plan.now)
-        (response_value response)) }
+// The statements that create the tables of a design.
+fn tables_response(
+    alloc: Global,
+    schema: &Schema,
+    tables: &DesignList,
+) -> Result<Response, OutOfMemory>
+    ensures response { IfOk result
+        (λ response. Says Yes (ddl_text schema.now tables.now) (response_value response)) }
 {
-    let tables = design_of_plan(alloc, schema, plan)?;
-    Ok(Response::with_text(Status::Yes, print_ddl(alloc, schema, &tables)?))
+    Ok(Response::with_text(Status::Yes, print_ddl(alloc, schema, tables)?))
 }
 
 /// The design of a plan in its order. No memory holds a plan of more tables than have a name.

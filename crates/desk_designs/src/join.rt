@@ -1,26 +1,22 @@
-ghost use Rattle.std.specs.Prelude.{◌≡◌, ◌≤◌, length, IfOk, IfErr, OnOk};
-ghost use Rattle.csv.specs.Records.{fields_of};
+ghost use Rattle.std.specs.Prelude.{◌≡◌, ◌≤◌, length, IfOk, IfErr};
 ghost use Rattle.dep_model.specs.Plans.{schemes_of};
 ghost use Rattle.dep_model.specs.Projections.{Covers};
-ghost use Rattle.dep_model.specs.Schemas.{names_of, width_of};
+ghost use Rattle.dep_model.specs.Schemas.{width_of};
 ghost use Rattle.dep_model.specs.Tuples.{IsOver};
-ghost use Rattle.dep_model.specs.TwoTuples.{all_zeros};
+ghost use Rattle.typed_rows.specs.Typed.{HoldsNumerals};
 ghost use Rattle.plans.specs.Plans.{plan_of};
 ghost use Rattle.desk_responses.specs.ResponseValues.{Says};
-ghost use Rattle.desk_designs.specs.Joins.{IsShownLossless, JudgesJoin, LossStops, lossless_text, lossy_text, zeros_text, too_many_rows_text};
+ghost use Rattle.desk_designs.specs.Joins.{IsShownLossless, JudgesJoin, LossStops, lossless_text, lossy_text, too_many_rows_text};
 ghost use Rattle.desk_responses.specs.Responses.{response_value, RespondsAs, ExitsAs};
 
 use attr_sets::AttrSet;
-use csv::ByteRecord;
-use csv_rows::print_rows;
-use csv_text::fields_line;
 use dep_model::{Failure, OutOfMemory, Row, Schema};
 use desk_responses::{EarlyExit, Response, Status};
 use desk_texts::line_of;
 use plan_reader::MOST_SCHEMES;
 use plans::Plan;
-use row_store::Rows;
 use schema_printer::add;
+use shown_rows::{print_made_up, print_zeros};
 use std::alloc::Global;
 use tableau_chase::{ChaseRefusal, Chased, chase};
 
@@ -72,47 +68,25 @@ fn lossless_response(alloc: Global) -> Result<Response, OutOfMemory>
     Ok(Response::with_text(Status::Yes, line_of(alloc, b"lossless", b"", b"")?))
 }
 
-// A relation that gains the tuple of all `0`.
+// A relation of numbers, as it is shown, gains the tuple that stands for all `0`.
 fn lossy_exit(alloc: Global, schema: &Schema, rows: &[Row]) -> EarlyExit
     requires over { IsOver (width_of schema.now) rows.now }
-    ensures says { ExitsAs (Says Status.No (lossy_text (names_of schema.now) rows.now)) result }
+    requires numerals { HoldsNumerals rows.now }
+    ensures says { ExitsAs (Says Status.No (lossy_text schema.now rows.now)) result }
 {
     EarlyExit::with_text(Status::No, lossy_lines(alloc, schema, rows))
 }
 
 fn lossy_lines(alloc: Global, schema: &Schema, rows: &[Row]) -> Result<Vec<u8>, OutOfMemory>
     requires over { IsOver (width_of schema.now) rows.now }
-    ensures text { IfOk result (λ text. text.items ≡ lossy_text (names_of schema.now) rows.now) }
+    requires numerals { HoldsNumerals rows.now }
+    ensures text { IfOk result (λ text. text.items ≡ lossy_text schema.now rows.now) }
 {
     let mut text = line_of(alloc, b"lossy", b"", b"")?;
-    add(
-        &mut text,
-        &print_rows(alloc, schema, &Rows::of(alloc, rows)?)?,
-    )?;
+    add(&mut text, &print_made_up(alloc, schema, rows)?)?;
     add(&mut text, b"gains\n")?;
-    add(&mut text, &zeros_row(alloc, schema.width())?)?;
+    add(&mut text, &print_zeros(alloc, schema)?)?;
     Ok(text)
-}
-
-// The tuple of all `0`, as a row of CSV.
-fn zeros_row(alloc: Global, width: u8) -> Result<Vec<u8>, OutOfMemory>
-    ensures text { IfOk result (λ text. text.items ≡ zeros_text width) }
-{
-    let mut fields = ByteRecord::new(alloc);
-    take_zeros(&mut fields, width)?;
-    fields_line(alloc, &fields)
-}
-
-// The fields become so many times `0`.
-#[tactic(auto, unfolding(dep_model::specs::TwoTuples::all_zeros))]
-fn take_zeros(fields: &mut ByteRecord, width: u8) -> Result<(), OutOfMemory>
-    ensures zeros { OnOk result (fields_of fields.new ≡ all_zeros width) }
-{
-    fields.clear();
-    for _ in 0..width {
-        fields.push_field(b"0")?;
-    }
-    Ok(())
 }
 
 // The chase comes to too many rows.

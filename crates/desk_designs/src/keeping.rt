@@ -9,15 +9,13 @@ ghost use Rattle.desk_designs.specs.Keeping.{JudgesKeeping, loss_text, two_tuple
 ghost use Rattle.desk_responses.specs.Responses.{response_value, RespondsAs};
 
 use attr_sets::AttrSet;
-use csv_rows::print_rows;
-use dep_basis::witness;
 use dep_model::{OutOfMemory, Schema};
 use desk_responses::{EarlyExit, Response, Status, put_dep, put_line};
 use desk_texts::line_of;
 use plans::Plan;
 use preservation::{Loss, losses};
-use row_store::Rows;
 use schema_printer::add;
+use shown_rows::print_two_rows;
 use std::alloc::Global;
 
 /// Whether a plan keeps the functional dependencies.
@@ -90,9 +88,7 @@ fn two_tuples_lines(alloc: Global, schema: &Schema, loss: Loss) -> Result<Vec<u8
     requires within { IsSubset (attributes loss.agreement) (universe_of schema.now) }
     ensures text { IfOk result (λ text. text.items ≡ two_tuples_text schema.now loss) }
 {
-    let pair = witness(alloc, schema, loss.agreement)?;
-    let rows = Rows::of(alloc, &pair)?;
     let mut text = line_of(alloc, b"shown by", b"", b"")?;
-    add(&mut text, &print_rows(alloc, schema, &rows)?)?;
+    add(&mut text, &print_two_rows(alloc, schema, loss.agreement)?)?;
     Ok(text)
 }

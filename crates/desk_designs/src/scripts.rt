@@ -5,11 +5,12 @@ ghost use Rattle.plans.specs.Plans.{IsPlanOver, plan_of, scheme_sets};
 ghost use Rattle.table_scripts.specs.Naming.{is_table_name};
 ghost use Rattle.desk_responses.specs.ResponseValues.{Says};
 ghost use Rattle.desk_responses.specs.Responses.{response_value, RespondsAs, ExitsAs};
-ghost use Rattle.desk_designs.specs.Scripts.{AsksTable, MakesTables, TableNameStops, ScriptsCheck, ScriptsMigration, ScriptsMigrationByPlan, bad_name_text};
+ghost use Rattle.desk_designs.specs.Scripts.{AsksTable, MakesDesign, TableNameStops, ScriptsCheck, ScriptsMigration, ScriptsMigrationByPlan, bad_name_text};
 
 use crate::decomposition::plan_in_form;
-use crate::designs::design_of_plan;
 use crate::join::test_loss;
+use crate::missing::required_design;
+use ddl_text::DesignList;
 use dep_model::{OutOfMemory, Schema};
 use desk_outside::Argument;
 use desk_responses::{EarlyExit, Response, Status};
@@ -48,7 +49,11 @@ pub fn script_migration(
         Ok(plan) => plan,
         Err(exit) => return Err(exit),
     };
-    Ok(statements_response(alloc, schema, name, &plan)?)
+    let tables = match required_design(alloc, schema, &plan) {
+        Ok(tables) => tables,
+        Err(exit) => return Err(exit),
+    };
+    Ok(statements_response(alloc, schema, name, &tables)?)
 }
 
 /// The statements that make the tables of a plan from a table, where the plan loses nothing.
@@ -67,11 +72,15 @@ pub fn script_migration_by_plan(
         Ok(()) => {}
         Err(exit) => return Err(exit),
     }
+    let tables = match required_design(alloc, schema, plan) {
+        Ok(tables) => tables,
+        Err(exit) => return Err(exit),
+    };
     match test_loss(alloc, schema, plan) {
         Ok(()) => {}
         Err(exit) => return Err(exit),
     }
-    Ok(statements_response(alloc, schema, name, plan)?)
+    Ok(statements_response(alloc, schema, name, &tables)?)
 }
 
 // Whether a word names a table.
@@ -112,19 +121,17 @@ fn queries_response(
     Ok(Response::with_text(Status::Yes, script))
 }
 
-// The statements that make the tables of a plan.
+// The statements that make the tables of a design.
 fn statements_response(
     alloc: Global,
     schema: &Schema,
     name: &Argument,
-    plan: &Plan,
+    tables: &DesignList,
 ) -> Result<Response, OutOfMemory>
     requires name { IsTrue (is_table_name name.now) }
-    requires universe { IsPlanOver schema.now plan.now }
     ensures response { IfOk result
-        (λ response. MakesTables schema.now name.now (scheme_sets plan.now) (response_value response)) }
+        (λ response. MakesDesign schema.now name.now tables.now (response_value response)) }
 {
-    let tables = design_of_plan(alloc, schema, plan)?;
-    let script = migrate_script(alloc, schema, &tables, name.bytes())?;
+    let script = migrate_script(alloc, schema, tables, name.bytes())?;
     Ok(Response::with_text(Status::Yes, script))
 }

@@ -2,17 +2,18 @@ ghost use Rattle.std.specs.Prelude.{◌≡◌, ◌<◌, IfOk};
 ghost use Rattle.dep_model.specs.Schemas.{names_of, width_of};
 ghost use Rattle.dep_model.specs.Tuples.{IsOver};
 ghost use Rattle.csv_text.specs.Rows.{rows_text};
+ghost use Rattle.shown_rows.specs.Shown.{shown_relation};
+ghost use Rattle.typed_rows.specs.Typed.{HoldsNumerals};
 ghost use Rattle.desk_responses.specs.ResponseValues.{Says};
 ghost use Rattle.desk_discovery.specs.Exhibits.{Exhibits, multivalued_text, too_many_rows_text};
 ghost use Rattle.desk_responses.specs.Responses.{response_value, RespondsAs, ExitsAs};
 
 use armstrong_rel::{ExhibitRefusal, exhibit};
 use attr_sets::AttrSet;
-use csv_rows::print_rows;
 use dep_model::{Failure, OutOfMemory, Row, Schema};
 use desk_responses::{EarlyExit, Response, Status, put_line, too_wide_exit};
-use row_store::Rows;
 use schema_printer::add;
+use shown_rows::print_made_up;
 use std::alloc::Global;
 
 /// A relation that obeys just the functional dependencies that follow from a schema.
@@ -34,17 +35,15 @@ pub fn exhibit_relation(alloc: Global, schema: &Schema) -> Result<Response, Earl
     }
 }
 
-// Rows as CSV.
+// Rows of numbers, as they are shown.
 fn response_of(alloc: Global, schema: &Schema, rows: &[Row]) -> Result<Response, OutOfMemory>
     requires over { IsOver (width_of schema.now) rows.now }
+    requires numerals { HoldsNumerals rows.now }
     ensures says { IfOk result
-        (λ response. Says Status.Yes (rows_text (names_of schema.now) rows.now)
+        (λ response. Says Status.Yes (rows_text (names_of schema.now) (shown_relation schema.now rows.now))
         (response_value response)) }
 {
-    Ok(Response::with_text(
-        Status::Yes,
-        print_rows(alloc, schema, &Rows::of(alloc, rows)?)?,
-    ))
+    Ok(Response::with_text(Status::Yes, print_made_up(alloc, schema, rows)?))
 }
 
 /// A multivalued dependency is given.

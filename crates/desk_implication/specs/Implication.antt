@@ -4,7 +4,6 @@ use Rattle.attr_sets.specs.Attributes.{Attributes}
 use Rattle.dep_model.specs.Dependencies.{Dependency}
 use Rattle.dep_model.specs.Schemas.{names_of, width_of, theory_of, ImpliedBy}
 use Rattle.dep_model.specs.declared.schema.Schema.{Schema}
-use Rattle.dep_model.specs.TwoTuples.{two_tuples}
 use Rattle.derivation.specs.declared.deriv.Deriv.{Deriv}
 use Rattle.derivation.specs.Derivs.{tree_of}
 use Rattle.dep_basis.specs.Decisions.{IsBrokenBy}
@@ -16,11 +15,12 @@ use Rattle.desk_responses.specs.declared.status.Status.TheVariants.{Yes, No}
 use Rattle.desk_responses.specs.ResponseValues.{Allowed, Says}
 use Rattle.desk_arguments.specs.Goals.{WithGoal}
 use Rattle.desk_texts.specs.Texts.{yes_text, no_text}
+use Rattle.shown_rows.specs.Shown.{shown_tuples}
 
 -- yes exactly where every relation that obeys the schema's dependencies obeys the goal, with a derivation
 -- of the goal, which is the functional chain where the functional part alone implies it, and else a direct
--- one, no longer than the listed ones; else no, with two tuples that obey the dependencies and break the
--- goal
+-- one, no longer than the listed ones; else no, with two tuples, as they are shown, that obey the
+-- dependencies and break the goal
 abbrev pub Decided : Schema → Dependency → Allowed
 Decided schema goal response =
     (ImpliedBy schema goal
@@ -30,7 +30,7 @@ Decided schema goal response =
     × Says Yes (yes_text ++ canonical_certificate schema (tree_of proof)) response))
     ⊎ ((ImpliedBy schema goal → ⊥)
     × ((agreement : Attributes) × IsBrokenBy (width_of schema) (theory_of schema) goal agreement
-    × Says No (no_text (names_of schema) (two_tuples (width_of schema) agreement)) response))
+    × Says No (no_text (names_of schema) (shown_tuples schema agreement)) response))
 
 -- the same of a goal that is given as a text
 abbrev pub DecidesGoal : Schema → List ℕ → Allowed

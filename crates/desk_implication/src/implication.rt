@@ -2,8 +2,7 @@ ghost use Rattle.std.specs.Prelude.{◌≤◌, ◌++◌, IfOk};
 ghost use Rattle.attr_sets.specs.Attributes.{IsSubset};
 ghost use Rattle.attr_sets.specs.Sets.{attributes};
 ghost use Rattle.dep_model.specs.Deps.{dependency_of, IsDepWithin};
-ghost use Rattle.dep_model.specs.Schemas.{names_of, width_of, universe_of};
-ghost use Rattle.dep_model.specs.TwoTuples.{two_tuples};
+ghost use Rattle.dep_model.specs.Schemas.{names_of, universe_of};
 ghost use Rattle.derivation.specs.Trees.{nodes, depth};
 ghost use Rattle.derivation.specs.Derivs.{tree_of};
 ghost use Rattle.proof_grammar.specs.Printing.{canonical_certificate, IsProof};
@@ -11,10 +10,10 @@ ghost use Rattle.desk_responses.specs.ResponseValues.{Says};
 ghost use Rattle.desk_implication.specs.Implication.{Decided, DecidesGoal};
 ghost use Rattle.desk_responses.specs.Responses.{response_value, RespondsAs};
 ghost use Rattle.desk_texts.specs.Texts.{yes_text, no_text};
+ghost use Rattle.shown_rows.specs.Shown.{shown_tuples};
 
 use attr_sets::AttrSet;
-use csv_rows::print_rows;
-use dep_basis::{Proof, witness};
+use dep_basis::Proof;
 use dep_model::{Dep, OutOfMemory, Schema};
 use derivation::{Deriv, MOST_LEVELS, MOST_NODES};
 use desk_arguments::goal_of;
@@ -22,9 +21,9 @@ use desk_outside::Argument;
 use desk_responses::{EarlyExit, Response, Status};
 use desk_texts::line_of;
 use proof_text::print_proof;
-use row_store::Rows;
 use schema_printer::add;
 use short_proofs::prove_shortly;
+use shown_rows::print_two_rows;
 use std::alloc::Global;
 
 /// Whether a schema implies a goal: `yes` with a certificate, or `no` with two tuples that obey the
@@ -69,7 +68,7 @@ fn certificate_response(
     Ok(Response::with_text(Status::Yes, text))
 }
 
-/// `no`, and the two tuples that agree just on a set.
+/// `no`, and the two tuples that agree just on a set, as they are shown.
 fn counterexample_response(
     alloc: Global,
     schema: &Schema,
@@ -78,12 +77,10 @@ fn counterexample_response(
     requires within { IsSubset (attributes agreement) (universe_of schema.now) }
     ensures response { IfOk result
         (λ response. Says Status.No
-        (no_text (names_of schema.now) (two_tuples (width_of schema.now) (attributes agreement)))
+        (no_text (names_of schema.now) (shown_tuples schema.now (attributes agreement)))
         (response_value response)) }
 {
-    let pair = witness(alloc, schema, agreement)?;
-    let rows = Rows::of(alloc, &pair)?;
     let mut text = line_of(alloc, b"no", b"", b"")?;
-    add(&mut text, &print_rows(alloc, schema, &rows)?)?;
+    add(&mut text, &print_two_rows(alloc, schema, agreement)?)?;
     Ok(Response::with_text(Status::No, text))
 }

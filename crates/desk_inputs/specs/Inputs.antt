@@ -1,7 +1,5 @@
 -- The kinds of files that are texts of their own grammars: schemas, certificates and derivations.
-use Rattle.std.specs.Prelude.{◌≡◌, ℕ, List, codes}
-use Rattle.dep_model.specs.Schemas.{naming_of}
-use Rattle.dep_model.specs.declared.naming.Naming.TheVariants.{Bare}
+use Rattle.std.specs.Prelude.{codes}
 use Rattle.dep_model.specs.declared.schema.Schema.{Schema}
 use Rattle.schema_printer.specs.Spelling.{printed_names_of}
 use Rattle.dep_model.specs.Dependencies.{Dependency}
@@ -20,16 +18,11 @@ use Rattle.desk_inputs.specs.FileKinds.{FileKind}
 use Rattle.desk_texts.specs.ProofTexts.{proof_refusal_text, derivation_refusal_text}
 use Rattle.desk_texts.specs.Texts.{refusal_text}
 
--- a text means this schema, which is one of bare names
-pub record MeansBareSchema (bytes : List ℕ) (schema : Schema) : Type 0 where
-  pub declares : MeansSchema bytes (declarations_of schema)
-  pub bare : naming_of schema ≡ Bare
-
 -- schemas
 abbrev pub schema_file : FileKind Schema SchemaRefusal
 schema_file = record {
   limit = MOST_TEXT_BYTES;
-  means = MeansBareSchema;
+  means = λ bytes schema. MeansSchema bytes (declarations_of schema);
   refuses = RefusesSchema;
   refusal_text = refusal_text (codes "schema");
 }

@@ -4,7 +4,6 @@ use Rattle.std.specs.List.{AllZip}
 use Rattle.csv_rows.specs.declared.part.PartialRows.{PartialRows}
 use Rattle.csv_rows.specs.declared.refusal.RowRefusal.{RowRefusal}
 use Rattle.csv_rows.specs.Reading.{PartOf, HasScheme}
-use Rattle.dep_model.specs.Schemas.{names_of}
 use Rattle.dep_model.specs.declared.schema.Schema.{Schema}
 use Rattle.desk_inputs.specs.declared.rows.TheConstants.{MOST_CSV_BYTES}
 use Rattle.desk_responses.specs.ResponseValues.{Allowed, With}
@@ -23,7 +22,7 @@ part_file schema = record {
   limit = MOST_CSV_BYTES;
   means = MeansPart schema;
   refuses = λ bytes refusal. PartOf schema bytes (Err refusal);
-  refusal_text = row_refusal_text (names_of schema);
+  refusal_text = row_refusal_text schema;
 }
 
 -- the texts of files, one after the other

@@ -2,8 +2,9 @@
 use Rattle.std.specs.Prelude.{ℕ, List, ◌++◌, codes}
 use Rattle.std.specs.Fmt.{decimal}
 use Rattle.attr_sets.specs.Attributes.{Attributes}
-use Rattle.dep_model.specs.Schemas.{names_of}
+use Rattle.dep_model.specs.Schemas.{naming_of, names_of}
 use Rattle.dep_model.specs.declared.schema.Schema.{Schema}
+use Rattle.schema_printer.specs.Spelling.{printed_names_of}
 use Rattle.plan_reader.specs.declared.reading.TheConstants.{MOST_PLAN_BYTES}
 use Rattle.plan_grammar.specs.Diagnostics.{RefusesPlan}
 use Rattle.plan_grammar.specs.Meanings.{MeansPlan}
@@ -24,7 +25,7 @@ plan_refusal_text names file refusal =
 abbrev pub plan_file : Schema → FileKind (List Attributes) PlanRefusal
 plan_file schema = record {
   limit = MOST_PLAN_BYTES;
-  means = MeansPlan (names_of schema);
-  refuses = RefusesPlan (names_of schema);
-  refusal_text = plan_refusal_text (names_of schema);
+  means = MeansPlan (naming_of schema) (names_of schema);
+  refuses = RefusesPlan (naming_of schema) (names_of schema);
+  refusal_text = plan_refusal_text (printed_names_of schema);
 }

@@ -1,7 +1,6 @@
 -- Files of rows.
 use Rattle.std.specs.Prelude.{ℕ, List, ◌++◌, codes, Ok, Err}
 use Rattle.std.specs.Fmt.{decimal}
-use Rattle.dep_model.specs.Schemas.{names_of}
 use Rattle.dep_model.specs.Tuples.{Relation}
 use Rattle.dep_model.specs.declared.schema.Schema.{Schema}
 use Rattle.csv_rows.specs.declared.refusal.RowRefusal.{RowRefusal}
@@ -12,10 +11,10 @@ use Rattle.desk_inputs.specs.FileKinds.{FileKind}
 use Rattle.desk_texts.specs.Texts.{line}
 
 -- a refusal of a file of rows
-abbrev pub row_refusal_text : List (List ℕ) → List ℕ → RowRefusal → List ℕ
-row_refusal_text names file why =
+abbrev pub row_refusal_text : Schema → List ℕ → RowRefusal → List ℕ
+row_refusal_text schema file why =
     line (codes "refused: rows " ++ decimal (row_refusal_number why) ++ codes " at " ++ file
-    ++ codes ": " ++ row_reason_text names why)
+    ++ codes ": " ++ row_reason_text schema why)
 
 -- rows of a schema, in which each of its attributes has a column
 abbrev pub rows_file : Schema → FileKind Relation RowRefusal
@@ -23,5 +22,5 @@ rows_file schema = record {
   limit = MOST_CSV_BYTES;
   means = λ bytes rows. RowsOf schema bytes (Ok rows);
   refuses = λ bytes refusal. RowsOf schema bytes (Err refusal);
-  refusal_text = row_refusal_text (names_of schema);
+  refusal_text = row_refusal_text schema;
 }

@@ -1,7 +1,8 @@
 ghost use Rattle.std.specs.Prelude.{◌≡◌, ◌≤◌, ◌++◌, ◌∷◌, [], length, OnOk, IfOk, IfErr};
 ghost use Rattle.std.specs.Fmt.{decimal};
 ghost use Rattle.dep_model.specs.Projections.{Covers};
-ghost use Rattle.dep_model.specs.Schemas.{names_of, width_of};
+ghost use Rattle.dep_model.specs.Schemas.{width_of};
+ghost use Rattle.schema_printer.specs.Spelling.{printed_names_of};
 ghost use Rattle.plans.specs.Plans.{plan_of, IsPlanOver};
 ghost use Rattle.plan_grammar.specs.RefusalTexts.{plan_reason_text};
 ghost use Rattle.plan_grammar.specs.declared.refusal.TheConstants.{MOST_SCHEMES};
@@ -17,7 +18,7 @@ ghost use Rattle.desk_responses.specs.Responses.{ExitsAs};
 use crate::read::open_file;
 use dep_model::{Failure, OutOfMemory, Schema};
 use desk_outside::{Argument, FileSource};
-use desk_responses::{EarlyExit, Status, name_of};
+use desk_responses::{EarlyExit, Status, put_name};
 use desk_texts::add_displayed;
 use plan_reader::{MOST_PLAN_BYTES, PlanRefusal, read_plan};
 use plans::Plan;
@@ -63,7 +64,7 @@ pub fn open_plan<F: FileSource>(
 // A command that ends with the refusal of a plan.
 fn plan_refusal_exit(alloc: Global, schema: &Schema, name: &[u8], refusal: PlanRefusal) -> EarlyExit
     ensures says { ExitsAs (Says Status.Refused
-        (plan_refusal_text (names_of schema.now) name.now refusal)) result }
+        (plan_refusal_text (printed_names_of schema.now) name.now refusal)) result }
 {
     EarlyExit::with_text(
         Status::Refused,
@@ -79,7 +80,7 @@ fn plan_refusal_line(
     refusal: PlanRefusal,
 ) -> Result<Vec<u8>, OutOfMemory>
     ensures text { IfOk result (λ text.
-        text.items ≡ plan_refusal_text (names_of schema.now) name.now refusal) }
+        text.items ≡ plan_refusal_text (printed_names_of schema.now) name.now refusal) }
 {
     let mut text = Vec::new(alloc);
     add(&mut text, b"refused: plan ")?;
@@ -94,7 +95,7 @@ fn plan_refusal_line(
 
 // The place of a refusal and its reason in words.
 fn plan_reason(alloc: Global, schema: &Schema, refusal: PlanRefusal) -> Result<Vec<u8>, OutOfMemory>
-    ensures text { IfOk result (λ text. text.items ≡ plan_reason_text (names_of schema.now) refusal) }
+    ensures text { IfOk result (λ text. text.items ≡ plan_reason_text (printed_names_of schema.now) refusal) }
 {
     match refusal {
         PlanRefusal::Text(refusal) => text_reason(alloc, refusal),
@@ -126,11 +127,11 @@ fn line_reason(alloc: Global, line: u32, reason: &[u8]) -> Result<Vec<u8>, OutOf
 // An attribute that is in no scheme.
 fn uncovered_reason(alloc: Global, schema: &Schema, attribute: u8) -> Result<Vec<u8>, OutOfMemory>
     ensures text { IfOk result
-        (λ text. text.items ≡ plan_reason_text (names_of schema.now) (refusals.NotCovered attribute)) }
+        (λ text. text.items ≡ plan_reason_text (printed_names_of schema.now) (refusals.NotCovered attribute)) }
 {
     let mut text = Vec::new(alloc);
     add(&mut text, b" ")?;
-    add(&mut text, name_of(schema, attribute))?;
+    put_name(&mut text, schema, attribute)?;
     add(&mut text, b" is in no scheme")?;
     Ok(text)
 }

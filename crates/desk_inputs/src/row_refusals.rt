@@ -1,14 +1,15 @@
 ghost use Rattle.std.specs.Prelude.{◌≡◌, ◌++◌, codes, IfOk, OnOk};
 ghost use Rattle.std.specs.Fmt.{decimal};
-ghost use Rattle.dep_model.specs.Schemas.{names_of};
-ghost use Rattle.csv_rows.specs.RefusalTexts.{row_reason_text};
+ghost use Rattle.schema_printer.specs.Spelling.{printed_names_of};
+ghost use Rattle.desk_responses.specs.Lines.{name_text};
+ghost use Rattle.csv_rows.specs.RefusalTexts.{row_reason_text, type_of};
+ghost use Rattle.schema_printer.specs.Printing.{type_word};
 ghost use Rattle.desk_inputs.specs.Rows.{row_refusal_text};
 
-use csv_rows::RowRefusal;
+use csv_rows::{RowRefusal, type_of};
 use dep_model::{OutOfMemory, Schema};
-use desk_responses::name_of;
-use desk_texts::put_pair;
-use schema_printer::{add, add_number};
+use desk_responses::put_name;
+use schema_printer::{add, add_number, add_type_word};
 use std::alloc::Global;
 
 /// The line that words a refusal of rows.
@@ -19,7 +20,7 @@ pub fn row_refusal_line(
     refusal: RowRefusal,
 ) -> Result<Vec<u8>, OutOfMemory>
     ensures text { IfOk result (λ text.
-        text.items ≡ row_refusal_text (names_of schema.now) name.now refusal) }
+        text.items ≡ row_refusal_text schema.now name.now refusal) }
 {
     let mut text = Vec::new(alloc);
     add(&mut text, b"refused: rows ")?;
@@ -40,7 +41,7 @@ fn put_reason(
     refusal: RowRefusal,
 ) -> Result<(), OutOfMemory>
     ensures added { OnOk result (text.new.items
-        ≡ text.old.items ++ row_reason_text (names_of schema.now) refusal) }
+        ≡ text.old.items ++ row_reason_text schema.now refusal) }
 {
     match refusal {
         RowRefusal::NoHeader => add(text, b"no header"),
@@ -50,15 +51,13 @@ fn put_reason(
         RowRefusal::DoubleColumn { column } => {
             put_numbered(alloc, text, b"column ", column, b" repeated")
         }
-        RowRefusal::MissingColumn { attribute } => {
-            put_pair(text, b"missing column ", name_of(schema, attribute))
-        }
+        RowRefusal::MissingColumn { attribute } => { put_missing_column(text, schema, attribute) }
         RowRefusal::UnevenRow { row } => {
             put_numbered(alloc, text, b"row ", row, b" has the wrong length")
         }
         RowRefusal::TooManyRows => add(text, b"too many rows"),
-        RowRefusal::NotInteger { row, attribute } => {
-            put_no_integer(alloc, text, row, name_of(schema, attribute))
+        RowRefusal::NotOfType { row, attribute } => {
+            put_not_of_type(alloc, text, schema, row, attribute)
         }
         RowRefusal::OpenHeader => add(text, b"the header has an open quote"),
         RowRefusal::OpenRow { row } => {
@@ -80,23 +79,35 @@ fn put_before_number(
     add_number(text, alloc, number)
 }
 
-/// A row and the name of an attribute of which it has no integer, at the end of a text.
-fn put_no_integer(
+/// An attribute that has no column, at the end of a text.
+fn put_missing_column(text: &mut Vec<u8>, schema: &Schema, attribute: u8) -> Result<(), OutOfMemory>
+    ensures added { OnOk result (text.new.items
+        ≡ text.old.items ++ (codes "missing column " ++ name_text (printed_names_of schema.now) attribute)) }
+{
+    add(text, b"missing column ")?;
+    put_name(text, schema, attribute)
+}
+
+/// A row and an attribute at which it has no value of the column's type, at the end of a text.
+fn put_not_of_type(
     alloc: Global,
     text: &mut Vec<u8>,
+    schema: &Schema,
     row: u32,
-    name: &[u8],
+    attribute: u8,
 ) -> Result<(), OutOfMemory>
     ensures added { OnOk result (text.new.items
-        ≡ text.old.items ++ (codes "row " ++ decimal row ++ codes ": " ++ name.now
-        ++ codes " is no integer")) }
+        ≡ text.old.items ++ (codes "row " ++ decimal row ++ codes ": "
+        ++ name_text (printed_names_of schema.now) attribute ++ codes " is no "
+        ++ type_word (type_of schema.now attribute))) }
 {
     let mut reason = Vec::new(alloc);
     add(&mut reason, b"row ")?;
     add_number(&mut reason, alloc, row)?;
     add(&mut reason, b": ")?;
-    add(&mut reason, name)?;
-    add(&mut reason, b" is no integer")?;
+    put_name(&mut reason, schema, attribute)?;
+    add(&mut reason, b" is no ")?;
+    add_type_word(&mut reason, &type_of(schema, attribute))?;
     add(text, &reason)
 }
 

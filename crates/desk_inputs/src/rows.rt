@@ -1,6 +1,7 @@
 ghost use Rattle.std.specs.Prelude.{◌≡◌, ◌≤◌, ◌∷◌, [], length, OnOk, IfOk, IfErr};
 ghost use Rattle.csv_rows.specs.declared.reading.TheConstants.{MOST_ROWS};
-ghost use Rattle.dep_model.specs.Schemas.{names_of, width_of, TypedFor};
+ghost use Rattle.column_values.specs.Values.{FitsColumns};
+ghost use Rattle.dep_model.specs.Schemas.{width_of};
 ghost use Rattle.dep_model.specs.Tuples.{IsOver};
 ghost use Rattle.desk_responses.specs.ResponseValues.{Says};
 ghost use Rattle.desk_inputs.specs.Readings.{Reading, files_in, Shows};
@@ -37,7 +38,7 @@ pub fn open_rows<F: FileSource>(
         → IfOk result (λ rows. IsFile (rows_file schema.now) r name.now rows) }
     ensures over { IfOk result (λ rows. IsOver (width_of schema.now) rows) }
     ensures within_limit { IfOk result (λ rows. length rows ≤ MOST_ROWS) }
-    ensures typed { IfOk result (λ rows. TypedFor schema.now rows) }
+    ensures fits { IfOk result (λ rows. FitsColumns schema.now rows) }
     ensures exit { (r : Reading) → Shows F.files F.faults F.taken F.begun source.old source.new r
         → IfErr result (ExitsAs (FileStops (rows_file schema.now) r name.now)) }
 {
@@ -65,7 +66,7 @@ pub fn rows_refusal_exit(
     refusal: RowRefusal,
 ) -> EarlyExit
     ensures says { ExitsAs (Says Status.Refused
-        (row_refusal_text (names_of schema.now) name.now refusal)) result }
+        (row_refusal_text schema.now name.now refusal)) result }
 {
     EarlyExit::with_text(
         Status::Refused,

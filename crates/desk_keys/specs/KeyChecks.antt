@@ -11,9 +11,9 @@ use Rattle.dep_model.specs.Dependencies.{fd}
 use Rattle.dep_model.specs.Keys.{InClosure, IsSuperkey, IsKey, IsGreedyKey}
 use Rattle.dep_model.specs.Schemas.{names_of, width_of, universe_of, theory_of}
 use Rattle.dep_model.specs.Tuples.{Relation}
-use Rattle.dep_model.specs.TwoTuples.{two_tuples}
 use Rattle.dep_model.specs.declared.schema.Schema.{Schema}
 use Rattle.schema_printer.specs.Printing.{set_text}
+use Rattle.shown_rows.specs.Shown.{shown_tuples}
 use Rattle.schema_printer.specs.Spelling.{printed_names_of}
 use Rattle.desk_responses.specs.declared.status.Status.TheVariants.{Yes, No}
 use Rattle.desk_responses.specs.ResponseValues.{Allowed, Says}
@@ -56,7 +56,7 @@ pub record IsKeyShown (schema : Schema) (x : Attributes) (text : List ℕ) : Typ
   pub is_key : IsKey (width_of schema) (theory_of schema) (universe_of schema) x
   pub shown : IsKeyText schema x text
 
--- no: the set does not determine the universe, as two tuples show
+-- no: the set does not determine the universe, as two tuples show, with values of the columns' types
 pub record IsNoSuperkey (schema : Schema) (x : Attributes) (text : List ℕ) : Type 0 where
   pub no_superkey : IsSuperkey (width_of schema) (theory_of schema) (universe_of schema) x → ⊥
   pub closed : Attributes
@@ -64,7 +64,7 @@ pub record IsNoSuperkey (schema : Schema) (x : Attributes) (text : List ℕ) : T
   pub agreement : Attributes
   pub broken : IsBrokenBy (width_of schema) (theory_of schema) (fd x (universe_of schema)) agreement
   pub reads : text ≡ no_superkey_text schema x (difference (universe_of schema) closed)
-      (two_tuples (width_of schema) agreement)
+      (shown_tuples schema agreement)
 
 -- no: it determines the universe, and so does a key within it, the one that is left where its
 -- attributes are tried from the last to the first

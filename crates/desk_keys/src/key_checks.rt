@@ -5,23 +5,22 @@ ghost use Rattle.attr_sets.specs.Sets.{attributes};
 ghost use Rattle.dep_basis.specs.Decisions.{IsBrokenBy};
 ghost use Rattle.dep_model.specs.Dependencies.{fd};
 ghost use Rattle.dep_model.specs.Keys.{IsSuperkey};
-ghost use Rattle.dep_model.specs.Tuples.{IsOver};
 ghost use Rattle.dep_model.specs.Schemas.{width_of, universe_of, theory_of};
 ghost use Rattle.schema_printer.specs.Spelling.{printed_names_of};
+ghost use Rattle.shown_rows.specs.Shown.{shown_tuples};
 ghost use Rattle.desk_keys.specs.KeyChecks.{ChecksKey, TestsKey, IsKeyText, IsNoSuperkey, key_within_text, no_superkey_text, without_text};
 ghost use Rattle.desk_responses.specs.Responses.{response_value, RespondsAs};
 
 use attr_sets::AttrSet;
 use closure_steps::{Without, closures_without};
-use csv_rows::print_rows;
-use dep_basis::{Decision, closure_of, decide, witness};
+use dep_basis::{Decision, closure_of, decide};
 use dep_model::{Dep, OutOfMemory, Schema};
 use desk_arguments::set_of;
 use desk_outside::Argument;
 use desk_responses::{EarlyExit, Response, Status};
 use key_listing::one_key;
-use row_store::Rows;
 use schema_printer::{add, add_set};
+use shown_rows::print_two_rows;
 use std::alloc::Global;
 
 /// Whether a set is a key of the universe by all dependencies, and why.
@@ -131,9 +130,7 @@ fn no_superkey_lines(
     ensures text { IfOk result (λ text. IsNoSuperkey schema.now (attributes set) text.items) }
 {
     let missing = AttrSet::full(schema.width()).difference(closure_of(schema, set));
-    let pair = witness(alloc, schema, agreement)?;
-    let rows = Rows::of(alloc, &pair)?;
-    let text = print_no_superkey(alloc, schema, set, missing, &rows)?;
+    let text = print_no_superkey(alloc, schema, set, missing, agreement)?;
     Ok(text)
 }
 
@@ -142,11 +139,12 @@ fn print_no_superkey(
     schema: &Schema,
     set: AttrSet,
     missing: AttrSet,
-    rows: &Rows,
+    agreement: AttrSet,
 ) -> Result<Vec<u8>, OutOfMemory>
-    requires over { IsOver (width_of schema.now) rows.now }
+    requires agreement { IsSubset (attributes agreement) (universe_of schema.now) }
     ensures text { IfOk result (λ text. text.items
-        ≡ no_superkey_text schema.now (attributes set) (attributes missing) rows.now) }
+        ≡ no_superkey_text schema.now (attributes set) (attributes missing)
+        (shown_tuples schema.now (attributes agreement))) }
 {
     let mut text = Vec::new(alloc);
     add_set(&mut text, schema, set)?;
@@ -155,7 +153,7 @@ fn print_no_superkey(
     add(&mut text, b"\n")?;
     add(&mut text, b"shown by")?;
     add(&mut text, b"\n")?;
-    add(&mut text, &print_rows(alloc, schema, rows)?)?;
+    add(&mut text, &print_two_rows(alloc, schema, agreement)?)?;
     Ok(text)
 }
 

@@ -4,10 +4,10 @@ use Rattle.std.specs.Prelude.{codes, slice_get, Any}
 use Rattle.attr_sets.specs.Attributes.{Attributes, below}
 use Rattle.attr_sets.specs.declared.set.AttrSet.{AttrSet}
 use Rattle.dep_model.specs.Dependencies.{Dependency, is_fd}
-use Rattle.dep_model.specs.Schemas.{names_of, width_of, theory_of, types_of as types_of}
+use Rattle.dep_model.specs.declared.naming.Naming.{Naming}
+use Rattle.dep_model.specs.Schemas.{names_of, naming_of, nullable_of, width_of, theory_of, types_of as types_of}
 use Rattle.dep_model.specs.Tuples.{Tuple, Relation}
 use Rattle.dep_model.specs.declared.column_type.ColumnType.{ColumnType}
-use Rattle.dep_model.specs.declared.column_type.ColumnType.TheVariants.{Integer}
 use Rattle.dep_model.specs.declared.memory.OutOfMemory.{OutOfMemory}
 use Rattle.dep_model.specs.declared.schema.Schema.{Schema}
 use Rattle.derivation.specs.Trees.{Tree}
@@ -21,7 +21,8 @@ use Rattle.schema_grammar.proofs.SchemaLaws.{schema-law}
 use Rattle.proof_grammar.specs.Spelling.{SpellsWithin}
 use Rattle.csv_rows.specs.Columns.{IsHeaderOf}
 use Rattle.csv_rows.specs.Quotes.{open_record, is_open}
-use Rattle.csv_rows.specs.Reading.{tuple_of, ClosedRowOf, RowOf, HeaderOf, TableOf, RowsOf}
+use Rattle.column_values.specs.Values.{FitsColumn}
+use Rattle.csv_rows.specs.Reading.{tuple_of, value_of, ClosedRowOf, RowOf, HeaderOf, TableOf, RowsOf}
 use Rattle.csv_rows.specs.Records.{records_of}
 use Rattle.csv_rows.specs.declared.refusal.RowRefusal.{RowRefusal}
 use Rattle.csv_rows.proofs.UniqueRows.{table_same, whole_header_same}
@@ -41,7 +42,7 @@ use Rattle.desk_responses.specs.ResponseValues.{ResponseValue, Allowed}
 use Rattle.desk_implication.specs.Certificates.{Checked}
 use Rattle.desk_covers.specs.Covering.{GivesCover}
 use Rattle.desk_cli.specs.Desk.{Desk, FileSourceInCall, SinkInCall}
-use Rattle.desk_delivery.specs.Outcomes.{DestinationsInCall}
+use Rattle.desk_delivery.specs.Outcomes.{DestinationsInCall, OwnInCall}
 use Rattle.desk_words.specs.Forms.{form_of, after_check, schema_alone, schema_and_two, no_more_arguments, form_over_schema, after_keys, schema_and_word, schema_and_plan, schema_and_rows}
 use Rattle.desk_implication.specs.Implication.{Decided}
 use Rattle.desk_inputs.specs.FileKinds.{IsFile, WithFile}
@@ -55,18 +56,19 @@ use Rattle.desk_inputs.specs.Plans.{plan_file}
 use Rattle.desk_inputs.specs.Readings.{known_files}
 use Rattle.desk_inputs.specs.Rows.{rows_file}
 use Rattle.desk_designs.specs.Synthesis.{Synthesizes}
-use Rattle.desk_laws.specs.Completeness.{IsYesOrNo, IsAnswered, FailsNowhere}
+use Rattle.desk_laws.specs.Completeness.{IsYesOrNo, IsAnswered, IsAnsweredBy, FailsNowhere}
 use Rattle.alike_laws.specs.SameDeclarations.{AreAlike}
 use Rattle.desk_laws.proofs.SchemaLemmas.{spells_alike}
 use Rattle.desk_laws.proofs.StopLemmas.{one_content, file_goes, schema_goes, proof_goes, goal_goes}
+use Rattle.desk_tables.specs.OwnFolders.{Looks}
 
 -- ---- the call
-pub calls_end : (words : List (List ℕ)) (files : Files) (source : FileSourceInCall) (sink : SinkInCall)
-    (destinations : DestinationsInCall) (result : Result Status OutOfMemory)
-    → Desk words source sink destinations result → FailsNowhere files source sink destinations → IsAnswered files words
-    → (status : Status) → result ≡ Ok status → IsYesOrNo status
-calls_end words files source sink destinations result desk nowhere answered status is =
-    let delivers = desk.complete files nowhere.holds nowhere.reads nowhere.writes nowhere.writes_tables status is in
+pub calls_end : (words : List (List ℕ)) (looks : Looks) (files : Files) (source : FileSourceInCall) (sink : SinkInCall)
+    (destinations : DestinationsInCall) (own : OwnInCall) (result : Result Status OutOfMemory)
+    → Desk words looks source sink destinations own result → FailsNowhere files source sink destinations own
+    → IsAnsweredBy looks files words → (status : Status) → result ≡ Ok status → IsYesOrNo status
+calls_end words looks files source sink destinations own result desk nowhere answered status is =
+    let delivers = desk.complete files nowhere.holds nowhere.reads nowhere.writes nowhere.writes_tables nowhere.writes_folder status is in
     subst IsYesOrNo (sym delivers.2) (answered delivers.0 delivers.1)
 
 -- ---- schemas that one text means
@@ -79,48 +81,60 @@ names_same s r same = ap (λ (d : Declarations). d.names) same
 types_same : (s r : Schema) → AreSame s r → types_of s ≡ types_of r
 types_same s r same = ap (λ (d : Declarations). d.columns) same
 
+pub naming_same : (s r : Schema) → AreSame s r → naming_of s ≡ naming_of r
+naming_same s r same = ap (λ (d : Declarations). d.naming) same
+
+pub nullable_same : (s r : Schema) → AreSame s r → nullable_of s ≡ nullable_of r
+nullable_same s r same = ap (λ (d : Declarations). d.nullable) same
+
 AreSame-alike : (s r : Schema) → AreSame s r → AreAlike s r
-AreSame-alike s r same = record { names = names_same s r same; theory = ap (λ (d : Declarations). d.deps) same }
+AreSame-alike s r same = record { naming = naming_same s r same; names = names_same s r same; theory = ap (λ (d : Declarations). d.deps) same }
 
 pub after_schema : (files : Files) (name : List ℕ) (s : Schema) (rest : Schema → Allowed) (response : ResponseValue)
     → IsFile schema_file (known_files files) name s
     → ((r : Schema) → AreSame s r → rest r response → IsYesOrNo response.status)
     → WithFile schema_file (known_files files) name rest response → IsYesOrNo response.status
 after_schema files name s rest response file go (inl exit) =
-    absurd (schema_goes files name file.bytes (declarations_of s) response file.content.0 file.content.1 file.means.declares exit)
+    absurd (schema_goes files name file.bytes (declarations_of s) response file.content.0 file.content.1 file.means exit)
 after_schema files name s rest response file go (inr (r, is, more)) =
     let moved : MeansSchema file.bytes (declarations_of r) =
-    subst (λ (b : List ℕ). MeansSchema b (declarations_of r)) (one_content files name is.bytes file.bytes is.content.0 file.content.0) is.means.declares in
+    subst (λ (b : List ℕ). MeansSchema b (declarations_of r)) (one_content files name is.bytes file.bytes is.content.0 file.content.0) is.means in
     let same = the_ok {A = Declarations} {E = SchemaRefusal} (declarations_of s) (declarations_of r)
-    (sym ((schema-law file.bytes (declarations_of s)).1 file.means.declares) ∙ (schema-law file.bytes (declarations_of r)).1 moved) in
+    (sym ((schema-law file.bytes (declarations_of s)).1 file.means) ∙ (schema-law file.bytes (declarations_of r)).1 moved) in
     go r same more
 
 -- ---- goals
+goal_moved : (s r : Schema) (goal : List ℕ) (dep : Dependency) → AreSame s r → MeansGoal (naming_of s) (names_of s) goal dep
+    → MeansGoal (naming_of r) (names_of r) goal dep
+goal_moved s r goal dep same means =
+    subst (λ (names : List (List ℕ)). MeansGoal (naming_of r) names goal dep) (names_same s r same)
+    (subst (λ (naming : Naming). MeansGoal naming (names_of s) goal dep) (naming_same s r same) means)
+
 pub after_goal : (s r : Schema) (goal : List ℕ) (dep : Dependency) (rest : Dependency → Allowed) (response : ResponseValue)
     → AreSame s r → IsGoal s goal dep
     → ((d : Dependency) → rest d response → IsYesOrNo response.status) → WithGoal r goal rest response
     → IsYesOrNo response.status
 after_goal s r goal dep rest response same is go (inl exit) =
-    absurd (goal_goes r goal dep response is.within_limit (subst (λ (names : List (List ℕ)). MeansGoal names goal dep) (names_same s r same) is.means) exit)
+    absurd (goal_goes r goal dep response is.within_limit (goal_moved s r goal dep same is.means) exit)
 after_goal s r goal dep rest response same is go (inr (d, found, more)) = go d more
 
 Decided-yes_or_no : (r : Schema) (d : Dependency) (response : ResponseValue) → Decided r d response → IsYesOrNo response.status
 Decided-yes_or_no r d response (inl (implied, found)) = inl (ap (λ (a : ResponseValue). a.status) found.4)
 Decided-yes_or_no r d response (inr (broken, found)) = inr (ap (λ (a : ResponseValue). a.status) found.2)
 
-implies_asks : (files : Files) (name goal : List ℕ) (response : ResponseValue)
-    → Answers (known_files files) (codes "implies" ∷ name ∷ goal ∷ []) response
+implies_asks : (files : Files) (name goal : List ℕ) (looks : Looks) (response : ResponseValue)
+    → Answers looks (known_files files) (codes "implies" ∷ name ∷ goal ∷ []) response
     → WithFile schema_file (known_files files) name (λ r. WithGoal r goal (Decided r)) response
 unfolding form_of form_over_schema schema_and_word Performs Does AnswersSchema
-implies_asks files name goal response answered = answered
+implies_asks files name goal looks response answered = answered
 
 pub implies_answered : (files : Files) (name goal : List ℕ) (schema : Schema) (dep : Dependency)
     → IsFile schema_file (known_files files) name schema → IsGoal schema goal dep
     → IsAnswered files (codes "implies" ∷ name ∷ goal ∷ [])
-implies_answered files name goal schema dep file is response answered =
+implies_answered files name goal schema dep file is looks response answered =
     after_schema files name schema (λ r. WithGoal r goal (Decided r)) response file
     (λ r same more. after_goal schema r goal dep (Decided r) response same is (λ d found. Decided-yes_or_no r d response found) more)
-    (implies_asks files name goal response answered)
+    (implies_asks files name goal looks response answered)
 
 -- ---- certificates
 within_alike : (s r : Schema) (text : List ℕ) (t : Tree) → AreSame s r → SpellsWithin s text t → SpellsWithin r text t
@@ -140,21 +154,21 @@ Checked-yes_or_no : (r : Schema) (t : Tree) (d : Dependency) (response : Respons
 Checked-yes_or_no r t d response (inl (proved, implied, says)) = inl (ap (λ (a : ResponseValue). a.status) says)
 Checked-yes_or_no r t d response (inr (unproved, found)) = inr (ap (λ (a : ResponseValue). a.status) found.2)
 
-proof_asks : (files : Files) (name file goal : List ℕ) (response : ResponseValue)
-    → Answers (known_files files) (codes "check" ∷ codes "proof" ∷ name ∷ file ∷ goal ∷ []) response
+proof_asks : (files : Files) (name file goal : List ℕ) (looks : Looks) (response : ResponseValue)
+    → Answers looks (known_files files) (codes "check" ∷ codes "proof" ∷ name ∷ file ∷ goal ∷ []) response
     → WithFile schema_file (known_files files) name (λ r. WithFile (proof_file r) (known_files files) file (λ t. WithGoal r goal (Checked r t))) response
 unfolding form_of form_over_schema after_check schema_and_two Performs Does
-proof_asks files name file goal response answered = answered
+proof_asks files name file goal looks response answered = answered
 
 pub proof_answered : (files : Files) (name file goal : List ℕ) (schema : Schema) (tree : Tree) (dep : Dependency)
     → IsFile schema_file (known_files files) name schema → IsFile (proof_file schema) (known_files files) file tree → IsGoal schema goal dep
     → IsAnswered files (codes "check" ∷ codes "proof" ∷ name ∷ file ∷ goal ∷ [])
-proof_answered files name file goal schema tree dep held_schema held_proof is response answered =
+proof_answered files name file goal schema tree dep held_schema held_proof is looks response answered =
     after_schema files name schema
     (λ r. WithFile (proof_file r) (known_files files) file (λ t. WithGoal r goal (Checked r t))) response held_schema
     (λ r same more. after_proof files schema r file tree (λ t. WithGoal r goal (Checked r t)) response same held_proof
     (λ t found. after_goal schema r goal dep (Checked r t) response same is (λ d said. Checked-yes_or_no r t d response said) found) more)
-    (proof_asks files name file goal response answered)
+    (proof_asks files name file goal looks response answered)
 
 -- ---- rows
 closed_row_alike : (s r : Schema) (columns : List ℕ) (row : ℕ) (fields : List (List ℕ)) (t : Tuple) → AreSame s r
@@ -162,7 +176,9 @@ closed_row_alike : (s r : Schema) (columns : List ℕ) (row : ℕ) (fields : Lis
 closed_row_alike s r columns row fields t same (fits, is, typed) = (
   fits,
   subst (λ (names : List (List ℕ)). t ≡ tuple_of (length names) columns fields) (names_same s r same) is,
-  (λ a has. typed a (has.0, subst (λ (types : List ColumnType). slice_get types a ≡ Some Integer) (sym (types_same s r same)) has.1)),
+  λ a has column is.
+      subst (λ (nullable : Attributes). FitsColumn column (nullable a) (value_of columns fields a)) (nullable_same s r same)
+      (typed a has column (subst (λ (types : List ColumnType). slice_get types a ≡ Some column) (sym (types_same s r same)) is)),
 )
 
 row_alike : (s r : Schema) (columns : List ℕ) (b : Bool) (row : ℕ) (fields : List (List ℕ)) (t : Tuple) → AreSame s r
@@ -219,21 +235,27 @@ JudgesRows-yes_or_no : (r : Schema) (rows : Relation) (response : ResponseValue)
 JudgesRows-yes_or_no r rows response (inl (broken, found)) = inr (ap (λ (a : ResponseValue). a.status) found.2)
 JudgesRows-yes_or_no r rows response (inr (legal, says)) = inl (ap (λ (a : ResponseValue). a.status) says)
 
-rows_asks : (files : Files) (name file : List ℕ) (response : ResponseValue)
-    → Answers (known_files files) (codes "check" ∷ codes "rows" ∷ name ∷ file ∷ []) response
+rows_asks : (files : Files) (name file : List ℕ) (looks : Looks) (response : ResponseValue)
+    → Answers looks (known_files files) (codes "check" ∷ codes "rows" ∷ name ∷ file ∷ []) response
     → WithFile schema_file (known_files files) name (λ r. WithFile (rows_file r) (known_files files) file (JudgesRows r)) response
 unfolding form_of form_over_schema after_check schema_and_rows Performs Does AnswersRows
-rows_asks files name file response answered = answered
+rows_asks files name file looks response answered = answered
 
 pub rows_answered : (files : Files) (name file : List ℕ) (schema : Schema) (rows : Relation)
     → IsFile schema_file (known_files files) name schema → IsFile (rows_file schema) (known_files files) file rows
     → IsAnswered files (codes "check" ∷ codes "rows" ∷ name ∷ file ∷ [])
-rows_answered files name file schema rows held_schema held_rows response answered =
+rows_answered files name file schema rows held_schema held_rows looks response answered =
     after_schema files name schema (λ r. WithFile (rows_file r) (known_files files) file (JudgesRows r)) response held_schema
     (λ r same more. after_rows files schema r file rows (JudgesRows r) response same held_rows (λ x found. JudgesRows-yes_or_no r x response found) more)
-    (rows_asks files name file response answered)
+    (rows_asks files name file looks response answered)
 
 -- ---- plans
+plan_moved : (s r : Schema) (text : List ℕ) (plan : List Attributes) → AreSame s r → MeansPlan (naming_of s) (names_of s) text plan
+    → MeansPlan (naming_of r) (names_of r) text plan
+plan_moved s r text plan same means =
+    subst (λ (names : List (List ℕ)). MeansPlan (naming_of r) names text plan) (names_same s r same)
+    (subst (λ (naming : Naming). MeansPlan naming (names_of s) text plan) (naming_same s r same) means)
+
 pub after_plan : (files : Files) (s r : Schema) (name : List ℕ) (plan : List Attributes) (rest : List Attributes → Allowed)
     (response : ResponseValue)
     → AreSame s r → IsFile (plan_file s) (known_files files) name plan
@@ -242,17 +264,15 @@ pub after_plan : (files : Files) (s r : Schema) (name : List ℕ) (plan : List A
 after_plan files s r name plan rest response same file go (inl (inl exit)) =
     absurd (file_goes files name file.bytes MOST_PLAN_BYTES response file.content.0 file.content.1 exit)
 after_plan files s r name plan rest response same file go (inl (inr (refusal, is, says))) =
-    let means : MeansPlan (names_of r) file.bytes plan =
-    subst (λ (names : List (List ℕ)). MeansPlan names file.bytes plan) (names_same s r same) file.means in
-    let here : RefusesPlan (names_of r) file.bytes refusal =
-    subst (λ (b : List ℕ). RefusesPlan (names_of r) b refusal) (one_content files name is.bytes file.bytes is.content.0 file.content.0) is.refused in
-    absurd (plan_never_both (names_of r) file.bytes plan refusal means here)
+    let means = plan_moved s r file.bytes plan same file.means in
+    let here : RefusesPlan (naming_of r) (names_of r) file.bytes refusal =
+    subst (λ (b : List ℕ). RefusesPlan (naming_of r) (names_of r) b refusal) (one_content files name is.bytes file.bytes is.content.0 file.content.0) is.refused in
+    absurd (plan_never_both (naming_of r) (names_of r) file.bytes plan refusal means here)
 after_plan files s r name plan rest response same file go (inr (p, is, more)) =
-    let means : MeansPlan (names_of r) file.bytes plan =
-    subst (λ (names : List (List ℕ)). MeansPlan names file.bytes plan) (names_same s r same) file.means in
-    let here : MeansPlan (names_of r) file.bytes p =
-    subst (λ (b : List ℕ). MeansPlan (names_of r) b p) (one_content files name is.bytes file.bytes is.content.0 file.content.0) is.means in
-    go p (plan_one_meaning (names_of r) file.bytes p plan here means) more
+    let means = plan_moved s r file.bytes plan same file.means in
+    let here : MeansPlan (naming_of r) (names_of r) file.bytes p =
+    subst (λ (b : List ℕ). MeansPlan (naming_of r) (names_of r) b p) (one_content files name is.bytes file.bytes is.content.0 file.content.0) is.means in
+    go p (plan_one_meaning (naming_of r) (names_of r) file.bytes p plan here means) more
 
 judges_join : (r : Schema) (plan : List Attributes) (response : ResponseValue) → (IsTooLarge r plan → ⊥) → JudgesJoin r plan response
     → IsYesOrNo response.status
@@ -266,43 +286,43 @@ small_same s r p plan same is small large =
     small (subst (λ (d : Declarations). RoundsExceed (length d.names) d.deps plan MOST_TABLEAU_ROWS) (sym same)
     (subst (λ (q : List Attributes). RoundsExceed (width_of r) (theory_of r) q MOST_TABLEAU_ROWS) is large))
 
-join_asks : (files : Files) (name file : List ℕ) (response : ResponseValue)
-    → Answers (known_files files) (codes "check" ∷ codes "join" ∷ name ∷ file ∷ []) response
+join_asks : (files : Files) (name file : List ℕ) (looks : Looks) (response : ResponseValue)
+    → Answers looks (known_files files) (codes "check" ∷ codes "join" ∷ name ∷ file ∷ []) response
     → WithFile schema_file (known_files files) name (λ r. WithFile (plan_file r) (known_files files) file (JudgesJoin r)) response
 unfolding form_of form_over_schema after_check schema_and_plan Performs Does AnswersPlan
-join_asks files name file response answered = answered
+join_asks files name file looks response answered = answered
 
 pub join_answered : (files : Files) (name file : List ℕ) (schema : Schema) (plan : List Attributes)
     → IsFile schema_file (known_files files) name schema → IsFile (plan_file schema) (known_files files) file plan
     → (IsTooLarge schema plan → ⊥) → IsAnswered files (codes "check" ∷ codes "join" ∷ name ∷ file ∷ [])
-join_answered files name file schema plan held_schema held_plan small response answered =
+join_answered files name file schema plan held_schema held_plan small looks response answered =
     after_schema files name schema (λ r. WithFile (plan_file r) (known_files files) file (JudgesJoin r)) response held_schema
     (λ r same more. after_plan files schema r file plan (JudgesJoin r) response same held_plan
     (λ p is found. judges_join r p response (small_same schema r p plan same is small) found) more)
-    (join_asks files name file response answered)
+    (join_asks files name file looks response answered)
 
 -- ---- schemas alone
-cover_asks : (files : Files) (name : List ℕ) (response : ResponseValue)
-    → Answers (known_files files) (codes "cover" ∷ name ∷ []) response → WithFile schema_file (known_files files) name GivesCover response
+cover_asks : (files : Files) (name : List ℕ) (looks : Looks) (response : ResponseValue)
+    → Answers looks (known_files files) (codes "cover" ∷ name ∷ []) response → WithFile schema_file (known_files files) name GivesCover response
 unfolding form_of form_over_schema schema_alone Performs Does AnswersSchema
-cover_asks files name response answered = answered
+cover_asks files name looks response answered = answered
 
 pub cover_answered : (files : Files) (name : List ℕ) (schema : Schema) → IsFile schema_file (known_files files) name schema
     → IsAnswered files (codes "cover" ∷ name ∷ [])
-cover_answered files name schema file response answered =
+cover_answered files name schema file looks response answered =
     after_schema files name schema GivesCover response file (λ r same found. inl (ap (λ (a : ResponseValue). a.status) found.4))
-    (cover_asks files name response answered)
+    (cover_asks files name looks response answered)
 
-synthesize_asks : (files : Files) (name : List ℕ) (response : ResponseValue)
-    → Answers (known_files files) (codes "synthesize" ∷ name ∷ []) response → WithFile schema_file (known_files files) name Synthesizes response
+synthesize_asks : (files : Files) (name : List ℕ) (looks : Looks) (response : ResponseValue)
+    → Answers looks (known_files files) (codes "synthesize" ∷ name ∷ []) response → WithFile schema_file (known_files files) name Synthesizes response
 unfolding form_of form_over_schema schema_alone Performs Does AnswersSchema
-synthesize_asks files name response answered = answered
+synthesize_asks files name looks response answered = answered
 
 pub synthesize_answered : (files : Files) (name : List ℕ) (schema : Schema) → IsFile schema_file (known_files files) name schema
     → IsAnswered files (codes "synthesize" ∷ name ∷ [])
-synthesize_answered files name schema file response answered =
+synthesize_answered files name schema file looks response answered =
     after_schema files name schema Synthesizes response file (λ r same found. inl (ap (λ (a : ResponseValue). a.status) found.2))
-    (synthesize_asks files name response answered)
+    (synthesize_asks files name looks response answered)
 
 pub narrow_same : (s r : Schema) → AreSame s r → (IsTooWide s → ⊥) → IsTooWide r → ⊥
 narrow_same s r same narrow wide =
@@ -318,31 +338,31 @@ lists_keys r response narrow within_limit (inl found) = inl (ap (λ (a : Respons
 lists_keys r response narrow within_limit (inr (inl (wide, says))) = absurd (narrow wide)
 lists_keys r response narrow within_limit (inr (inr (fits, many, says))) = absurd (within_limit many)
 
-keys_asks : (files : Files) (name : List ℕ) (response : ResponseValue) → Answers (known_files files) (codes "keys" ∷ name ∷ []) response
+keys_asks : (files : Files) (name : List ℕ) (looks : Looks) (response : ResponseValue) → Answers looks (known_files files) (codes "keys" ∷ name ∷ []) response
     → WithFile schema_file (known_files files) name ListsKeys response
 unfolding form_of form_over_schema after_keys Performs Does AnswersSchema AnswersPlan
-keys_asks files name response answered = answered
+keys_asks files name looks response answered = answered
 
 pub keys_answered : (files : Files) (name : List ℕ) (schema : Schema) → IsFile schema_file (known_files files) name schema
     → (IsTooWide schema → ⊥) → (HasManyKeys schema → ⊥)
     → IsAnswered files (codes "keys" ∷ name ∷ [])
-keys_answered files name schema file narrow within_limit response answered =
+keys_answered files name schema file narrow within_limit looks response answered =
     after_schema files name schema ListsKeys response file
-    (λ r same found. lists_keys r response (narrow_same schema r same narrow) (not_many_same schema r same within_limit) found) (keys_asks files name response answered)
+    (λ r same found. lists_keys r response (narrow_same schema r same narrow) (not_many_same schema r same within_limit) found) (keys_asks files name looks response answered)
 
 -- ---- no schema
 pub help_answered : (files : Files) → IsAnswered files (codes "help" ∷ [])
 unfolding form_of form_over_schema no_more_arguments Performs
-help_answered files response answered = inl (ap (λ (a : ResponseValue). a.status) answered)
+help_answered files looks response answered = inl (ap (λ (a : ResponseValue). a.status) answered)
 
 pub long_help_answered : (files : Files) → IsAnswered files (codes "--help" ∷ [])
 unfolding form_of form_over_schema no_more_arguments Performs
-long_help_answered files response answered = inl (ap (λ (a : ResponseValue). a.status) answered)
+long_help_answered files looks response answered = inl (ap (λ (a : ResponseValue). a.status) answered)
 
 pub short_help_answered : (files : Files) → IsAnswered files (codes "-h" ∷ [])
 unfolding form_of form_over_schema no_more_arguments Performs
-short_help_answered files response answered = inl (ap (λ (a : ResponseValue). a.status) answered)
+short_help_answered files looks response answered = inl (ap (λ (a : ResponseValue). a.status) answered)
 
 pub version_answered : (files : Files) → IsAnswered files (codes "--version" ∷ [])
 unfolding form_of form_over_schema no_more_arguments Performs
-version_answered files response answered = inl (ap (λ (a : ResponseValue). a.status) answered)
+version_answered files looks response answered = inl (ap (λ (a : ResponseValue). a.status) answered)

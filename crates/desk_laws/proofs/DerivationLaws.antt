@@ -26,6 +26,7 @@ use Rattle.desk_laws.proofs.CompleteLaws.{AreSame, after_goal}
 use Rattle.desk_laws.proofs.OneTask.{declare_the_same}
 use Rattle.desk_laws.proofs.OneText.{derivation_text_once}
 use Rattle.desk_laws.proofs.StopLemmas.{one_content, file_goes, schema_goes}
+use Rattle.desk_tables.specs.OwnFolders.{Looks}
 
 -- a text that derives something by one schema is not refused by another that declares the same
 derivation_goes : (s r : Schema) (text : List ℕ) (d : Dependency) (e : LineDiagnostic) → DeclareTheSame s r
@@ -52,26 +53,26 @@ checked_says : (r : Schema) (derived goal : Dependency) (response : ResponseValu
 checked_says r derived goal response (inl (same, implied, says)) = inl (ap (λ (a : ResponseValue). a.status) says)
 checked_says r derived goal response (inr (differs, says)) = inr (ap (λ (a : ResponseValue). a.status) says)
 
-derivation_asks : (files : Files) (name file goal : List ℕ) (response : ResponseValue)
-    → Answers (known_files files) (codes "check" ∷ codes "derivation" ∷ name ∷ file ∷ goal ∷ []) response
+derivation_asks : (files : Files) (name file goal : List ℕ) (looks : Looks) (response : ResponseValue)
+    → Answers looks (known_files files) (codes "check" ∷ codes "derivation" ∷ name ∷ file ∷ goal ∷ []) response
     → WithFile schema_file (known_files files) name
     (λ r. WithFile (derivation_file r) (known_files files) file (λ d. WithGoal r goal (DerivationChecked r d))) response
 unfolding form_of form_over_schema after_check schema_and_two Performs Does
-derivation_asks files name file goal response answered = answered
+derivation_asks files name file goal looks response answered = answered
 
 pub derivation_answered : (files : Files) (name file goal : List ℕ) (schema : Schema) (derived dep : Dependency)
     → IsFile schema_file (known_files files) name schema
     → IsFile (derivation_file schema) (known_files files) file derived → IsGoal schema goal dep
     → IsAnswered files (codes "check" ∷ codes "derivation" ∷ name ∷ file ∷ goal ∷ [])
-derivation_answered files name file goal schema derived dep held_schema held_derivation is response answered =
-    said (derivation_asks files name file goal response answered)
+derivation_answered files name file goal schema derived dep held_schema held_derivation is looks response answered =
+    said (derivation_asks files name file goal looks response answered)
   where
     said : WithFile schema_file (known_files files) name
         (λ r. WithFile (derivation_file r) (known_files files) file (λ d. WithGoal r goal (DerivationChecked r d)))
         response → IsYesOrNo response.status
     said (inl exit) =
         absurd (schema_goes files name held_schema.bytes (declarations_of schema) response held_schema.content.0
-        held_schema.content.1 held_schema.means.declares exit)
+        held_schema.content.1 held_schema.means exit)
     said (inr (r, read, more)) =
         let same = declare_the_same files name schema r held_schema read in
         let declared : AreSame schema r = (λ i. record {

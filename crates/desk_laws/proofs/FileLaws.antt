@@ -36,6 +36,7 @@ use Rattle.desk_tables.specs.Rejoining.{JoinsTables}
 use Rattle.desk_laws.specs.Completeness.{IsYesOrNo, IsAnswered}
 use Rattle.desk_laws.proofs.CompleteLaws.{AreSame, names_same, table_alike, after_schema}
 use Rattle.desk_laws.proofs.StopLemmas.{one_content, file_goes}
+use Rattle.desk_tables.specs.OwnFolders.{Looks}
 
 -- ---- rows under a free header
 after_headed : (files : Files) (name : List ℕ) (h : Headed) (rest : Headed → Allowed) (response : ResponseValue)
@@ -50,16 +51,16 @@ after_headed files name h rest response file go (inl (inr (why, is, says))) =
     absurd (never_both file.bytes h why file.means here)
 after_headed files name h rest response file go (inr (k, is, more)) = go k more
 
-discover_asks : (files : Files) (file : List ℕ) (response : ResponseValue)
-    → Answers (known_files files) (codes "discover" ∷ file ∷ []) response → WithFile headed_file (known_files files) file FindsRules response
+discover_asks : (files : Files) (file : List ℕ) (looks : Looks) (response : ResponseValue)
+    → Answers looks (known_files files) (codes "discover" ∷ file ∷ []) response → WithFile headed_file (known_files files) file FindsRules response
 unfolding form_of word_alone Performs
-discover_asks files file response answered = answered
+discover_asks files file looks response answered = answered
 
 pub discover_answered : (files : Files) (file : List ℕ) (headed : Headed) → IsFile headed_file (known_files files) file headed
     → IsAnswered files (codes "discover" ∷ file ∷ [])
-discover_answered files file headed is response answered =
+discover_answered files file headed is looks response answered =
     after_headed files file headed FindsRules response is (λ k found. inl (ap (λ (a : ResponseValue). a.status) found.2))
-    (discover_asks files file response answered)
+    (discover_asks files file looks response answered)
 
 -- ---- tables of some columns
 part_alike : (s r : Schema) (text : List ℕ) (rows : Relation) → AreSame s r → PartOf s text (Ok rows)
@@ -176,22 +177,22 @@ joins_tables n r tables response width covers small (inr (TooManyRows k, large, 
     over_and_under : (m most : ℕ) → m ≤ most → most < m → ⊥
     over_and_under m most within_limit many = omega (arith, within_limit, many)
 
-rejoin_asks : (files : Files) (name : List ℕ) (names : List (List ℕ)) (response : ResponseValue) → are_one_to_64 names ≡ true
-    → Answers (known_files files) (codes "rejoin" ∷ name ∷ names) response
+rejoin_asks : (files : Files) (name : List ℕ) (names : List (List ℕ)) (looks : Looks) (response : ResponseValue) → are_one_to_64 names ≡ true
+    → Answers looks (known_files files) (codes "rejoin" ∷ name ∷ names) response
     → WithFile schema_file (known_files files) name (λ r. WithParts (known_files files) r names (λ parts. JoinsTables r (tables_of parts))) response
 unfolding form_of form_over_schema form_over_rows schema_and_several Performs Does
-rejoin_asks files name names response within_limit answered = (rw within_limit at answered)
+rejoin_asks files name names looks response within_limit answered = (rw within_limit at answered)
 
 pub rejoin_answered : (files : Files) (name : List ℕ) (names : List (List ℕ)) (schema : Schema) (parts : List PartialRows)
     → IsFile schema_file (known_files files) name schema → are_one_to_64 names ≡ true → ArePartFiles (known_files files) schema names parts
     → Covers (width_of schema) (plan_of_tables (tables_of parts))
     → IsWithinLimit (width_of schema) MOST_JOINED_ROWS (tables_of parts)
     → IsAnswered files (codes "rejoin" ∷ name ∷ names)
-rejoin_answered files name names schema parts file within_limit are covers small response answered =
+rejoin_answered files name names schema parts file within_limit are covers small looks response answered =
     after_schema files name schema (λ r. WithParts (known_files files) r names (λ parts. JoinsTables r (tables_of parts))) response file
     (λ r same more. after_parts files schema r names parts (λ qs. JoinsTables r (tables_of qs)) response same are
     (λ qs is found. joins_tables (width_of schema) r (tables_of qs) response
     (ap (λ (ns : List (List ℕ)). length ns) (sym (names_same schema r same)))
     (subst (λ (ts : List PartialRelation). Covers (width_of schema) (plan_of_tables ts)) is covers)
     (subst (λ (ts : List PartialRelation). IsWithinLimit (width_of schema) MOST_JOINED_ROWS ts) is small) found) more)
-    (rejoin_asks files name names response within_limit answered)
+    (rejoin_asks files name names looks response within_limit answered)

@@ -7,6 +7,7 @@ pub mod FileLaws
 pub mod QuestionLaws
 mod ReasonLaws
 mod MeasureLaws
+mod FolderLaws
 pub mod ScriptLaws
 pub mod BegunLaws
 mod OneText

@@ -26,6 +26,7 @@ use Rattle.desk_responses.specs.declared.status.Status.{Status}
 use Rattle.desk_words.specs.Forms.{form_of, form_over_rows, form_over_schema, after_offences, schema_and_file, schema_and_rows}
 use Rattle.desk_laws.specs.Completeness.{IsYesOrNo, IsAnswered}
 use Rattle.desk_laws.proofs.CompleteLaws.{AreSame, after_schema, after_rows}
+use Rattle.desk_tables.specs.OwnFolders.{Looks}
 
 status_said : (clean : Bool) (status : Status) → status ≡ status_of clean → IsYesOrNo status
 status_said true status is = inl is
@@ -35,23 +36,23 @@ status_said false status is = inr is
 -- the two lists of offences are answered whatever the rows are
 module _ (files : Files) (words : List (List ℕ)) (name file : List ℕ) (Lists : Schema → Relation → Allowed)
     (says : (r : Schema) (x : Relation) (response : ResponseValue) → Lists r x response → IsYesOrNo response.status)
-    (asks : (response : ResponseValue) → Answers (known_files files) words response
+    (asks : (looks : Looks) (response : ResponseValue) → Answers looks (known_files files) words response
     → WithFile schema_file (known_files files) name (λ r. WithFile (rows_file r) (known_files files) file (Lists r)) response) where
   rows_answered : (schema : Schema) (rows : Relation) → IsFile schema_file (known_files files) name schema
       → IsFile (rows_file schema) (known_files files) file rows → IsAnswered files words
-  rows_answered schema rows held_schema held_rows response answered =
+  rows_answered schema rows held_schema held_rows looks response answered =
       after_schema files name schema (λ r. WithFile (rows_file r) (known_files files) file (Lists r)) response
       held_schema
       (λ r same more. after_rows files schema r file rows (Lists r) response same held_rows
       (λ x found. says r x response found) more)
-      (asks response answered)
+      (asks looks response answered)
 
-offences_asks : (files : Files) (name file : List ℕ) (response : ResponseValue)
-    → Answers (known_files files) (codes "offences" ∷ name ∷ file ∷ []) response
+offences_asks : (files : Files) (name file : List ℕ) (looks : Looks) (response : ResponseValue)
+    → Answers looks (known_files files) (codes "offences" ∷ name ∷ file ∷ []) response
     → WithFile schema_file (known_files files) name
     (λ r. WithFile (rows_file r) (known_files files) file (ListsOffences r)) response
 unfolding form_of form_over_schema form_over_rows after_offences Performs Does AnswersRows
-offences_asks files name file response answered = answered
+offences_asks files name file looks response answered = answered
 
 pub offences_answered : (files : Files) (name file : List ℕ) (schema : Schema) (rows : Relation)
     → IsFile schema_file (known_files files) name schema → IsFile (rows_file schema) (known_files files) file rows
@@ -61,12 +62,12 @@ offences_answered files name file =
     (λ r x response found. status_said found.0 response.status (ap (λ (a : ResponseValue). a.status) found.3))
     (offences_asks files name file)
 
-by_row_asks : (files : Files) (name file : List ℕ) (response : ResponseValue)
-    → Answers (known_files files) (codes "offences" ∷ codes "rows" ∷ name ∷ file ∷ []) response
+by_row_asks : (files : Files) (name file : List ℕ) (looks : Looks) (response : ResponseValue)
+    → Answers looks (known_files files) (codes "offences" ∷ codes "rows" ∷ name ∷ file ∷ []) response
     → WithFile schema_file (known_files files) name
     (λ r. WithFile (rows_file r) (known_files files) file (ListsOffencesByRow r)) response
 unfolding form_of form_over_schema form_over_rows after_offences Performs Does AnswersRows
-by_row_asks files name file response answered = answered
+by_row_asks files name file looks response answered = answered
 
 pub offences_by_row_answered : (files : Files) (name file : List ℕ) (schema : Schema) (rows : Relation)
     → IsFile schema_file (known_files files) name schema → IsFile (rows_file schema) (known_files files) file rows
@@ -76,12 +77,12 @@ offences_by_row_answered files name file =
     (λ r x response found. status_said found.0 response.status (ap (λ (a : ResponseValue). a.status) found.3))
     (by_row_asks files name file)
 
-kept_asks : (files : Files) (name file : List ℕ) (response : ResponseValue)
-    → Answers (known_files files) (codes "kept" ∷ name ∷ file ∷ []) response
+kept_asks : (files : Files) (name file : List ℕ) (looks : Looks) (response : ResponseValue)
+    → Answers looks (known_files files) (codes "kept" ∷ name ∷ file ∷ []) response
     → WithFile schema_file (known_files files) name
     (λ r. WithFile (rows_file r) (known_files files) file (KeepsRows r)) response
 unfolding form_of form_over_schema form_over_rows schema_and_rows Performs Does AnswersRows
-kept_asks files name file response answered = answered
+kept_asks files name file looks response answered = answered
 
 keeps_rows : (schema r : Schema) (x : Relation) (response : ResponseValue) → AreSame schema r
     → ((k : ℕ) → IsFirstMvd (theory_of schema) k → ⊥) → KeepsRows r x response → IsYesOrNo response.status
@@ -94,29 +95,31 @@ pub kept_answered : (files : Files) (name file : List ℕ) (schema : Schema) (ro
     → IsFile schema_file (known_files files) name schema → IsFile (rows_file schema) (known_files files) file rows
     → ((k : ℕ) → IsFirstMvd (theory_of schema) k → ⊥)
     → IsAnswered files (codes "kept" ∷ name ∷ file ∷ [])
-kept_answered files name file schema rows held_schema held_rows functional response answered =
+kept_answered files name file schema rows held_schema held_rows functional looks response answered =
     after_schema files name schema (λ r. WithFile (rows_file r) (known_files files) file (KeepsRows r)) response
     held_schema
     (λ r same more. after_rows files schema r file rows (KeepsRows r) response same held_rows
     (λ x found. keeps_rows schema r x response same functional found) more)
-    (kept_asks files name file response answered)
+    (kept_asks files name file looks response answered)
 
 -- ---- rows of whatever values
-measure_asks : (files : Files) (name file : List ℕ) (response : ResponseValue)
-    → Answers (known_files files) (codes "measure" ∷ name ∷ file ∷ []) response
+measure_asks : (files : Files) (name file : List ℕ) (looks : Looks) (response : ResponseValue)
+    → Answers looks (known_files files) (codes "measure" ∷ name ∷ file ∷ []) response
     → WithFile schema_file (known_files files) name (λ r. WithValues (known_files files) r file (MeasuresRows r)) response
 unfolding form_of form_over_schema form_over_rows schema_and_file Performs Does
-measure_asks files name file response answered = answered
+measure_asks files name file looks response answered = answered
 
 -- what a schema with text columns alone declares
 abbrev with_texts : Declarations → Declarations
 with_texts d =
-    record { names = d.names; columns = replicate (length d.names) Text; deps = d.deps; lines = d.lines }
+    record d { columns = replicate (length d.names) Text }
 
 texts_declare : (s a : Schema) → HasTextsAlone s a → declarations_of a ≡ with_texts (declarations_of s)
 texts_declare s a first = λ i. record {
+  naming = first.naming i;
   names = first.names i;
   columns = first.types i;
+  nullable = first.nullable i;
   deps = first.theory i;
   lines = first.lines i;
 }
@@ -131,10 +134,10 @@ pub measure_answered : (files : Files) (name file : List ℕ) (schema texts : Sc
     → IsFile (rows_file texts) (known_files files) file rows
     → IsAnswered files (codes "measure" ∷ name ∷ file ∷ [])
 unfolding WithValues
-measure_answered files name file schema texts rows held_schema alone held_rows response answered =
+measure_answered files name file schema texts rows held_schema alone held_rows looks response answered =
     after_schema files name schema (λ r. WithValues (known_files files) r file (MeasuresRows r)) response held_schema
     (λ r same more. read r same more)
-    (measure_asks files name file response answered)
+    (measure_asks files name file looks response answered)
   where
     read : (r : Schema) → AreSame schema r → WithValues (known_files files) r file (MeasuresRows r) response
         → IsYesOrNo response.status

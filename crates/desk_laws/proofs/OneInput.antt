@@ -33,6 +33,7 @@ use Rattle.desk_inputs.specs.Plans.{plan_file}
 use Rattle.desk_inputs.specs.Rows.{rows_file}
 use Rattle.desk_laws.proofs.OneFile.{goes, one_after, one_stop, one_view}
 use Rattle.desk_laws.proofs.OneText.{derivation_text_once, headed_text_once, names_and_rows, part_text_once, plan_text_once, proof_text_once, rows_text_once, schema_text_once, MeansNamesAndRows, MeansTable}
+use Rattle.schema_grammar.specs.Declarations.{Declarations}
 
 -- ---- files
 module _ (files : Files) where
@@ -45,26 +46,26 @@ module _ (files : Files) where
       → AllowsOne (WithFile schema_file known name rest)
   one_after_schema name rest alike =
       one_after files name schema_file declarations_of MeansSchema schema_text_once
-      (λ text s means. means.declares) rest
-      (λ s t one other is also. alike s t one other (is.means.bare ∙ sym also.means.bare))
+      (λ text s means. means) rest
+      (λ s t one other is also same. alike s t one other (ap (λ (d : Declarations). d.naming) same) same)
 
   pub one_after_plan : (s : Schema) (name : List ℕ) (rest : List Attributes → Allowed)
       → ((plan : List Attributes) → IsPlan (width_of s) plan → AllowsOne (rest plan))
       → AllowsOne (WithFile (plan_file s) known name rest)
   one_after_plan s name rest each =
-      one_after files name (plan_file s) (λ (plan : List Attributes). plan) (MeansPlan (names_of s))
-      (plan_text_once (names_of s)) (λ text plan means. means) rest
+      one_after files name (plan_file s) (λ (plan : List Attributes). plan) (MeansPlan (naming_of s) (names_of s))
+      (plan_text_once (naming_of s) (names_of s)) (λ text plan means. means) rest
       (λ plan others one other is also same first second.
       each plan (is_plan is.bytes plan is.means) one other first
       (subst (λ (p : List Attributes). rest p other) (sym same) second))
     where
-      is_plan : (text : List ℕ) (plan : List Attributes) → MeansPlan (names_of s) text plan
+      is_plan : (text : List ℕ) (plan : List Attributes) → MeansPlan (naming_of s) (names_of s) text plan
           → IsPlan (width_of s) plan
       is_plan text plan means =
           let lines = line_texts (without_mark text) in
           record {
-            within = lines_within (names_of s) lines plan means.lines;
-            not_empty = lines_not_empty (names_of s) lines plan means.lines;
+            within = lines_within (naming_of s) (names_of s) lines plan means.lines;
+            not_empty = lines_not_empty (naming_of s) (names_of s) lines plan means.lines;
             covers = means.covers;
           }
 

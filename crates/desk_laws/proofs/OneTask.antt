@@ -23,6 +23,8 @@ use Rattle.alike_laws.proofs.Implication.{basis_moved, cover_moved, goal_answer_
 use Rattle.alike_laws.proofs.Keys.{closure_moved, exhibit_moved, key_moved, keys_moved, plan_keys_moved}
 use Rattle.alike_laws.proofs.Projections.{projects_moved}
 use Rattle.alike_laws.proofs.KeptFiles.{form_placed_moved, plan_placed_moved}
+use Rattle.alike_laws.proofs.OwnFolders.{form_into_moved, plan_into_moved}
+use Rattle.plan_laws.proofs.FolderAnswers.{one_form_into, one_plan_into}
 use Rattle.alike_laws.proofs.PlanReasons.{explained_split_moved, explained_synthesis_moved}
 use Rattle.alike_laws.proofs.Plans.{form_moved, join_moved, keeping_moved, splits_moved, synthesis_moved, wide_split_moved}
 use Rattle.alike_laws.proofs.Reasons.{explained_cover_moved, explained_keys_moved}
@@ -69,6 +71,7 @@ use Rattle.desk_laws.specs.OneReading.{IsOneButForProof}
 use Rattle.desk_responses.specs.ResponseValues.{Allowed, ResponseValue}
 use Rattle.desk_responses.specs.declared.status.Status.TheVariants.{Yes, No}
 use Rattle.desk_tables.specs.Overwriting.{MigratesHere, MigratesPlanHere}
+use Rattle.desk_tables.specs.OwnFolders.{HasOneLook, Looks, MigratesInto, MigratesPlanInto}
 use Rattle.desk_tables.specs.Rejoining.{JoinsTables}
 use Rattle.desk_words.specs.Forms as form
 use Rattle.desk_words.specs.Forms.{PlanQuestion, RowsQuestion, SchemaQuestion, Task}
@@ -79,14 +82,13 @@ pub declare_the_same : (files : Files) (name : List ℕ) (s t : Schema) → IsFi
     → IsFile schema_file (known_files files) name t → DeclareTheSame s t
 declare_the_same files name s t is also =
     let same : declarations_of s ≡ declarations_of t =
-    one_view files name schema_file declarations_of MeansSchema schema_text_once (λ text u means. means.declares) s t is
+    one_view files name schema_file declarations_of MeansSchema schema_text_once (λ text u means. means) s t is
     also in
     record {
-      naming = is.means.bare ∙ sym also.means.bare;
+      naming = ap (λ (d : Declarations). d.naming) same;
       names = ap (λ (d : Declarations). d.names) same;
       types = ap (λ (d : Declarations). d.columns) same;
-      nullable = λ i k. ((s.typed.bare is.means.bare).none_nullable k
-          ∙ sym ((t.typed.bare also.means.bare).none_nullable k)) i;
+      nullable = ap (λ (d : Declarations). d.nullable) same;
       theory = ap (λ (d : Declarations). d.deps) same;
       lines = ap (λ (d : Declarations). d.lines) same;
     }
@@ -100,13 +102,13 @@ pub after_schema : (files : Files) (name : List ℕ) (C : ResponseValue → Resp
     → WithFile schema_file (known_files files) name after other → C one other
 after_schema files name C rest after by_path alike one other (inl stops) (inl also) =
     by_path one other
-    (one_stop files name schema_file declarations_of MeansSchema schema_text_once (λ text u means. means.declares) one
+    (one_stop files name schema_file declarations_of MeansSchema schema_text_once (λ text u means. means) one
     other stops also)
 after_schema files name C rest after by_path alike one other (inl stops) (inr (t, is, remains)) =
-    absurd (goes files name schema_file declarations_of MeansSchema schema_text_once (λ text u means. means.declares)
+    absurd (goes files name schema_file declarations_of MeansSchema schema_text_once (λ text u means. means)
     t one is stops)
 after_schema files name C rest after by_path alike one other (inr (s, is, rests)) (inl stops) =
-    absurd (goes files name schema_file declarations_of MeansSchema schema_text_once (λ text u means. means.declares)
+    absurd (goes files name schema_file declarations_of MeansSchema schema_text_once (λ text u means. means)
     s other is stops)
 after_schema files name C rest after by_path alike one other (inr (s, is, rests)) (inr (t, also, remains)) =
     alike s t one other is (declare_the_same files name s t is also) rests remains
@@ -297,12 +299,13 @@ one_of_values files s t file one other same (a, first, found) (b, second, also) 
     s t a b same (texts_alike s t a b same first second) one other found also
 
 -- ---- tasks
-pub one_task : (files : Files) (s t : Schema) (task : Task) (one other : ResponseValue) → DeclareTheSame s t
-    → Does (known_files files) s task one → Does (known_files files) t task other → IsOneButForProof s task one other
+pub one_task : (looks : Looks) (files : Files) (s t : Schema) (task : Task) (one other : ResponseValue) → HasOneLook looks
+    → DeclareTheSame s t → Does looks (known_files files) s task one → Does looks (known_files files) t task other
+    → IsOneButForProof s task one other
 unfolding Does
-one_task files s t (form.of_schema question) one other same first second =
+one_task looks files s t (form.of_schema question) one other single same first second =
     one_schema_answer question s t same one other first second
-one_task files s t (form.of_plan file question) one other same first second =
+one_task looks files s t (form.of_plan file question) one other single same first second =
     inl (alike
     (λ (u : Schema). WithFile (plan_file u) (known_files files) file (λ plan. AnswersPlan u plan question))
     (λ u f. with_plan_file_moved u f (known_files files) file (λ plan. AnswersPlan u plan question)
@@ -310,7 +313,7 @@ one_task files s t (form.of_plan file question) one other same first second =
     (λ u. one_after_plan files u file (λ plan. AnswersPlan u plan question)
     (λ plan valid. one_answer_of_plan u plan question valid))
     s t same one other first second)
-one_task files s t (form.of_rows file question) one other same first second =
+one_task looks files s t (form.of_rows file question) one other single same first second =
     inl (alike
     (λ (u : Schema). WithFile (rows_file u) (known_files files) file (λ rows. AnswersRows u rows question))
     (λ u f. with_rows_moved u f (known_files files) file (λ rows. AnswersRows u rows question)
@@ -318,9 +321,9 @@ one_task files s t (form.of_rows file question) one other same first second =
     (λ u. one_after_rows files u file (λ rows. AnswersRows u rows question)
     (λ rows. one_answer_of_rows u rows question))
     s t same one other first second)
-one_task files s t (form.measure file) one other same first second =
+one_task looks files s t (form.measure file) one other single same first second =
     inl (one_of_values files s t file one other same first second)
-one_task files s t (form.migrate own file normal) one other same first second =
+one_task looks files s t (form.migrate own file normal) one other single same first second =
     inl (alike
     (λ (u : Schema). WithFile (rows_file u) (known_files files) file (MigratesHere u normal (own ∷ file ∷ [])))
     (λ u f. with_rows_moved u f (known_files files) file (MigratesHere u normal (own ∷ file ∷ []))
@@ -329,7 +332,7 @@ one_task files s t (form.migrate own file normal) one other same first second =
     (λ u. one_after_rows files u file (MigratesHere u normal (own ∷ file ∷ []))
     (λ rows. one_form_placed u normal (own ∷ file ∷ []) rows))
     s t same one other first second)
-one_task files s t (form.migrate_plan own planned file) one other same first second =
+one_task looks files s t (form.migrate_plan own planned file) one other single same first second =
     inl (alike
     (λ (u : Schema). WithFile (plan_file u) (known_files files) planned
     (λ plan. WithFile (rows_file u) (known_files files) file
@@ -348,7 +351,30 @@ one_task files s t (form.migrate_plan own planned file) one other same first sec
     (λ plan valid. one_after_rows files u file (MigratesPlanHere u plan (own ∷ planned ∷ file ∷ []))
     (λ rows. one_plan_placed u plan (own ∷ planned ∷ file ∷ []) rows)))
     s t same one other first second)
-one_task files s t (form.check_proof file goal) one other same first second =
+one_task looks files s t (form.migrate_into file normal name) one other single same first second =
+    inl (alike
+    (λ (u : Schema). WithFile (rows_file u) (known_files files) file (MigratesInto looks u normal name))
+    (λ u f. with_rows_moved u f (known_files files) file (MigratesInto looks u normal name)
+    (MigratesInto looks (rebuilt u f) normal name)
+    (λ rows. form_into_moved u f looks normal name rows))
+    (λ u. one_after_rows files u file (MigratesInto looks u normal name)
+    (λ rows. one_form_into looks u normal name rows single))
+    s t same one other first second)
+one_task looks files s t (form.migrate_plan_into planned file name) one other single same first second =
+    inl (alike
+    (λ (u : Schema). WithFile (plan_file u) (known_files files) planned
+    (λ plan. WithFile (rows_file u) (known_files files) file (MigratesPlanInto looks u plan name)))
+    (λ u f. with_plan_file_moved u f (known_files files) planned
+    (λ plan. WithFile (rows_file u) (known_files files) file (MigratesPlanInto looks u plan name))
+    (λ plan. WithFile (rows_file (rebuilt u f)) (known_files files) file (MigratesPlanInto looks (rebuilt u f) plan name))
+    (λ plan. with_rows_moved u f (known_files files) file (MigratesPlanInto looks u plan name)
+    (MigratesPlanInto looks (rebuilt u f) plan name) (λ rows. plan_into_moved u f looks plan name rows)))
+    (λ u. one_after_plan files u planned
+    (λ plan. WithFile (rows_file u) (known_files files) file (MigratesPlanInto looks u plan name))
+    (λ plan valid. one_after_rows files u file (MigratesPlanInto looks u plan name)
+    (λ rows. one_plan_into looks u plan name rows single)))
+    s t same one other first second)
+one_task looks files s t (form.check_proof file goal) one other single same first second =
     inl (alike
     (λ (u : Schema). WithFile (proof_file u) (known_files files) file (λ tree. ChecksProof u tree goal))
     (λ u f. with_proof_moved u f (known_files files) file (λ tree. ChecksProof u tree goal)
@@ -356,7 +382,7 @@ one_task files s t (form.check_proof file goal) one other same first second =
     (λ u. one_after_proof files u file (λ tree. ChecksProof u tree goal)
     (λ tree. one_certificate_answer u tree goal))
     s t same one other first second)
-one_task files s t (form.check_derivation file goal) one other same first second =
+one_task looks files s t (form.check_derivation file goal) one other single same first second =
     inl (alike
     (λ (u : Schema). WithFile (derivation_file u) (known_files files) file (λ derived. ChecksDerivation u derived goal))
     (λ u f. with_derivation_moved u f (known_files files) file (λ derived. ChecksDerivation u derived goal)
@@ -364,21 +390,21 @@ one_task files s t (form.check_derivation file goal) one other same first second
     (λ u. one_after_derivation files u file (λ derived. ChecksDerivation u derived goal)
     (λ derived. one_derivation_answer u derived goal))
     s t same one other first second)
-one_task files s t (form.check_same file other_file) one other same first second =
+one_task looks files s t (form.check_same file other_file) one other single same first second =
     inl (after_schema files other_file (λ one other. one ≡ other) (λ u. ChecksSame s u file other_file)
     (λ u. ChecksSame t u file other_file) (λ one other path. path)
     (λ u v one other is also. alike_of_two (λ (x y : Schema). ChecksSame x y file other_file)
     (λ x y f g. sameness_moved x y f g file other_file) (λ x y. one_same_answer x y file other_file) s t u v same also
     one other)
     one other first second)
-one_task files s t (form.check_cover file other_file) one other same first second =
+one_task looks files s t (form.check_cover file other_file) one other single same first second =
     inl (after_schema files other_file (λ one other. one ≡ other) (λ u. ChecksCover s u file other_file)
     (λ u. ChecksCover t u file other_file) (λ one other path. path)
     (λ u v one other is also. alike_of_two (λ (x y : Schema). ChecksCover x y file other_file)
     (λ x y f g. cover_check_moved x y f g file other_file) (λ x y. one_cover_check x y file other_file) s t u v same also
     one other)
     one other first second)
-one_task files s t (form.rejoin names) one other same first second =
+one_task looks files s t (form.rejoin names) one other single same first second =
     inl (alike
     (λ (u : Schema). WithParts (known_files files) u names (λ parts. JoinsTables u (tables_of parts)))
     (λ u f. with_parts_moved u f (known_files files) names (λ parts. JoinsTables u (tables_of parts))

@@ -34,6 +34,7 @@ use Rattle.schema_grammar.specs.Schemas.{MeansSchema, RefusesSchema}
 use Rattle.schema_grammar.specs.Texts.{read_text}
 use Rattle.table_join.specs.Tables.{PartialRelation, table_of_part}
 use Rattle.desk_laws.specs.OneReading.{HasOneReading}
+use Rattle.dep_model.specs.declared.naming.Naming.{Naming}
 
 -- ---- one reading of each text
 one_error : {A E : Type 0} (e f : E) → ◌≡◌ {A = Result A E} (Err e) (Err f) → e ≡ f
@@ -65,12 +66,12 @@ derivation_text_once s text =
     read_once (read_derivation s text) (Derives s text) (IsRefusedDerivation s text)
     (λ d derives. (reading_law s text d).1 derives) (λ e refused. (refusal_law s text e).1 refused)
 
-pub plan_text_once : (names : List (List ℕ)) (text : List ℕ)
-    → HasOneReading (MeansPlan names text) (RefusesPlan names text)
-plan_text_once names text = record {
-  one_meaning = plan_one_meaning names text;
-  one_refusal = plan_one_refusal names text;
-  never_both = plan_never_both names text;
+pub plan_text_once : (naming : Naming) (names : List (List ℕ)) (text : List ℕ)
+    → HasOneReading (MeansPlan naming names text) (RefusesPlan naming names text)
+plan_text_once naming names text = record {
+  one_meaning = plan_one_meaning naming names text;
+  one_refusal = plan_one_refusal naming names text;
+  never_both = plan_never_both naming names text;
 }
 
 -- a relation to one result is one reading

@@ -18,6 +18,7 @@ use Rattle.desk_laws.proofs.OneInput.{one_after_headed}
 use Rattle.desk_laws.proofs.OneTask.{after_schema, one_task}
 use Rattle.desk_laws.proofs.OneText.{names_and_rows}
 use Rattle.desk_laws.proofs.SampleWords.{sample_within}
+use Rattle.desk_tables.specs.OwnFolders.{HasOneLook, Looks}
 use Rattle.desk_laws.specs.OneReading.{AskWhatIsDerived, BothDerive}
 use Rattle.desk_responses.specs.ResponseValues.{ResponseValue, Says}
 use Rattle.desk_responses.specs.declared.status.Status.TheVariants.{Yes, Refused}
@@ -45,34 +46,34 @@ after_one_task : (files : Files) (file : List ℕ) (task : Task) (s : Schema) (o
 after_one_task files file task s one other is (inl same) = inl same
 after_one_task files file task s one other is (inr derive) = inr (file, task, s, refl, is, derive)
 
-one_command : (files : Files) (command : CommandForm) (one other : ResponseValue)
+one_command : (looks : Looks) (files : Files) (command : CommandForm) (one other : ResponseValue) → HasOneLook looks
     → ((persons : ℕ) → command ≡ form.sample persons → persons ≤ MOST_PERSONS)
-    → Performs (known_files files) command one
-    → Performs (known_files files) command other → (one ≡ other) ⊎ IsDerived files command one other
+    → Performs looks (known_files files) command one
+    → Performs looks (known_files files) command other → (one ≡ other) ⊎ IsDerived files command one other
 unfolding Performs
-one_command files (form.over_schema file task) one other few_persons first second =
+one_command looks files (form.over_schema file task) one other single few_persons first second =
     after_schema files file (λ one other. (one ≡ other) ⊎ IsDerived files (form.over_schema file task) one other)
-    (λ s. Does (known_files files) s task) (λ s. Does (known_files files) s task) (λ one other path. inl path)
+    (λ s. Does looks (known_files files) s task) (λ s. Does looks (known_files files) s task) (λ one other path. inl path)
     (λ s t one other is same first second.
-    after_one_task files file task s one other is (one_task files s t task one other same first second))
+    after_one_task files file task s one other is (one_task looks files s t task one other single same first second))
     one other first second
-one_command files (form.discover file) one other few_persons first second =
+one_command looks files (form.discover file) one other single few_persons first second =
     inl (one_after_headed files file FindsRules
     (λ h k a b same found also. one_rules_answer k a b (found_there h k a same found) also) one other first second)
-one_command files (form.sample persons) one other few_persons first second =
+one_command looks files (form.sample persons) one other single few_persons first second =
     let few = few_persons persons refl in inl (one_sampled persons (omega (arith, few)) one other first second)
-one_command files form.help one other few_persons first second = inl (first ∙ sym second)
-one_command files form.version one other few_persons first second = inl (first ∙ sym second)
+one_command looks files form.help one other single few_persons first second = inl (first ∙ sym second)
+one_command looks files form.version one other single few_persons first second = inl (first ∙ sym second)
 
 -- ---- words
-one_of : (files : Files) (said : Option CommandForm) (one other : ResponseValue)
+one_of : (looks : Looks) (files : Files) (said : Option CommandForm) (one other : ResponseValue) → HasOneLook looks
     → ((persons : ℕ) → said ≡ Some (form.sample persons) → persons ≤ MOST_PERSONS)
-    → MatchOption said (Says Refused unknown_words_text one) (λ command. Performs (known_files files) command one)
-    → MatchOption said (Says Refused unknown_words_text other) (λ command. Performs (known_files files) command other)
+    → MatchOption said (Says Refused unknown_words_text one) (λ command. Performs looks (known_files files) command one)
+    → MatchOption said (Says Refused unknown_words_text other) (λ command. Performs looks (known_files files) command other)
     → (one ≡ other) ⊎ ((command : CommandForm) × (said ≡ Some command) × IsDerived files command one other)
-one_of files None one other few_persons first second = inl (first ∙ sym second)
-one_of files (Some command) one other few_persons first second =
-    elim (one_command files command one other
+one_of looks files None one other single few_persons first second = inl (first ∙ sym second)
+one_of looks files (Some command) one other single few_persons first second =
+    elim (one_command looks files command one other single
     (λ persons is. few_persons persons (ap (λ (c : CommandForm). Some c) is)) first second) [
       | inl same ↦ inl same
       | inr derived ↦ inr (command, refl, derived)
@@ -92,8 +93,8 @@ asked files words one other (inr (command, forms, (file, task, s, is, read, deri
       derive = derive;
     })
 
-pub one_answer : (files : Files) (words : List (List ℕ)) (one other : ResponseValue)
-    → Answers (known_files files) words one → Answers (known_files files) words other
+pub one_answer : (looks : Looks) (files : Files) (words : List (List ℕ)) (one other : ResponseValue) → HasOneLook looks
+    → Answers looks (known_files files) words one → Answers looks (known_files files) words other
     → (one ≡ other) ⊎ AskWhatIsDerived files words one other
-one_answer files words one other first second =
-    asked files words one other (one_of files (form_of words) one other (sample_within words) first second)
+one_answer looks files words one other single first second =
+    asked files words one other (one_of looks files (form_of words) one other single (sample_within words) first second)

@@ -6,7 +6,7 @@ use Rattle.std.specs.Prelude.{codes, All, Contains}
 use Rattle.attr_sets.specs.Attributes.{Attributes, IsEmpty}
 use Rattle.attr_sets.specs.declared.set.AttrSet.{AttrSet}
 use Rattle.dep_model.specs.Dependencies.{Dependency}
-use Rattle.dep_model.specs.Schemas.{names_of, width_of, theory_of, attribute_named}
+use Rattle.dep_model.specs.Schemas.{names_of, width_of, theory_of, attribute_named, naming_of}
 use Rattle.dep_model.specs.declared.schema.Schema.{Schema}
 use Rattle.key_listing.specs.Listing.{AreManyKeys}
 use Rattle.fd_closure.specs.LeftSides.{IsWide}
@@ -33,15 +33,23 @@ use Rattle.desk_inputs.specs.Readings.{known_files}
 use Rattle.desk_covers.specs.Sameness.{WithSameNames, Compares, LacksName}
 use Rattle.implication_laws.proofs.OneAnswer.{one_set}
 use Rattle.desk_laws.specs.Completeness.{IsYesOrNo, IsAnswered}
-use Rattle.desk_laws.proofs.CompleteLaws.{AreSame, names_same, after_schema, after_plan}
+use Rattle.desk_laws.proofs.CompleteLaws.{AreSame, names_same, naming_same, after_schema, after_plan}
 use Rattle.std.proofs.lemmas.List.Elements.{All-contains, Contains-append_right}
+use Rattle.desk_tables.specs.OwnFolders.{Looks}
+use Rattle.dep_model.specs.declared.naming.Naming.{Naming}
 
 -- ---- sets
+set_moved : (s r : Schema) (set : List ℕ) (x : Attributes) → AreSame s r → MeansSet (naming_of s) (names_of s) set x
+    → MeansSet (naming_of r) (names_of r) set x
+set_moved s r set x same means =
+    subst (λ (names : List (List ℕ)). MeansSet (naming_of r) names set x) (names_same s r same)
+    (subst (λ (naming : Naming). MeansSet naming (names_of s) set x) (naming_same s r same) means)
+
 set_goes : (s : Schema) (set : List ℕ) (x : Attributes) (response : ResponseValue) → IsSetText s set x → SetStops s set response → ⊥
 set_goes s set x response is (inl exit) = let long = exit.0 in omega (arith, is.within_limit, long)
 set_goes s set x response is (inr exit) =
-    let read : read_set (names_of s) set ≡ Ok x = (set-law (names_of s) set x).1 is.means in
-    let refused : read_set (names_of s) set ≡ Err exit.0 = (set-refusal-law (names_of s) set exit.0).1 exit.1.refused in cc
+    let read : read_set (naming_of s) (names_of s) set ≡ Ok x = (set-law (naming_of s) (names_of s) set x).1 is.means in
+    let refused : read_set (naming_of s) (names_of s) set ≡ Err exit.0 = (set-refusal-law (naming_of s) (names_of s) set exit.0).1 exit.1.refused in cc
 
 after_set : (s r : Schema) (set : List ℕ) (x : Attributes) (rest : Attributes → Allowed) (response : ResponseValue)
     → AreSame s r → IsSetText s set x
@@ -49,36 +57,36 @@ after_set : (s r : Schema) (set : List ℕ) (x : Attributes) (rest : Attributes 
     → IsYesOrNo response.status
 after_set s r set x rest response same is go (inl exit) =
     absurd (set_goes r set x response
-    (record { within_limit = is.within_limit; means = subst (λ (names : List (List ℕ)). MeansSet names set x) (names_same s r same) is.means }) exit)
+    (record { within_limit = is.within_limit; means = set_moved s r set x same is.means }) exit)
 after_set s r set x rest response same is go (inr (y, found, more)) = go y more
 
-basis_asks : (files : Files) (name set : List ℕ) (response : ResponseValue)
-    → Answers (known_files files) (codes "basis" ∷ name ∷ set ∷ []) response
+basis_asks : (files : Files) (name set : List ℕ) (looks : Looks) (response : ResponseValue)
+    → Answers looks (known_files files) (codes "basis" ∷ name ∷ set ∷ []) response
     → WithFile schema_file (known_files files) name (λ r. WithSet r set (TellsBasis r)) response
 unfolding form_of form_over_schema schema_and_word Performs Does AnswersSchema
-basis_asks files name set response answered = answered
+basis_asks files name set looks response answered = answered
 
 pub basis_answered : (files : Files) (name set : List ℕ) (schema : Schema) (x : Attributes)
     → IsFile schema_file (known_files files) name schema → IsSetText schema set x
     → IsAnswered files (codes "basis" ∷ name ∷ set ∷ [])
-basis_answered files name set schema x file is response answered =
+basis_answered files name set schema x file is looks response answered =
     after_schema files name schema (λ r. WithSet r set (TellsBasis r)) response file
     (λ r same more. after_set schema r set x (TellsBasis r) response same is (λ y found. inl (ap (λ (a : ResponseValue). a.status) found.2)) more)
-    (basis_asks files name set response answered)
+    (basis_asks files name set looks response answered)
 
-closure_asks : (files : Files) (name set : List ℕ) (response : ResponseValue)
-    → Answers (known_files files) (codes "closure" ∷ name ∷ set ∷ []) response
+closure_asks : (files : Files) (name set : List ℕ) (looks : Looks) (response : ResponseValue)
+    → Answers looks (known_files files) (codes "closure" ∷ name ∷ set ∷ []) response
     → WithFile schema_file (known_files files) name (λ r. WithSet r set (TellsClosure r)) response
 unfolding form_of form_over_schema schema_and_word Performs Does AnswersSchema
-closure_asks files name set response answered = answered
+closure_asks files name set looks response answered = answered
 
 pub closure_answered : (files : Files) (name set : List ℕ) (schema : Schema) (x : Attributes)
     → IsFile schema_file (known_files files) name schema → IsSetText schema set x
     → IsAnswered files (codes "closure" ∷ name ∷ set ∷ [])
-closure_answered files name set schema x file is response answered =
+closure_answered files name set schema x file is looks response answered =
     after_schema files name schema (λ r. WithSet r set (TellsClosure r)) response file
     (λ r same more. after_set schema r set x (TellsClosure r) response same is (λ y found. inl (ap (λ (a : ResponseValue). a.status) found.2)) more)
-    (closure_asks files name set response answered)
+    (closure_asks files name set looks response answered)
 
 -- the set that was read is the one that the text means
 read_the_set : (r : Schema) (set : List ℕ) (x : Attributes) (rest : Attributes → Allowed) (response : ResponseValue)
@@ -86,13 +94,13 @@ read_the_set : (r : Schema) (set : List ℕ) (x : Attributes) (rest : Attributes
     → IsYesOrNo response.status
 read_the_set r set x rest response is go (inl exit) = absurd (set_goes r set x response is exit)
 read_the_set r set x rest response is go (inr (y, found, more)) =
-    go (subst (λ (z : Attributes). rest z response) (one_set (names_of r) set y x found.means is.means) more)
+    go (subst (λ (z : Attributes). rest z response) (one_set (naming_of r) (names_of r) set y x found.means is.means) more)
 
 after_the_set : (s r : Schema) (set : List ℕ) (x : Attributes) (rest : Attributes → Allowed) (response : ResponseValue)
     → AreSame s r → IsSetText s set x → (rest x response → IsYesOrNo response.status) → WithSet r set rest response
     → IsYesOrNo response.status
 after_the_set s r set x rest response same is go more =
-    let means : MeansSet (names_of r) set x = subst (λ (names : List (List ℕ)). MeansSet names set x) (names_same s r same) is.means in
+    let means = set_moved s r set x same is.means in
     read_the_set r set x rest response (record { within_limit = is.within_limit; means = means }) go more
 
 projects_yes : (s r : Schema) (x : Attributes) (response : ResponseValue) → AreSame s r → (IsEmpty x → ⊥) → (IsWide (theory_of s) x → ⊥)
@@ -104,39 +112,39 @@ projects_yes s r x response same some narrow few (inr (inl (also, inr ((fits, ma
     absurd (few many.0 (subst (λ (d : Declarations). AreTooMany (length d.names) d.deps x many.0) (sym same) many.1))
 projects_yes s r x response same some narrow few (inr (inr (rules, is, says))) = inl (ap (λ (a : ResponseValue). a.status) says)
 
-project_asks : (files : Files) (name set : List ℕ) (response : ResponseValue)
-    → Answers (known_files files) (codes "project" ∷ name ∷ set ∷ []) response
+project_asks : (files : Files) (name set : List ℕ) (looks : Looks) (response : ResponseValue)
+    → Answers looks (known_files files) (codes "project" ∷ name ∷ set ∷ []) response
     → WithFile schema_file (known_files files) name (λ r. WithSet r set (ProjectsSet r)) response
 unfolding form_of form_over_schema schema_and_word Performs Does AnswersSchema
-project_asks files name set response answered = answered
+project_asks files name set looks response answered = answered
 
 pub project_answered : (files : Files) (name set : List ℕ) (schema : Schema) (x : Attributes)
     → IsFile schema_file (known_files files) name schema → IsSetText schema set x
     → (IsEmpty x → ⊥) → (IsWide (theory_of schema) x → ⊥)
     → ((found : List Dependency) → AreTooMany (width_of schema) (theory_of schema) x found → ⊥)
     → IsAnswered files (codes "project" ∷ name ∷ set ∷ [])
-project_answered files name set schema x file is some narrow few response answered =
+project_answered files name set schema x file is some narrow few looks response answered =
     after_schema files name schema (λ r. WithSet r set (ProjectsSet r)) response file
     (λ r same more. after_the_set schema r set x (ProjectsSet r) response same is (λ found. projects_yes schema r x response same some narrow few found) more)
-    (project_asks files name set response answered)
+    (project_asks files name set looks response answered)
 
 TestsKey-yes_or_no : (r : Schema) (y : Attributes) (response : ResponseValue) → TestsKey r y response → IsYesOrNo response.status
 TestsKey-yes_or_no r y response (text, inl (shown, says)) = inl (ap (λ (a : ResponseValue). a.status) says)
 TestsKey-yes_or_no r y response (text, inr (why, says)) = inr (ap (λ (a : ResponseValue). a.status) says)
 
-check_key_asks : (files : Files) (name set : List ℕ) (response : ResponseValue)
-    → Answers (known_files files) (codes "check" ∷ codes "key" ∷ name ∷ set ∷ []) response
+check_key_asks : (files : Files) (name set : List ℕ) (looks : Looks) (response : ResponseValue)
+    → Answers looks (known_files files) (codes "check" ∷ codes "key" ∷ name ∷ set ∷ []) response
     → WithFile schema_file (known_files files) name (λ r. WithSet r set (TestsKey r)) response
 unfolding form_of form_over_schema after_check schema_and_word Performs Does AnswersSchema
-check_key_asks files name set response answered = answered
+check_key_asks files name set looks response answered = answered
 
 pub check_key_answered : (files : Files) (name set : List ℕ) (schema : Schema) (x : Attributes)
     → IsFile schema_file (known_files files) name schema → IsSetText schema set x
     → IsAnswered files (codes "check" ∷ codes "key" ∷ name ∷ set ∷ [])
-check_key_answered files name set schema x file is response answered =
+check_key_answered files name set schema x file is looks response answered =
     after_schema files name schema (λ r. WithSet r set (TestsKey r)) response file
     (λ r same more. after_set schema r set x (TestsKey r) response same is (λ y found. TestsKey-yes_or_no r y response found) more)
-    (check_key_asks files name set response answered)
+    (check_key_asks files name set looks response answered)
 
 -- ---- keys of a plan
 abbrev HasFewKeys : Schema → Attributes → Type 0
@@ -158,22 +166,22 @@ answer_agrees s r p plan response same is narrow within_limit (inr (scheme, firs
     absurd (All-contains (HasFewKeys s) plan scheme within_limit at more.0
     (subst (λ (d : Declarations). AreManyKeys (length d.names) d.deps scheme more.0) (sym same) more.1))
 
-keys_asks : (files : Files) (name file : List ℕ) (response : ResponseValue)
-    → Answers (known_files files) (codes "keys" ∷ name ∷ file ∷ []) response
+keys_asks : (files : Files) (name file : List ℕ) (looks : Looks) (response : ResponseValue)
+    → Answers looks (known_files files) (codes "keys" ∷ name ∷ file ∷ []) response
     → WithFile schema_file (known_files files) name (λ r. WithFile (plan_file r) (known_files files) file (ListsKeysOfPlan r)) response
 unfolding form_of form_over_schema after_keys Performs Does AnswersSchema AnswersPlan
-keys_asks files name file response answered = answered
+keys_asks files name file looks response answered = answered
 
 pub keys_of_plan_answered : (files : Files) (name file : List ℕ) (schema : Schema) (plan : List Attributes)
     → IsFile schema_file (known_files files) name schema → IsFile (plan_file schema) (known_files files) file plan
     → All (λ scheme. IsWide (theory_of schema) scheme → ⊥) plan
     → All (λ scheme. (found : List AttrSet) → AreManyKeys (width_of schema) (theory_of schema) scheme found → ⊥) plan
     → IsAnswered files (codes "keys" ∷ name ∷ file ∷ [])
-keys_of_plan_answered files name file schema plan held_schema held_plan narrow within_limit response answered =
+keys_of_plan_answered files name file schema plan held_schema held_plan narrow within_limit looks response answered =
     after_schema files name schema (λ r. WithFile (plan_file r) (known_files files) file (ListsKeysOfPlan r)) response held_schema
     (λ r same more. after_plan files schema r file plan (ListsKeysOfPlan r) response same held_plan
     (λ p is found. answer_agrees schema r p plan response same is narrow within_limit found) more)
-    (keys_asks files name file response answered)
+    (keys_asks files name file looks response answered)
 
 -- ---- two schemas
 -- the names that another schema does not declare depend on the names alone
@@ -197,43 +205,43 @@ after_names s r o p file other_file rest response same other names go (inl (inr 
     absurd (lacks_none p r file response (declared_alike o p s r other same names.1) lacks)
 after_names s r o p file other_file rest response same other names go (inr (same_names, found)) = go found
 
-same_asks : (files : Files) (name other_name : List ℕ) (response : ResponseValue)
-    → Answers (known_files files) (codes "check" ∷ codes "same" ∷ name ∷ other_name ∷ []) response
+same_asks : (files : Files) (name other_name : List ℕ) (looks : Looks) (response : ResponseValue)
+    → Answers looks (known_files files) (codes "check" ∷ codes "same" ∷ name ∷ other_name ∷ []) response
     → WithFile schema_file (known_files files) name (λ r. WithFile schema_file (known_files files) other_name (λ p. WithSameNames r p name other_name (Compares r p name other_name))) response
 unfolding form_of form_over_schema after_check two_schemas Performs Does
-same_asks files name other_name response answered = answered
+same_asks files name other_name looks response answered = answered
 
 pub same_answered : (files : Files) (name other_name : List ℕ) (schema other : Schema)
     → IsFile schema_file (known_files files) name schema → IsFile schema_file (known_files files) other_name other
     → SameNames schema other
     → IsAnswered files (codes "check" ∷ codes "same" ∷ name ∷ other_name ∷ [])
-same_answered files name other_name schema other held_schema held_other names response answered =
+same_answered files name other_name schema other held_schema held_other names looks response answered =
     after_schema files name schema
     (λ r. WithFile schema_file (known_files files) other_name (λ p. WithSameNames r p name other_name (Compares r p name other_name))) response held_schema
     (λ r same more. after_schema files other_name other (λ p. WithSameNames r p name other_name (Compares r p name other_name)) response held_other
     (λ p alike found. after_names schema r other p name other_name (Compares r p name other_name) response same alike names
     (Compares-yes_or_no r p name other_name response) found) more)
-    (same_asks files name other_name response answered)
+    (same_asks files name other_name looks response answered)
 
 TestsCover-yes_or_no : (r p : Schema) (file other_file : List ℕ) (response : ResponseValue) → TestsCover r p file other_file response → IsYesOrNo response.status
 TestsCover-yes_or_no r p file other_file response (inl (there, back, differ, says)) = inr (ap (λ (a : ResponseValue). a.status) says)
 TestsCover-yes_or_no r p file other_file response (inr (same, (found, are, inl (none, says)))) = inl (ap (λ (a : ResponseValue). a.status) says)
 TestsCover-yes_or_no r p file other_file response (inr (same, (found, are, inr (some, says)))) = inr (ap (λ (a : ResponseValue). a.status) says)
 
-cover_asks : (files : Files) (name other_name : List ℕ) (response : ResponseValue)
-    → Answers (known_files files) (codes "check" ∷ codes "cover" ∷ name ∷ other_name ∷ []) response
+cover_asks : (files : Files) (name other_name : List ℕ) (looks : Looks) (response : ResponseValue)
+    → Answers looks (known_files files) (codes "check" ∷ codes "cover" ∷ name ∷ other_name ∷ []) response
     → WithFile schema_file (known_files files) name (λ r. WithFile schema_file (known_files files) other_name (λ p. WithSameNames r p name other_name (TestsCover r p name other_name))) response
 unfolding form_of form_over_schema after_check two_schemas Performs Does
-cover_asks files name other_name response answered = answered
+cover_asks files name other_name looks response answered = answered
 
 pub cover_checked : (files : Files) (name other_name : List ℕ) (schema other : Schema)
     → IsFile schema_file (known_files files) name schema → IsFile schema_file (known_files files) other_name other
     → SameNames schema other
     → IsAnswered files (codes "check" ∷ codes "cover" ∷ name ∷ other_name ∷ [])
-cover_checked files name other_name schema other held_schema held_other names response answered =
+cover_checked files name other_name schema other held_schema held_other names looks response answered =
     after_schema files name schema
     (λ r. WithFile schema_file (known_files files) other_name (λ p. WithSameNames r p name other_name (TestsCover r p name other_name))) response held_schema
     (λ r same more. after_schema files other_name other (λ p. WithSameNames r p name other_name (TestsCover r p name other_name)) response held_other
     (λ p alike found. after_names schema r other p name other_name (TestsCover r p name other_name) response same alike names
     (TestsCover-yes_or_no r p name other_name response) found) more)
-    (cover_asks files name other_name response answered)
+    (cover_asks files name other_name looks response answered)

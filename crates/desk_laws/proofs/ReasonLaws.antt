@@ -25,6 +25,7 @@ use Rattle.desk_words.specs.Forms.{form_of, form_over_schema, after_explain, aft
 use Rattle.desk_laws.specs.Completeness.{IsYesOrNo, IsAnswered, HasPlanInForm}
 use Rattle.desk_laws.proofs.CompleteLaws.{AreSame, after_schema, narrow_same, not_many_same, lists_keys}
 use Rattle.desk_laws.proofs.TableLaws.{after_form}
+use Rattle.desk_tables.specs.OwnFolders.{Looks}
 
 Explained-yes_or_no : (AreReasons : List ℕ → Type 0) (answers : Allowed) (response : ResponseValue)
     → ((plain : ResponseValue) → answers plain → IsYesOrNo plain.status)
@@ -34,49 +35,49 @@ Explained-yes_or_no AreReasons answers response go (plain, is, inl (agrees, (rea
 Explained-yes_or_no AreReasons answers response go (plain, is, inr (stops, same)) =
     subst (λ (status : Status). IsYesOrNo status) (sym (ap (λ (r : ResponseValue). r.status) same)) (go plain is)
 
-cover_asks : (files : Files) (name : List ℕ) (response : ResponseValue)
-    → Answers (known_files files) (codes "explain" ∷ codes "cover" ∷ name ∷ []) response
+cover_asks : (files : Files) (name : List ℕ) (looks : Looks) (response : ResponseValue)
+    → Answers looks (known_files files) (codes "explain" ∷ codes "cover" ∷ name ∷ []) response
     → WithFile schema_file (known_files files) name ExplainsCover response
 unfolding form_of form_over_schema after_explain schema_alone Performs Does AnswersSchema
-cover_asks files name response answered = answered
+cover_asks files name looks response answered = answered
 
 pub cover_explained : (files : Files) (name : List ℕ) (schema : Schema) → IsFile schema_file (known_files files) name schema
     → IsAnswered files (codes "explain" ∷ codes "cover" ∷ name ∷ [])
-cover_explained files name schema file response answered =
+cover_explained files name schema file looks response answered =
     after_schema files name schema ExplainsCover response file
     (λ r same found. Explained-yes_or_no (AreCoverReasons r) (GivesCover r) response
     (λ plain is. inl (ap (λ (a : ResponseValue). a.status) is.4)) found)
-    (cover_asks files name response answered)
+    (cover_asks files name looks response answered)
 
-keys_asks : (files : Files) (name : List ℕ) (response : ResponseValue)
-    → Answers (known_files files) (codes "explain" ∷ codes "keys" ∷ name ∷ []) response
+keys_asks : (files : Files) (name : List ℕ) (looks : Looks) (response : ResponseValue)
+    → Answers looks (known_files files) (codes "explain" ∷ codes "keys" ∷ name ∷ []) response
     → WithFile schema_file (known_files files) name ExplainsKeys response
 unfolding form_of form_over_schema after_explain schema_alone Performs Does AnswersSchema
-keys_asks files name response answered = answered
+keys_asks files name looks response answered = answered
 
 pub keys_explained : (files : Files) (name : List ℕ) (schema : Schema) → IsFile schema_file (known_files files) name schema
     → (IsTooWide schema → ⊥) → (HasManyKeys schema → ⊥)
     → IsAnswered files (codes "explain" ∷ codes "keys" ∷ name ∷ [])
-keys_explained files name schema file narrow within_limit response answered =
+keys_explained files name schema file narrow within_limit looks response answered =
     after_schema files name schema ExplainsKeys response file
     (λ r same found. Explained-yes_or_no (AreKeyReasons r) (ListsKeys r) response
     (λ plain is. lists_keys r plain (narrow_same schema r same narrow) (not_many_same schema r same within_limit) is) found)
-    (keys_asks files name response answered)
+    (keys_asks files name looks response answered)
 
-synthesis_asks : (files : Files) (name : List ℕ) (response : ResponseValue)
-    → Answers (known_files files) (codes "explain" ∷ codes "synthesize" ∷ name ∷ []) response
+synthesis_asks : (files : Files) (name : List ℕ) (looks : Looks) (response : ResponseValue)
+    → Answers looks (known_files files) (codes "explain" ∷ codes "synthesize" ∷ name ∷ []) response
     → WithFile schema_file (known_files files) name ExplainsSynthesis response
 unfolding form_of form_over_schema after_explain schema_alone Performs Does AnswersSchema
-synthesis_asks files name response answered = answered
+synthesis_asks files name looks response answered = answered
 
 pub synthesis_explained : (files : Files) (name : List ℕ) (schema : Schema)
     → IsFile schema_file (known_files files) name schema
     → IsAnswered files (codes "explain" ∷ codes "synthesize" ∷ name ∷ [])
-synthesis_explained files name schema file response answered =
+synthesis_explained files name schema file looks response answered =
     after_schema files name schema ExplainsSynthesis response file
     (λ r same found. Explained-yes_or_no (AreSynthesisReasons r) (Synthesizes r) response
     (λ plain is. inl (ap (λ (a : ResponseValue). a.status) is.2)) found)
-    (synthesis_asks files name response answered)
+    (synthesis_asks files name looks response answered)
 
 -- a split of a form below how it comes about, where splitting meets no limit
 cuts_said : (r schema : Schema) (form : Form) (response : ResponseValue) → AreSame schema r
@@ -89,30 +90,30 @@ cuts_said r schema form response same can splits found =
     (λ plain is. after_form schema r form (ShowsPlan r) plain same can
     (λ plan says. inl (ap (λ (a : ResponseValue). a.status) says)) (splits plain is)) found
 
-bcnf_asks : (files : Files) (name : List ℕ) (response : ResponseValue)
-    → Answers (known_files files) (codes "explain" ∷ codes "split" ∷ codes "bcnf" ∷ name ∷ []) response
+bcnf_asks : (files : Files) (name : List ℕ) (looks : Looks) (response : ResponseValue)
+    → Answers looks (known_files files) (codes "explain" ∷ codes "split" ∷ codes "bcnf" ∷ name ∷ []) response
     → WithFile schema_file (known_files files) name (λ r. ExplainsCuts r Bcnf) response
 unfolding form_of form_over_schema after_explain after_explain_split schema_alone Performs Does AnswersSchema
-bcnf_asks files name response answered = answered
+bcnf_asks files name looks response answered = answered
 
 pub bcnf_explained : (files : Files) (name : List ℕ) (schema : Schema)
     → IsFile schema_file (known_files files) name schema → HasPlanInForm schema Bcnf
     → IsAnswered files (codes "explain" ∷ codes "split" ∷ codes "bcnf" ∷ name ∷ [])
-bcnf_explained files name schema file can response answered =
+bcnf_explained files name schema file can looks response answered =
     after_schema files name schema (λ r. ExplainsCuts r Bcnf) response file
     (λ r same found. cuts_said r schema Bcnf response same can (λ plain is. is) found)
-    (bcnf_asks files name response answered)
+    (bcnf_asks files name looks response answered)
 
-fourth_asks : (files : Files) (name : List ℕ) (response : ResponseValue)
-    → Answers (known_files files) (codes "explain" ∷ codes "split" ∷ codes "4nf" ∷ name ∷ []) response
+fourth_asks : (files : Files) (name : List ℕ) (looks : Looks) (response : ResponseValue)
+    → Answers looks (known_files files) (codes "explain" ∷ codes "split" ∷ codes "4nf" ∷ name ∷ []) response
     → WithFile schema_file (known_files files) name (λ r. ExplainsCuts r Fourth) response
 unfolding form_of form_over_schema after_explain after_explain_split schema_alone Performs Does AnswersSchema
-fourth_asks files name response answered = answered
+fourth_asks files name looks response answered = answered
 
 pub fourth_explained : (files : Files) (name : List ℕ) (schema : Schema)
     → IsFile schema_file (known_files files) name schema → HasPlanInForm schema Fourth
     → IsAnswered files (codes "explain" ∷ codes "split" ∷ codes "4nf" ∷ name ∷ [])
-fourth_explained files name schema file can response answered =
+fourth_explained files name schema file can looks response answered =
     after_schema files name schema (λ r. ExplainsCuts r Fourth) response file
     (λ r same found. cuts_said r schema Fourth response same can (λ plain is. is) found)
-    (fourth_asks files name response answered)
+    (fourth_asks files name looks response answered)

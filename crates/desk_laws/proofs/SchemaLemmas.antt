@@ -1,6 +1,8 @@
 -- What a text spells rests on the names and the dependencies of the schema alone.
 use Rattle.std.proofs.Common.{◌≡◌, ℕ, List, [], ◌∷◌, ◌++◌, refl, subst}
 use Rattle.std.specs.Prelude.{length}
+use Rattle.dep_model.specs.Schemas.{names_of, naming_of}
+use Rattle.dep_model.specs.declared.naming.Naming.{Naming}
 use Rattle.dep_model.specs.declared.schema.Schema.{Schema}
 use Rattle.derivation.specs.Trees.{Tree}
 use Rattle.proof_grammar.specs.Lines.{Line}
@@ -23,7 +25,8 @@ pub spells_alike : (s r : Schema) (text : List ℕ) (t : Tree) → AreAlike s r 
 spells_alike s r text t alike w = (
   record {
     lines = w.lines;
-    mean = subst (λ (names : List (List ℕ)). MeanLines names (certificate_lines text) w.lines) alike.names w.mean;
+    mean = subst (λ (names : List (List ℕ)). MeanLines (naming_of r) names (certificate_lines text) w.lines) alike.names
+        (subst (λ (naming : Naming). MeanLines naming (names_of s) (certificate_lines text) w.lines) alike.naming w.mean);
     nodes = record {
       before = w.nodes.before;
       nodes = nodes_alike s r [] w.lines (w.nodes.before ++ t ∷ []) alike w.nodes.nodes;

@@ -3,6 +3,7 @@ use Rattle.std.proofs.Common.{ℕ, List, [], ◌∷◌, inl, inr, ap}
 use Rattle.std.specs.Prelude.{codes, IsTrue}
 use Rattle.attr_sets.specs.Attributes.{Attributes}
 use Rattle.attr_sets.specs.declared.set.AttrSet.{AttrSet}
+use Rattle.dep_model.specs.Plans.{schemes_of}
 use Rattle.dep_model.specs.declared.schema.Schema.{Schema}
 use Rattle.normal_forms.specs.declared.forms.Form.{Form}
 use Rattle.normal_forms.specs.declared.forms.Form.TheVariants.{Third, Bcnf, Fourth}
@@ -19,10 +20,12 @@ use Rattle.desk_designs.specs.NormalForms.{form_word}
 use Rattle.desk_cli.specs.Performs.{Answers, Performs, Does, AnswersSchema, AnswersPlan}
 use Rattle.desk_inputs.specs.Plans.{plan_file}
 use Rattle.desk_inputs.specs.Readings.{known_files}
-use Rattle.desk_designs.specs.Scripts.{WithTableName, AsksTable, MakesTables, MakesSchemes}
-use Rattle.desk_laws.specs.Completeness.{IsYesOrNo, IsAnswered, HasPlanInForm}
+use Rattle.desk_designs.specs.Scripts.{AsksTable, MakesSchemes, MakesTables, ScriptsMigrationByPlan, WithTableName}
+use Rattle.desk_designs.specs.Designs.{WithoutMissing}
+use Rattle.desk_laws.specs.Completeness.{IsYesOrNo, IsAnswered, HasPlanInForm, RequiresAll}
 use Rattle.desk_laws.proofs.CompleteLaws.{after_schema, after_plan}
-use Rattle.desk_laws.proofs.TableLaws.{after_form, after_loss, form_answered}
+use Rattle.desk_laws.proofs.TableLaws.{after_form, after_loss, after_missing, form_answered}
+use Rattle.desk_tables.specs.OwnFolders.{Looks}
 
 -- ---- steps and answers
 after_name : (table : List ℕ) (rest : Allowed) (response : ResponseValue) → IsTrue (is_table_name table)
@@ -37,66 +40,74 @@ DrawsTables-yes_or_no : (r : Schema) (plan : List AttrSet) (response : ResponseV
 DrawsTables-yes_or_no r plan response found = inl (ap (λ (a : ResponseValue). a.status) found.2)
 
 -- ---- `sql check`
-sql_check_asks : (files : Files) (name table : List ℕ) (response : ResponseValue)
-    → Answers (known_files files) (codes "sql" ∷ codes "check" ∷ name ∷ table ∷ []) response
+sql_check_asks : (files : Files) (name table : List ℕ) (looks : Looks) (response : ResponseValue)
+    → Answers looks (known_files files) (codes "sql" ∷ codes "check" ∷ name ∷ table ∷ []) response
     → WithFile schema_file (known_files files) name (λ r. WithTableName table (AsksTable r table)) response
 unfolding form_of form_over_schema after_sql schema_and_word Performs Does AnswersSchema
-sql_check_asks files name table response answered = answered
+sql_check_asks files name table looks response answered = answered
 
 pub sql_check_answered : (files : Files) (name table : List ℕ) (schema : Schema) → IsFile schema_file (known_files files) name schema
     → IsTrue (is_table_name table) → IsAnswered files (codes "sql" ∷ codes "check" ∷ name ∷ table ∷ [])
-sql_check_answered files name table schema file is response answered =
+sql_check_answered files name table schema file is looks response answered =
     after_schema files name schema (λ r. WithTableName table (AsksTable r table)) response file
     (λ r same more. after_name table (AsksTable r table) response is (λ found. inl (ap (λ (a : ResponseValue). a.status) found.1)) more)
-    (sql_check_asks files name table response answered)
+    (sql_check_asks files name table looks response answered)
 
 -- ---- `sql migrate`
-sql_migrate_asks : (form : Form) (files : Files) (name table : List ℕ) (response : ResponseValue)
-    → Answers (known_files files) (codes "sql" ∷ codes "migrate" ∷ form_word form ∷ name ∷ table ∷ []) response
-    → WithFile schema_file (known_files files) name (λ r. WithTableName table (WithPlanInForm r form (MakesTables r table))) response
+-- the script of a plan, where no value is missing in its tables where it must not be
+abbrev MakesRequired : List ℕ → Schema → List AttrSet → Allowed
+MakesRequired table r plan = WithoutMissing r (schemes_of plan) (MakesTables r table plan)
+
+sql_migrate_asks : (form : Form) (files : Files) (name table : List ℕ) (looks : Looks) (response : ResponseValue)
+    → Answers looks (known_files files) (codes "sql" ∷ codes "migrate" ∷ form_word form ∷ name ∷ table ∷ []) response
+    → WithFile schema_file (known_files files) name (λ r. WithTableName table (WithPlanInForm r form (MakesRequired table r))) response
 unfolding form_of form_over_schema after_sql after_sql_migrate normal_form schema_and_word Performs Does AnswersSchema
-sql_migrate_asks Third files name table response answered = answered
-sql_migrate_asks Bcnf files name table response answered = answered
-sql_migrate_asks Fourth files name table response answered = answered
+sql_migrate_asks Third files name table looks response answered = answered
+sql_migrate_asks Bcnf files name table looks response answered = answered
+sql_migrate_asks Fourth files name table looks response answered = answered
 
 pub sql_migrate_answered : (form : Form) (files : Files) (name table : List ℕ)
-    → (schema : Schema) → IsFile schema_file (known_files files) name schema → IsTrue (is_table_name table) → HasPlanInForm schema form
+    → (schema : Schema) → IsFile schema_file (known_files files) name schema → IsTrue (is_table_name table)
+    → RequiresAll schema → HasPlanInForm schema form
     → IsAnswered files (codes "sql" ∷ codes "migrate" ∷ form_word form ∷ name ∷ table ∷ [])
-sql_migrate_answered form files name table schema file is can response answered =
-    after_schema files name schema (λ r. WithTableName table (WithPlanInForm r form (MakesTables r table))) response file
-    (λ r same more. after_name table (WithPlanInForm r form (MakesTables r table)) response is
-    (λ found. after_form schema r form (MakesTables r table) response same can (λ plan makes. MakesTables-yes_or_no r table plan response makes) found) more)
-    (sql_migrate_asks form files name table response answered)
+sql_migrate_answered form files name table schema file is none can looks response answered =
+    after_schema files name schema (λ r. WithTableName table (WithPlanInForm r form (MakesRequired table r))) response file
+    (λ r same more. after_name table (WithPlanInForm r form (MakesRequired table r)) response is
+    (λ found. after_form schema r form (MakesRequired table r) response same can
+    (λ plan stands. after_missing schema r (schemes_of plan) (MakesTables r table plan) response same none
+    (λ makes. MakesTables-yes_or_no r table plan response makes) stands) found) more)
+    (sql_migrate_asks form files name table looks response answered)
 
-sql_plan_asks : (files : Files) (name file table : List ℕ) (response : ResponseValue)
-    → Answers (known_files files) (codes "sql" ∷ codes "migrate" ∷ codes "plan" ∷ name ∷ file ∷ table ∷ []) response
+sql_plan_asks : (files : Files) (name file table : List ℕ) (looks : Looks) (response : ResponseValue)
+    → Answers looks (known_files files) (codes "sql" ∷ codes "migrate" ∷ codes "plan" ∷ name ∷ file ∷ table ∷ []) response
     → WithFile schema_file (known_files files) name (λ r. WithFile (plan_file r) (known_files files) file
-    (λ schemes. WithTableName table (WithoutLoss r schemes (MakesSchemes r table schemes)))) response
+    (λ schemes. ScriptsMigrationByPlan r schemes table)) response
 unfolding form_of form_over_schema after_sql after_sql_migrate schema_and_plan_and_word Performs Does AnswersPlan
-sql_plan_asks files name file table response answered = answered
+sql_plan_asks files name file table looks response answered = answered
 
 pub sql_plan_answered : (files : Files) (name file table : List ℕ) (schema : Schema) (plan : List Attributes)
     → IsFile schema_file (known_files files) name schema → IsFile (plan_file schema) (known_files files) file plan → IsTrue (is_table_name table)
-    → (IsTooLarge schema plan → ⊥)
+    → RequiresAll schema → (IsTooLarge schema plan → ⊥)
     → IsAnswered files (codes "sql" ∷ codes "migrate" ∷ codes "plan" ∷ name ∷ file ∷ table ∷ [])
-sql_plan_answered files name file table schema plan held_schema held_plan is_name small response answered =
+sql_plan_answered files name file table schema plan held_schema held_plan is_name none small looks response answered =
     after_schema files name schema
-    (λ r. WithFile (plan_file r) (known_files files) file (λ schemes. WithTableName table (WithoutLoss r schemes (MakesSchemes r table schemes)))) response held_schema
+    (λ r. WithFile (plan_file r) (known_files files) file (λ schemes. ScriptsMigrationByPlan r schemes table)) response held_schema
     (λ r same more. after_plan files schema r file plan
-    (λ schemes. WithTableName table (WithoutLoss r schemes (MakesSchemes r table schemes))) response same held_plan
-    (λ p is found. after_name table (WithoutLoss r p (MakesSchemes r table p)) response is_name
+    (λ schemes. ScriptsMigrationByPlan r schemes table) response same held_plan
+    (λ p is found. after_name table (WithoutMissing r p (WithoutLoss r p (MakesSchemes r table p))) response is_name
+    (λ stands. after_missing schema r p (WithoutLoss r p (MakesSchemes r table p)) response same none
     (λ kept. after_loss schema r p plan (MakesSchemes r table p) response same is small
-    (λ makes. MakesTables-yes_or_no r table makes.0 response makes.2) kept) found) more)
-    (sql_plan_asks files name file table response answered)
+    (λ makes. MakesTables-yes_or_no r table makes.0 response makes.2) kept) stands) found) more)
+    (sql_plan_asks files name file table looks response answered)
 
 -- ---- `draw`
-draw_asks : (form : Form) (files : Files) (name : List ℕ) (response : ResponseValue)
-    → Answers (known_files files) (codes "draw" ∷ form_word form ∷ name ∷ []) response
+draw_asks : (form : Form) (files : Files) (name : List ℕ) (looks : Looks) (response : ResponseValue)
+    → Answers looks (known_files files) (codes "draw" ∷ form_word form ∷ name ∷ []) response
     → WithFile schema_file (known_files files) name (λ r. WithPlanInForm r form (DrawsTables r)) response
 unfolding form_of form_over_schema after_draw normal_form schema_alone Performs Does AnswersSchema
-draw_asks Third files name response answered = answered
-draw_asks Bcnf files name response answered = answered
-draw_asks Fourth files name response answered = answered
+draw_asks Third files name looks response answered = answered
+draw_asks Bcnf files name looks response answered = answered
+draw_asks Fourth files name looks response answered = answered
 
 pub draw_answered : (form : Form) (files : Files) (name : List ℕ)
     → (schema : Schema) → IsFile schema_file (known_files files) name schema → HasPlanInForm schema form
@@ -105,17 +116,17 @@ draw_answered form files name =
     form_answered files (codes "draw" ∷ form_word form ∷ name ∷ []) name form DrawsTables DrawsTables-yes_or_no
     (draw_asks form files name)
 
-draw_plan_asks : (files : Files) (name file : List ℕ) (response : ResponseValue)
-    → Answers (known_files files) (codes "draw" ∷ codes "plan" ∷ name ∷ file ∷ []) response
+draw_plan_asks : (files : Files) (name file : List ℕ) (looks : Looks) (response : ResponseValue)
+    → Answers looks (known_files files) (codes "draw" ∷ codes "plan" ∷ name ∷ file ∷ []) response
     → WithFile schema_file (known_files files) name (λ r. WithFile (plan_file r) (known_files files) file (DrawsSchemes r)) response
 unfolding form_of form_over_schema after_draw schema_and_plan Performs Does AnswersPlan
-draw_plan_asks files name file response answered = answered
+draw_plan_asks files name file looks response answered = answered
 
 pub draw_plan_answered : (files : Files) (name file : List ℕ) (schema : Schema) (plan : List Attributes)
     → IsFile schema_file (known_files files) name schema → IsFile (plan_file schema) (known_files files) file plan
     → IsAnswered files (codes "draw" ∷ codes "plan" ∷ name ∷ file ∷ [])
-draw_plan_answered files name file schema plan held_schema held_plan response answered =
+draw_plan_answered files name file schema plan held_schema held_plan looks response answered =
     after_schema files name schema (λ r. WithFile (plan_file r) (known_files files) file (DrawsSchemes r)) response held_schema
     (λ r same more. after_plan files schema r file plan (DrawsSchemes r) response same held_plan
     (λ p is found. DrawsTables-yes_or_no r found.0 response found.2) more)
-    (draw_plan_asks files name file response answered)
+    (draw_plan_asks files name file looks response answered)

@@ -3,7 +3,7 @@ use Rattle.std.proofs.Common.{◌≡◌, ◌≤◌, ℕ, List, length, Some, Ok,
 use Rattle.std.specs.Prelude.{IsSomeAnd, ◌<◌}
 use Rattle.dep_model.specs.declared.schema.Schema.{Schema}
 use Rattle.dep_model.specs.Dependencies.{Dependency}
-use Rattle.dep_model.specs.Schemas.{names_of}
+use Rattle.dep_model.specs.Schemas.{names_of, naming_of}
 use Rattle.derivation.specs.Trees.{Tree}
 use Rattle.desk_outside.specs.Files.{Files, bytes_of_file}
 use Rattle.schema_reader.specs.declared.goal.TheConstants.{MOST_GOAL_BYTES}
@@ -79,8 +79,8 @@ proof_goes files s name bytes t response has within_limit spells (inr exit) =
     let read : read_proof s text ≡ Ok t = spelled_back s text t (subst (λ (b : List ℕ). SpellsWithin s b t) (one_content files name bytes text has exit.1.content.0) spells) in
     let refused : read_proof s text ≡ Err exit.0 = refused_back s text exit.0 exit.1.refused in cc
 
-pub goal_goes : (s : Schema) (goal : List ℕ) (d : Dependency) (response : ResponseValue) → length goal ≤ MOST_GOAL_BYTES → MeansGoal (names_of s) goal d → GoalStops s goal response → ⊥
+pub goal_goes : (s : Schema) (goal : List ℕ) (d : Dependency) (response : ResponseValue) → length goal ≤ MOST_GOAL_BYTES → MeansGoal (naming_of s) (names_of s) goal d → GoalStops s goal response → ⊥
 goal_goes s goal d response within_limit means (inl exit) = let long = exit.0 in omega (arith, within_limit, long)
 goal_goes s goal d response within_limit means (inr exit) =
-    let read : read_goal (names_of s) goal ≡ Ok d = (goal-law (names_of s) goal d).1 means in
-    let refused : read_goal (names_of s) goal ≡ Err exit.0 = (goal-refusal-law (names_of s) goal exit.0).1 exit.1.refused in cc
+    let read : read_goal (naming_of s) (names_of s) goal ≡ Ok d = (goal-law (naming_of s) (names_of s) goal d).1 means in
+    let refused : read_goal (naming_of s) (names_of s) goal ≡ Err exit.0 = (goal-refusal-law (naming_of s) (names_of s) goal exit.0).1 exit.1.refused in cc

@@ -1,6 +1,6 @@
 -- Where the inputs of a command on forms, plans or tables have their meaning, it answers yes or no.
 use Rattle.std.proofs.Common.{◌≡◌, ◌<◌, ◌≤◌, ◌-◌, ◌^◌, ◌⊎◌, ℕ, true, List, [], ◌∷◌, length, inl, inr, sym, ap, refl, subst, ◌∙◌, arith}
-use Rattle.std.specs.Prelude.{codes, All, Contains}
+use Rattle.std.specs.Prelude.{codes, All, Contains, Some}
 use Rattle.std.proofs.lemmas.List.Elements.{All-contains, Contains-append_right}
 use Rattle.std.proofs.Math.Nat.{pow-le-pow_right}
 use Rattle.attr_sets.proofs.AttributesLemmas.{count_below-le, count_below-low, count_below-within}
@@ -11,10 +11,14 @@ use Rattle.armstrong_rel.specs.Refusals.{IsFirstMvd, AreTooMany, HasTooManyRows,
 use Rattle.armstrong_rel.specs.declared.refusal.TheConstants.{WIDEST_EXHIBITED}
 use Rattle.dep_model.specs.Dependencies.{Dependency}
 use Rattle.dep_model.specs.Plans.{schemes_of}
-use Rattle.dep_model.specs.Schemas.{width_of, theory_of}
+use Rattle.dep_model.specs.Schemas.{width_of, theory_of, nullable_of}
 use Rattle.dep_model.specs.Tuples.{Relation}
 use Rattle.dep_model.specs.declared.schema.Schema.{Schema}
 use Rattle.fd_closure.specs.LeftSides.{left_sides, IsWide}
+use Rattle.ddl_text.specs.declared.table.TableDesign.{TableDesign}
+use Rattle.missing_values.specs.Missing.{FindsMissing}
+use Rattle.missing_values.specs.declared.refusal.MissingRefusal.{MissingRefusal}
+use Rattle.missing_values.specs.declared.refusal.MissingRefusal.TheVariants.{InKey, InTwo}
 use Rattle.normal_forms.specs.declared.forms.Form.{Form}
 use Rattle.normal_forms.specs.declared.forms.Form.TheVariants.{Third, Bcnf, Fourth}
 use Rattle.schema_grammar.specs.Declarations.{Declarations}
@@ -24,7 +28,7 @@ use Rattle.desk_outside.specs.Files.{Files}
 use Rattle.desk_designs.specs.declared.decomposition.TheConstants.{MOST_SPLIT_SCHEMES}
 use Rattle.desk_responses.specs.ResponseValues.{ResponseValue, Allowed}
 use Rattle.desk_designs.specs.Decompositions.{SplitStops, WithPlanInForm, ShowsPlan, SplitsWide}
-use Rattle.desk_designs.specs.Designs.{WritesTables, WritesSchemes}
+use Rattle.desk_designs.specs.Designs.{WithoutMissing, WritesPlan, WritesSchemes, WritesTables}
 use Rattle.desk_discovery.specs.Exhibits.{Exhibits}
 use Rattle.desk_words.specs.Forms.{form_of, form_over_rows, form_over_schema, after_check, after_check_form, after_split, after_ddl, after_migrate, after_migrate_form, after_migrate_plan, normal_form, schema_alone, schema_and_two, persons_alone, schema_and_plan, schema_and_rows}
 use Rattle.desk_inputs.specs.FileKinds.{IsFile, WithFile}
@@ -42,9 +46,10 @@ use Rattle.desk_cli.specs.Performs.{Answers, Performs, Does, AnswersSchema, Answ
 use Rattle.desk_inputs.specs.Plans.{plan_file}
 use Rattle.desk_inputs.specs.Readings.{known_files}
 use Rattle.desk_inputs.specs.Rows.{rows_file}
-use Rattle.desk_laws.specs.Completeness.{IsYesOrNo, IsAnswered, IsSplittable, HasPlanInForm, NamesNoTable}
+use Rattle.desk_laws.specs.Completeness.{IsYesOrNo, IsAnswered, IsSplittable, HasPlanInForm, NamesNoTable, RequiresAll}
 use Rattle.desk_designs.proofs.SplitLemmas.{stuck_within}
-use Rattle.desk_laws.proofs.CompleteLaws.{AreSame, after_schema, after_rows, after_plan, small_same}
+use Rattle.desk_laws.proofs.CompleteLaws.{AreSame, after_schema, after_rows, after_plan, nullable_same, small_same}
+use Rattle.desk_tables.specs.OwnFolders.{Looks}
 
 -- ---- steps
 split_goes : (s r : Schema) (form : Form) (response : ResponseValue) → AreSame s r → IsSplittable s form → SplitStops r form response → ⊥
@@ -68,13 +73,25 @@ after_loss s r p plan rest response same is small go (inl (inl (fits, lossy, fou
 after_loss s r p plan rest response same is small go (inl (inr (large, says))) = absurd (small_same s r p plan same is small large)
 after_loss s r p plan rest response same is small go (inr (lossless, more)) = go more
 
+found_nowhere : (nullable : Attributes) (tables : List TableDesign) (refusal : MissingRefusal)
+    → ((a : ℕ) → nullable a ≡ true → ⊥) → FindsMissing nullable tables (Some refusal) → ⊥
+found_nowhere nullable tables (InKey a k) none finds = none a finds.1.here.missing
+found_nowhere nullable tables (InTwo a j k) none finds = none a finds.1.here.missing
+
+pub after_missing : (s r : Schema) (plan : List Attributes) (rest : Allowed) (response : ResponseValue) → AreSame s r → RequiresAll s
+    → (rest response → IsYesOrNo response.status) → WithoutMissing r plan rest response → IsYesOrNo response.status
+after_missing s r plan rest response same none go (inl (tables, design, found)) =
+    absurd (found_nowhere (nullable_of r) tables found.0
+    (subst (λ (x : Attributes). (a : ℕ) → x a ≡ true → ⊥) (nullable_same s r same) none) found.1)
+after_missing s r plan rest response same none go (inr (never, more)) = go more
+
 after_legal : (r : Schema) (rows : Relation) (rest : Allowed) (response : ResponseValue)
     → (rest response → IsYesOrNo response.status) → WithLegal r rows rest response → IsYesOrNo response.status
 after_legal r rows rest response go (inl (broken, found)) = inr (ap (λ (a : ResponseValue). a.status) found.2)
 after_legal r rows rest response go (inr (legal, more)) = go more
 
 -- ---- answers
-MigratesRows-yes_or_no : (r : Schema) (plan : List Attributes) (rows : Relation) (response : ResponseValue) → MigratesRows r plan rows response → IsYesOrNo response.status
+pub MigratesRows-yes_or_no : (r : Schema) (plan : List Attributes) (rows : Relation) (response : ResponseValue) → MigratesRows r plan rows response → IsYesOrNo response.status
 MigratesRows-yes_or_no r plan rows response migrates =
     after_legal r rows (GivesTables r plan rows) response (λ found. inl (ap (λ (a : ResponseValue). a.status) found.2)) migrates
 
@@ -134,48 +151,55 @@ small_is_splittable s form within_limit which = record {
 
 -- ---- commands
 -- each asks what `Performs` says of its words, and then what it reads and finds is there
-check_form_asks : (form : Form) (files : Files) (name file : List ℕ) (response : ResponseValue) → Answers (known_files files) (codes "check" ∷ codes "form" ∷ form_word form ∷ name ∷ file ∷ []) response
+check_form_asks : (form : Form) (files : Files) (name file : List ℕ) (looks : Looks) (response : ResponseValue) → Answers looks (known_files files) (codes "check" ∷ codes "form" ∷ form_word form ∷ name ∷ file ∷ []) response
     → WithFile schema_file (known_files files) name (λ r. WithFile (plan_file r) (known_files files) file (JudgesForm r form)) response
 unfolding form_of form_over_schema after_check after_check_form normal_form schema_and_plan Performs Does AnswersPlan
-check_form_asks Third files name file response answered = answered
-check_form_asks Bcnf files name file response answered = answered
-check_form_asks Fourth files name file response answered = answered
+check_form_asks Third files name file looks response answered = answered
+check_form_asks Bcnf files name file looks response answered = answered
+check_form_asks Fourth files name file looks response answered = answered
 
 pub check_answered : (form : Form) (files : Files) (name file : List ℕ)
     → (schema : Schema) (plan : List Attributes)
     → IsFile schema_file (known_files files) name schema → IsFile (plan_file schema) (known_files files) file plan
     → All (λ scheme. IsWide (theory_of schema) scheme → ⊥) plan → IsAnswered files (codes "check" ∷ codes "form" ∷ form_word form ∷ name ∷ file ∷ [])
-check_answered form files name file schema plan held_schema held_plan narrow response answered =
+check_answered form files name file schema plan held_schema held_plan narrow looks response answered =
     after_schema files name schema (λ r. WithFile (plan_file r) (known_files files) file (JudgesForm r form)) response held_schema
     (λ r same more. after_plan files schema r file plan (JudgesForm r form) response same held_plan
     (λ p is found. JudgesForm-yes_or_no schema r form p plan response same is narrow found) more)
-    (check_form_asks form files name file response answered)
+    (check_form_asks form files name file looks response answered)
 
 -- a command over a schema alone that finds a plan in a form and goes on with it
 pub form_answered : (files : Files) (words : List (List ℕ)) (name : List ℕ) (form : Form) (rest : Schema → List AttrSet → Allowed)
     → ((r : Schema) (plan : List AttrSet) (response : ResponseValue) → rest r plan response → IsYesOrNo response.status)
-    → ((response : ResponseValue) → Answers (known_files files) words response
+    → ((looks : Looks) (response : ResponseValue) → Answers looks (known_files files) words response
     → WithFile schema_file (known_files files) name (λ r. WithPlanInForm r form (rest r)) response)
     → (schema : Schema) → IsFile schema_file (known_files files) name schema → HasPlanInForm schema form
     → IsAnswered files words
-form_answered files words name form rest says asks schema file can response answered =
+form_answered files words name form rest says asks schema file can looks response answered =
     after_schema files name schema (λ r. WithPlanInForm r form (rest r)) response file
     (λ r same more. after_form schema r form (rest r) response same can (λ plan found. says r plan response found) more)
-    (asks response answered)
+    (asks looks response answered)
 
-ddl_asks : (form : Form) (files : Files) (name : List ℕ) (response : ResponseValue) → Answers (known_files files) (codes "ddl" ∷ form_word form ∷ name ∷ []) response
-    → WithFile schema_file (known_files files) name (λ r. WithPlanInForm r form (WritesTables r)) response
+-- the tables of a plan, where no value is missing in them where it must not be
+abbrev WritesRequired : Schema → List AttrSet → Allowed
+WritesRequired r plan = WithoutMissing r (schemes_of plan) (WritesTables r plan)
+
+ddl_asks : (form : Form) (files : Files) (name : List ℕ) (looks : Looks) (response : ResponseValue) → Answers looks (known_files files) (codes "ddl" ∷ form_word form ∷ name ∷ []) response
+    → WithFile schema_file (known_files files) name (λ r. WithPlanInForm r form (WritesRequired r)) response
 unfolding form_of form_over_schema after_ddl normal_form schema_alone Performs Does AnswersSchema
-ddl_asks Third files name response answered = answered
-ddl_asks Bcnf files name response answered = answered
-ddl_asks Fourth files name response answered = answered
+ddl_asks Third files name looks response answered = answered
+ddl_asks Bcnf files name looks response answered = answered
+ddl_asks Fourth files name looks response answered = answered
 
 pub ddl_answered : (form : Form) (files : Files) (name : List ℕ)
-    → (schema : Schema) → IsFile schema_file (known_files files) name schema → HasPlanInForm schema form
+    → (schema : Schema) → IsFile schema_file (known_files files) name schema → RequiresAll schema → HasPlanInForm schema form
     → IsAnswered files (codes "ddl" ∷ form_word form ∷ name ∷ [])
-ddl_answered form files name =
-    form_answered files (codes "ddl" ∷ form_word form ∷ name ∷ []) name form WritesTables WritesTables-yes_or_no
-    (ddl_asks form files name)
+ddl_answered form files name schema file none can looks response answered =
+    after_schema files name schema (λ r. WithPlanInForm r form (WritesRequired r)) response file
+    (λ r same more. after_form schema r form (WritesRequired r) response same can
+    (λ plan found. after_missing schema r (schemes_of plan) (WritesTables r plan) response same none
+    (λ writes. WritesTables-yes_or_no r plan response writes) found) more)
+    (ddl_asks form files name looks response answered)
 
 -- files of which none is a table's stay as they are
 abbrev EachNamesNoTable : List (List ℕ) → Type 0
@@ -189,104 +213,111 @@ keeps_files tables (file ∷ files) rest response none (inl (is, says)) = absurd
 keeps_files tables (file ∷ files) rest response none (inr (passed, kept)) =
     keeps_files tables files rest response none.1 kept
 
-migrate_asks : (form : Form) (files : Files) (name file : List ℕ) (response : ResponseValue)
-    → Answers (known_files files) (codes "migrate" ∷ form_word form ∷ name ∷ file ∷ []) response
+migrate_asks : (form : Form) (files : Files) (name file : List ℕ) (looks : Looks) (response : ResponseValue)
+    → Answers looks (known_files files) (codes "migrate" ∷ form_word form ∷ name ∷ file ∷ []) response
     → WithFile schema_file (known_files files) name
     (λ r. WithFile (rows_file r) (known_files files) file (MigratesHere r form (name ∷ file ∷ []))) response
 unfolding form_of form_over_schema form_over_rows after_migrate after_migrate_form normal_form Performs Does
-migrate_asks Third files name file response answered = answered
-migrate_asks Bcnf files name file response answered = answered
-migrate_asks Fourth files name file response answered = answered
+migrate_asks Third files name file looks response answered = answered
+migrate_asks Bcnf files name file looks response answered = answered
+migrate_asks Fourth files name file looks response answered = answered
 
 pub migrate_answered : (form : Form) (files : Files) (name file : List ℕ)
     → (schema : Schema) (rows : Relation)
     → IsFile schema_file (known_files files) name schema → IsFile (rows_file schema) (known_files files) file rows
-    → NamesNoTable name → NamesNoTable file → HasPlanInForm schema form
+    → NamesNoTable name → NamesNoTable file → RequiresAll schema → HasPlanInForm schema form
     → IsAnswered files (codes "migrate" ∷ form_word form ∷ name ∷ file ∷ [])
-migrate_answered form files name file schema rows held_schema held_rows own other can response answered =
+migrate_answered form files name file schema rows held_schema held_rows own other none can looks response answered =
     after_schema files name schema
     (λ r. WithFile (rows_file r) (known_files files) file (MigratesHere r form (name ∷ file ∷ []))) response held_schema
     (λ r same more. after_rows files schema r file rows (MigratesHere r form (name ∷ file ∷ [])) response same held_rows
     (λ x found. after_form schema r form
-    (λ plan. KeepsFiles (length (schemes_of plan)) (name ∷ file ∷ []) (MigratesRows r (schemes_of plan) x)) response same can
-    (λ plan kept. MigratesRows-yes_or_no r (schemes_of plan) x response
+    (λ plan. WithoutMissing r (schemes_of plan)
+    (KeepsFiles (length (schemes_of plan)) (name ∷ file ∷ []) (MigratesRows r (schemes_of plan) x))) response same can
+    (λ plan stands. after_missing schema r (schemes_of plan)
+    (KeepsFiles (length (schemes_of plan)) (name ∷ file ∷ []) (MigratesRows r (schemes_of plan) x)) response same none
+    (λ kept. MigratesRows-yes_or_no r (schemes_of plan) x response
     (keeps_files (length (schemes_of plan)) (name ∷ file ∷ []) (MigratesRows r (schemes_of plan) x) response (own, (other, tt)) kept))
+    stands)
     found) more)
-    (migrate_asks form files name file response answered)
+    (migrate_asks form files name file looks response answered)
 
 pub split_answered : (files : Files) (words : List (List ℕ)) (name : List ℕ) (form : Form)
-    → ((response : ResponseValue) → Answers (known_files files) words response
+    → ((looks : Looks) (response : ResponseValue) → Answers looks (known_files files) words response
     → WithFile schema_file (known_files files) name (λ r. WithPlanInForm r form (ShowsPlan r)) response)
     → (schema : Schema) → IsFile schema_file (known_files files) name schema → HasPlanInForm schema form
     → IsAnswered files words
 split_answered files words name form asks =
     form_answered files words name form ShowsPlan (λ r plan response says. inl (ap (λ (a : ResponseValue). a.status) says)) asks
 
-pub split_bcnf_asks : (files : Files) (name : List ℕ) (response : ResponseValue) → Answers (known_files files) (codes "split" ∷ codes "bcnf" ∷ name ∷ []) response
+pub split_bcnf_asks : (files : Files) (name : List ℕ) (looks : Looks) (response : ResponseValue) → Answers looks (known_files files) (codes "split" ∷ codes "bcnf" ∷ name ∷ []) response
     → WithFile schema_file (known_files files) name (λ r. WithPlanInForm r Bcnf (ShowsPlan r)) response
 unfolding form_of form_over_schema after_split schema_alone Performs Does AnswersSchema
-split_bcnf_asks files name response answered = answered
+split_bcnf_asks files name looks response answered = answered
 
-pub split_fourth_asks : (files : Files) (name : List ℕ) (response : ResponseValue) → Answers (known_files files) (codes "split" ∷ codes "4nf" ∷ name ∷ []) response
+pub split_fourth_asks : (files : Files) (name : List ℕ) (looks : Looks) (response : ResponseValue) → Answers looks (known_files files) (codes "split" ∷ codes "4nf" ∷ name ∷ []) response
     → WithFile schema_file (known_files files) name (λ r. WithPlanInForm r Fourth (ShowsPlan r)) response
 unfolding form_of form_over_schema after_split schema_alone Performs Does AnswersSchema
-split_fourth_asks files name response answered = answered
+split_fourth_asks files name looks response answered = answered
 
-split_wide_asks : (files : Files) (name : List ℕ) (response : ResponseValue) → Answers (known_files files) (codes "split" ∷ codes "wide-bcnf" ∷ name ∷ []) response
+split_wide_asks : (files : Files) (name : List ℕ) (looks : Looks) (response : ResponseValue) → Answers looks (known_files files) (codes "split" ∷ codes "wide-bcnf" ∷ name ∷ []) response
     → WithFile schema_file (known_files files) name SplitsWide response
 unfolding form_of form_over_schema after_split schema_alone Performs Does AnswersSchema
-split_wide_asks files name response answered = answered
+split_wide_asks files name looks response answered = answered
 
 pub split_wide_answered : (files : Files) (name : List ℕ) (schema : Schema) → IsFile schema_file (known_files files) name schema
     → IsAnswered files (codes "split" ∷ codes "wide-bcnf" ∷ name ∷ [])
-split_wide_answered files name schema file response answered =
-    after_schema files name schema SplitsWide response file (λ r same found. inl (ap (λ (a : ResponseValue). a.status) found.2)) (split_wide_asks files name response answered)
+split_wide_answered files name schema file looks response answered =
+    after_schema files name schema SplitsWide response file (λ r same found. inl (ap (λ (a : ResponseValue). a.status) found.2)) (split_wide_asks files name looks response answered)
 
-exhibit_asks : (files : Files) (name : List ℕ) (response : ResponseValue) → Answers (known_files files) (codes "exhibit" ∷ name ∷ []) response
+exhibit_asks : (files : Files) (name : List ℕ) (looks : Looks) (response : ResponseValue) → Answers looks (known_files files) (codes "exhibit" ∷ name ∷ []) response
     → WithFile schema_file (known_files files) name Exhibits response
 unfolding form_of form_over_schema schema_alone Performs Does AnswersSchema
-exhibit_asks files name response answered = answered
+exhibit_asks files name looks response answered = answered
 
 pub exhibit_answered : (files : Files) (name : List ℕ) (schema : Schema) → IsFile schema_file (known_files files) name schema
     → ((k : ℕ) → IsFirstMvd (theory_of schema) k → ⊥) → (IsTooWideToExhibit schema → ⊥) → (HasTooManyRows schema → ⊥) → IsAnswered files (codes "exhibit" ∷ name ∷ [])
-exhibit_answered files name schema file functional narrow few response answered =
-    after_schema files name schema Exhibits response file (λ r same found. Exhibits-yes_or_no schema r response same functional narrow few found) (exhibit_asks files name response answered)
+exhibit_answered files name schema file functional narrow few looks response answered =
+    after_schema files name schema Exhibits response file (λ r same found. Exhibits-yes_or_no schema r response same functional narrow few found) (exhibit_asks files name looks response answered)
 
-check_keeps_asks : (files : Files) (name file : List ℕ) (response : ResponseValue) → Answers (known_files files) (codes "check" ∷ codes "keeps" ∷ name ∷ file ∷ []) response
+check_keeps_asks : (files : Files) (name file : List ℕ) (looks : Looks) (response : ResponseValue) → Answers looks (known_files files) (codes "check" ∷ codes "keeps" ∷ name ∷ file ∷ []) response
     → WithFile schema_file (known_files files) name (λ r. WithFile (plan_file r) (known_files files) file (JudgesKeeping r)) response
 unfolding form_of form_over_schema after_check schema_and_plan Performs Does AnswersPlan
-check_keeps_asks files name file response answered = answered
+check_keeps_asks files name file looks response answered = answered
 
 pub check_keeps_answered : (files : Files) (name file : List ℕ) (schema : Schema) (plan : List Attributes)
     → IsFile schema_file (known_files files) name schema → IsFile (plan_file schema) (known_files files) file plan
     → IsAnswered files (codes "check" ∷ codes "keeps" ∷ name ∷ file ∷ [])
-check_keeps_answered files name file schema plan held_schema held_plan response answered =
+check_keeps_answered files name file schema plan held_schema held_plan looks response answered =
     after_schema files name schema (λ r. WithFile (plan_file r) (known_files files) file (JudgesKeeping r)) response held_schema
     (λ r same more. after_plan files schema r file plan (JudgesKeeping r) response same held_plan (λ p is found. JudgesKeeping-yes_or_no r p response found) more)
-    (check_keeps_asks files name file response answered)
+    (check_keeps_asks files name file looks response answered)
 
-ddl_plan_asks : (files : Files) (name file : List ℕ) (response : ResponseValue) → Answers (known_files files) (codes "ddl" ∷ codes "plan" ∷ name ∷ file ∷ []) response
-    → WithFile schema_file (known_files files) name (λ r. WithFile (plan_file r) (known_files files) file (λ schemes. WithoutLoss r schemes (WritesSchemes r schemes))) response
+ddl_plan_asks : (files : Files) (name file : List ℕ) (looks : Looks) (response : ResponseValue) → Answers looks (known_files files) (codes "ddl" ∷ codes "plan" ∷ name ∷ file ∷ []) response
+    → WithFile schema_file (known_files files) name (λ r. WithFile (plan_file r) (known_files files) file (WritesPlan r)) response
 unfolding form_of form_over_schema after_ddl schema_and_plan Performs Does AnswersPlan
-ddl_plan_asks files name file response answered = answered
+ddl_plan_asks files name file looks response answered = answered
 
 pub ddl_plan_answered : (files : Files) (name file : List ℕ) (schema : Schema) (plan : List Attributes)
-    → IsFile schema_file (known_files files) name schema → IsFile (plan_file schema) (known_files files) file plan → (IsTooLarge schema plan → ⊥)
+    → IsFile schema_file (known_files files) name schema → IsFile (plan_file schema) (known_files files) file plan
+    → RequiresAll schema → (IsTooLarge schema plan → ⊥)
     → IsAnswered files (codes "ddl" ∷ codes "plan" ∷ name ∷ file ∷ [])
-ddl_plan_answered files name file schema plan held_schema held_plan small response answered =
-    after_schema files name schema (λ r. WithFile (plan_file r) (known_files files) file (λ schemes. WithoutLoss r schemes (WritesSchemes r schemes))) response held_schema
-    (λ r same more. after_plan files schema r file plan (λ schemes. WithoutLoss r schemes (WritesSchemes r schemes)) response same held_plan
-    (λ p is found. after_loss schema r p plan (WritesSchemes r p) response same is small (λ writes. WritesTables-yes_or_no r writes.0 response writes.2) found) more)
-    (ddl_plan_asks files name file response answered)
+ddl_plan_answered files name file schema plan held_schema held_plan none small looks response answered =
+    after_schema files name schema (λ r. WithFile (plan_file r) (known_files files) file (WritesPlan r)) response held_schema
+    (λ r same more. after_plan files schema r file plan (WritesPlan r) response same held_plan
+    (λ p is found. after_missing schema r p (WithoutLoss r p (WritesSchemes r p)) response same none
+    (λ kept. after_loss schema r p plan (WritesSchemes r p) response same is small
+    (λ writes. WritesTables-yes_or_no r writes.0 response writes.2) kept) found) more)
+    (ddl_plan_asks files name file looks response answered)
 
-migrate_plan_asks : (files : Files) (name planned file : List ℕ) (response : ResponseValue)
-    → Answers (known_files files) (codes "migrate" ∷ codes "plan" ∷ name ∷ planned ∷ file ∷ []) response
+migrate_plan_asks : (files : Files) (name planned file : List ℕ) (looks : Looks) (response : ResponseValue)
+    → Answers looks (known_files files) (codes "migrate" ∷ codes "plan" ∷ name ∷ planned ∷ file ∷ []) response
     → WithFile schema_file (known_files files) name
     (λ r. WithFile (plan_file r) (known_files files) planned
     (λ plan. WithFile (rows_file r) (known_files files) file
     (MigratesPlanHere r plan (name ∷ planned ∷ file ∷ [])))) response
 unfolding form_of form_over_schema form_over_rows after_migrate after_migrate_plan Performs Does
-migrate_plan_asks files name planned file response answered = answered
+migrate_plan_asks files name planned file looks response answered = answered
 
 pub migrate_plan_answered : (files : Files) (name planned file : List ℕ) (schema : Schema) (plan : List Attributes)
     (rows : Relation)
@@ -294,9 +325,10 @@ pub migrate_plan_answered : (files : Files) (name planned file : List ℕ) (sche
     → IsFile (plan_file schema) (known_files files) planned plan
     → IsFile (rows_file schema) (known_files files) file rows
     → NamesNoTable name → NamesNoTable planned → NamesNoTable file
-    → (IsTooLarge schema plan → ⊥) → IsAnswered files (codes "migrate" ∷ codes "plan" ∷ name ∷ planned ∷ file ∷ [])
-migrate_plan_answered files name planned file schema plan rows held_schema held_plan held_rows own also other small
-    response answered =
+    → RequiresAll schema → (IsTooLarge schema plan → ⊥)
+    → IsAnswered files (codes "migrate" ∷ codes "plan" ∷ name ∷ planned ∷ file ∷ [])
+migrate_plan_answered files name planned file schema plan rows held_schema held_plan held_rows own also other none small
+    looks response answered =
     let read = name ∷ planned ∷ file ∷ [] in
     after_schema files name schema
     (λ r. WithFile (plan_file r) (known_files files) planned
@@ -304,18 +336,19 @@ migrate_plan_answered files name planned file schema plan rows held_schema held_
     (λ r same more. after_plan files schema r planned plan
     (λ p. WithFile (rows_file r) (known_files files) file (MigratesPlanHere r p read)) response same held_plan
     (λ p is found. after_rows files schema r file rows (MigratesPlanHere r p read) response same held_rows
-    (λ x kept. after_loss schema r p plan (MigratesRows r p x) response same is small
+    (λ x stands. after_missing schema r p (KeepsFiles (length p) read (MigratesPlan r p x)) response same none
+    (λ kept. after_loss schema r p plan (MigratesRows r p x) response same is small
     (λ gives. MigratesRows-yes_or_no r p x response gives)
-    (keeps_files (length p) read (MigratesPlan r p x) response (own, (also, (other, tt))) kept)) found) more)
-    (migrate_plan_asks files name planned file response answered)
+    (keeps_files (length p) read (MigratesPlan r p x) response (own, (also, (other, tt))) kept)) stands) found) more)
+    (migrate_plan_asks files name planned file looks response answered)
 
-sample_asks : (files : Files) (word : List ℕ) (response : ResponseValue) → is_count word ≡ true → Answers (known_files files) (codes "sample" ∷ word ∷ []) response → Samples (number_of word) response
+sample_asks : (files : Files) (word : List ℕ) (looks : Looks) (response : ResponseValue) → is_count word ≡ true → Answers looks (known_files files) (codes "sample" ∷ word ∷ []) response → Samples (number_of word) response
 unfolding form_of persons_alone Performs
-sample_asks files word response is answered = (rw is at answered)
+sample_asks files word looks response is answered = (rw is at answered)
 
 pub sample_answered : (files : Files) (word : List ℕ) → is_count word ≡ true → IsAnswered files (codes "sample" ∷ word ∷ [])
-sample_answered files word is response answered =
-    let (schema, of_sample, found) = sample_asks files word response is answered in
+sample_answered files word is looks response answered =
+    let (schema, of_sample, found) = sample_asks files word looks response is answered in
     let within_limit : width_of schema ≤ 13 = omega (arith, ap length of_sample.names) in
     after_form schema schema Fourth (λ plan. MigratesRows schema (schemes_of plan) (sample_relation (number_of word))) response refl (small_is_splittable schema Fourth within_limit (inr refl))
     (λ plan gives. MigratesRows-yes_or_no schema (schemes_of plan) (sample_relation (number_of word)) response gives) found

@@ -1,8 +1,8 @@
 -- Words that are answered, and calls in which nothing fails: for the laws of desk_laws. `Desk` does
 -- not cite it.
-use Rattle.std.specs.Prelude.{◌≡◌, ◌⊎◌, ℕ, List, Some}
+use Rattle.std.specs.Prelude.{◌≡◌, ◌⊎◌, ℕ, true, List, Some}
 use Rattle.attr_sets.specs.Attributes.{Attributes}
-use Rattle.dep_model.specs.Schemas.{width_of, theory_of}
+use Rattle.dep_model.specs.Schemas.{width_of, theory_of, nullable_of}
 use Rattle.dep_model.specs.declared.schema.Schema.{Schema}
 use Rattle.normal_forms.specs.declared.forms.Form.{Form}
 use Rattle.normal_forms.specs.declared.forms.Form.TheVariants.{Third, Bcnf, Fourth}
@@ -14,8 +14,9 @@ use Rattle.desk_responses.specs.declared.status.Status.{Status}
 use Rattle.desk_responses.specs.declared.status.Status.TheVariants.{Yes, No}
 use Rattle.desk_responses.specs.ResponseValues.{ResponseValue}
 use Rattle.desk_tables.specs.Overwriting.{IsTableFile}
+use Rattle.desk_tables.specs.OwnFolders.{Looks}
 use Rattle.desk_cli.specs.Desk.{FileSourceInCall, SinkInCall}
-use Rattle.desk_delivery.specs.Outcomes.{DestinationsInCall, NoneFails}
+use Rattle.desk_delivery.specs.Outcomes.{DestinationsInCall, NoneFails, OwnInCall, OwnIsFine}
 use Rattle.desk_cli.specs.Performs.{Answers}
 use Rattle.desk_inputs.specs.Readings.{known_files}
 
@@ -23,18 +24,23 @@ use Rattle.desk_inputs.specs.Readings.{known_files}
 abbrev pub IsYesOrNo : Status → Type 0
 IsYesOrNo status = (status ≡ Yes) ⊎ (status ≡ No)
 
--- over these files, each answer that the words may have is yes or no
-abbrev pub IsAnswered : Files → List (List ℕ) → Type 0
-IsAnswered files words =
-    (response : ResponseValue) → Answers (known_files files) words response → IsYesOrNo response.status
+-- over these files, where looks at names may be answered so, each answer that the words may have is yes or no
+abbrev pub IsAnsweredBy : Looks → Files → List (List ℕ) → Type 0
+IsAnsweredBy looks files words =
+    (response : ResponseValue) → Answers looks (known_files files) words response → IsYesOrNo response.status
+
+-- the same whatever looks at names are answered
+abbrev pub IsAnswered : Files → List (List ℕ) → Type 1
+IsAnswered files words = (looks : Looks) → IsAnsweredBy looks files words
 
 -- it is known that the file source holds these files, and no error count increased
 pub record FailsNowhere (files : Files) (source : FileSourceInCall) (sink : SinkInCall)
-    (destinations : DestinationsInCall) : Type 0 where
+    (destinations : DestinationsInCall) (own : OwnInCall) : Type 0 where
   pub holds : source.files ≡ Some files
   pub reads : ErrorCountIncreased source.before source.after → ⊥
   pub writes : ErrorCountIncreased sink.before sink.after → ⊥
   pub writes_tables : NoneFails destinations
+  pub writes_folder : OwnIsFine own
 
 -- splitting a schema comes to no scheme that is too wide, and to no more schemes than are allowed
 pub record IsSplittable (schema : Schema) (form : Form) : Type 0 where
@@ -47,6 +53,10 @@ abbrev pub HasPlanInForm : Schema → Form → Type 0
 HasPlanInForm schema Third = Unit {0}
 HasPlanInForm schema Bcnf = IsSplittable schema Bcnf
 HasPlanInForm schema Fourth = IsSplittable schema Fourth
+
+-- no value of a row of a schema may be missing
+abbrev pub RequiresAll : Schema → Type 0
+RequiresAll schema = (a : ℕ) → nullable_of schema a ≡ true → ⊥
 
 -- no table has a file of this name
 abbrev pub NamesNoTable : List ℕ → Type 0

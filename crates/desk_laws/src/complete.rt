@@ -13,7 +13,9 @@ ghost use Rattle.key_listing.specs.Refusals.{IsTooWide};
 ghost use Rattle.desk_outside.specs.Files.{Files};
 ghost use Rattle.desk_responses.specs.declared.status.Status.{Status};
 ghost use Rattle.desk_cli.specs.Desk.{Desk, SinkInCall, source_in_call};
-ghost use Rattle.desk_delivery.specs.Outcomes.{destinations_in_call};
+ghost use Rattle.desk_delivery.specs.Outcomes.{destinations_in_call, own_in_call};
+ghost use Rattle.own_folder.specs.OwnWriting.{folder_in_call, place_in_call};
+ghost use Rattle.desk_tables.specs.OwnFolders.{Looks};
 ghost use Rattle.desk_inputs.specs.FileKinds.{IsFile};
 ghost use Rattle.desk_inputs.specs.Inputs.{schema_file, proof_file};
 ghost use Rattle.desk_arguments.specs.Goals.{IsGoal};
@@ -22,25 +24,30 @@ ghost use Rattle.desk_keys.specs.Keys.{HasManyKeys};
 ghost use Rattle.desk_inputs.specs.Plans.{plan_file};
 ghost use Rattle.desk_inputs.specs.Readings.{known_files};
 ghost use Rattle.desk_inputs.specs.Rows.{rows_file};
-ghost use Rattle.desk_laws.specs.Completeness.{IsYesOrNo, IsAnswered, FailsNowhere};
+ghost use Rattle.desk_laws.specs.Completeness.{IsYesOrNo, IsAnswered, IsAnsweredBy, FailsNowhere};
 
-use desk_outside::FileSource;
+use desk_outside::{FileSource, Folder};
 use destinations::Destination;
+use own_folder::FolderMaker;
 
 /// Where nothing fails, a call whose words are answered over the files ends with yes or no, or runs
 /// out of memory.
-pub fn answered_calls_end<F: FileSource, T: Destination>()
-    ensures law { (words : List (List ℕ)) (files : Files) (source after : F) (sink : SinkInCall) (old new : List T)
-        (result : Result Status OutOfMemory)
-        → Desk words
+pub fn answered_calls_end<F: FileSource, T: Destination, M: FolderMaker, G: Folder>()
+    ensures law { (words : List (List ℕ)) (looks : Looks) (files : Files) (source after : F) (sink : SinkInCall)
+        (old new : List T) (place made : M) (folder filled : G) (result : Result Status OutOfMemory)
+        → Desk words looks
         (source_in_call (F.files source) (F.files after) (F.faults source) (F.faults after) (F.taken after)
         (F.begun source) (F.begun after))
-        sink (destinations_in_call T.is_known T.finished T.begun T.width T.faults old new) result
+        sink (destinations_in_call T.is_known T.finished T.begun T.width T.faults old new)
+        (own_in_call (place_in_call M.made M.faults place made)
+        (folder_in_call G.contents G.begun G.faults folder filled)) result
         → FailsNowhere files
         (source_in_call (F.files source) (F.files after) (F.faults source) (F.faults after) (F.taken after)
         (F.begun source) (F.begun after))
         sink (destinations_in_call T.is_known T.finished T.begun T.width T.faults old new)
-        → IsAnswered files words
+        (own_in_call (place_in_call M.made M.faults place made)
+        (folder_in_call G.contents G.begun G.faults folder filled))
+        → IsAnsweredBy looks files words
         → (status : Status) → result ≡ Ok status → IsYesOrNo status }
 {}
 

@@ -14,7 +14,7 @@ ghost use Rattle.desk_designs.specs.Joins.{IsTooLarge};
 ghost use Rattle.desk_designs.specs.NormalForms.{form_word};
 ghost use Rattle.desk_inputs.specs.Plans.{plan_file};
 ghost use Rattle.desk_inputs.specs.Readings.{known_files};
-ghost use Rattle.desk_laws.specs.Completeness.{IsAnswered, HasPlanInForm};
+ghost use Rattle.desk_laws.specs.Completeness.{IsAnswered, HasPlanInForm, RequiresAll};
 
 /// `sql check` is answered where the schema file means a schema and the word names a table.
 pub fn sql_check_is_answered()
@@ -24,17 +24,17 @@ pub fn sql_check_is_answered()
         → IsAnswered files (codes "sql" ∷ codes "check" ∷ name ∷ table ∷ []) }
 {}
 
-/// `sql migrate` is answered where the schema file means a schema, the word names a table, and a
-/// plan in the form is found within the limits, or the plan file means a plan whose chase keeps
-/// within its limit.
+/// `sql migrate` is answered where the schema file means a schema of which no value may be missing, the
+/// word names a table, and a plan in the form is found within the limits, or the plan file means a plan
+/// whose chase keeps within its limit.
 pub fn sql_migrate_is_answered()
     ensures in_form { (form : Form) (files : Files) (name table : List ℕ) (schema : Schema)
         → IsFile schema_file (known_files files) name schema → IsTrue (is_table_name table)
-        → HasPlanInForm schema form
+        → RequiresAll schema → HasPlanInForm schema form
         → IsAnswered files (codes "sql" ∷ codes "migrate" ∷ form_word form ∷ name ∷ table ∷ []) }
     ensures plan { (files : Files) (name file table : List ℕ) (schema : Schema) (plan : List Attributes)
         → IsFile schema_file (known_files files) name schema → IsFile (plan_file schema) (known_files files) file plan
-        → IsTrue (is_table_name table) → (IsTooLarge schema plan → ⊥)
+        → IsTrue (is_table_name table) → RequiresAll schema → (IsTooLarge schema plan → ⊥)
         → IsAnswered files (codes "sql" ∷ codes "migrate" ∷ codes "plan" ∷ name ∷ file ∷ table ∷ []) }
 {}
 

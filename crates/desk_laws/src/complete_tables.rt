@@ -29,7 +29,7 @@ ghost use Rattle.desk_inputs.specs.Plans.{plan_file};
 ghost use Rattle.desk_inputs.specs.Readings.{known_files};
 ghost use Rattle.desk_inputs.specs.Parts.{ArePartFiles};
 ghost use Rattle.desk_inputs.specs.Rows.{rows_file};
-ghost use Rattle.desk_laws.specs.Completeness.{IsAnswered, HasPlanInForm, NamesNoTable};
+ghost use Rattle.desk_laws.specs.Completeness.{IsAnswered, HasPlanInForm, NamesNoTable, RequiresAll};
 
 /// `check form` is answered where the schema file means a schema, the plan file a plan, and no scheme of
 /// the plan has more attributes than are tested.
@@ -71,15 +71,15 @@ pub fn exhibit_is_answered()
         → IsAnswered files (codes "exhibit" ∷ name ∷ []) }
 {}
 
-/// `ddl` is answered where the schema file means a schema, and a plan in the form is found within the
-/// limits, or the plan file means a plan whose chase keeps within its limit.
+/// `ddl` is answered where the schema file means a schema of which no value may be missing, and a plan in the
+/// form is found within the limits, or the plan file means a plan whose chase keeps within its limit.
 pub fn ddl_is_answered()
     ensures in_form { (form : Form) (files : Files) (name : List ℕ) (schema : Schema)
-        → IsFile schema_file (known_files files) name schema → HasPlanInForm schema form
+        → IsFile schema_file (known_files files) name schema → RequiresAll schema → HasPlanInForm schema form
         → IsAnswered files (codes "ddl" ∷ form_word form ∷ name ∷ []) }
     ensures plan { (files : Files) (name file : List ℕ) (schema : Schema) (plan : List Attributes)
         → IsFile schema_file (known_files files) name schema → IsFile (plan_file schema) (known_files files) file plan
-        → (IsTooLarge schema plan → ⊥)
+        → RequiresAll schema → (IsTooLarge schema plan → ⊥)
         → IsAnswered files (codes "ddl" ∷ codes "plan" ∷ name ∷ file ∷ []) }
 {}
 
@@ -88,7 +88,7 @@ pub fn ddl_is_answered()
 pub fn migrate_is_answered()
     ensures in_form { (form : Form) (files : Files) (name file : List ℕ) (schema : Schema) (rows : Relation)
         → IsFile schema_file (known_files files) name schema → IsFile (rows_file schema) (known_files files) file rows
-        → NamesNoTable name → NamesNoTable file → HasPlanInForm schema form
+        → NamesNoTable name → NamesNoTable file → RequiresAll schema → HasPlanInForm schema form
         → IsAnswered files (codes "migrate" ∷ form_word form ∷ name ∷ file ∷ []) }
     ensures plan { (files : Files) (name planned file : List ℕ) (schema : Schema)
         (plan : List Attributes)
@@ -96,7 +96,8 @@ pub fn migrate_is_answered()
         → IsFile schema_file (known_files files) name schema
         → IsFile (plan_file schema) (known_files files) planned plan
         → IsFile (rows_file schema) (known_files files) file rows
-        → NamesNoTable name → NamesNoTable planned → NamesNoTable file → (IsTooLarge schema plan → ⊥)
+        → NamesNoTable name → NamesNoTable planned → NamesNoTable file
+        → RequiresAll schema → (IsTooLarge schema plan → ⊥)
         → IsAnswered files (codes "migrate" ∷ codes "plan" ∷ name ∷ planned ∷ file ∷ []) }
 {}
 

@@ -7,6 +7,7 @@
 mod begun;
 mod complete;
 mod complete_derivations;
+mod complete_folders;
 mod complete_measures;
 mod complete_questions;
 mod complete_reasons;
@@ -19,6 +20,7 @@ ghost use Rattle.desk_responses.specs.declared.status.Status.TheVariants.{Yes};
 ghost use Rattle.desk_responses.specs.ResponseValues.{ResponseValue};
 ghost use Rattle.desk_cli.specs.Performs.{Answers};
 ghost use Rattle.desk_inputs.specs.Readings.{known_files};
+ghost use Rattle.desk_tables.specs.OwnFolders.{Looks};
 ghost use Rattle.desk_outside.specs.Files.{Files, bytes_of_file};
 ghost use Rattle.proof_text.specs.declared.text.TheConstants.{MOST_PROOF_BYTES};
 
@@ -29,6 +31,7 @@ pub use complete::{
     synthesize_is_answered,
 };
 pub use complete_derivations::check_derivation_is_answered;
+pub use complete_folders::migrate_into_is_answered;
 pub use complete_measures::{kept_is_answered, measure_is_answered, offences_is_answered};
 pub use complete_questions::{
     basis_is_answered, check_cover_is_answered, check_key_is_answered, check_same_is_answered,
@@ -51,11 +54,11 @@ pub use one_answer::{
 /// What `implies` prints after yes, kept in a file, is accepted by `check proof` for the same schema and
 /// goal, where the text is within the limit of certificate files.
 pub fn printed_proof_is_accepted()
-    ensures law { (before after : Files) (schema goal file : List ℕ) (printed : ResponseValue)
-        → Answers (known_files before) (codes "implies" ∷ schema ∷ goal ∷ []) printed → printed.status ≡ Yes
+    ensures law { (looks later : Looks) (before after : Files) (schema goal file : List ℕ) (printed : ResponseValue)
+        → Answers looks (known_files before) (codes "implies" ∷ schema ∷ goal ∷ []) printed → printed.status ≡ Yes
         → bytes_of_file after schema ≡ bytes_of_file before schema → bytes_of_file after file
         ≡ Some printed.text
         → length printed.text ≤ MOST_PROOF_BYTES
-        → (response : ResponseValue) → Answers (known_files after) (codes "check" ∷ codes "proof" ∷ schema ∷ file ∷ goal
+        → (response : ResponseValue) → Answers later (known_files after) (codes "check" ∷ codes "proof" ∷ schema ∷ file ∷ goal
         ∷ []) response → response.status ≡ Yes }
 {}

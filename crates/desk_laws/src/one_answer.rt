@@ -5,6 +5,7 @@ ghost use Rattle.alike_laws.specs.SameDeclarations.{DeclareTheSame};
 ghost use Rattle.csv_rows.specs.Reading.{RowsOf};
 ghost use Rattle.csv_rows.specs.declared.refusal.RowRefusal.{RowRefusal};
 ghost use Rattle.dep_model.specs.Tuples.{Relation};
+ghost use Rattle.dep_model.specs.declared.naming.Naming.{Naming};
 ghost use Rattle.dep_model.specs.declared.schema.Schema.{Schema};
 ghost use Rattle.derivation_grammar.specs.Derivations.{Derives};
 ghost use Rattle.derivation_grammar.specs.Refusals.{IsRefusedDerivation};
@@ -17,6 +18,7 @@ ghost use Rattle.schema_grammar.specs.Schemas.{MeansSchema, RefusesSchema};
 ghost use Rattle.desk_cli.specs.Performs.{Answers, Does};
 ghost use Rattle.desk_inputs.specs.Readings.{known_files};
 ghost use Rattle.desk_responses.specs.ResponseValues.{ResponseValue};
+ghost use Rattle.desk_tables.specs.OwnFolders.{HasOneLook, Looks};
 ghost use Rattle.desk_words.specs.Forms.{Task};
 ghost use Rattle.desk_laws.specs.OneReading.{AskWhatIsDerived, HasOneReading, IsOneButForProof};
 
@@ -24,8 +26,8 @@ ghost use Rattle.desk_laws.specs.OneReading.{AskWhatIsDerived, HasOneReading, Is
 /// rows.
 pub fn texts_of_files_have_one_reading()
     ensures schema { (text : List ℕ) → HasOneReading (MeansSchema text) (RefusesSchema text) }
-    ensures plan { (names : List (List ℕ)) (text : List ℕ)
-        → HasOneReading (MeansPlan names text) (RefusesPlan names text) }
+    ensures plan { (naming : Naming) (names : List (List ℕ)) (text : List ℕ)
+        → HasOneReading (MeansPlan naming names text) (RefusesPlan naming names text) }
     ensures proof { (schema : Schema) (text : List ℕ)
         → HasOneReading (SpellsWithin schema text) (IsRefusedCertificate schema text) }
     ensures derivation { (schema : Schema) (text : List ℕ)
@@ -36,18 +38,20 @@ pub fn texts_of_files_have_one_reading()
 {}
 
 /// What is asked of a schema, with the files after it, has one answer, which rests on what the schema declares
-/// alone: two answers of schemas that declare the same are equal, but for the derivation of a goal that is not
-/// fixed.
+/// alone, and on what a look at a name is answered: two answers of schemas that declare the same are equal, but for
+/// the derivation of a goal that is not fixed.
 pub fn tasks_have_one_answer()
-    ensures law { (files : Files) (schema other_schema : Schema) (task : Task) (one other : ResponseValue)
-        → DeclareTheSame schema other_schema → Does (known_files files) schema task one
-        → Does (known_files files) other_schema task other → IsOneButForProof schema task one other }
+    ensures law { (looks : Looks) (files : Files) (schema other_schema : Schema) (task : Task)
+        (one other : ResponseValue) → HasOneLook looks
+        → DeclareTheSame schema other_schema → Does looks (known_files files) schema task one
+        → Does looks (known_files files) other_schema task other → IsOneButForProof schema task one other }
 {}
 
-/// Any two answers that words have over known files are equal, unless the words ask whether a goal is implied
+/// Any two answers that words have over known files, where a look at a name has one answer, are equal, unless the words ask whether a goal is implied
 /// which is: then both answers are yes, and equal where the derivation is fixed.
 pub fn words_have_one_answer()
-    ensures law { (files : Files) (words : List (List ℕ)) (one other : ResponseValue)
-        → Answers (known_files files) words one → Answers (known_files files) words other
+    ensures law { (looks : Looks) (files : Files) (words : List (List ℕ)) (one other : ResponseValue)
+        → HasOneLook looks
+        → Answers looks (known_files files) words one → Answers looks (known_files files) words other
         → (one ≡ other) ⊎ AskWhatIsDerived files words one other }
 {}

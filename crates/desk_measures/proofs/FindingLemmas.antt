@@ -1,5 +1,5 @@
 -- What is found is added at the end of a text, position after position.
-use Rattle.std.proofs.Common.{◌≡◌, ◌+◌, ◌<◌, ◌≤◌, ℕ, Result, Ok, Err, length, zero, suc, Bool, true, Option, Some, None, List, [], ◌++◌, map, refl, sym, ap, subst, ◌∙◌, append-nil, append_assoc, arith}
+use Rattle.std.proofs.Common.{◌≡◌, ◌+◌, ◌<◌, ◌≤◌, ℕ, Result, Ok, Err, length, suc, Bool, true, Option, Some, None, List, [], ◌++◌, refl, sym, ap, subst, ◌∙◌, append-nil, append_assoc, arith}
 use Rattle.std.proofs.lemmas.Option.{get_or_from_slice_get, slice_get-map, slice_get_past, slice_get_read, slice_get_within}
 use Rattle.std.specs.List.{HoldsAt}
 use Rattle.std.specs.Prelude.{◌&&◌, IfOk, MatchOption, option_map, slice_get}

@@ -1,14 +1,14 @@
 -- Flags that are counted one after the other.
-use Rattle.std.proofs.Common.{◌≡◌, ◌+◌, ◌<◌, ℕ, suc, Bool, true, false, Option, Some, List, [], ◌∷◌, ◌++◌, length, refl, sym, ap, subst, ◌∙◌, inl, inr, arith}
-use Rattle.std.proofs.lemmas.Bool.{cases_lt}
+use Rattle.std.proofs.Common.{◌≡◌, ◌+◌, ◌<◌, ℕ, suc, Bool, true, false, true≢false, not, List, [], ◌∷◌, ◌++◌, length, refl, sym, ap, subst, ◌∙◌, inl, inr, arith}
+use Rattle.std.proofs.lemmas.Bool.{cases_lt, not-true, not_from_false}
 use Rattle.std.proofs.lemmas.List.{get_or_append_left, get_or-append-add, length-append}
-use Rattle.std.specs.Prelude.{◌↔◌, if◌then◌else◌, slice_get, unwrap_or}
+use Rattle.std.specs.Prelude.{◌↔◌, if◌then◌else◌}
 use Rattle.attr_sets.specs.Attributes.{Attributes, count_below}
-use Rattle.dep_model.specs.Integers.{IsIntegerText}
-use Rattle.dep_model.specs.Schemas.{types_of}
+use Rattle.column_values.specs.Values.{FitsColumn}
+use Rattle.csv_rows.specs.RefusalTexts.{type_of}
+use Rattle.dep_model.specs.Schemas.{nullable_of}
 use Rattle.dep_model.specs.Tuples.{Relation, value_at}
 use Rattle.dep_model.specs.declared.column_type.ColumnType.{ColumnType}
-use Rattle.dep_model.specs.declared.column_type.ColumnType.TheVariants.{Integer}
 use Rattle.dep_model.specs.declared.schema.Schema.{Schema}
 use Rattle.legality.specs.Parts.{flag_at}
 use Rattle.row_store.specs.Rows.{row_at}
@@ -59,17 +59,23 @@ module _ (s : Schema) (rows : Relation) (a : ℕ) where
       )
 
   -- whether the value of a row is so, by its column and its bytes
-  pub is_mistyped_at : (i : ℕ) (column : ColumnType) (value : List ℕ) (flag : Bool)
-      → slice_get (types_of s) a ≡ Some column → value ≡ value_at (row_at rows i) a
-      → ((flag ≡ true) ↔ (column ≡ Integer) × (IsIntegerText value → ⊥)) → ((flag ≡ true) ↔ IsMistyped s rows a i)
-  is_mistyped_at i column value flag typed is told = (
-    λ set.
-        let (integer, wrong) = told.0 set in
-        (typed ∙ ap Some integer, λ right. wrong (subst IsIntegerText (sym is) right)),
-    λ mistyped.
-        let (integer, wrong) = mistyped in
-        told.1 (
-          ap (λ (o : Option ColumnType). unwrap_or o Integer) (sym typed ∙ integer),
-          λ right. wrong (subst IsIntegerText is right),
-        ),
+  pub is_mistyped_at : (i : ℕ) (column : ColumnType) (nullable fits : Bool) (value : List ℕ)
+      → column ≡ type_of s a → nullable ≡ nullable_of s a → value ≡ value_at (row_at rows i) a
+      → ((fits ≡ true) ↔ FitsColumn column nullable value) → ((not fits ≡ true) ↔ IsMistyped s rows a i)
+  is_mistyped_at i column nullable fits value typed may is told = (
+    λ set there. true≢false (sym (told.1 (here there)) ∙ not-true fits set),
+    λ mistyped. not_from_false fits (by fits (λ there. mistyped (back (told.0 there)))),
   )
+    where
+      here : FitsColumn (type_of s a) (nullable_of s a) (value_at (row_at rows i) a) → FitsColumn column nullable value
+      here = subst (λ (c : ColumnType). FitsColumn c (nullable_of s a) (value_at (row_at rows i) a) → FitsColumn column nullable value) typed
+          (subst (λ (n : Bool). FitsColumn column n (value_at (row_at rows i) a) → FitsColumn column nullable value) may
+          (subst (λ (v : List ℕ). FitsColumn column nullable v → FitsColumn column nullable value) is (λ there. there)))
+
+      back : FitsColumn column nullable value → FitsColumn (type_of s a) (nullable_of s a) (value_at (row_at rows i) a)
+      back there = subst (λ (c : ColumnType). FitsColumn c (nullable_of s a) (value_at (row_at rows i) a)) typed
+          (subst (λ (n : Bool). FitsColumn column n (value_at (row_at rows i) a)) may (subst (FitsColumn column nullable) is there))
+
+      by : (b : Bool) → (b ≡ true → ⊥) → b ≡ false
+      by true nope = absurd (nope refl)
+      by false nope = refl

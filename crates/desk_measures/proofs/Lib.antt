@@ -2,3 +2,4 @@ pub mod FlagLemmas
 pub mod FindingLemmas
 pub mod FieldLemmas
 pub mod KeepingLemmas
+pub mod TextLemmas

@@ -1,20 +1,21 @@
 -- How far rows are from legal: for `measure`. The rows may have values that are not of their column's type.
-use Rattle.std.specs.Prelude.{◌≡◌, ◌↔◌, ◌+◌, ◌<◌, ◌==◌, ◌&&◌, ℕ, Bool, true, false, not, Some, if◌then◌else◌, List, [], ◌++◌, codes, length, nat_lt, slice_get, slice_index_or}
+use Rattle.std.specs.Prelude.{◌≡◌, ◌↔◌, ◌+◌, ◌<◌, ◌==◌, ◌&&◌, ℕ, Bool, true, false, not, if◌then◌else◌, List, [], ◌++◌, codes, length, nat_lt, slice_get, slice_index_or}
 use Rattle.std.specs.Fmt.{decimal}
 use Rattle.std.specs.List.{position_or_len}
 use Rattle.attr_sets.specs.Attributes.{Attributes, count_below, difference, only}
 use Rattle.attr_sets.specs.declared.set.TheConstants.{MOST_ATTRIBUTES}
+use Rattle.column_values.specs.Values.{FitsColumn}
+use Rattle.csv_rows.specs.RefusalTexts.{type_of}
 use Rattle.dep_model.specs.Dependencies.{Dependency, fd, mvd}
-use Rattle.dep_model.specs.Integers.{IsIntegerText}
-use Rattle.dep_model.specs.Schemas.{lines_of, types_of, width_of}
+use Rattle.dep_model.specs.Schemas.{lines_of, nullable_of, width_of}
 use Rattle.dep_model.specs.Tuples.{Relation, value_at}
-use Rattle.dep_model.specs.declared.column_type.ColumnType.TheVariants.{Integer}
+use Rattle.dep_model.specs.declared.column_type.ColumnType.{ColumnType}
 use Rattle.dep_model.specs.declared.schema.Schema.{Schema}
 use Rattle.legality.specs.Parts.{flag_at}
 use Rattle.row_measures.specs.Answers.{IsMeasure}
 use Rattle.row_measures.specs.declared.breach.Measure.{Measure}
 use Rattle.row_store.specs.Rows.{row_at}
-use Rattle.schema_printer.specs.Printing.{dependency_text}
+use Rattle.schema_printer.specs.Printing.{dependency_text, type_word}
 use Rattle.schema_printer.specs.Spelling.{printed_names_of}
 use Rattle.desk_responses.specs.Lines.{line_number_text}
 use Rattle.desk_responses.specs.ResponseValues.{Allowed, Says}
@@ -23,10 +24,10 @@ use Rattle.desk_measures.specs.Findings.{Finding, FindsBelow, FindsBoth, FindsNo
 use Rattle.desk_measures.specs.Offences.{OfEachDependency}
 
 -- ---- values that are not of their column's type
--- the value of a row at an attribute is no integer, and its column is one of integers
+-- the value of a row at an attribute does not fit its column
 abbrev pub IsMistyped : Schema → Relation → ℕ → ℕ → Type 0
 IsMistyped schema rows a i =
-    (slice_get (types_of schema) a ≡ Some Integer) × (IsIntegerText (value_at (row_at rows i) a) → ⊥)
+    FitsColumn (type_of schema a) (nullable_of schema a) (value_at (row_at rows i) a) → ⊥
 
 -- a flag for each row, set where its value is so
 pub record AreMistyped (schema : Schema) (rows : Relation) (a : ℕ) (flags : List Bool) : Type 0 where
@@ -37,16 +38,17 @@ pub record AreMistyped (schema : Schema) (rows : Relation) (a : ℕ) (flags : Li
 abbrev pub flags_set : List Bool → ℕ
 flags_set flags = count_below (flag_at flags) (length flags)
 
--- so many values are so
-unfoldable pub mistyped_words : ℕ → List ℕ
-mistyped_words count =
-    if count == 1 then codes " value is no integer, in row "
-    else codes " values are no integer, the first in row "
+-- so many values are so, of a column of this type
+unfoldable pub mistyped_words : ColumnType → ℕ → List ℕ
+mistyped_words column count =
+    if count == 1 then codes " value is no " ++ type_word column ++ codes ", in row "
+    else codes " values are no " ++ type_word column ++ codes ", the first in row "
 
 -- how many values are so, and the first row that has one
-abbrev pub mistyped_text : List ℕ → ℕ → ℕ → List ℕ
-mistyped_text name count row =
-    line (codes "column " ++ name ++ codes ": " ++ decimal count ++ mistyped_words count ++ decimal row)
+abbrev pub mistyped_text : Schema → ℕ → ℕ → ℕ → List ℕ
+mistyped_text schema a count row =
+    line (codes "column " ++ slice_index_or (printed_names_of schema) a [] ++ codes ": " ++ decimal count
+    ++ mistyped_words (type_of schema a) count ++ decimal row)
 
 -- a line where a column has such values
 pub record IsColumnFound (schema : Schema) (rows : Relation) (a : ℕ) (clean : Bool) (text : List ℕ)
@@ -55,8 +57,7 @@ pub record IsColumnFound (schema : Schema) (rows : Relation) (a : ℕ) (clean : 
   pub are : AreMistyped schema rows a flags
   pub none : clean ≡ (flags_set flags == 0)
   pub says : text ≡ (if flags_set flags == 0 then []
-      else mistyped_text (slice_index_or (printed_names_of schema) a []) (flags_set flags)
-      (position_or_len (λ flag. flag) flags + 1))
+      else mistyped_text schema a (flags_set flags) (position_or_len (λ flag. flag) flags + 1))
 
 -- ---- numbers
 -- groups and rows, each with a word

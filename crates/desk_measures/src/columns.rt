@@ -1,20 +1,22 @@
 //! Values that are not of their column's type.
 
-ghost use Rattle.std.specs.Prelude.{◌≡◌, ◌<◌, ◌≤◌, ◌==◌, ◌↔◌, ◌++◌, true, [], length, if◌then◌else◌, slice_index_or, IfOk, OnOk};
+ghost use Rattle.std.specs.Prelude.{◌≡◌, ◌<◌, ◌≤◌, ◌==◌, ◌++◌, [], length, if◌then◌else◌, slice_index_or, IsTrue, IfOk, OnOk};
 ghost use Rattle.std.specs.List.{position_or_len};
-ghost use Rattle.dep_model.specs.Integers.{IsIntegerText};
+ghost use Rattle.dep_model.specs.Columns.{is_column_type};
 ghost use Rattle.dep_model.specs.Schemas.{width_of};
-ghost use Rattle.dep_model.specs.declared.column_type.ColumnType.TheVariants.{Integer};
+ghost use Rattle.schema_printer.specs.Printing.{type_word};
 ghost use Rattle.schema_printer.specs.Spelling.{printed_names_of};
 ghost use Rattle.desk_measures.specs.Findings.{Adds, FindsBelow};
 ghost use Rattle.desk_measures.specs.Measures.{AreMistyped, IsColumnFound, flags_set, mistyped_text, mistyped_words};
 
 use crate::fields::value_of;
-use crate::offences::both;
-use dep_model::{ColumnType, OutOfMemory, Schema, integer_text};
+use crate::telling::both;
+use column_values::fits_column;
+use csv_rows::type_of;
+use dep_model::{ColumnType, OutOfMemory, Schema};
 use itoa::Buffer;
 use row_store::Rows;
-use schema_printer::{add, add_name};
+use schema_printer::{add, add_name, add_type_word};
 use std::alloc::Global;
 
 // A line for each column with such values, at the end of a text, and whether there are none.
@@ -66,8 +68,7 @@ fn put_mistyped_where(
 ) -> Result<(), OutOfMemory>
     requires attribute { attribute < width_of schema.now }
     ensures added { OnOk result (text.new.items ≡ text.old.items
-        ++ (if count == 0 then []
-        else mistyped_text (slice_index_or (printed_names_of schema.now) attribute []) count row)) }
+        ++ (if count == 0 then [] else mistyped_text schema.now attribute count row)) }
 {
     if count == 0 {
         return Ok(());
@@ -85,22 +86,14 @@ fn mistyped(
     requires attribute { attribute < width_of schema.now }
     ensures flags { IfOk result (λ flags. AreMistyped schema.now rows.now attribute flags.items) }
 {
-    let column = schema.column(attribute);
+    let column = type_of(schema, attribute);
+    let nullable = schema.nullable().contains(attribute);
     let mut flags = Vec::with_capacity(alloc, rows.len())?;
     for row in 0..rows.len() {
-        flags.push(is_mistyped(&column, value_of(rows, row, attribute as usize)))?;
+        let value = value_of(rows, row, attribute as usize);
+        flags.push(!fits_column(&column, nullable, value))?;
     }
     Ok(flags)
-}
-
-// Whether a column of this type does not take the value.
-fn is_mistyped(column: &ColumnType, value: &[u8]) -> bool
-    ensures mistyped { (result ≡ true) ↔ (column.now ≡ Integer) × (IsIntegerText value.now → ⊥) }
-{
-    match column {
-        ColumnType::Integer => !integer_text(value),
-        _ => false,
-    }
 }
 
 // How many flags are set.
@@ -145,26 +138,48 @@ fn put_mistyped(
 ) -> Result<(), OutOfMemory>
     requires attribute { attribute < width_of schema.now }
     ensures added { OnOk result (text.new.items ≡ text.old.items
-        ++ mistyped_text (slice_index_or (printed_names_of schema.now) attribute []) count row) }
+        ++ mistyped_text schema.now attribute count row) }
 {
     add(text, b"column ")?;
     put_name(text, schema, attribute)?;
     add(text, b": ")?;
     add(text, Buffer::new().format(count).as_bytes())?;
-    put_mistyped_words(text, count)?;
+    put_mistyped_words(text, &type_of(schema, attribute), count)?;
     add(text, Buffer::new().format(row).as_bytes())?;
     add(text, b"\n")
 }
 
 #[tactic(auto, unfolding(crate::specs::Measures::mistyped_words))]
-fn put_mistyped_words(text: &mut Vec<u8>, count: usize) -> Result<(), OutOfMemory>
-    ensures added { OnOk result (text.new.items ≡ text.old.items ++ mistyped_words count) }
+fn put_mistyped_words(
+    text: &mut Vec<u8>,
+    column: &ColumnType,
+    count: usize,
+) -> Result<(), OutOfMemory>
+    requires column { IsTrue (is_column_type column.now) }
+    ensures added { OnOk result (text.new.items
+        ≡ text.old.items ++ mistyped_words column.now count) }
 {
     if count == 1 {
-        add(text, b" value is no integer, in row ")
+        put_type(text, b" value is no ", column, b", in row ")
     } else {
-        add(text, b" values are no integer, the first in row ")
+        put_type(text, b" values are no ", column, b", the first in row ")
     }
+}
+
+// The words of a type between two pieces.
+fn put_type(
+    text: &mut Vec<u8>,
+    front: &[u8],
+    column: &ColumnType,
+    back: &[u8],
+) -> Result<(), OutOfMemory>
+    requires column { IsTrue (is_column_type column.now) }
+    ensures added { OnOk result (text.new.items
+        ≡ text.old.items ++ (front.now ++ type_word column.now ++ back.now)) }
+{
+    add(text, front)?;
+    add_type_word(text, column)?;
+    add(text, back)
 }
 
 // The name of an attribute as it is printed.

@@ -2,8 +2,7 @@
 //! stay.
 //!
 //! Each answer is a pure function of values, with the one clause that its response is allowed.
-//! `text_columns_alone` gives
-//! the schema by which rows are read whose values may not be of their column's type.
+//! `text_columns_alone` gives the schema by which rows are read whose values may not be of their column's type.
 #![tactic(auto)]
 
 mod columns;
@@ -11,6 +10,7 @@ mod fields;
 mod keeping;
 mod measures;
 mod offences;
+mod telling;
 mod untyped;
 
 pub use keeping::keep_rows;

@@ -11,7 +11,7 @@ ghost use Rattle.desk_measures.specs.Measures.{AreAttributes, AreDetails, FindsW
 ghost use Rattle.desk_measures.specs.Offences.{OfDependency, OfEachDependency};
 
 use crate::columns::{put_columns, put_name};
-use crate::offences::{both, status_of};
+use crate::telling::{Told, both, put_each, status_of};
 use attr_sets::{AttrSet, MOST_ATTRIBUTES};
 use csv_rows::Interned;
 use dep_model::{Dep, OutOfMemory, Schema};
@@ -50,53 +50,12 @@ fn measure_response(
     let mut text = Vec::new(alloc);
     let typed = put_columns(alloc, &mut text, schema, rows)?;
     let codes = Interned::intern(alloc, hashing, schema.width(), rows)?;
-    let legal = put_measures(alloc, &mut text, schema, rows, &codes)?;
+    let legal = put_each(alloc, &mut text, schema, rows, &codes, Told::Measures)?;
     Ok(Response::with_text(status_of(both(typed, legal)), text))
 }
 
-// The lines of each dependency, at the end of a text, and whether all hold.
-#[tactic(auto, using(crate::proofs::FindingLemmas::adds_none))]
-fn put_measures(
-    alloc: Global,
-    text: &mut Vec<u8>,
-    schema: &Schema,
-    rows: &Rows,
-    codes: &Interned,
-) -> Result<bool, OutOfMemory>
-    requires codes { IsInterned (width_of schema.now) rows.now codes.now }
-    ensures added { IfOk result (λ clean.
-        Adds (OfEachDependency schema.now (IsMeasured schema.now rows.now))
-        text.old.items text.new.items clean) }
-{
-    let mut clean = true;
-    for k in 0..schema.deps().len() {
-        let own = put_measure(alloc, text, schema, rows, codes, k)?;
-        clean = both(clean, own);
-    }
-    Ok(clean)
-}
-
 // The lines of one dependency.
-fn put_measure(
-    alloc: Global,
-    text: &mut Vec<u8>,
-    schema: &Schema,
-    rows: &Rows,
-    codes: &Interned,
-    k: usize,
-) -> Result<bool, OutOfMemory>
-    requires codes { IsInterned (width_of schema.now) rows.now codes.now }
-    ensures added { IfOk result (λ clean.
-        Adds (OfDependency schema.now (IsMeasured schema.now rows.now) k)
-        text.old.items text.new.items clean) }
-{
-    match schema.deps().get(k) {
-        Some(dep) => put_measure_of(alloc, text, schema, rows, codes, k, *dep),
-        None => Ok(true),
-    }
-}
-
-fn put_measure_of(
+pub fn put_measure_of(
     alloc: Global,
     text: &mut Vec<u8>,
     schema: &Schema,

@@ -1,28 +1,29 @@
-ghost use Rattle.std.specs.Prelude.{◌≡◌, ◌&&◌, ◌<◌, ◌^◌, ◌++◌, length, IfOk, OnOk};
+ghost use Rattle.std.specs.Prelude.{◌≡◌, ◌<◌, ◌^◌, ◌++◌, length, IfOk, OnOk};
 ghost use Rattle.std.specs.List.{flat_map};
 ghost use Rattle.attr_sets.specs.Sets.{attributes};
 ghost use Rattle.csv_rows.specs.Interning.{IsInterned};
 ghost use Rattle.csv_text.specs.Rows.{csv_row};
 ghost use Rattle.dep_model.specs.Deps.{IsDepWithin, dependency_of};
-ghost use Rattle.dep_model.specs.Schemas.{names_of, universe_of, width_of};
+ghost use Rattle.dep_model.specs.Schemas.{universe_of, width_of};
 ghost use Rattle.dep_model.specs.Tuples.{IsOver};
 ghost use Rattle.desk_responses.specs.Responses.{response_value, RespondsAs};
-ghost use Rattle.desk_measures.specs.Findings.{Adds, status_of};
-ghost use Rattle.desk_measures.specs.Offences.{ArePartLines, AreRowLines, ListsOffences, ListsOffencesByRow, OfDependency, OfEachDependency, part_fields, part_headings, row_fields, row_headings, shown_of};
+ghost use Rattle.desk_measures.specs.Findings.{Adds};
+ghost use Rattle.desk_measures.specs.Offences.{ArePartLines, AreRowLines, ListsBelow, ListsOffences, ListsOffencesByRow, part_fields, row_fields, shown_of};
+ghost use Rattle.desk_measures.specs.Telling.{Tells};
 
 use crate::fields::{push_names, take_part, take_part_headings, take_row, take_row_headings};
+use crate::telling::{Told, put_each, status_of};
 use attr_sets::AttrSet;
 use csv_rows::Interned;
 use csv_text::add_row;
 use dep_model::{Dep, OutOfMemory, Schema};
-use desk_responses::{EarlyExit, Response, Status};
+use desk_responses::{EarlyExit, Response};
 use row_measures::{BrokenPart, BrokenRow, broken_parts, broken_rows};
 use row_store::{FlatValues, Hashing, Rows};
 use std::alloc::Global;
 
 /// The classes of the groups that break a functional dependency, and the groups that break a
-/// multivalued one, as
-/// CSV.
+/// multivalued one, as CSV.
 pub fn list_offences(
     alloc: Global,
     hashing: Hashing,
@@ -61,10 +62,9 @@ fn parts_response(
     ensures response { IfOk result
         (λ response. ListsOffences schema.now rows.now (response_value response)) }
 {
-    let codes = Interned::intern(alloc, hashing, schema.width(), rows)?;
-    let mut text = part_header(alloc, schema)?;
-    let clean = put_parts_of_each(alloc, &mut text, schema, rows, &codes)?;
-    Ok(Response::with_text(status_of(clean), text))
+    let mut fields = FlatValues::new(alloc);
+    take_part_headings(&mut fields)?;
+    list_below(alloc, hashing, schema, rows, &mut fields, Told::Classes)
 }
 
 fn rows_response(
@@ -78,96 +78,36 @@ fn rows_response(
     ensures response { IfOk result
         (λ response. ListsOffencesByRow schema.now rows.now (response_value response)) }
 {
+    let mut fields = FlatValues::new(alloc);
+    take_row_headings(&mut fields)?;
+    list_below(alloc, hashing, schema, rows, &mut fields, Told::Rows)
+}
+
+// Headings and the names of the attributes, and below them what is told of each dependency.
+fn list_below(
+    alloc: Global,
+    hashing: Hashing,
+    schema: &Schema,
+    rows: &Rows,
+    headings: &mut FlatValues,
+    told: Told,
+) -> Result<Response, OutOfMemory>
+    requires over { IsOver (width_of schema.now) rows.now }
+    requires fits_u32 { length rows.now < 2 ^ 32 }
+    ensures response { IfOk result (λ response.
+        ListsBelow schema.now headings.old (Tells told schema.now rows.now)
+        (response_value response)) }
+{
     let codes = Interned::intern(alloc, hashing, schema.width(), rows)?;
-    let mut text = row_header(alloc, schema)?;
-    let clean = put_rows_of_each(alloc, &mut text, schema, rows, &codes)?;
+    let mut text = Vec::new(alloc);
+    push_names(headings, schema)?;
+    add_row(&mut text, headings)?;
+    let clean = put_each(alloc, &mut text, schema, rows, &codes, told)?;
     Ok(Response::with_text(status_of(clean), text))
 }
 
-/// Yes where nothing is wrong.
-pub fn status_of(clean: bool) -> Status
-    ensures status { result ≡ status_of clean }
-{
-    if clean { Status::Yes } else { Status::No }
-}
-
-/// Whether nothing is wrong in either.
-pub fn both(first: bool, second: bool) -> bool
-    ensures both { result ≡ (first && second) }
-{
-    first && second
-}
-
-fn part_header(alloc: Global, schema: &Schema) -> Result<Vec<u8>, OutOfMemory>
-    ensures text { IfOk result
-        (λ text. text.items ≡ csv_row (part_headings ++ names_of schema.now)) }
-{
-    let mut fields = FlatValues::new(alloc);
-    let mut text = Vec::new(alloc);
-    take_part_headings(&mut fields)?;
-    push_names(&mut fields, schema)?;
-    add_row(&mut text, &fields)?;
-    Ok(text)
-}
-
-fn row_header(alloc: Global, schema: &Schema) -> Result<Vec<u8>, OutOfMemory>
-    ensures text { IfOk result
-        (λ text. text.items ≡ csv_row (row_headings ++ names_of schema.now)) }
-{
-    let mut fields = FlatValues::new(alloc);
-    let mut text = Vec::new(alloc);
-    take_row_headings(&mut fields)?;
-    push_names(&mut fields, schema)?;
-    add_row(&mut text, &fields)?;
-    Ok(text)
-}
-
-// The lines of classes and groups of each dependency, at the end of a text, and whether there are
-// none.
-#[tactic(auto, using(crate::proofs::FindingLemmas::adds_none))]
-fn put_parts_of_each(
-    alloc: Global,
-    text: &mut Vec<u8>,
-    schema: &Schema,
-    rows: &Rows,
-    codes: &Interned,
-) -> Result<bool, OutOfMemory>
-    requires codes { IsInterned (width_of schema.now) rows.now codes.now }
-    ensures added { IfOk result (λ clean.
-        Adds (OfEachDependency schema.now (ArePartLines schema.now rows.now))
-        text.old.items text.new.items clean) }
-{
-    let mut fields = FlatValues::new(alloc);
-    let mut clean = true;
-    for k in 0..schema.deps().len() {
-        let own = put_parts(alloc, text, &mut fields, schema, rows, codes, k)?;
-        clean = both(clean, own);
-    }
-    Ok(clean)
-}
-
-// The lines of classes and groups of one dependency.
-fn put_parts(
-    alloc: Global,
-    text: &mut Vec<u8>,
-    fields: &mut FlatValues,
-    schema: &Schema,
-    rows: &Rows,
-    codes: &Interned,
-    k: usize,
-) -> Result<bool, OutOfMemory>
-    requires codes { IsInterned (width_of schema.now) rows.now codes.now }
-    ensures added { IfOk result (λ clean.
-        Adds (OfDependency schema.now (ArePartLines schema.now rows.now) k)
-        text.old.items text.new.items clean) }
-{
-    match schema.deps().get(k) {
-        Some(dep) => put_parts_of(alloc, text, fields, schema, rows, codes, k, *dep),
-        None => Ok(true),
-    }
-}
-
-fn put_parts_of(
+// The lines of the classes and groups of one dependency.
+pub fn put_parts_of(
     alloc: Global,
     text: &mut Vec<u8>,
     fields: &mut FlatValues,
@@ -219,51 +159,8 @@ fn put_part_lines(
     Ok(())
 }
 
-// The lines of rows of each dependency, at the end of a text, and whether there are none.
-#[tactic(auto, using(crate::proofs::FindingLemmas::adds_none))]
-fn put_rows_of_each(
-    alloc: Global,
-    text: &mut Vec<u8>,
-    schema: &Schema,
-    rows: &Rows,
-    codes: &Interned,
-) -> Result<bool, OutOfMemory>
-    requires codes { IsInterned (width_of schema.now) rows.now codes.now }
-    ensures added { IfOk result (λ clean.
-        Adds (OfEachDependency schema.now (AreRowLines schema.now rows.now))
-        text.old.items text.new.items clean) }
-{
-    let mut fields = FlatValues::new(alloc);
-    let mut clean = true;
-    for k in 0..schema.deps().len() {
-        let own = put_rows(alloc, text, &mut fields, schema, rows, codes, k)?;
-        clean = both(clean, own);
-    }
-    Ok(clean)
-}
-
-// The lines of rows of one dependency.
-fn put_rows(
-    alloc: Global,
-    text: &mut Vec<u8>,
-    fields: &mut FlatValues,
-    schema: &Schema,
-    rows: &Rows,
-    codes: &Interned,
-    k: usize,
-) -> Result<bool, OutOfMemory>
-    requires codes { IsInterned (width_of schema.now) rows.now codes.now }
-    ensures added { IfOk result (λ clean.
-        Adds (OfDependency schema.now (AreRowLines schema.now rows.now) k)
-        text.old.items text.new.items clean) }
-{
-    match schema.deps().get(k) {
-        Some(dep) => put_rows_of(alloc, text, fields, schema, rows, codes, k, *dep),
-        None => Ok(true),
-    }
-}
-
-fn put_rows_of(
+// The lines of the rows of one dependency.
+pub fn put_rows_of(
     alloc: Global,
     text: &mut Vec<u8>,
     fields: &mut FlatValues,

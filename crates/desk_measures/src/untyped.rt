@@ -6,8 +6,7 @@ use dep_model::{ColumnType, Name, OutOfMemory, Schema};
 use std::alloc::Global;
 
 /// What a schema declares, with text columns alone: by it rows are read whose values may not be
-/// of their
-/// column's type.
+/// of their column's type.
 pub fn text_columns_alone(alloc: Global, schema: &Schema) -> Result<Schema, OutOfMemory>
     ensures texts { IfOk result (λ texts. HasTextsAlone schema.now texts) }
 {

@@ -1,5 +1,5 @@
 -- Lines that the answers of several commands have.
-use Rattle.std.specs.Prelude.{ℕ, List, [], ◌++◌, codes, Option, Some, None}
+use Rattle.std.specs.Prelude.{ℕ, List, [], ◌++◌, codes, slice_index_or, Option, Some, None}
 use Rattle.std.specs.Fmt.{decimal}
 use Rattle.attr_sets.specs.Attributes.{Attributes}
 use Rattle.dep_model.specs.Deps.{dependency_of}
@@ -11,6 +11,10 @@ use Rattle.desk_texts.specs.Texts.{line}
 abbrev pub line_number_text : Option ℕ → List ℕ
 line_number_text (Some at) = decimal at
 line_number_text None = []
+
+-- the name of an attribute, of these names
+abbrev pub name_text : List (List ℕ) → ℕ → List ℕ
+name_text names attribute = slice_index_or names attribute []
 
 -- a dependency, over the names of the attributes
 abbrev pub dep_text : List (List ℕ) → Option Dep → List ℕ

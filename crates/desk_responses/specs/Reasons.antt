@@ -6,7 +6,7 @@ use Rattle.desk_responses.specs.ResponseValues.{ResponseValue, Allowed}
 -- an answer below more text
 abbrev pub below_text : List ℕ → ResponseValue → ResponseValue
 below_text above response =
-    record { status = response.status; text = above ++ response.text; tables = response.tables }
+    record response { text = above ++ response.text }
 
 -- the answer of a command, explained: where it is yes, with reasons above its text, else as it is
 abbrev pub Explained : (List ℕ → Type 0) → Allowed → Allowed

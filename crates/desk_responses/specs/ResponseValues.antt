@@ -1,15 +1,21 @@
 -- What a command may answer, and the steps of which commands are made: for all of them.
-use Rattle.std.specs.Prelude.{◌≡◌, ◌⊎◌, ℕ, List, ◌∷◌, ◌++◌, Option, Some, None, All}
+use Rattle.std.specs.Prelude.{◌≡◌, ◌⊎◌, ℕ, List, ◌∷◌, ◌++◌, Option, Some, None, option_map, All}
 use Rattle.attr_sets.specs.Attributes.{Attributes}
 use Rattle.named_tables.specs.Tables.{TableValue}
 use Rattle.desk_responses.specs.declared.status.Status.{Status}
 use Rattle.desk_responses.specs.declared.status.Status.TheVariants.{Yes}
 
--- a status, a text, and tables for the destinations, if any
+-- a folder that tables are to have for themselves: its name, and the statements that make them
+pub record OwnFolder : Type 0 where
+  pub name : List ℕ
+  pub script : List ℕ
+
+-- a status, a text, and tables, if any: for the destinations, or for a folder of their own
 pub record ResponseValue : Type 0 where
   pub status : Status
   pub text : List ℕ
   pub tables : Option (List TableValue)
+  pub own : Option OwnFolder
 
 -- which answers may be given
 abbrev pub Allowed : Type 1
@@ -17,11 +23,15 @@ Allowed = ResponseValue → Type 0
 
 -- a status with a text, and no tables
 abbrev pub text_only : Status → List ℕ → ResponseValue
-text_only s t = record { status = s; text = t; tables = None }
+text_only s t = record { status = s; text = t; tables = None; own = None }
 
--- yes with a text, and these tables
+-- yes with a text, and these tables for the destinations
 abbrev pub yes_with_tables : List ℕ → List TableValue → ResponseValue
-yes_with_tables t tables = record { status = Yes; text = t; tables = Some tables }
+yes_with_tables t tables = record { status = Yes; text = t; tables = Some tables; own = None }
+
+-- the same answer, where its tables, if it has any, are for a folder of their own
+abbrev pub in_own_folder : OwnFolder → ResponseValue → ResponseValue
+in_own_folder folder response = record response { own = option_map (λ _. folder) response.tables }
 
 -- just this status with this text
 abbrev pub Says : Status → List ℕ → Allowed

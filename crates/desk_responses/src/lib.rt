@@ -1,4 +1,4 @@
-//! What a command may answer: a status, a text and tables for the destinations.
+//! What a command may answer: a status, a text, and tables for the destinations or for a folder of their own.
 //!
 //! A `Response` is an answer as a value; an `EarlyExit` ends a command before that. `lines` holds the lines
 //! and refusals that several commands have. The definitions say which answers may be given, and the
@@ -9,6 +9,6 @@ mod lines;
 mod response;
 mod status;
 
-pub use lines::{name_of, put_dep, put_line, put_set_line, refusal_exit, too_wide_exit};
-pub use response::{EarlyExit, Response};
+pub use lines::{put_dep, put_line, put_name, put_set_line, refusal_exit, too_wide_exit};
+pub use response::{EarlyExit, OwnFolder, Response};
 pub use status::Status;

@@ -1,12 +1,12 @@
 //! Lines that the answers of several commands have, and the refusals that several commands end with.
 
-ghost use Rattle.std.specs.Prelude.{◌≡◌, ◌++◌, [], slice_get, slice_index_or, IfOk, OnOk};
+ghost use Rattle.std.specs.Prelude.{◌≡◌, ◌++◌, ◌<◌, [], slice_get, slice_index_or, IfOk, OnOk};
 ghost use Rattle.attr_sets.specs.Attributes.{IsSubset};
 ghost use Rattle.attr_sets.specs.Sets.{attributes};
-ghost use Rattle.dep_model.specs.Schemas.{deps_of, lines_of, names_of, universe_of};
+ghost use Rattle.dep_model.specs.Schemas.{deps_of, lines_of, names_of, universe_of, width_of};
 ghost use Rattle.schema_printer.specs.Spelling.{printed_names_of};
 ghost use Rattle.desk_texts.specs.Texts.{refusal_text, set_line};
-ghost use Rattle.desk_responses.specs.Lines.{dep_text, line_number_text, too_wide_text};
+ghost use Rattle.desk_responses.specs.Lines.{dep_text, line_number_text, name_text, too_wide_text};
 ghost use Rattle.desk_responses.specs.ResponseValues.{Says};
 ghost use Rattle.desk_responses.specs.Responses.{ExitsAs};
 
@@ -16,7 +16,7 @@ use attr_sets::AttrSet;
 use dep_model::{OutOfMemory, Schema};
 use desk_texts::{line_of, refusal_line};
 use schema_grammar::SchemaRefusal;
-use schema_printer::{add, add_dep, add_number, add_set, print_set};
+use schema_printer::{add, add_dep, add_name, add_number, add_set, print_set};
 use std::alloc::Global;
 
 /// The line of a dependency of a schema, at the end of a text.
@@ -63,15 +63,25 @@ pub fn put_set_line(
     add(text, b"\n")
 }
 
-/// The declared name of an attribute.
-pub fn name_of(schema: &Schema, attribute: u8) -> &[u8]
-    ensures name { result.now ≡ slice_index_or (names_of schema.now) attribute [] }
+/// The name of an attribute as it is printed, at the end of a text.
+#[tactic(auto, using(crate::proofs::NameLemmas::no_name))]
+pub fn put_name(text: &mut Vec<u8>, schema: &Schema, attribute: u8) -> Result<(), OutOfMemory>
+    ensures added { OnOk result (text.new.items
+        ≡ text.old.items ++ name_text (printed_names_of schema.now) attribute) }
 {
     if attribute < schema.width() {
-        schema.name(attribute).bytes()
+        put_known_name(text, schema, attribute)
     } else {
-        &[]
+        Ok(())
     }
+}
+
+fn put_known_name(text: &mut Vec<u8>, schema: &Schema, attribute: u8) -> Result<(), OutOfMemory>
+    requires attribute { attribute < width_of schema.now }
+    ensures added { OnOk result (text.new.items
+        ≡ text.old.items ++ name_text (printed_names_of schema.now) attribute) }
+{
+    add_name(text, schema.naming(), schema.name(attribute))
 }
 
 /// A command that ends with the refusal of a text.

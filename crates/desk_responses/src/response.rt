@@ -5,19 +5,28 @@ use crate::Status;
 use dep_model::OutOfMemory;
 use named_tables::ChosenTables;
 
-/// A status, the text that goes with it, and tables for the destinations, which only yes has.
+/// A folder that tables are to have for themselves: its name, and the statements that make them.
+#[derive(Debug, Drop)]
+pub struct OwnFolder {
+    pub name: Vec<u8>,
+    pub script: Vec<u8>,
+}
+
+/// A status, the text that goes with it, and tables, which only yes has: for the destinations, or for a
+/// folder of their own.
 #[derive(Debug, Drop)]
 pub struct Response {
     pub status: Status,
     pub text: Vec<u8>,
     pub tables: Option<ChosenTables>,
+    pub own: Option<OwnFolder>,
     pub ghost yes: { IsSome tables → status ≡ Yes },
 }
 
 impl Response {
     ghost use Rattle.named_tables.specs.Tables.{table_values};
-    ghost use Rattle.desk_responses.specs.ResponseValues.{Says, RespondsWithTables};
-    ghost use Rattle.desk_responses.specs.Responses.{response_value};
+    ghost use Rattle.desk_responses.specs.ResponseValues.{Says, RespondsWithTables, in_own_folder};
+    ghost use Rattle.desk_responses.specs.Responses.{own_folder_value, response_value};
 
     /// A status with a text.
     pub fn with_text(status: Status, text: Vec<u8>) -> Response
@@ -27,6 +36,7 @@ impl Response {
             status,
             text,
             tables: None,
+            own: None,
         }
     }
 
@@ -39,6 +49,29 @@ impl Response {
             status: Status::Yes,
             text,
             tables: Some(tables),
+            own: None,
+        }
+    }
+
+    /// The same response, where its tables, if it has any, are for a folder of their own.
+    pub fn in_own_folder(self, folder: OwnFolder) -> Response
+        ensures gives { response_value result
+            ≡ in_own_folder (own_folder_value folder) (response_value self) }
+    {
+        let Response {
+            status,
+            text,
+            tables,
+            own: _,
+        } = self;
+        match tables {
+            None => Response::with_text(status, text),
+            Some(tables) => Response {
+                status,
+                text,
+                tables: Some(tables),
+                own: Some(folder),
+            },
         }
     }
 }

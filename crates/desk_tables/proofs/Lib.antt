@@ -1,2 +1,3 @@
 pub mod MigrationLemmas
 pub mod OverwritingLemmas
+pub mod OwnFolderLemmas

@@ -1,7 +1,12 @@
 -- The lines of tables, plans in a normal form, and the sample.
-use Rattle.std.proofs.Common.{◌≡◌, ℕ, Ok, Err, Result, List, [], ◌∷◌, ◌++◌, refl, ap}
+use Rattle.std.proofs.Common.{◌≡◌, ◌<◌, ℕ, ◌+◌, Ok, Err, Result, List, [], ◌∷◌, ◌++◌, length, take, get_or, map, refl, ap, ◌∙◌, append-nil}
+use Rattle.std.proofs.lemmas.List.{take_more, map-append}
+use Rattle.std.proofs.lemmas.Grind.{flat_map-append}
 use Rattle.dep_model.specs.Plans.{schemes_of}
+use Rattle.dep_model.specs.declared.naming.Naming.{Naming}
 use Rattle.dep_model.specs.declared.schema.Schema.{Schema}
+use Rattle.schema_printer.specs.Printing.{words_text}
+use Rattle.schema_printer.specs.Spelling.{spelling}
 use Rattle.normal_forms.specs.declared.forms.Form.TheVariants.{Fourth}
 use Rattle.sample_rows.specs.Sample.{sample_relation}
 use Rattle.desk_designs.specs.Decompositions.{WithPlanInForm}
@@ -14,10 +19,21 @@ use Rattle.named_tables.specs.declared.table.ChosenTable.{ChosenTable}
 use Rattle.named_tables.specs.Tables.{chosen_value, chosen_values}
 use Rattle.desk_tables.specs.Migrations.{table_line, IsSampleSchema, MigratesRows, Samples}
 
-pub lines_of : (rows : Relation) (tables : List ChosenTable)
-    → flat_map (λ table. table_line (chosen_value rows table)) tables ≡ flat_map table_line (chosen_values rows tables)
-lines_of rows [] = refl
-lines_of rows (table ∷ tables) = ap (λ (l : List ℕ). table_line (chosen_value rows table) ++ l) (lines_of rows tables)
+pub lines_of : (naming : Naming) (rows : Relation) (tables : List ChosenTable)
+    → flat_map (λ table. table_line naming (chosen_value rows table)) tables ≡ flat_map (table_line naming) (chosen_values rows tables)
+lines_of naming rows [] = refl
+lines_of naming rows (table ∷ tables) =
+    ap (λ (l : List ℕ). table_line naming (chosen_value rows table) ++ l) (lines_of naming rows tables)
+
+-- one word more
+pub words_more : (naming : Naming) (names : List (List ℕ)) (i : ℕ) (d : List ℕ) → i < length names
+    → words_text (map (spelling naming) (take (i + 1) names))
+    ≡ words_text (map (spelling naming) (take i names)) ++ (32 ∷ spelling naming (get_or names i d))
+words_more naming names i d within =
+    ap words_text (ap (map (spelling naming)) (take_more names i d within)
+    ∙ map-append (spelling naming) (take i names) (get_or names i d ∷ []))
+    ∙ flat_map-append (λ word. 32 ∷ word) (map (spelling naming) (take i names)) (spelling naming (get_or names i d) ∷ [])
+    ∙ ap (λ (last : List ℕ). words_text (map (spelling naming) (take i names)) ++ last) (append-nil (32 ∷ spelling naming (get_or names i d)))
 
 -- what is answered of the schema of the sample is answered of the sample
 pub sample_response : (persons : ℕ) (schema : Schema) (result : Result Response EarlyExit) → IsSampleSchema schema

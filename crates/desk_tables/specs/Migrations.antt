@@ -1,19 +1,20 @@
 -- Rows, as tables for the destinations: for `migrate` and `sample`.
-use Rattle.std.specs.Prelude.{◌≡◌, ℕ, List, ◌++◌, codes, length}
+use Rattle.std.specs.Prelude.{◌≡◌, ℕ, List, ◌++◌, map, codes, length}
 use Rattle.std.specs.Fmt.{decimal}
 use Rattle.std.specs.List.{flat_map}
 use Rattle.attr_sets.specs.Attributes.{Attributes}
 use Rattle.csv_migrate.specs.Migration.{tables_of_migration, JoinIs}
 use Rattle.dep_model.specs.Plans.{schemes_of}
 use Rattle.dep_model.specs.Schemas.{names_of, naming_of, width_of, theory_of}
+use Rattle.dep_model.specs.declared.naming.Naming.{Naming}
 use Rattle.dep_model.specs.declared.naming.Naming.TheVariants.{Bare}
 use Rattle.dep_model.specs.declared.schema.Schema.{Schema}
 use Rattle.dep_model.specs.Tuples.{Relation}
 use Rattle.design_order.specs.Order.{IsInDesignOrder}
-use Rattle.normal_forms.specs.declared.forms.Form.{Form}
 use Rattle.normal_forms.specs.declared.forms.Form.TheVariants.{Fourth}
 use Rattle.sample_rows.specs.Sample.{sample_names, sample_theory, sample_relation}
 use Rattle.schema_printer.specs.Printing.{words_text}
+use Rattle.schema_printer.specs.Spelling.{spelling}
 use Rattle.named_tables.specs.Tables.{TableValue}
 use Rattle.desk_responses.specs.ResponseValues.{Allowed, RespondsWithTables}
 use Rattle.desk_designs.specs.Decompositions.{WithPlanInForm}
@@ -23,14 +24,14 @@ use Rattle.desk_texts.specs.Texts.{line}
 
 -- ---- texts
 -- a table: its name, how many rows it has, and its columns
-abbrev pub table_line : TableValue → List ℕ
-table_line table = line (table.name ++ codes " " ++ decimal (length table.rows) ++ codes " rows:"
-    ++ words_text table.columns)
+abbrev pub table_line : Naming → TableValue → List ℕ
+table_line naming table = line (table.name ++ codes " " ++ decimal (length table.rows) ++ codes " rows:"
+    ++ words_text (map (spelling naming) table.columns))
 
 -- how many rows were read, and the tables that they became
-abbrev pub migrated_text : Relation → List TableValue → List ℕ
-migrated_text rows tables =
-    line (codes "read " ++ decimal (length rows) ++ codes " rows") ++ flat_map table_line tables
+abbrev pub migrated_text : Naming → Relation → List TableValue → List ℕ
+migrated_text naming rows tables =
+    line (codes "read " ++ decimal (length rows) ++ codes " rows") ++ flat_map (table_line naming) tables
 
 -- ---- answers
 -- the tables of a plan, in the order of a design, hold the ordered projections of the rows, and their natural
@@ -46,15 +47,11 @@ pub record AreTablesOf (schema : Schema) (plan : List Attributes) (rows : Relati
 abbrev pub GivesTables : Schema → List Attributes → Relation → Allowed
 GivesTables schema plan rows response =
     (tables : List TableValue) × AreTablesOf schema plan rows tables
-    × RespondsWithTables (migrated_text rows tables) tables response
+    × RespondsWithTables (migrated_text (naming_of schema) rows tables) tables response
 
 -- legal rows as tables
 abbrev pub MigratesRows : Schema → List Attributes → Relation → Allowed
 MigratesRows schema plan rows = WithLegal schema rows (GivesTables schema plan rows)
-
--- rows as tables in a normal form
-abbrev pub Migrates : Schema → Form → Relation → Allowed
-Migrates schema form rows = WithPlanInForm schema form (λ plan. MigratesRows schema (schemes_of plan) rows)
 
 -- rows as tables of a plan, where it loses nothing
 abbrev pub MigratesPlan : Schema → List Attributes → Relation → Allowed

@@ -1,5 +1,5 @@
 -- Files of tables that would be written over files that are read: for `migrate`.
-use Rattle.std.specs.Prelude.{◌≡◌, ℕ, ◌+◌, ◌<◌, ◌==◌, ◌||◌, Bool, if◌then◌else◌, List, [], ◌∷◌, ◌++◌, codes, drop, length, IsTrue}
+use Rattle.std.specs.Prelude.{ℕ, ◌+◌, ◌<◌, ◌==◌, ◌||◌, Bool, if◌then◌else◌, List, [], ◌∷◌, ◌++◌, codes, drop, length, IsTrue}
 use Rattle.std.specs.List.{starts_with}
 use Rattle.attr_sets.specs.Attributes.{Attributes}
 use Rattle.dep_model.specs.Names.{same_name}
@@ -9,6 +9,7 @@ use Rattle.dep_model.specs.declared.schema.Schema.{Schema}
 use Rattle.normal_forms.specs.declared.forms.Form.{Form}
 use Rattle.table_names.specs.TableNames.{table_name}
 use Rattle.desk_designs.specs.Decompositions.{WithPlanInForm}
+use Rattle.desk_designs.specs.Designs.{WithoutMissing}
 use Rattle.desk_responses.specs.declared.status.Status.TheVariants.{Refused}
 use Rattle.desk_responses.specs.ResponseValues.{Allowed, Says, Unless}
 use Rattle.desk_tables.specs.Migrations.{MigratesPlan, MigratesRows}
@@ -45,8 +46,10 @@ KeepsFiles tables (file ∷ files) rest =
 abbrev pub MigratesHere : Schema → Form → List (List ℕ) → Relation → Allowed
 MigratesHere schema form files rows =
     WithPlanInForm schema form
-    (λ plan. KeepsFiles (length (schemes_of plan)) files (MigratesRows schema (schemes_of plan) rows))
+    (λ plan. WithoutMissing schema (schemes_of plan)
+    (KeepsFiles (length (schemes_of plan)) files (MigratesRows schema (schemes_of plan) rows)))
 
 -- the same as tables of a plan
 abbrev pub MigratesPlanHere : Schema → List Attributes → List (List ℕ) → Relation → Allowed
-MigratesPlanHere schema plan files rows = KeepsFiles (length plan) files (MigratesPlan schema plan rows)
+MigratesPlanHere schema plan files rows =
+    WithoutMissing schema plan (KeepsFiles (length plan) files (MigratesPlan schema plan rows))

@@ -15,6 +15,7 @@ use Rattle.desk_tables.specs.declared.rejoining.TheConstants.{MOST_JOINED_ROWS}
 use Rattle.desk_responses.specs.declared.status.Status.TheVariants.{Yes, Refused}
 use Rattle.desk_responses.specs.ResponseValues.{Allowed, Says}
 use Rattle.desk_texts.specs.Texts.{line}
+use Rattle.schema_printer.specs.Spelling.{printed_names_of}
 
 -- ---- texts
 -- a refusal of the join of files
@@ -38,4 +39,4 @@ abbrev pub JoinsTables : Schema → List PartialRelation → Allowed
 JoinsTables schema tables response =
     ((rows : Relation) × IsJoinOf schema tables rows × Says Yes (rows_text (names_of schema) rows) response)
     ⊎ ((why : JoinRefusal) × RefusesJoin (width_of schema) MOST_JOINED_ROWS tables why
-    × Says Refused (join_refusal_text (names_of schema) why) response)
+    × Says Refused (join_refusal_text (printed_names_of schema) why) response)

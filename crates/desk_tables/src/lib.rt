@@ -6,12 +6,13 @@
 
 mod migration;
 mod overwriting;
+mod own_folders;
 mod placing;
 mod rejoining;
 mod rows;
 mod sampling;
 
-pub use migration::{migrate_by_plan, migrate_in_form};
+pub use own_folders::{migrate_form_into, migrate_plan_into};
 pub use placing::{migrate_form_here, migrate_plan_here};
 pub use rejoining::rejoin;
 pub use rows::check_rows;

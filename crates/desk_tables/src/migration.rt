@@ -1,4 +1,4 @@
-ghost use Rattle.std.specs.Prelude.{◌≡◌, ◌≤◌, ◌<◌, ◌^◌, ◌++◌, length, codes, IfOk, OnOk};
+ghost use Rattle.std.specs.Prelude.{◌≡◌, ◌≤◌, ◌<◌, ◌^◌, ◌++◌, length, map, codes, IfOk, OnOk};
 ghost use Rattle.std.specs.Fmt.{decimal};
 ghost use Rattle.std.specs.List.{flat_map};
 ghost use Rattle.named_tables.specs.Tables.{chosen_value, table_values};
@@ -7,45 +7,26 @@ ghost use Rattle.dep_model.specs.Projections.{Covers, IsLossless};
 ghost use Rattle.dep_model.specs.Schemas.{LegalFor, theory_of, width_of};
 ghost use Rattle.dep_model.specs.Tuples.{IsOver, Relation};
 ghost use Rattle.schema_printer.specs.Printing.{words_text};
-ghost use Rattle.desk_tables.specs.Migrations.{AreTablesOf, GivesTables, Migrates, MigratesPlan, MigratesRows, migrated_text, table_line};
+ghost use Rattle.schema_printer.specs.Spelling.{spelling};
+ghost use Rattle.desk_tables.specs.Migrations.{AreTablesOf, GivesTables, MigratesPlan, MigratesRows, migrated_text, table_line};
 ghost use Rattle.desk_responses.specs.Responses.{response_value, RespondsAs};
 ghost use Rattle.desk_texts.specs.Texts.{line};
 
 use crate::rows::test_rows;
 use csv_migrate::tables;
-use dep_model::{Name, OutOfMemory, Schema};
+use dep_model::{Name, Naming, OutOfMemory, Schema};
 use design_order::in_design_order;
-use desk_designs::{plan_in_form, test_loss};
+use desk_designs::test_loss;
 use desk_responses::{EarlyExit, Response};
 use desk_texts::line_of;
 use itoa::Buffer;
 use named_tables::{ChosenTable, ChosenTables};
-use normal_forms::Form;
 use plan_reader::MOST_SCHEMES;
 use plans::Plan;
 use row_store::{Hashing, Rows};
-use schema_printer::add;
+use schema_printer::{add, add_name};
 use std::alloc::Global;
 use table_names::MOST_TABLES;
-
-/// Rows as tables in a normal form.
-pub fn migrate_in_form(
-    alloc: Global,
-    hashing: Hashing,
-    schema: &Schema,
-    form: Form,
-    rows: Rows,
-) -> Result<Response, EarlyExit>
-    requires over { IsOver (width_of schema.now) rows }
-    requires fits_u32 { length rows < 2 ^ 32 }
-    ensures response { RespondsAs (Migrates schema.now form rows) result }
-{
-    let plan = match plan_in_form(alloc, schema, form) {
-        Ok(plan) => plan,
-        Err(exit) => return Err(exit),
-    };
-    migrate_rows(alloc, hashing, schema, &plan, rows)
-}
 
 /// Rows as tables of a plan, where it loses nothing.
 pub fn migrate_by_plan(
@@ -107,7 +88,7 @@ fn tables_response(
         (λ response. GivesTables schema.now (plan_of plan.now) rows (response_value response)) }
 {
     let tables = tables_of(alloc, hashing, schema, plan, rows)?;
-    let text = migrated_lines(alloc, &tables)?;
+    let text = migrated_lines(alloc, schema.naming(), &tables)?;
     Ok(Response::with_tables(text, tables))
 }
 
@@ -136,12 +117,16 @@ fn tables_of(
 }
 
 // How many rows were read, and the tables that they became.
-fn migrated_lines(alloc: Global, tables: &ChosenTables) -> Result<Vec<u8>, OutOfMemory>
+fn migrated_lines(
+    alloc: Global,
+    naming: Naming,
+    tables: &ChosenTables,
+) -> Result<Vec<u8>, OutOfMemory>
     ensures text { IfOk result
-        (λ text. text.items ≡ migrated_text tables.now.rows (table_values tables.now)) }
+        (λ text. text.items ≡ migrated_text naming tables.now.rows (table_values tables.now)) }
 {
     let mut text = read_line(alloc, tables.rows.len())?;
-    put_tables(&mut text, tables)?;
+    put_tables(&mut text, naming, tables)?;
     Ok(text)
 }
 
@@ -158,36 +143,37 @@ fn read_line(alloc: Global, rows: usize) -> Result<Vec<u8>, OutOfMemory>
 }
 
 // A line for each table, at the end of a text.
-fn put_tables(text: &mut Vec<u8>, tables: &ChosenTables) -> Result<(), OutOfMemory>
+fn put_tables(text: &mut Vec<u8>, naming: Naming, tables: &ChosenTables) -> Result<(), OutOfMemory>
     ensures added { OnOk result (text.new.items ≡ text.old.items
-        ++ flat_map (λ table. table_line (chosen_value tables.now.rows table)) tables.now.tables.items) }
+        ++ flat_map (λ table. table_line naming (chosen_value tables.now.rows table)) tables.now.tables.items) }
 {
     for table in &tables.tables {
-        put_table(text, table)?;
+        put_table(text, naming, table)?;
     }
     Ok(())
 }
 
 // A table: its name, how many rows it has, and its columns.
-fn put_table(text: &mut Vec<u8>, table: &ChosenTable) -> Result<(), OutOfMemory>
+fn put_table(text: &mut Vec<u8>, naming: Naming, table: &ChosenTable) -> Result<(), OutOfMemory>
     ensures added { (rows : Relation) → OnOk result (text.new.items ≡ text.old.items
-        ++ table_line (chosen_value rows table.now)) }
+        ++ table_line naming (chosen_value rows table.now)) }
 {
     add(text, table.name.bytes())?;
     add(text, b" ")?;
     add(text, Buffer::new().format(table.chosen.len()).as_bytes())?;
     add(text, b" rows:")?;
-    put_names(text, &table.columns)?;
+    put_names(text, naming, &table.columns)?;
     add(text, b"\n")
 }
 
-// Names, each after a blank, at the end of a text.
-fn put_names(text: &mut Vec<u8>, names: &[Name]) -> Result<(), OutOfMemory>
-    ensures added { OnOk result (text.new.items ≡ text.old.items ++ words_text names.now) }
+// Names as they are printed, each after a blank, at the end of a text.
+fn put_names(text: &mut Vec<u8>, naming: Naming, names: &[Name]) -> Result<(), OutOfMemory>
+    ensures added { OnOk result (text.new.items
+        ≡ text.old.items ++ words_text (map (spelling naming) names.now)) }
 {
     for name in names {
         add(text, b" ")?;
-        add(text, name.bytes())?;
+        add_name(text, naming, name)?;
     }
     Ok(())
 }

@@ -11,7 +11,7 @@ ghost use Rattle.desk_tables.specs.Overwriting.{MigratesHere, MigratesPlanHere};
 use crate::migration::{migrate_by_plan, migrate_rows};
 use crate::overwriting::test_file;
 use dep_model::Schema;
-use desk_designs::plan_in_form;
+use desk_designs::{plan_in_form, test_missing};
 use desk_responses::{EarlyExit, Response};
 use normal_forms::Form;
 use plan_reader::MOST_SCHEMES;
@@ -38,6 +38,10 @@ pub fn migrate_form_here(
         Ok(plan) => plan,
         Err(exit) => return Err(exit),
     };
+    match test_missing(alloc, schema, &plan) {
+        Ok(()) => {}
+        Err(exit) => return Err(exit),
+    }
     match test_file(alloc, &plan, schema_file) {
         Ok(()) => {}
         Err(exit) => return Err(exit),
@@ -69,6 +73,10 @@ pub fn migrate_plan_here(
         (MigratesPlanHere schema.now (plan_of plan.now)
         (schema_file.now ∷ plan_file.now ∷ rows_file.now ∷ []) rows) result }
 {
+    match test_missing(alloc, schema, plan) {
+        Ok(()) => {}
+        Err(exit) => return Err(exit),
+    }
     match test_file(alloc, plan, schema_file) {
         Ok(()) => {}
         Err(exit) => return Err(exit),

@@ -3,6 +3,7 @@ ghost use Rattle.std.specs.Fmt.{decimal};
 ghost use Rattle.csv_text.specs.Rows.{rows_text};
 ghost use Rattle.dep_model.specs.Schemas.{names_of, width_of};
 ghost use Rattle.dep_model.specs.Tuples.{IsOver};
+ghost use Rattle.schema_printer.specs.Spelling.{printed_names_of};
 ghost use Rattle.table_join.specs.RefusalTexts.{join_reason_text};
 ghost use Rattle.table_join.specs.Tables.{IsTable, tables_of};
 ghost use Rattle.desk_tables.specs.declared.rejoining.TheConstants.{MOST_JOINED_ROWS};
@@ -12,8 +13,7 @@ ghost use Rattle.desk_responses.specs.Responses.{response_value, RespondsAs, Exi
 
 use csv_rows::{PartialRows, print_rows};
 use dep_model::{Failure, OutOfMemory, Schema};
-use desk_responses::{EarlyExit, Response, Status, name_of};
-use desk_texts::put_pair;
+use desk_responses::{EarlyExit, Response, Status, put_name};
 use row_store::{Hashing, Rows};
 use schema_printer::{add, add_number};
 use std::alloc::Global;
@@ -53,7 +53,7 @@ fn response_of(alloc: Global, schema: &Schema, rows: &Rows) -> Result<Response, 
 // A command that ends with the refusal of a join.
 fn join_refusal_exit(alloc: Global, schema: &Schema, refusal: JoinRefusal) -> EarlyExit
     ensures says { ExitsAs (Says Status.Refused
-        (join_refusal_text (names_of schema.now) refusal)) result }
+        (join_refusal_text (printed_names_of schema.now) refusal)) result }
 {
     EarlyExit::with_text(Status::Refused, join_refusal_line(alloc, schema, refusal))
 }
@@ -64,7 +64,7 @@ fn join_refusal_line(
     schema: &Schema,
     refusal: JoinRefusal,
 ) -> Result<Vec<u8>, OutOfMemory>
-    ensures line { IfOk result (λ text. text.items ≡ join_refusal_text (names_of schema.now) refusal) }
+    ensures line { IfOk result (λ text. text.items ≡ join_refusal_text (printed_names_of schema.now) refusal) }
 {
     let mut text = Vec::new(alloc);
     add(&mut text, b"refused: join ")?;
@@ -83,11 +83,12 @@ fn put_reason(
     refusal: JoinRefusal,
 ) -> Result<(), OutOfMemory>
     ensures added { OnOk result (text.new.items
-        ≡ text.old.items ++ join_reason_text (names_of schema.now) MOST_JOINED_ROWS refusal) }
+        ≡ text.old.items ++ join_reason_text (printed_names_of schema.now) MOST_JOINED_ROWS refusal) }
 {
     match refusal {
         JoinRefusal::NotCovered { attribute } => {
-            put_pair(text, name_of(schema, attribute), b" is in no file")
+            put_name(text, schema, attribute)?;
+            add(text, b" is in no file")
         }
         JoinRefusal::TooManyRows { after } => put_too_many(alloc, text, after),
     }

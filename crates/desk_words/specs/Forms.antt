@@ -92,6 +92,10 @@ pub data Task : Type 0 where
   migrate : List ℕ → List ℕ → NormalForm → Task
   -- the rows of the third file, as tables of the plan of the second; it is in the first file
   migrate_plan : List ℕ → List ℕ → List ℕ → Task
+  -- the rows of a file, as tables in a normal form of it, in a folder of their own
+  migrate_into : List ℕ → NormalForm → List ℕ → Task
+  -- the rows of the second file, as tables of the plan of the first, in a folder of their own
+  migrate_plan_into : List ℕ → List ℕ → List ℕ → Task
   -- whether the certificate of a file proves a goal
   check_proof : List ℕ → List ℕ → Task
   -- whether the derivation of a file ends with a goal
@@ -253,14 +257,21 @@ after_ddl (what ∷ rest) =
     if bytes_eq what (codes "plan") then schema_and_plan ddl_plan rest
     else option_and_then (λ form. schema_alone (ddl form) rest) (normal_form what)
 
+-- a schema and what is asked of it, where a word is `into`
+abbrev pub where_into : List ℕ → List ℕ → Task → Option CommandForm
+where_into word schema task = if bytes_eq word (codes "into") then Some (over_schema schema task) else None
+
 -- after `migrate plan`
 unfoldable pub after_migrate_plan : List (List ℕ) → Option CommandForm
 after_migrate_plan (schema ∷ plan ∷ rows ∷ []) = Some (over_schema schema (migrate_plan schema plan rows))
+after_migrate_plan (schema ∷ plan ∷ rows ∷ word ∷ folder ∷ []) =
+    where_into word schema (migrate_plan_into plan rows folder)
 after_migrate_plan _ = None
 
 -- after `migrate` and a normal form
 unfoldable pub after_migrate_form : NormalForm → List (List ℕ) → Option CommandForm
 after_migrate_form form (schema ∷ rows ∷ []) = Some (over_schema schema (migrate schema rows form))
+after_migrate_form form (schema ∷ rows ∷ word ∷ folder ∷ []) = where_into word schema (migrate_into rows form folder)
 after_migrate_form form _ = None
 
 -- after `migrate`

@@ -1,8 +1,9 @@
 //! The words after `migrate`.
 
 ghost use Rattle.std.specs.Prelude.{◌≡◌, option_map};
-ghost use Rattle.desk_words.specs.Commands.{command_form};
+ghost use Rattle.desk_words.specs.Commands.{command_form, task_form};
 ghost use Rattle.desk_words.specs.Forms as forms;
+ghost use Rattle.desk_words.specs.Forms.{where_into};
 
 use crate::command::Command;
 use crate::questions::Task;
@@ -34,6 +35,9 @@ fn after_migrate_form(form: Form, words: &[Argument]) -> Option<Command<'_>>
 {
     match words {
         [schema, file] => over(schema, Task::Migrate { schema, file, form }),
+        [schema, file, word, folder] => {
+            over_into(word, schema, Task::MigrateInto { file, form, folder })
+        }
         _ => None,
     }
 }
@@ -45,6 +49,20 @@ fn after_migrate_plan(words: &[Argument]) -> Option<Command<'_>>
 {
     match words {
         [schema, plan, file] => over(schema, Task::MigratePlan { schema, plan, file }),
+        [schema, plan, file, word, folder] => {
+            over_into(word, schema, Task::MigratePlanInto { plan, file, folder })
+        }
         _ => None,
+    }
+}
+
+// What is asked of a schema, where a word is `into`.
+fn over_into<'a>(word: &Argument, schema: &'a Argument, task: Task<'a>) -> Option<Command<'a>>
+    ensures form { option_map command_form result ≡ where_into word.now schema.now (task_form task.entry) }
+{
+    if word.bytes() == b"into".as_slice() {
+        over(schema, task)
+    } else {
+        None
     }
 }

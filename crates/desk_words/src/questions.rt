@@ -109,6 +109,18 @@ pub enum Task<'a> {
         plan: &'a Argument,
         file: &'a Argument,
     },
+    /// The rows of a file, as tables in a normal form of it, in a folder of their own.
+    MigrateInto {
+        file: &'a Argument,
+        form: Form,
+        folder: &'a Argument,
+    },
+    /// The rows of a file, as tables of the plan of another, in a folder of their own.
+    MigratePlanInto {
+        plan: &'a Argument,
+        file: &'a Argument,
+        folder: &'a Argument,
+    },
     /// Whether the certificate of a file proves a goal.
     CheckProof {
         file: &'a Argument,

@@ -1,5 +1,5 @@
 -- What the calls of a folder do to the tables that its files stand for.
-use Rattle.std.proofs.Common.{◌≡◌, ◌⊎◌, inl, inr, ℕ, Bool, true, false, not, List, [], ◌∷◌, ◌++◌, map, Option, None, Some, option_map, option_to_list, refl, sym, ap, ◌∙◌, append-nil}
+use Rattle.std.proofs.Common.{◌≡◌, ◌⊎◌, inl, inr, ℕ, Bool, true, false, not, List, [], ◌∷◌, ◌++◌, map, Option, None, Some, option_map, option_to_list, refl, sym, ap, ap₂, ◌∙◌, append-nil}
 use Rattle.std.specs.Prelude.{IfSome}
 use Rattle.std.specs.Str.{bytes_eq}
 use Rattle.std.proofs.lemmas.Bool.{false_from_ne_true, true≢false}
@@ -78,17 +78,22 @@ pub open_is_added : (file : TableValue → StoredFile) (known : Option FolderCon
 open_is_added file None table more bytes grows is = is
 open_is_added file (Some folder) table more bytes grows is = ap (option_map (more_bytes bytes)) is ∙ ap Some grows
 
-pub table_opens : (format : TableFormat) (known : Option FolderContents) (name head : List ℕ) (columns : List (List ℕ)) → head ≡ opening format columns → OpenIs (table_file format) (option_map (with_bytes head) (option_map (with_begun (name ++ ending format)) known)) (empty_table name columns)
-table_opens format known name head columns is =
-    open_is_begun (table_file format) known (empty_table name columns) (name ++ ending format) head
+pub table_opens : (format : TableFormat) (known : Option FolderContents) (name head : List ℕ) (columns : List (List ℕ)) (nullable : List Bool) → head ≡ opening format columns
+    → OpenIs (table_file format) (option_map (with_bytes head) (option_map (with_begun (name ++ ending format)) known))
+    (empty_table name columns nullable)
+table_opens format known name head columns nullable is =
+    open_is_begun (table_file format) known (empty_table name columns nullable) (name ++ ending format) head
     (ap (λ (bytes : List ℕ). record { name = name ++ ending format; bytes = bytes }) (is ∙ sym (append-nil (opening format columns))))
 
-pub row_adds : (format : TableFormat) (known : Option FolderContents) (table : TableValue) (row : Tuple) (front bytes : List ℕ) → front ≡ line_front format table.name table.columns → bytes ≡ row_line format front row → OpenIs (table_file format) known table → OpenIs (table_file format) (option_map (with_bytes bytes) known) (with_row row table)
-row_adds format known table row front bytes front_is is open_is =
+pub row_adds : (format : TableFormat) (known : Option FolderContents) (table : TableValue) (row : Tuple)
+    (front : List ℕ) (nullable : List Bool) (bytes : List ℕ) → front ≡ line_front format table.name table.columns
+    → nullable ≡ table.nullable → bytes ≡ row_line format front nullable row → OpenIs (table_file format) known table
+    → OpenIs (table_file format) (option_map (with_bytes bytes) known) (with_row row table)
+row_adds format known table row front nullable bytes front_is nullable_is is open_is =
     open_is_added (table_file format) known table (with_row row table) bytes
     (ap (λ (text : List ℕ). record { name = table.name ++ ending format; bytes = text })
-    (ap (λ (more : List ℕ). table_text format table ++ more) (is ∙ ap (λ (f : List ℕ). row_line format f row) front_is)
-    ∙ flat_map_more (row_line format (line_front format table.name table.columns)) (opening format table.columns) table.rows row))
+    (ap (λ (more : List ℕ). table_text format table ++ more) (is ∙ ap₂ (λ (f : List ℕ) (flags : List Bool). row_line format f flags row) front_is nullable_is)
+    ∙ flat_map_more (row_line format (line_front format table.name table.columns) table.nullable) (opening format table.columns) table.rows row))
     open_is
 
 -- ---- the names begun

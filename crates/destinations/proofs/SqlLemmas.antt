@@ -1,12 +1,13 @@
 -- The texts of values.
-use Rattle.std.proofs.Common.{◌≡◌, ℕ, ◌+◌, ◌<◌, ◌≤◌, Bool, true, false, List, [], ◌∷◌, ◌++◌, length, get_or, drop, refl, sym, ap, ap₂, ◌∙◌, append_assoc, append-nil}
+use Rattle.std.proofs.Common.{◌≡◌, ℕ, zero, suc, arith, ◌+◌, ◌<◌, ◌≤◌, Bool, true, false, List, [], ◌∷◌, ◌++◌, length, get_or, drop, refl, sym, ap, ap₂, ◌∙◌, append_assoc, append-nil}
 use Rattle.std.specs.Prelude.{IsUtf8, ◌==◌, ◌||◌, ◌&&◌, if◌then◌else◌, codes}
 use Rattle.std.specs.Str.{is_utf8}
 use Rattle.std.specs.List.{list_any}
 use Rattle.std.proofs.lemmas.Bool.{true≢false}
 use Rattle.std.proofs.lemmas.Str.{IsUtf8-from_is_utf8, is_utf8-from_IsUtf8}
 use Rattle.std.proofs.lemmas.List.{drop_more, drop_all}
-use Rattle.destinations.specs.Sql.{escape_quote, escape_after, escaped_after}
+use Rattle.dep_model.specs.Tuples.{Tuple}
+use Rattle.destinations.specs.Sql.{escape_quote, escape_after, escaped_after, sql_cell, sql_cells}
 
 -- a byte is added, and those after it are left
 pub escaped-next : (bytes : List ℕ) (i d last byte : ℕ) (before after whole : List ℕ) → i < length bytes → byte ≡ get_or bytes i d
@@ -56,3 +57,17 @@ utf8_not bytes is_not = decide (is_utf8 bytes) refl
 -- what is UTF-8 passes it
 pub utf8_there : (bytes : List ℕ) → IsUtf8 bytes → is_utf8 bytes ≡ true
 utf8_there = is_utf8-from_IsUtf8
+
+-- ---- the cells of a row
+pub cells_length : (nullable : List Bool) (row : Tuple) → length (sql_cells nullable row) ≡ length row
+cells_length nullable [] = refl
+cells_length [] (value ∷ row) = ap suc (cells_length [] row)
+cells_length (flag ∷ nullable) (value ∷ row) = ap suc (cells_length nullable row)
+
+pub cell_at : (nullable : List Bool) (row : Tuple) (i : ℕ) → i < length row
+    → get_or (sql_cells nullable row) i [] ≡ sql_cell (get_or nullable i false) (get_or row i [])
+cell_at nullable [] i lt = absurd (omega (arith, lt))
+cell_at [] (value ∷ row) zero lt = refl
+cell_at [] (value ∷ row) (suc i) lt = cell_at [] row i (omega (arith, lt))
+cell_at (flag ∷ nullable) (value ∷ row) zero lt = refl
+cell_at (flag ∷ nullable) (value ∷ row) (suc i) lt = cell_at nullable row i (omega (arith, lt))

@@ -1,5 +1,5 @@
 -- How a table is written to a file, for the destination over a folder and for laws on its files.
-use Rattle.std.specs.Prelude.{ℕ, List, [], ◌++◌, codes}
+use Rattle.std.specs.Prelude.{ℕ, Bool, List, [], ◌++◌, codes}
 use Rattle.std.specs.List.{flat_map}
 use Rattle.csv_text.specs.Rows.{csv_row}
 use Rattle.dep_model.specs.Tuples.{Tuple}
@@ -24,16 +24,16 @@ abbrev pub line_front : TableFormat → List ℕ → List (List ℕ) → List �
 line_front Csv name columns = []
 line_front Sql name columns = sql_head name columns
 
--- the line of a row, after this front
-abbrev pub row_line : TableFormat → List ℕ → Tuple → List ℕ
-row_line Csv front row = csv_row row
-row_line Sql front row = sql_row front row
+-- the line of a row, after this front, over columns of which a value may be missing or not
+abbrev pub row_line : TableFormat → List ℕ → List Bool → Tuple → List ℕ
+row_line Csv front nullable row = csv_row row
+row_line Sql front nullable row = sql_row front nullable row
 
 -- a table
 abbrev pub table_text : TableFormat → TableValue → List ℕ
 table_text format table =
     opening format table.columns
-    ++ flat_map (row_line format (line_front format table.name table.columns)) table.rows
+    ++ flat_map (row_line format (line_front format table.name table.columns) table.nullable) table.rows
 
 abbrev pub table_file : TableFormat → TableValue → StoredFile
 table_file format table = record { name = table.name ++ ending format; bytes = table_text format table }

@@ -1,5 +1,5 @@
 -- A table as INSERT lines: for the destination that writes such files. `Desk` does not cite it.
-use Rattle.std.specs.Prelude.{ℕ, ◌==◌, ◌&&◌, Bool, not, if◌then◌else◌, List, [], ◌∷◌, ◌++◌, codes}
+use Rattle.std.specs.Prelude.{ℕ, ◌==◌, ◌&&◌, Bool, true, false, not, if◌then◌else◌, List, [], ◌∷◌, ◌++◌, codes}
 use Rattle.std.specs.List.{list_any}
 use Rattle.std.specs.Str.{is_utf8}
 use Rattle.hex.specs.Hex.{encode_upper}
@@ -33,12 +33,27 @@ sql_value value =
     if is_sql_text value then quoted_text value
     else codes "X'" ++ encode_upper value ++ codes "'"
 
+-- whether a value is the empty text
+abbrev pub is_empty_text : List ℕ → Bool
+is_empty_text [] = true
+is_empty_text (byte ∷ bytes) = false
+
+-- a value of a column of which one may be missing or not: where it may, the empty text is the missing value
+abbrev pub sql_cell : Bool → List ℕ → List ℕ
+sql_cell nullable value = if nullable && is_empty_text value then codes "NULL" else sql_value value
+
+-- the values of a row, over columns of which one may be missing or not; of further columns none may be
+abbrev pub sql_cells : List Bool → Tuple → List (List ℕ)
+sql_cells nullable [] = []
+sql_cells [] (value ∷ row) = sql_value value ∷ sql_cells [] row
+sql_cells (flag ∷ nullable) (value ∷ row) = sql_cell flag value ∷ sql_cells nullable row
+
 -- the front of each line of a table
 abbrev pub sql_head : List ℕ → List (List ℕ) → List ℕ
 sql_head name columns =
     codes "INSERT INTO " ++ quoted_name name ++ codes " (" ++ comma_list quoted_name columns
     ++ codes ") VALUES ("
 
--- a row after this front
-abbrev pub sql_row : List ℕ → Tuple → List ℕ
-sql_row head row = head ++ comma_list sql_value row ++ (codes ");" ++ 10 ∷ [])
+-- a row after this front, over columns of which a value may be missing or not
+abbrev pub sql_row : List ℕ → List Bool → Tuple → List ℕ
+sql_row head nullable row = head ++ comma_list (λ cell. cell) (sql_cells nullable row) ++ (codes ");" ++ 10 ∷ [])

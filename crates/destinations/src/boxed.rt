@@ -20,8 +20,13 @@ impl Destination for Box<dyn Destination> {
 
     ghost faults = { λ b. (Destination-box b).faults b.value };
 
-    fn begin_table(&mut self, name: &Name, columns: &[Name]) -> Result<(), OutsideFault> {
-        (**self).begin_table(name, columns)
+    fn begin_table(
+        &mut self,
+        name: &Name,
+        columns: &[Name],
+        nullable: &[bool],
+    ) -> Result<(), OutsideFault> {
+        (**self).begin_table(name, columns, nullable)
     }
 
     fn put_row(&mut self, rows: &Rows, row: usize, scheme: AttrSet) -> Result<(), OutsideFault> {

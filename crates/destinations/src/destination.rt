@@ -39,16 +39,22 @@ pub trait Destination: Drop {
     /// An error count, which never falls.
     ghost faults: { Self → ℕ };
 
-    /// Gives up an open table and opens an empty one, in place of a finished one of its name.
+    /// Gives up an open table and opens an empty one, in place of a finished one of its name. Its columns have
+    /// these names, and `nullable` says of which a value may be missing.
     ///
     /// At an error it may have given up the finished one.
-    fn begin_table(&mut self, name: &Name, columns: &[Name]) -> Result<(), OutsideFault>
+    fn begin_table(
+        &mut self,
+        name: &Name,
+        columns: &[Name],
+        nullable: &[bool],
+    ) -> Result<(), OutsideFault>
         ensures is_known { is_known self.new ≡ is_known self.old }
         ensures gives_up { OnOk result (GivesUp name.now (finished self.old) (finished self.new)) }
         ensures may_give_up { OnErr result (MayGiveUp name.now (finished self.old) (finished self.new)) }
         ensures begins { OnOk result (Begins name.now (begun self.old) (begun self.new)) }
         ensures may_begin { OnErr result (MayBegin name.now (begun self.old) (begun self.new)) }
-        ensures opens { OnOk result (opened self.new (empty_table name.now columns.now)) }
+        ensures opens { OnOk result (opened self.new (empty_table name.now columns.now nullable.now)) }
         ensures width { width self.new ≡ (if is_ok result then Some (length columns.now) else None) }
         ensures cause { HasOutsideCause (faults self.old) (faults self.new) result };
 

@@ -22,6 +22,7 @@ pub struct FileDestination<G: Folder> {
     folder: BufferedFolder<G>,
     front: Vec<u8>,
     columns: Option<usize>,
+    nullable: Vec<bool>,
     values: FlatValues,
     line: Vec<u8>,
     pub ghost is_open: { IsSome columns → IsTrue (G.is_open folder.folder) },
@@ -51,6 +52,7 @@ impl<G: Folder> FileDestination<G> {
             folder: BufferedFolder::new(alloc, folder)?,
             front: Vec::new(alloc),
             columns: None,
+            nullable: Vec::new(alloc),
             values: FlatValues::new(alloc),
             line: Vec::new(alloc),
         })
@@ -76,7 +78,8 @@ impl<G: Folder> Destination for FileDestination<G> {
 
     ghost opened = { λ destination table.
         OpenIs (table_file destination.format) (⟦<BufferedFolder<G> as Folder>⟧.contents destination.folder) table
-        × (destination.front.items ≡ line_front destination.format table.name table.columns) };
+        × (destination.front.items ≡ line_front destination.format table.name table.columns)
+        × (destination.nullable.items ≡ table.nullable) };
 
     ghost begun = { λ destination names.
         FilesBegun destination.format (G.begun destination.folder.folder) names };
@@ -85,11 +88,17 @@ impl<G: Folder> Destination for FileDestination<G> {
 
     ghost faults = { λ destination. G.faults destination.folder.folder };
 
-    fn begin_table(&mut self, name: &Name, columns: &[Name]) -> Result<(), OutsideFault> {
+    fn begin_table(
+        &mut self,
+        name: &Name,
+        columns: &[Name],
+        nullable: &[bool],
+    ) -> Result<(), OutsideFault> {
         self.columns = None;
         let file = file_name(self.alloc, self.format, name)?;
         let opening = opening_of(self.alloc, self.format, columns)?;
         self.front = front_of(self.alloc, self.format, name, columns)?;
+        self.nullable = Vec::from_slice(self.alloc, nullable)?;
         self.folder.begin(&file)?;
         write_all(&mut self.folder, &opening)?;
         self.columns = Some(columns.len());
@@ -105,6 +114,7 @@ impl<G: Folder> Destination for FileDestination<G> {
             &mut self.line,
             self.format,
             &self.front,
+            &self.nullable,
             &self.values,
         )?;
         write_all(&mut self.folder, &self.line)?;

@@ -58,18 +58,19 @@ pub fn front_of(
 }
 
 /// Adds the line of one row to a text. It begins with `front`, which `front_of` gives, where the format has
-/// one.
+/// one. `nullable` says of which columns a value may be missing.
 pub fn add_line(
     alloc: Global,
     text: &mut Vec<u8>,
     format: TableFormat,
     front: &[u8],
+    nullable: &[bool],
     row: &FlatValues,
 ) -> Result<(), OutOfMemory>
-    ensures line { OnOk result (text.new.items ≡ text.old.items ++ row_line format front.now row.now) }
+    ensures line { OnOk result (text.new.items ≡ text.old.items ++ row_line format front.now nullable.now row.now) }
 {
     match format {
         TableFormat::Csv => csv_text::add_row(text, row),
-        TableFormat::Sql => sql_line::add_line(alloc, text, front, row),
+        TableFormat::Sql => sql_line::add_line(alloc, text, front, nullable, row),
     }
 }

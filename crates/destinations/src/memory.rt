@@ -83,11 +83,16 @@ impl Destination for MemoryDestination {
 
     ghost faults = { λ destination. destination.planned.faults };
 
-    fn begin_table(&mut self, name: &Name, columns: &[Name]) -> Result<(), OutsideFault>
+    fn begin_table(
+        &mut self,
+        name: &Name,
+        columns: &[Name],
+        nullable: &[bool],
+    ) -> Result<(), OutsideFault>
         ensures replaced { OnOk result (self.new.finished ≡ without_table name.now self.old.finished) }
         ensures finished { OnErr result (self.new.finished ≡ self.old.finished) }
         ensures begins { BeginsName name.now self.old.begun self.new.begun result }
-        ensures begun { OnOk result (self.new.opened ≡ Some (empty_table name.now columns.now)) }
+        ensures begun { OnOk result (self.new.opened ≡ Some (empty_table name.now columns.now nullable.now)) }
         ensures closed { OnErr result (self.new.opened ≡ None) }
 
         // It fails exactly where its number is planned.
@@ -97,6 +102,7 @@ impl Destination for MemoryDestination {
     {
         self.tables.take_open()?;
         let columns = Vec::from_slice(self.alloc, columns)?;
+        let nullable = Vec::from_slice(self.alloc, nullable)?;
         if self.begun.push(*name).is_err() {
             return Err(OutsideFault::OutOfMemory);
         }
@@ -104,6 +110,7 @@ impl Destination for MemoryDestination {
         self.tables.opened = Some(HeldTable {
             name: *name,
             columns,
+            nullable,
             rows: Rows::new(self.alloc),
         });
         Ok(())

@@ -1,7 +1,7 @@
-ghost use Rattle.std.specs.Prelude.{◌≡◌, ◌==◌, false, [], ◌++◌, if◌then◌else◌, IfOk, OnOk};
+ghost use Rattle.std.specs.Prelude.{◌≡◌, ◌==◌, false, [], ◌++◌, if◌then◌else◌, slice_index_or, IfOk, OnOk};
 ghost use Rattle.std.specs.List.{list_any};
 ghost use Rattle.std.specs.Str.{is_utf8};
-ghost use Rattle.destinations.specs.Sql.{escape_after, escaped_after, quoted_text, is_sql_text, sql_value, sql_head, sql_row};
+ghost use Rattle.destinations.specs.Sql.{escape_after, escaped_after, quoted_text, is_sql_text, sql_value, sql_cell, sql_cells, sql_head, sql_row};
 ghost use Rattle.sql_names.specs.Names.{comma_list, separator};
 
 use dep_model::{Name, OutOfMemory};
@@ -28,23 +28,40 @@ pub fn add_line(
     alloc: Global,
     text: &mut Vec<u8>,
     head: &[u8],
+    nullable: &[bool],
     row: &FlatValues,
 ) -> Result<(), OutOfMemory>
-    ensures line { OnOk result (text.new.items ≡ text.old.items ++ sql_row head.now row.now) }
+    ensures line { OnOk result (text.new.items ≡ text.old.items ++ sql_row head.now nullable.now row.now) }
 {
     add(text, head)?;
-    add_values(alloc, text, row)?;
+    add_values(alloc, text, nullable, row)?;
     add(text, b");\n")
 }
 
 // The values of a row, with a comma and a blank between.
-fn add_values(alloc: Global, text: &mut Vec<u8>, row: &FlatValues) -> Result<(), OutOfMemory>
-    ensures values { OnOk result (text.new.items ≡ text.old.items ++ comma_list sql_value row.now) }
+fn add_values(
+    alloc: Global,
+    text: &mut Vec<u8>,
+    nullable: &[bool],
+    row: &FlatValues,
+) -> Result<(), OutOfMemory>
+    ensures values { OnOk result (text.new.items
+        ≡ text.old.items ++ comma_list (λ cell. cell) (sql_cells nullable.now row.now)) }
 {
     for i in 0..row.len() {
-        add_listed_value(alloc, text, i > 0, row.value(i))?;
+        add_listed_value(alloc, text, i > 0, flag_at(nullable, i), row.value(i))?;
     }
     Ok(())
+}
+
+// Whether a value of the column at a position may be missing.
+fn flag_at(nullable: &[bool], i: usize) -> bool
+    ensures flag { result ≡ slice_index_or nullable.now i false }
+{
+    match nullable.get(i) {
+        Some(flag) => *flag,
+        None => false,
+    }
 }
 
 // A value; after a comma and a blank where another one stands before it.
@@ -52,13 +69,29 @@ fn add_listed_value(
     alloc: Global,
     text: &mut Vec<u8>,
     any_written: bool,
+    nullable: bool,
     value: &[u8],
 ) -> Result<(), OutOfMemory>
     ensures added { OnOk result (text.new.items ≡ text.old.items
-        ++ (if any_written then separator ++ sql_value value.now else sql_value value.now)) }
+        ++ (if any_written then separator ++ sql_cell nullable value.now else sql_cell nullable value.now)) }
 {
     if any_written {
         add(text, b", ")?;
+    }
+    add_cell(alloc, text, nullable, value)
+}
+
+// The text of a value, or that it is missing.
+fn add_cell(
+    alloc: Global,
+    text: &mut Vec<u8>,
+    nullable: bool,
+    value: &[u8],
+) -> Result<(), OutOfMemory>
+    ensures text { OnOk result (text.new.items ≡ text.old.items ++ sql_cell nullable value.now) }
+{
+    if nullable && value.is_empty() {
+        return add(text, b"NULL");
     }
     add_value(alloc, text, value)
 }

@@ -2,7 +2,7 @@
 use Rattle.std.proofs.Common.{◌≡◌, ℕ, List, length, inl, inr, sym, ap, ◌∙◌, subst}
 use Rattle.std.proofs.lemmas.Bool.{true≢false}
 use Rattle.dep_model.specs.Dependencies.{Dependency}
-use Rattle.dep_model.specs.Schemas.{names_of, width_of, theory_of}
+use Rattle.dep_model.specs.Schemas.{names_of, width_of, theory_of, naming_of}
 use Rattle.dep_model.specs.declared.schema.Schema.{Schema}
 use Rattle.min_cover.specs.Covers.{HaveSameLegal}
 use Rattle.schema_match.specs.Columns.{IsDeclaredBy, SameNames}
@@ -47,9 +47,9 @@ compared-yes schema other file other_file response names same (inr (passed, rest
 moved : (n m : ℕ) (ds es : List Dependency) → n ≡ m → HaveSameLegal n ds es → HaveSameLegal m ds es
 moved n m ds es width = subst (λ (k : ℕ). HaveSameLegal k ds es) width
 
-pub alike : (schema other : Schema) → names_of schema ≡ names_of other
+pub alike : (schema other : Schema) → naming_of schema ≡ naming_of other → names_of schema ≡ names_of other
     → HaveSameLegal (width_of schema) (theory_of other) (theory_of schema) → AnswerAlike schema other
-alike schema other names same =
+alike schema other naming names same =
     let there = implied_there schema other names same in
     let back = implied_back schema other names same in
     let by_names = same_names schema other names in
@@ -63,7 +63,7 @@ alike schema other names same =
       compared_back =
           λ file other_file response. compared-yes other schema file other_file response
           (by_names.1, by_names.0) second;
-      decided = λ goal one two. goals-status schema other goal one two names
+      decided = λ goal one two. goals-status schema other goal one two naming names
           (λ d. implied_by_other schema other d names (λ r.
           (moved (width_of schema) (width_of other) (theory_of other) (theory_of schema) width same
           r).0))
@@ -73,7 +73,7 @@ alike schema other names same =
 -- the same dependencies in any order
 pub reordered : (schema other : Schema) → HaveSameDependencies schema other → AnswerAlike schema other
 reordered schema other same =
-    alike schema other same.names (λ r. (
+    alike schema other same.naming same.names (λ r. (
       legal_for_members (width_of schema) (theory_of other) (theory_of schema) r (λ d. (same.each d).0),
       legal_for_members (width_of schema) (theory_of schema) (theory_of other) r (λ d. (same.each d).1),
     ))
@@ -82,6 +82,6 @@ reordered schema other same =
 pub alike_with : (schema : Schema) (ds : List Dependency)
     → HaveSameLegal (width_of schema) ds (theory_of schema) → AnswersAlikeWith schema ds
 alike_with schema ds same other is =
-    alike schema other is.names (subst
+    alike schema other is.naming is.names (subst
     (λ (es : List Dependency). HaveSameLegal (width_of schema) es (theory_of schema))
     (sym is.theory) same)

@@ -3,13 +3,11 @@
 use Rattle.std.proofs.Common.{◌≡◌, ℕ, true, List, length, get_or, inl, inr, sym, subst, arith}
 use Rattle.std.specs.Prelude.{◌↔◌, All}
 use Rattle.std.proofs.lemmas.Bool.Decides.{nat_tests}
-use Rattle.armstrong_rel.proofs.ExactLemmas.{armstrong_legal}
-use Rattle.armstrong_rel.proofs.TupleLemmas.{tuples_over}
 use Rattle.attr_sets.specs.Attributes.{below, only, IsSubset}
 use Rattle.csv_text.specs.Rows.{rows_text}
 use Rattle.dep_model.specs.Dependencies.{Dependency, is_fd, left_of, right_of, Obeys, IsWithin}
 use Rattle.dep_model.specs.Implication.{Implies}
-use Rattle.dep_model.specs.Schemas.{names_of, width_of, theory_of, universe_of, LegalFor, ImpliedBy}
+use Rattle.dep_model.specs.Schemas.{names_of, width_of, theory_of, universe_of, LegalFor, ImpliedBy, naming_of}
 use Rattle.dep_model.specs.Tuples.{Relation, IsOver}
 use Rattle.dep_model.specs.declared.schema.Schema.{Schema}
 use Rattle.dep_model.proofs.ImplicationLemmas.{legal_for_implied}
@@ -42,13 +40,6 @@ shown_example schema shown (inr (inr (inl (refused, says)))) says_yes =
 shown_example schema shown (inr (inr (inr (refused, says)))) says_yes =
     absurd (refused_not_yes shown says_yes (says-status Refused _ shown says))
 
-example_legal : (schema : Schema) (rows : Relation) → IsExample schema rows → LegalFor schema rows
-example_legal schema rows example =
-    armstrong_legal (width_of schema) (theory_of schema) rows (theory_within schema) example.functional
-    (subst (λ (r : Relation). IsOver (width_of schema) r) (sym example.exhibit.tuples)
-    (tuples_over (width_of schema) example.exhibit.sets))
-    example.exact
-
 -- legal rows are called so
 legal_judged : (schema : Schema) (rows : Relation) (judged : ResponseValue) → LegalFor schema rows
     → JudgesRows schema rows judged
@@ -61,7 +52,7 @@ pub exhibit_legal : (schema : Schema) (shown : ResponseValue) → Exhibits schem
     × ((judged : ResponseValue) → JudgesRows schema rows judged → judged.status ≡ Yes)
 exhibit_legal schema shown exhibits says_yes =
     let (rows, example, says) = shown_example schema shown exhibits says_yes in
-    let legal = example_legal schema rows example in
+    let legal = example.legal in
     (rows, says, legal, λ judged. legal_judged schema rows judged legal)
 
 -- ---- functional goals
@@ -79,12 +70,12 @@ goal_decides : (schema : Schema) (rows : Relation) (goal : List ℕ) (d : Depend
 goal_decides schema rows goal d decided example is within functional (inl stops) =
     absurd (goal_goes schema goal d decided is stops)
 goal_decides schema rows goal d decided example is within functional (inr (e, also, rest)) =
-    let same : e ≡ d = one_goal (names_of schema) goal e d also.means is.means in
+    let same : e ≡ d = one_goal (naming_of schema) (names_of schema) goal e d also.means is.means in
     by (subst (λ (f : Dependency). Decided schema f decided) same rest)
   where
     by : Decided schema d decided → (decided.status ≡ Yes) ↔ Obeys (width_of schema) d rows
     by (inl (implied, found)) = (
-      λ says_yes. implied rows (example_legal schema rows example),
+      λ says_yes. implied rows example.legal,
       λ obeys.
           says-status Yes _ decided found.4,
     )

@@ -3,7 +3,8 @@ use Rattle.std.proofs.Common.{◌≡◌, ℕ, List, length, Ok, Err, inl, inr, s
 use Rattle.std.proofs.lemmas.Bool.{true≢false}
 use Rattle.attr_sets.specs.Attributes.{Attributes, IsSubset, below}
 use Rattle.dep_model.specs.Dependencies.{Dependency, IsWithin}
-use Rattle.dep_model.specs.Schemas.{names_of, universe_of}
+use Rattle.dep_model.specs.Schemas.{naming_of, names_of, universe_of}
+use Rattle.dep_model.specs.declared.naming.Naming.{Naming}
 use Rattle.dep_model.specs.declared.schema.Schema.{Schema}
 use Rattle.derivation.proofs.RuleTableLemmas.{the_ok}
 use Rattle.lexer.specs.Tokens.{Mark}
@@ -39,28 +40,30 @@ goal_stops-status schema goal response (inl (long, says)) = says-status Refused 
 goal_stops-status schema goal response (inr (refusal, is, says)) = says-status Refused _ response says
 
 -- a goal means one dependency at most
-pub one_goal : (names : List (List ℕ)) (goal : List ℕ) (d e : Dependency) → MeansGoal names goal d
-    → MeansGoal names goal e → d ≡ e
-one_goal names goal d e first second =
+pub one_goal : (naming : Naming) (names : List (List ℕ)) (goal : List ℕ) (d e : Dependency)
+    → MeansGoal naming names goal d → MeansGoal naming names goal e → d ≡ e
+one_goal naming names goal d e first second =
     the_ok {A = Dependency} {E = SchemaRefusal} d e
-    (sym ((goal-law names goal d).1 first) ∙ (goal-law names goal e).1 second)
+    (sym ((goal-law naming names goal d).1 first) ∙ (goal-law naming names goal e).1 second)
 
 -- a goal that is read does not stop
 pub goal_goes : (schema : Schema) (goal : List ℕ) (d : Dependency) (response : ResponseValue) → IsGoal schema goal d
     → GoalStops schema goal response → ⊥
 goal_goes schema goal d response is (inl (long, says)) = let within = is.within_limit in omega (arith, within, long)
 goal_goes schema goal d response is (inr (refusal, refused, says)) =
-    let read : read_goal (names_of schema) goal ≡ Ok d = (goal-law (names_of schema) goal d).1 is.means in
-    let not_read : read_goal (names_of schema) goal ≡ Err refusal =
-    (goal-refusal-law (names_of schema) goal refusal).1 refused.refused in cc
+    let reads = read_goal (naming_of schema) (names_of schema) goal in
+    let read : reads ≡ Ok d = (goal-law (naming_of schema) (names_of schema) goal d).1 is.means in
+    let not_read : reads ≡ Err refusal =
+    (goal-refusal-law (naming_of schema) (names_of schema) goal refusal).1 refused.refused in cc
 
--- a schema with the same names reads a goal as the same
+-- a schema with the same names, written alike, reads a goal as the same
 pub goal_moved : (schema other : Schema) (goal : List ℕ) (d : Dependency)
-    → names_of schema ≡ names_of other → IsGoal schema goal d
+    → naming_of schema ≡ naming_of other → names_of schema ≡ names_of other → IsGoal schema goal d
     → IsGoal other goal d
-goal_moved schema other goal d names is = record {
+goal_moved schema other goal d naming names is = record {
   within_limit = is.within_limit;
-  means = subst (λ (declared : List (List ℕ)). MeansGoal declared goal d) names is.means;
+  means = subst (λ (n : Naming). MeansGoal n (names_of other) goal d) naming
+      (subst (λ (declared : List (List ℕ)). MeansGoal (naming_of schema) declared goal d) names is.means);
 }
 
 -- ---- what a goal means lies within the universe

@@ -4,7 +4,7 @@ use Rattle.std.specs.Prelude.{Contains, length}
 use Rattle.std.proofs.lemmas.List.Elements.{All-weaker, All-contains, All-contains_itself}
 use Rattle.dep_model.specs.Dependencies.{Dependency, Obeys}
 use Rattle.dep_model.specs.Implication.{IsLegal, Implies}
-use Rattle.dep_model.specs.Schemas.{names_of, width_of, theory_of, ImpliedBy}
+use Rattle.dep_model.specs.Schemas.{names_of, width_of, theory_of, ImpliedBy, naming_of}
 use Rattle.dep_model.specs.Tuples.{Relation}
 use Rattle.dep_model.specs.declared.schema.Schema.{Schema}
 use Rattle.derivation.specs.Trees.{Tree}
@@ -42,7 +42,7 @@ implied_alike schema other d same =
     (same.each e).0 has) legal)
 
 turned : (schema other : Schema) → HaveSameDependencies schema other → HaveSameDependencies other schema
-turned schema other same = record { names = sym same.names; each = λ d. ((same.each d).1, (same.each d).0) }
+turned schema other same = record { naming = sym same.naming; names = sym same.names; each = λ d. ((same.each d).1, (same.each d).0) }
 
 -- ---- the answers
 decided-status : (schema other : Schema) (d : Dependency) (first second : ResponseValue)
@@ -59,18 +59,18 @@ decided-status schema other d first second there back (inr (broken, found)) (inr
     same_status No _ _ first second found.2 printed.2
 
 pub goals-status : (schema other : Schema) (goal : List ℕ) (first second : ResponseValue)
-    → names_of schema ≡ names_of other
+    → naming_of schema ≡ naming_of other → names_of schema ≡ names_of other
     → ((d : Dependency) → ImpliedBy schema d → ImpliedBy other d)
     → ((d : Dependency) → ImpliedBy other d → ImpliedBy schema d)
     → DecidesGoal schema goal first → DecidesGoal other goal second → first.status ≡ second.status
-goals-status schema other goal first second names there back (inl stops) (inl halts) =
+goals-status schema other goal first second naming names there back (inl stops) (inl halts) =
     goal_stops-status schema goal first stops ∙ sym (goal_stops-status other goal second halts)
-goals-status schema other goal first second names there back (inl stops) (inr (e, is, rest)) =
-    absurd (goal_goes schema goal e first (goal_moved other schema goal e (sym names) is) stops)
-goals-status schema other goal first second names there back (inr (d, is, rest)) (inl halts) =
-    absurd (goal_goes other goal d second (goal_moved schema other goal d names is) halts)
-goals-status schema other goal first second names there back (inr (d, is, rest)) (inr (e, also, more)) =
-    let same : e ≡ d = one_goal (names_of other) goal e d also.means (goal_moved schema other goal d names is).means in
+goals-status schema other goal first second naming names there back (inl stops) (inr (e, is, rest)) =
+    absurd (goal_goes schema goal e first (goal_moved other schema goal e (sym naming) (sym names) is) stops)
+goals-status schema other goal first second naming names there back (inr (d, is, rest)) (inl halts) =
+    absurd (goal_goes other goal d second (goal_moved schema other goal d naming names is) halts)
+goals-status schema other goal first second naming names there back (inr (d, is, rest)) (inr (e, also, more)) =
+    let same : e ≡ d = one_goal (naming_of other) (names_of other) goal e d also.means (goal_moved schema other goal d naming names is).means in
     decided-status schema other d first second (there d) (back d) rest
     (subst (λ (f : Dependency). Decided other f second) same more)
 
@@ -78,7 +78,7 @@ pub lines-status : (schema other : Schema) (goal : List ℕ) (first second : Res
     → HaveSameDependencies schema other
     → DecidesGoal schema goal first → DecidesGoal other goal second → first.status ≡ second.status
 lines-status schema other goal first second same =
-    goals-status schema other goal first second same.names (λ d. implied_alike schema other d same)
+    goals-status schema other goal first second same.naming same.names (λ d. implied_alike schema other d same)
     (λ d. implied_alike other schema d (turned schema other same))
 
 pub not_yes_and_no : (first second : ResponseValue) → first.status ≡ second.status
@@ -110,10 +110,10 @@ pub accepted_yes : (schema other : Schema) (tree : Tree) (goal : List ℕ)
 accepted_yes schema other tree goal accepted decided same (inl stops) says_yes decides =
     absurd (refused_not_yes accepted says_yes (goal_stops-status schema goal accepted stops))
 accepted_yes schema other tree goal accepted decided same (inr (d, is, checked)) says_yes (inl stops) =
-    absurd (goal_goes other goal d decided (goal_moved schema other goal d same.names is) stops)
+    absurd (goal_goes other goal d decided (goal_moved schema other goal d same.naming same.names is) stops)
 accepted_yes schema other tree goal accepted decided same (inr (d, is, checked)) says_yes (inr (e, also, rest)) =
     let alike : d ≡ e =
-    one_goal (names_of other) goal d e (goal_moved schema other goal d same.names is).means
+    one_goal (naming_of other) (names_of other) goal d e (goal_moved schema other goal d same.naming same.names is).means
     also.means in
     decided_yes other e decided
     (subst (λ (f : Dependency). ImpliedBy other f) alike

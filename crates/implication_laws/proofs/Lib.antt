@@ -7,6 +7,7 @@ mod SameNamesLemmas
 pub mod GoalLemmas
 pub mod ImplyingLaws
 mod AlikeLaws
+mod CounterexampleLaws
 mod CoverLaws
 mod ExhibitLaws
 pub mod StepLaws

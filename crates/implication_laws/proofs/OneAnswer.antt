@@ -10,7 +10,6 @@ use Rattle.attr_sets.specs.Sets.{attributes}
 use Rattle.attr_sets.specs.declared.set.AttrSet.{AttrSet}
 use Rattle.armstrong_rel.specs.ClosedSets.{IsIrreducible}
 use Rattle.armstrong_rel.specs.Refusals.{IsFirstMvd, AreTooMany}
-use Rattle.armstrong_rel.specs.declared.refusal.TheConstants.{MOST_EXHIBITED_ROWS}
 use Rattle.armstrong_rel.proofs.OneExhibit.{exhibit_same}
 use Rattle.armstrong_rel.proofs.TupleLemmas.{length-tuples_for}
 use Rattle.csv_text.specs.Rows.{rows_text}
@@ -19,7 +18,7 @@ use Rattle.dep_basis.specs.Traces.{blocks_of}
 use Rattle.dep_model.specs.Dependencies.{Dependency, mvd, is_fd, functional_part}
 use Rattle.dep_model.specs.Keys.{IsKey}
 use Rattle.dep_model.specs.Plans.{schemes_of}
-use Rattle.dep_model.specs.Schemas.{names_of, width_of, theory_of, universe_of}
+use Rattle.dep_model.specs.Schemas.{names_of, width_of, theory_of, universe_of, types_of, naming_of}
 use Rattle.dep_model.specs.Tuples.{Relation}
 use Rattle.dep_model.specs.declared.schema.Schema.{Schema}
 use Rattle.derivation.specs.Trees.{Tree}
@@ -30,13 +29,15 @@ use Rattle.fd_discovery.specs.Headings.{names_under, rows_under}
 use Rattle.fd_discovery.specs.declared.headed_rows.Headed.{Headed}
 use Rattle.key_listing.specs.Listing.{AreAllKeys, AreManyKeys}
 use Rattle.key_listing.specs.declared.refusal.TheConstants.{MOST_KEYS}
+use Rattle.dep_model.specs.declared.naming.Naming.{Naming}
 use Rattle.schema_grammar.specs.Sets.{MeansSet, read_set}
 use Rattle.schema_grammar.specs.declared.refusal.SchemaRefusal.{SchemaRefusal}
 use Rattle.schema_grammar.proofs.OneTextRefusal.{goal-refusal-law}
 use Rattle.schema_grammar.proofs.SetLaws.{set-law, set-refusal-law}
-use Rattle.schema_match.specs.Columns.{SameNames, undeclared_attributes, name_of_attribute}
+use Rattle.schema_match.specs.Columns.{SameNames, undeclared_attributes}
 use Rattle.schema_printer.specs.Printing.{schema_text, set_text}
 use Rattle.schema_printer.specs.Spelling.{printed_names_of}
+use Rattle.desk_responses.specs.Lines.{name_text}
 use Rattle.desk_responses.specs.ResponseValues.{ResponseValue, Allowed}
 use Rattle.desk_responses.specs.declared.status.Status.TheVariants.{Yes, No, Refused}
 use Rattle.desk_texts.specs.ProofTexts.{concludes_text}
@@ -58,6 +59,8 @@ use Rattle.implication_laws.proofs.OneKey.{one_keys, before_one_way, ascends, ea
 use Rattle.implication_laws.proofs.OneList.{one_differences, one_rules}
 use Rattle.implication_laws.proofs.OrderedLists.{no_longer}
 use Rattle.implication_laws.proofs.StepLaws.{same_says, With-one, Unless-one, same_texts}
+use Rattle.shown_rows.specs.Shown.{shown_relation}
+use Rattle.typed_rows.specs.Typed.{typed_tuple}
 
 -- ---- goals and sets
 one_refusal : {A E : Type 0} (e f : E) → ◌≡◌ {A = Result A E} (Err e) (Err f) → e ≡ f
@@ -72,8 +75,8 @@ one_goal_stop schema goal one other (inr (refusal, is, says)) (inl (long, said))
 one_goal_stop schema goal one other (inr (e, is, says)) (inr (f, also, said)) =
     let same : e ≡ f =
     one_refusal {A = Dependency} e f
-    (sym ((goal-refusal-law (names_of schema) goal e).1 is.refused)
-    ∙ (goal-refusal-law (names_of schema) goal f).1 also.refused) in
+    (sym ((goal-refusal-law (naming_of schema) (names_of schema) goal e).1 is.refused)
+    ∙ (goal-refusal-law (naming_of schema) (names_of schema) goal f).1 also.refused) in
     same_says Refused _ _ one other says said (ap goal_refusal_text same)
 
 pub one_after_goal : (schema : Schema) (goal : List ℕ) (rest : Dependency → Allowed)
@@ -81,7 +84,7 @@ pub one_after_goal : (schema : Schema) (goal : List ℕ) (rest : Dependency → 
 one_after_goal schema goal rest each =
     With-one (GoalStops schema goal) (IsGoal schema goal) rest (one_goal_stop schema goal)
     (λ d response is stops. goal_goes schema goal d response is stops)
-    (λ d e is also. one_goal (names_of schema) goal d e is.means also.means) (λ d is. each d)
+    (λ d e is also. one_goal (naming_of schema) (names_of schema) goal d e is.means also.means) (λ d is. each d)
 
 pub one_set_stop : (schema : Schema) (set : List ℕ) → AllowsOne (SetStops schema set)
 one_set_stop schema set one other (inl (long, says)) (inl (also, said)) = says ∙ sym said
@@ -92,23 +95,24 @@ one_set_stop schema set one other (inr (refusal, is, says)) (inl (long, said)) =
 one_set_stop schema set one other (inr (e, is, says)) (inr (f, also, said)) =
     let same : e ≡ f =
     one_refusal {A = Attributes} e f
-    (sym ((set-refusal-law (names_of schema) set e).1 is.refused)
-    ∙ (set-refusal-law (names_of schema) set f).1 also.refused) in
+    (sym ((set-refusal-law (naming_of schema) (names_of schema) set e).1 is.refused)
+    ∙ (set-refusal-law (naming_of schema) (names_of schema) set f).1 also.refused) in
     same_says Refused _ _ one other says said (ap set_refusal_text same)
 
 pub set_goes : (schema : Schema) (set : List ℕ) (x : Attributes) (response : ResponseValue)
     → IsSetText schema set x → SetStops schema set response → ⊥
 set_goes schema set x response is (inl (long, says)) = let within = is.within_limit in omega (arith, within, long)
 set_goes schema set x response is (inr (refusal, refused, says)) =
-    let read : read_set (names_of schema) set ≡ Ok x = (set-law (names_of schema) set x).1 is.means in
-    let not_read : read_set (names_of schema) set ≡ Err refusal =
-    (set-refusal-law (names_of schema) set refusal).1 refused.refused in cc
+    let reads = read_set (naming_of schema) (names_of schema) set in
+    let read : reads ≡ Ok x = (set-law (naming_of schema) (names_of schema) set x).1 is.means in
+    let not_read : reads ≡ Err refusal =
+    (set-refusal-law (naming_of schema) (names_of schema) set refusal).1 refused.refused in cc
 
-pub one_set : (names : List (List ℕ)) (set : List ℕ) (x y : Attributes) → MeansSet names set x
-    → MeansSet names set y → x ≡ y
-one_set names set x y first second =
+pub one_set : (naming : Naming) (names : List (List ℕ)) (set : List ℕ) (x y : Attributes)
+    → MeansSet naming names set x → MeansSet naming names set y → x ≡ y
+one_set naming names set x y first second =
     the_ok {A = Attributes} {E = SchemaRefusal} x y
-    (sym ((set-law names set x).1 first) ∙ (set-law names set y).1 second)
+    (sym ((set-law naming names set x).1 first) ∙ (set-law naming names set y).1 second)
 
 -- ---- certificates
 one_checked : (schema : Schema) (tree : Tree) (goal : Dependency) → AllowsOne (Checked schema tree goal)
@@ -149,7 +153,7 @@ pub one_basis_answer : (schema : Schema) (set : List ℕ) → AllowsOne (GivesBa
 one_basis_answer schema set =
     With-one (SetStops schema set) (IsSetText schema set) (TellsBasis schema)
     (one_set_stop schema set) (λ x response is stops. set_goes schema set x response is stops)
-    (λ x y is also. one_set (names_of schema) set x y is.means also.means) (λ x is. one_told schema x)
+    (λ x y is also. one_set (naming_of schema) (names_of schema) set x y is.means also.means) (λ x is. one_told schema x)
 
 -- ---- keys
 -- a scheme has no more keys than are listed
@@ -221,7 +225,9 @@ exhibit_or_many schema rows sets example many =
     (λ c has.
     let found = irreducible.all c (All-contains P sets c many.each has) in
     subst (λ (x : Attributes). Contains own x) found.4 (found.0, found.2, found.3)) in
-    let short : length rows ≡ length own + 1 = ap length example.exhibit.tuples ∙ length-tuples_for (width_of schema) own in
+    let short : length rows ≡ length own + 1 =
+    ap length example.shown ∙ length-map example.numbers (typed_tuple (types_of schema)) ∙ ap length example.exhibit.tuples
+    ∙ length-tuples_for (width_of schema) own in
     let within_limit = example.within_limit in
     let count = many.count in
     omega (arith, fewer, short, within_limit, count)
@@ -229,7 +235,9 @@ exhibit_or_many schema rows sets example many =
 pub one_exhibit_answer : (schema : Schema) → AllowsOne (Exhibits schema)
 one_exhibit_answer schema one other (inl (rows, example, says)) (inl (tuples, also, said)) =
     same_says Yes _ _ one other says said
-    (ap (rows_text (names_of schema)) (exhibit_same (width_of schema) (theory_of schema) rows tuples example.exhibit also.exhibit))
+    (ap (rows_text (names_of schema)) (example.shown
+    ∙ ap (shown_relation schema) (exhibit_same (width_of schema) (theory_of schema) example.numbers also.numbers example.exhibit also.exhibit)
+    ∙ sym also.shown))
 one_exhibit_answer schema one other (inl (rows, example, says)) (inr (inl (dep, is, said))) = absurd (not_functional (theory_of schema) dep is example.functional)
 one_exhibit_answer schema one other (inl (rows, example, says)) (inr (inr (inl (wide, said)))) = absurd (example.narrow wide.1)
 one_exhibit_answer schema one other (inl (rows, example, says)) (inr (inr (inr (many, said)))) = absurd (exhibit_or_many schema rows many.2.0 example many.2.1)
@@ -251,7 +259,7 @@ one_exhibit_answer schema one other (inr (inr (inr (many, says)))) (inr (inr (in
 one_lacking : (schema other : Schema) (file : List ℕ) → AllowsOne (LacksName schema other file)
 one_lacking schema other file one two (a, first, says) (b, also, said) =
     same_says Refused _ _ one two says said
-    (ap (λ (c : ℕ). not_in_text (name_of_attribute schema c) file)
+    (ap (λ (c : ℕ). not_in_text (name_text (printed_names_of schema) c) file)
     (least_same (undeclared_attributes schema other) a b first also))
 
 pub one_name_stop : (schema other : Schema) (file other_file : List ℕ) → AllowsOne (NameStops schema other file other_file)

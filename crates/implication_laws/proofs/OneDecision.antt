@@ -2,8 +2,7 @@
 use Rattle.std.proofs.Common.{◌≡◌, ℕ, List, ◌++◌, inl, inr, sym, ap, ◌∙◌, subst}
 use Rattle.attr_sets.specs.Attributes.{Attributes}
 use Rattle.dep_model.specs.Dependencies.{Dependency, fd, mvd}
-use Rattle.dep_model.specs.Schemas.{names_of, width_of, theory_of}
-use Rattle.dep_model.specs.TwoTuples.{two_tuples}
+use Rattle.dep_model.specs.Schemas.{names_of, width_of, theory_of, naming_of}
 use Rattle.dep_model.specs.declared.schema.Schema.{Schema}
 use Rattle.derivation.specs.Derivs.{tree_of}
 use Rattle.derivation.specs.Trees.{Tree}
@@ -15,6 +14,7 @@ use Rattle.desk_responses.specs.declared.status.Status.TheVariants.{Yes, No}
 use Rattle.desk_texts.specs.Texts.{yes_text, no_text}
 use Rattle.desk_arguments.specs.Goals.{IsGoal}
 use Rattle.desk_implication.specs.Implication.{Decided, DecidesGoal}
+use Rattle.shown_rows.specs.Shown.{shown_tuples}
 use Rattle.implication_laws.specs.OneAnswer.{HasFixedProof}
 use Rattle.implication_laws.proofs.GoalLemmas.{says-status, one_goal, goal_goes}
 use Rattle.implication_laws.proofs.OneBasis.{one_refuted}
@@ -37,7 +37,7 @@ one_decided schema d one other fixed (inl (implied, found)) (inr (broken, shown)
 one_decided schema d one other fixed (inr (broken, shown)) (inl (implied, found)) = absurd (broken implied)
 one_decided schema d one other fixed (inr (broken, (agreement, is, says))) (inr (also, (outside, shows, said))) =
     same_says No _ _ one other says said
-    (ap (λ (x : Attributes). no_text (names_of schema) (two_tuples (width_of schema) x))
+    (ap (λ (x : Attributes). no_text (names_of schema) (shown_tuples schema x))
     (one_refuted (width_of schema) (theory_of schema) d agreement outside is shows))
 
 pub one_decision : (schema : Schema) (goal : List ℕ) (d : Dependency) (one other : ResponseValue) → IsGoal schema goal d
@@ -47,7 +47,7 @@ one_decision schema goal d one other is fixed (inl stops) second = absurd (goal_
 one_decision schema goal d one other is fixed (inr (e, read, rest)) (inl stops) =
     absurd (goal_goes schema goal d other is stops)
 one_decision schema goal d one other is fixed (inr (e, read, rest)) (inr (f, reads, remains)) =
-    let first : e ≡ d = one_goal (names_of schema) goal e d read.means is.means in
-    let second : f ≡ d = one_goal (names_of schema) goal f d reads.means is.means in
+    let first : e ≡ d = one_goal (naming_of schema) (names_of schema) goal e d read.means is.means in
+    let second : f ≡ d = one_goal (naming_of schema) (names_of schema) goal f d reads.means is.means in
     one_decided schema d one other fixed (subst (λ (g : Dependency). Decided schema g one) first rest)
     (subst (λ (g : Dependency). Decided schema g other) second remains)

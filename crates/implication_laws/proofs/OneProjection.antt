@@ -4,7 +4,7 @@ use Rattle.std.specs.Prelude.{Contains}
 use Rattle.std.proofs.lemmas.List.Elements.{All-contains}
 use Rattle.attr_sets.specs.Attributes.{Attributes}
 use Rattle.dep_model.specs.Dependencies.{Dependency}
-use Rattle.dep_model.specs.Schemas.{names_of, width_of, theory_of}
+use Rattle.dep_model.specs.Schemas.{names_of, width_of, theory_of, naming_of}
 use Rattle.dep_model.specs.declared.schema.Schema.{Schema}
 use Rattle.fd_projection.specs.Projections.{IsMinimalFd, Precedes, AreMinimalWithin, IsProjection}
 use Rattle.fd_projection.specs.Refusals.{AreTooMany}
@@ -74,4 +74,4 @@ pub one_projection_answer : (s : Schema) (set : List ℕ) → AllowsOne (Project
 one_projection_answer s set =
     With-one (SetStops s set) (IsSetText s set) (ProjectsSet s) (one_set_stop s set)
     (λ x response is stops. set_goes s set x response is stops)
-    (λ x y is also. one_set (names_of s) set x y is.means also.means) (λ x is. one_projected s x)
+    (λ x y is also. one_set (naming_of s) (names_of s) set x y is.means also.means) (λ x is. one_projected s x)

@@ -15,9 +15,8 @@ use Rattle.cover_check.specs.declared.diagnostic.CoverDiagnostic.{CoverDiagnosti
 use Rattle.cover_check.specs.CoverDiagnostics.{IsCoverDiagnostic, IsBeforePlace, AreCoverDiagnostics, position_of, rank_of}
 use Rattle.dep_model.specs.Dependencies.{Dependency, fd}
 use Rattle.dep_model.specs.Keys.{InClosure}
-use Rattle.dep_model.specs.Schemas.{names_of, width_of, universe_of, theory_of}
+use Rattle.dep_model.specs.Schemas.{names_of, width_of, universe_of, theory_of, naming_of}
 use Rattle.dep_model.specs.Tuples.{Relation}
-use Rattle.dep_model.specs.TwoTuples.{two_tuples}
 use Rattle.dep_model.specs.declared.schema.Schema.{Schema}
 use Rattle.dep_model.proofs.ListLemmas.{Contains-map, map-member}
 use Rattle.schema_match.specs.Columns.{SameNames}
@@ -31,6 +30,7 @@ use Rattle.desk_covers.specs.Sameness.{NameStops, different_text}
 use Rattle.desk_responses.specs.ResponseValues.{ResponseValue}
 use Rattle.desk_responses.specs.declared.status.Status.TheVariants.{Yes, No}
 use Rattle.desk_texts.specs.Texts.{line, set_line}
+use Rattle.shown_rows.specs.Shown.{shown_tuples}
 use Rattle.implication_laws.specs.OneAnswer.{AllowsOne}
 use Rattle.implication_laws.proofs.OneAnswer.{one_set_stop, set_goes, one_set, one_name_stop}
 use Rattle.implication_laws.proofs.OneBasis.{one_refuted}
@@ -80,7 +80,7 @@ pub one_closure_answer : (s : Schema) (set : List ℕ) → AllowsOne (GivesClosu
 one_closure_answer s set =
     With-one (SetStops s set) (IsSetText s set) (TellsClosure s) (one_set_stop s set)
     (λ x response is stops. set_goes s set x response is stops)
-    (λ x y is also. one_set (names_of s) set x y is.means also.means) (λ x is. one_told_closure s x)
+    (λ x y is also. one_set (naming_of s) (names_of s) set x y is.means also.means) (λ x is. one_told_closure s x)
 
 -- ---- keys
 -- an attribute, and the closed set of the others
@@ -153,8 +153,8 @@ one_refuted_text s x text other first second =
     let shown : first.agreement ≡ second.agreement =
     one_refuted (width_of s) (theory_of s) (fd x (universe_of s)) first.agreement second.agreement first.broken second.broken in
     first.reads
-    ∙ ap (λ (c : Attributes). no_superkey_text s x (difference (universe_of s) c) (two_tuples (width_of s) first.agreement)) closed
-    ∙ ap (λ (b : Attributes). no_superkey_text s x (difference (universe_of s) second.closed) (two_tuples (width_of s) b)) shown
+    ∙ ap (λ (c : Attributes). no_superkey_text s x (difference (universe_of s) c) (shown_tuples s first.agreement)) closed
+    ∙ ap (λ (b : Attributes). no_superkey_text s x (difference (universe_of s) second.closed) (shown_tuples s b)) shown
     ∙ sym second.reads
 
 one_within_text : (s : Schema) (x : Attributes) (text other : List ℕ) → HasKeyWithin s x text → HasKeyWithin s x other
@@ -189,7 +189,7 @@ pub one_key_answer : (s : Schema) (set : List ℕ) → AllowsOne (ChecksKey s se
 one_key_answer s set =
     With-one (SetStops s set) (IsSetText s set) (TestsKey s) (one_set_stop s set)
     (λ x response is stops. set_goes s set x response is stops)
-    (λ x y is also. one_set (names_of s) set x y is.means also.means) (λ x is. one_tested_key s x)
+    (λ x y is also. one_set (naming_of s) (names_of s) set x y is.means also.means) (λ x is. one_tested_key s x)
 
 -- ---- covers
 diagnostics_one_way : (n : ℕ) (ds : List Dependency)

@@ -23,7 +23,8 @@ pub use exhibiting::{
 };
 pub use explaining::undetermined_attributes_are_in_every_key;
 pub use implying::{
-    accepted_goals_are_implied, legal_rows_obey_implied_goals, yes_and_no_exclude_each_other,
+    accepted_goals_are_implied, legal_rows_obey_implied_goals, shown_rows_are_counterexamples,
+    yes_and_no_exclude_each_other,
 };
 pub use rewriting::{
     covers_are_answered_alike, line_order_is_free, same_legal_relations_are_answered_alike,

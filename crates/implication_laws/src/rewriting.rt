@@ -2,7 +2,7 @@
 
 ghost use Rattle.std.specs.Prelude.{◌≡◌, ℕ, List};
 ghost use Rattle.dep_model.specs.Dependencies.{Dependency};
-ghost use Rattle.dep_model.specs.Schemas.{names_of, width_of, theory_of};
+ghost use Rattle.dep_model.specs.Schemas.{naming_of, names_of, width_of, theory_of};
 ghost use Rattle.dep_model.specs.declared.schema.Schema.{Schema};
 ghost use Rattle.min_cover.specs.Covers.{HaveSameLegal};
 ghost use Rattle.schema_printer.specs.Printing.{schema_text};
@@ -12,9 +12,10 @@ ghost use Rattle.desk_responses.specs.declared.status.Status.TheVariants.{Yes};
 ghost use Rattle.implication_laws.specs.Alike.{AnswerAlike, AnswersAlikeWith};
 ghost use Rattle.implication_laws.specs.Rewriting.{HaveSameDependencies};
 
-/// Two schemas with the same names for which the same relations are legal are answered alike.
+/// Two schemas with the same names, written alike, for which the same relations are legal are answered alike.
 pub fn same_legal_relations_are_answered_alike()
-    ensures law { (schema other : Schema) → names_of schema ≡ names_of other
+    ensures law { (schema other : Schema) → naming_of schema ≡ naming_of other
+        → names_of schema ≡ names_of other
         → HaveSameLegal (width_of schema) (theory_of other) (theory_of schema) → AnswerAlike schema other }
 {}
 

@@ -1,17 +1,6 @@
 //! What the definition of tokens comes to. A function does nothing, and its clause is the law.
 
-ghost use Rattle.std.specs.Prelude.{◌≡◌};
 ghost use Rattle.lexer.specs.Laws.{NamesAreTested, QuotedNames};
-ghost use Rattle.lexer.specs.Modes.{plain, goal, numbered};
-
-use crate::mode::Mode;
-
-/// The modes of code are those of the definitions.
-pub fn modes_are_named()
-    ensures plain { Mode.PLAIN ≡ plain }
-    ensures goal { Mode.GOAL ≡ goal }
-    ensures numbered { Mode.NUMBERED ≡ numbered }
-{}
 
 /// The test of what stands between quotes takes exactly names.
 pub fn names_are_tested()

@@ -14,7 +14,7 @@ mod quotes;
 mod token;
 mod word;
 
-pub use laws::{modes_are_named, names_are_tested, quoted_names};
+pub use laws::{names_are_tested, quoted_names};
 pub use line::{cut_line, without_mark};
 pub use mode::Mode;
 pub use quotes::QuotedName;

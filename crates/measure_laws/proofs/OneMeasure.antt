@@ -1,7 +1,7 @@
 -- `measure`, `offences` and `kept` have one answer each, and their rows are read by one schema.
 use Rattle.std.proofs.Common.{◌≡◌, ◌+◌, ◌<◌, ℕ, Bool, true, false, List, [], ◌++◌, length, refl, sym, ap, subst, ◌∙◌, inl, inr, arith}
 use Rattle.std.proofs.lemmas.List.{ext_get_or}
-use Rattle.std.specs.Prelude.{◌==◌, if◌then◌else◌, not, slice_index_or}
+use Rattle.std.specs.Prelude.{◌==◌, if◌then◌else◌, not}
 use Rattle.std.specs.List.{flat_map, position_or_len}
 use Rattle.attr_sets.specs.Attributes.{Attributes, difference, only}
 use Rattle.csv_text.specs.Rows.{csv_row, rows_text}
@@ -15,16 +15,14 @@ use Rattle.row_measures.proofs.LawLemmas.{same_measure, same_parts, same_rows, s
 use Rattle.row_measures.specs.declared.breach.BrokenPart.{BrokenPart}
 use Rattle.row_measures.specs.declared.breach.BrokenRow.{BrokenRow}
 use Rattle.row_measures.specs.declared.breach.Measure.{Measure}
-use Rattle.schema_printer.specs.Spelling.{printed_names_of}
 use Rattle.alike_laws.specs.SameDeclarations.{DeclareTheSame}
 use Rattle.implication_laws.specs.OneAnswer.{AllowsOne}
 use Rattle.implication_laws.proofs.OneAnswer.{one_mvd, not_functional}
 use Rattle.implication_laws.proofs.StepLaws.{same_says}
 use Rattle.desk_discovery.specs.Exhibits.{multivalued_text}
 use Rattle.desk_responses.specs.ResponseValues.{ResponseValue, Says, text_only}
-use Rattle.desk_responses.specs.declared.status.Status.{Status}
 use Rattle.desk_responses.specs.declared.status.Status.TheVariants.{Yes, Refused}
-use Rattle.desk_measures.specs.Findings.{Finding, FindsBelow, FindsBoth, status_of}
+use Rattle.desk_measures.specs.Findings.{Finding, FindsBelow, status_of}
 use Rattle.desk_measures.specs.Keeping.{AreKeptRows, KeepsRows}
 use Rattle.desk_measures.specs.Measures.{AreDetails, AreMistyped, FindsWhere, IsAttributeMeasured, IsColumnFound, IsMeasured, MeasuresRows, attribute_text, flags_set, measure_text, mistyped_text}
 use Rattle.desk_measures.specs.Offences.{ArePartLines, AreRowLines, ListsBelow, ListsOffences, ListsOffencesByRow, OfEachDependency, part_fields, part_headings, row_fields, row_headings, shown_of}
@@ -94,8 +92,7 @@ module _ (s : Schema) (rows : Relation) where
         clean_same = one.none ∙ ap (λ (flags : List Bool). flags_set flags == 0) same ∙ sym other.none;
         text_same = one.says
             ∙ ap (λ (flags : List Bool). if flags_set flags == 0 then []
-            else mistyped_text (slice_index_or (printed_names_of s) a []) (flags_set flags)
-            (position_or_len (λ flag. flag) flags + 1)) same
+            else mistyped_text s a (flags_set flags) (position_or_len (λ flag. flag) flags + 1)) same
             ∙ sym other.says;
       }
 

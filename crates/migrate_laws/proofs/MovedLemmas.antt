@@ -66,8 +66,8 @@ elsewhere : (name : List ℕ) (held : Option Held) (state next : State) (other :
     → next other ≡ state other
 elsewhere name held state next other is differ = ap (λ (z : State). z other) is ∙ past_name name other held state differ
 
-not_quoted : (name : List ℕ) → [] ≡ quoted_name name → ⊥
-not_quoted name e = let long = ap (λ (bytes : List ℕ). length bytes) e in omega (arith, long)
+no_name : (b : ℕ) (name : List ℕ) → [] ≡ b ∷ name → ⊥
+no_name b name e = let long = ap (λ (bytes : List ℕ). length bytes) e in omega (arith, long)
 
 -- ---- a test that was passed
 -- the query of a test gives no row, and the state is as before but for the table of the test
@@ -207,11 +207,11 @@ view_moved fails cast s cell r designs third last are e =
     let fewer = covers cast (copied_rows s) (viewed_rows s) fifth one.given one.evaluates one.none in
     let more = covers cast (viewed_rows s) (copied_rows s) sixth two.given two.evaluates two.none in
     let last_is : evaluate (engine_at cast last) (viewed_rows s) ≡ Some fewer.second =
-    viewed-same cast s designs last fifth view_last view_fifth (to_last [] (not_quoted (codes "t00")) (not_quoted (codes "t0")))
+    viewed-same cast s designs last fifth view_last view_fifth (to_last [] (no_name 34 (codes "t00\"")) (no_name 34 (codes "t0\"")))
     (λ t h. to_last (quoted_name t.name) (design_test t h) (λ same. are.apart t h (sym same)))
     ∙ fewer.second_is in
     let sixth_is : evaluate (engine_at cast sixth) (viewed_rows s) ≡ Some fewer.second =
-    viewed-same cast s designs sixth fifth view_sixth view_fifth (one.others [] (not_quoted (codes "t00")))
+    viewed-same cast s designs sixth fifth view_sixth view_fifth (one.others [] (no_name 34 (codes "t00\"")))
     (λ t h. one.others (quoted_name t.name) (design_test t h))
     ∙ fewer.second_is in
     let same_view : more.first ≡ fewer.second = some_is more.first fewer.second (sym more.first_is ∙ sixth_is) in

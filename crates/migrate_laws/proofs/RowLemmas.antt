@@ -87,10 +87,10 @@ copy-known e name s cell r holds =
     (λ k h. compared-name _ (name_at s k) (column_at s (codes "r") k) refl))
 
 -- a row of the copy, as it is looked at
-abbrev row_of_copy : Schema → Cells → Tuple → View
+abbrev pub row_of_copy : Schema → Cells → Tuple → View
 row_of_copy s cell t = row_view (look_at (codes "o") (names_on s (universe_of s)) (cells_on s cell (universe_of s) t))
 
-cell-known : (s : Schema) (cell : Cells) (t : Tuple) (k : ℕ) → Contains (members_below (width_of s) (universe_of s)) k
+pub cell-known : (s : Schema) (cell : Cells) (t : Tuple) (k : ℕ) → Contains (members_below (width_of s) (universe_of s)) k
     → named_cell (names_on s (universe_of s)) (cells_on s cell (universe_of s) t) (name_at s k) ≡ Some (compared_cell s cell k (value_at t k))
 cell-known s cell t k h =
     named_cell-member (name_at s) (λ (j : ℕ). compared_cell s cell j (value_at t j)) (members_below (width_of s) (universe_of s)) k
@@ -111,7 +111,7 @@ entered-known s cast cell t k h = by_type (is_integer (type_at s k))
     by_type true = ap (option_and_then (integer_of cast)) (cell-known s cell t k h)
     by_type false = cell-known s cell t k h
 
-entered-row : (s : Schema) (cast : Cast) (cell : Cells) (x : Attributes) (t : Tuple)
+pub entered-row : (s : Schema) (cast : Cast) (cell : Cells) (x : Attributes) (t : Tuple)
     → each (item_value cast (row_of_copy s cell t)) (moved_on s Entering x)
     ≡ each (λ k. entered_cell s cast cell k (value_at t k)) (members_below (width_of s) x)
 entered-row s cast cell x t =
@@ -127,7 +127,7 @@ copy_views s cell r =
     ∙ map-map row_view (λ (t : Tuple). look_at (codes "o") (names_on s (universe_of s)) (cells_on s cell (universe_of s) t)) r
 
 -- what is selected of the copy
-copy_selected : (s : Schema) (cast : Cast) (cell : Cells) (r : Relation) (items : List Item)
+pub copy_selected : (s : Schema) (cast : Cast) (cell : Cells) (r : Relation) (items : List Item)
     → each (λ v. each (item_value cast v) items) (map row_view (map (look_at (codes "o") (names_on s (universe_of s))) (map (cells_on s cell (universe_of s)) r)))
     ≡ each (λ t. each (item_value cast (row_of_copy s cell t)) items) r
 copy_selected s cast cell r items =
@@ -164,23 +164,25 @@ projection-known s cast cell r state x new is e =
     }
 
 -- ---- the rows of the copy
-pub copied-known : (s : Schema) (cast : Cast) (cell : Cells) (r : Relation) (state : State) (rows : Rows) → IsCopied state s cell r
-    → evaluate (engine_at cast state) (copied_rows s) ≡ Some rows → rows.rows ≡ map (cells_on s cell (universe_of s)) r
+pub copied-gives : (s : Schema) (cast : Cast) (cell : Cells) (r : Relation) (state : State) → IsCopied state s cell r
+    → evaluate (engine_at cast state) (copied_rows s)
+    ≡ Some (record { names = map item_name (moved_on s Unchanged (universe_of s)); rows = map (cells_on s cell (universe_of s)) r })
 unfolding copied_rows
-copied-known s cast cell r state rows is e =
+copied-gives s cast cell r state is =
     let items = moved_on s Unchanged (universe_of s) in
-    let go : selected cast false items (codes "o") each_row (copied s cell r) ≡ Some rows =
-    sym (ap (λ (held : Option Held). option_and_then (selected cast false items (codes "o") each_row) (rows_found cast state held)) is) ∙ e in
-    let found = map_some (with_items false items)
-    (each (λ (v : View). each (item_value cast v) items) (map row_view (map (look_at (codes "o") (names_on s (universe_of s))) (map (cells_on s cell (universe_of s)) r))))
-    rows go in
-    let known : each (λ t. each (item_value cast (row_of_copy s cell t)) items) r ≡ Some (map (cells_on s cell (universe_of s)) r) =
-    each-known (λ (t : Tuple). each (item_value cast (row_of_copy s cell t)) items) (cells_on s cell (universe_of s)) r
+    ap (λ (held : Option Held). option_and_then (selected cast false items (codes "o") each_row) (rows_found cast state held)) is
+    ∙ ap (option_map (with_items false items))
+    (copy_selected s cast cell r items
+    ∙ each-known (λ (t : Tuple). each (item_value cast (row_of_copy s cell t)) items) (cells_on s cell (universe_of s)) r
     (λ t h. each-map (item_value cast (row_of_copy s cell t)) (moved_at s Unchanged) (members_below (width_of s) (universe_of s))
     ∙ each-known (λ (k : ℕ). item_value cast (row_of_copy s cell t) (moved_at s Unchanged k)) (λ (k : ℕ). compared_cell s cell k (value_at t k))
-    (members_below (width_of s) (universe_of s)) (λ k m. cell-known s cell t k m)) in
-    sym (ap (λ (z : Rows). z.rows) found.2)
-    ∙ some_is found.0 (map (cells_on s cell (universe_of s)) r) (sym found.1 ∙ copy_selected s cast cell r items ∙ known)
+    (members_below (width_of s) (universe_of s)) (λ k m. cell-known s cell t k m)))
+
+pub copied-known : (s : Schema) (cast : Cast) (cell : Cells) (r : Relation) (state : State) (rows : Rows) → IsCopied state s cell r
+    → evaluate (engine_at cast state) (copied_rows s) ≡ Some rows → rows.rows ≡ map (cells_on s cell (universe_of s)) r
+copied-known s cast cell r state rows is e =
+    let given : Rows = record { names = map item_name (moved_on s Unchanged (universe_of s)); rows = map (cells_on s cell (universe_of s)) r } in
+    ap (λ (z : Rows). z.rows) (some_is rows given (sym e ∙ copied-gives s cast cell r state is))
 
 -- ---- a count that is zero
 nat_of : ℤ → ℕ

@@ -1,16 +1,13 @@
 -- A run of the script is all of its work or nothing.
 use Rattle.std.proofs.Common.{◌≡◌, ℕ, ◌⊎◌, Bool, true, false, not, ◌&&◌, ◌||◌, List, [], ◌∷◌, ◌++◌, map, Some, None, Option, refl, sym, ap, ◌∙◌, inl, inr, ⊎_elim}
-use Rattle.std.proofs.lemmas.Bool.{cases_Bool, true≢false}
-use Rattle.std.specs.Prelude.{if◌then◌else◌, option_and_then, codes, is_some}
+use Rattle.std.proofs.lemmas.Bool.{true≢false}
+use Rattle.std.specs.Prelude.{if◌then◌else◌, option_and_then, codes}
 use Rattle.std.specs.List.{flat_map}
-use Rattle.attr_sets.specs.Attributes.{Attributes}
-use Rattle.attr_sets.specs.Sets.{attributes}
 use Rattle.dep_model.specs.declared.schema.Schema.{Schema}
-use Rattle.ddl_text.specs.Ddl.{is_empty}
 use Rattle.ddl_text.specs.declared.table.TableDesign.{TableDesign}
 use Rattle.sql_syntax.specs.Statements.{Statement, remark, begin, commit}
 use Rattle.sql_evaluation.specs.Running.{State, Cast, Fails, Outcome, ended, stopped, tried, is_begin, is_commit, unless_error, run, outcome}
-use Rattle.migrate_queries.specs.Created.{remarks_made, table_made, tables_made}
+use Rattle.migrate_queries.specs.Created.{said_of, remarks_made, table_made, tables_made}
 use Rattle.migrate_queries.specs.Script.{fill, work, migration}
 
 -- ---- statements one after the other
@@ -37,10 +34,10 @@ nested kept go f None = refl
 nested kept go f (Some n) = refl
 
 -- the end of a transaction
-abbrev closed : Fails → Cast → State → State → Outcome
+abbrev pub closed : Fails → Cast → State → State → Outcome
 closed fails cast kept last = unless_error kept (λ n. ended n) (tried fails cast commit last)
 
-run_steps : (fails : Fails) (cast : Cast) (xs : List Statement) (kept state : State) → NoCommit xs
+pub run_steps : (fails : Fails) (cast : Cast) (xs : List Statement) (kept state : State) → NoCommit xs
     → run fails cast (xs ++ commit ∷ []) true kept state ≡ unless_error kept (closed fails cast kept) (steps fails cast xs state)
 run_steps fails cast [] kept state plain = refl
 run_steps fails cast (x ∷ xs) kept state plain =
@@ -121,21 +118,15 @@ no_commit_after : (xs ys : List Statement) → NoCommit xs → NoCommit ys → N
 no_commit_after [] ys first second = second
 no_commit_after (x ∷ xs) ys first second = (first.0, no_commit_after xs ys first.1 second)
 
-no_commit_remarks : (key : Attributes) (known : Bool) → NoCommit (remarks_made key known)
-no_commit_remarks key known = elim (cases_Bool (is_empty key)) [
-  | inl empty ↦ rw empty (refl, tt)
-  | inr other ↦ elim (cases_Bool known) [
-    | inl is ↦ rw (other, is) tt
-    | inr beyond ↦ rw (other, beyond) (refl, tt)
-  ]
-]
+no_commit_remarks : (words : List (List ℕ)) → NoCommit (map remark words)
+no_commit_remarks [] = tt
+no_commit_remarks (first ∷ words) = (refl, no_commit_remarks words)
 
 no_commit_tables : (s : Schema) (tables made : List TableDesign) → NoCommit (tables_made s tables made)
 no_commit_tables s tables [] = tt
 no_commit_tables s tables (table ∷ made) =
     no_commit_after (table_made s tables table) (tables_made s tables made)
-    (no_commit_after (remarks_made (attributes table.key) (is_some table.other_keys)) _
-    (no_commit_remarks (attributes table.key) (is_some table.other_keys)) (refl, tt))
+    (no_commit_after (remarks_made s table) _ (no_commit_remarks (said_of s table)) (refl, tt))
     (no_commit_tables s tables made)
 
 no_commit_fills : (s : Schema) (tables : List TableDesign) → NoCommit (map (fill s) tables)
@@ -143,7 +134,7 @@ unfolding fill
 no_commit_fills s [] = tt
 no_commit_fills s (table ∷ tables) = (refl, no_commit_fills s tables)
 
-no_commit_work : (s : Schema) (name : List ℕ) (tables : List TableDesign) → NoCommit (work s name tables)
+pub no_commit_work : (s : Schema) (name : List ℕ) (tables : List TableDesign) → NoCommit (work s name tables)
 no_commit_work s name tables = (
   refl,
   no_commit_after (tables_made s tables tables) _ (no_commit_tables s tables tables)

@@ -1,14 +1,12 @@
 -- What single statements of the script leave, where none is an error.
 use Rattle.std.proofs.Common.{◌≡◌, ℕ, Bool, true, false, not, List, [], ◌∷◌, ◌++◌, length, map, Some, None, Option, refl, sym, ap, subst, ◌∙◌, inl, inr, ⊎_elim, arith}
 use Rattle.std.proofs.lemmas.Bool.{cases_Bool, true≢false}
-use Rattle.std.specs.Prelude.{Contains, codes, ◌==◌, if◌then◌else◌, option_map, option_and_then, is_some}
+use Rattle.std.specs.Prelude.{Contains, ◌==◌, if◌then◌else◌, option_map, option_and_then, is_some}
 use Rattle.std.specs.List.{flat_map}
 use Rattle.std.specs.Str.{bytes_eq}
-use Rattle.attr_sets.specs.Attributes.{Attributes}
 use Rattle.attr_sets.specs.Sets.{attributes}
 use Rattle.dep_model.specs.declared.schema.Schema.{Schema}
 use Rattle.dep_model.proofs.ListLemmas.{Contains-head, Contains-later, Contains-cases}
-use Rattle.ddl_text.specs.Ddl.{is_empty}
 use Rattle.ddl_text.specs.declared.table.TableDesign.{TableDesign}
 use Rattle.sql_names.specs.Names.{quoted_name}
 use Rattle.sql_syntax.specs.Syntax.{Query}
@@ -19,7 +17,7 @@ use Rattle.sql_evaluation.specs.Running.{Held, table, view, State, Cast, Fails, 
 use Rattle.check_laws.proofs.ColumnLemmas.{bytes_same, bytes_self}
 use Rattle.check_laws.proofs.RowLemmas.{none_is_not_some, some_is}
 use Rattle.migrate_queries.specs.Moving.{attribute_names}
-use Rattle.migrate_queries.specs.Created.{elements_made, remarks_made, table_made, tables_made}
+use Rattle.migrate_queries.specs.Created.{elements_made, said_of, remarks_made, table_made, tables_made}
 use Rattle.migrate_queries.specs.Script.{fill, fill_query}
 use Rattle.migrate_laws.proofs.RunLemmas.{steps}
 
@@ -103,21 +101,13 @@ pub record AreCreated (state next : State) (made : List TableDesign) : Type 0 wh
   pub free : (t : TableDesign) → Contains made t → state (quoted_name t.name) ≡ None
   pub apart : Apart made
 
-one_remark : (fails : Fails) (cast : Cast) (words : List ℕ) (state next : State) → steps fails cast (remark words ∷ []) state ≡ Some next → state ≡ next
-one_remark fails cast words state next e =
-    let first = bind_some (steps fails cast []) (tried fails cast (remark words) state) next e in
-    some_is state first.0 (was_done fails cast (remark words) state first.0 first.1) ∙ some_is first.0 next first.2
-
-remarks_pass : (fails : Fails) (cast : Cast) (key : Attributes) (known : Bool) (state next : State)
-    → steps fails cast (remarks_made key known) state ≡ Some next → state ≡ next
-remarks_pass fails cast key known state next e = by_key (is_empty key) known e
-  where
-    by_key : (empty listed : Bool)
-        → steps fails cast (if empty then remark (codes "at most one row") ∷ [] else if listed then [] else remark (codes "further keys are not looked for") ∷ []) state
-        ≡ Some next → state ≡ next
-    by_key true listed e' = one_remark fails cast (codes "at most one row") state next e'
-    by_key false true e' = some_is state next e'
-    by_key false false e' = one_remark fails cast (codes "further keys are not looked for") state next e'
+remarks_pass : (fails : Fails) (cast : Cast) (words : List (List ℕ)) (state next : State)
+    → steps fails cast (map remark words) state ≡ Some next → state ≡ next
+remarks_pass fails cast [] state next e = some_is state next e
+remarks_pass fails cast (one ∷ words) state next e =
+    let first = bind_some (steps fails cast (map remark words)) (tried fails cast (remark one) state) next e in
+    some_is state first.0 (was_done fails cast (remark one) state first.0 first.1)
+    ∙ remarks_pass fails cast words first.0 next first.2
 
 table_created : (fails : Fails) (cast : Cast) (s : Schema) (tables : List TableDesign) (t : TableDesign) (state next : State)
     → steps fails cast (table_made s tables t) state ≡ Some next
@@ -125,8 +115,8 @@ table_created : (fails : Fails) (cast : Cast) (s : Schema) (tables : List TableD
     × (next ≡ with_name (quoted_name t.name) (Some (table false (record { names = column_names (elements_made s tables t); rows = [] }))) state)
 table_created fails cast s tables t state next e =
     let create = create_table (quoted_name t.name) (elements_made s tables t) in
-    let parts = steps_after fails cast (remarks_made (attributes t.key) (is_some t.other_keys)) (create ∷ []) state next e in
-    let same = remarks_pass fails cast (attributes t.key) (is_some t.other_keys) state parts.0 parts.1 in
+    let parts = steps_after fails cast (remarks_made s t) (create ∷ []) state next e in
+    let same = remarks_pass fails cast (said_of s t) state parts.0 parts.1 in
     let here = subst (λ (z : State). steps fails cast (create ∷ []) z ≡ Some next) (sym same) parts.2 in
     let first = bind_some (steps fails cast []) (tried fails cast create state) next here in
     let found = was_made (quoted_name t.name) (table false (record { names = column_names (elements_made s tables t); rows = [] })) state first.0

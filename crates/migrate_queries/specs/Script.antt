@@ -19,13 +19,13 @@ use Rattle.migrate_queries.specs.ViewOrder.{view_order}
 -- ---- names
 -- of the copy of the user's table, of the view, and of the table of the test
 abbrev pub copy_name : List ℕ
-copy_name = quoted_name (codes "t0")
+copy_name = codes "\"t0\""
 
 abbrev pub view_name : List ℕ
-view_name = quoted_name (codes "joined")
+view_name = codes "\"joined\""
 
 abbrev pub test_name : List ℕ
-test_name = quoted_name (codes "t00")
+test_name = codes "\"t00\""
 
 -- ---- tables
 -- the user's table, as it is compared
@@ -97,7 +97,8 @@ testing s =
 abbrev pub work : Schema → List ℕ → List TableDesign → List Statement
 work s table tables =
     create_from copy_name (copy_query s table)
-    ∷ (tables_made s tables tables ++ (map (fill s) tables ++ (create_view view_name (view_query s tables) ∷ testing s)))
+    ∷ (tables_made s tables tables
+    ++ (map (fill s) tables ++ (create_view view_name (view_query s tables) ∷ testing s)))
 
 abbrev pub migration : Schema → List ℕ → List TableDesign → List Statement
 migration s table tables =

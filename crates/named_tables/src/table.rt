@@ -11,6 +11,8 @@ pub struct HeldTable {
     pub name: Name,
     /// The names of its columns.
     pub columns: Vec<Name>,
+    /// Whether a value of each column may be missing, as the empty text is there.
+    pub nullable: Vec<bool>,
     /// Its rows, with a value for each column.
     pub rows: Rows,
 }
@@ -21,6 +23,8 @@ pub struct ChosenTable {
     pub name: Name,
     /// The names of its columns.
     pub columns: Vec<Name>,
+    /// Whether a value of each column may be missing, as the empty text is there.
+    pub nullable: Vec<bool>,
     /// The attributes of its columns.
     pub scheme: AttrSet,
     /// The numbers of the rows that are chosen, counted from 0.

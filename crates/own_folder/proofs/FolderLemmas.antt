@@ -1,5 +1,5 @@
 -- What the calls of a folder do to its finished files, and to the open one.
-use Rattle.std.proofs.Common.{◌≡◌, ℕ, ◌+◌, ◌<◌, ◌≤◌, List, [], ◌∷◌, ◌++◌, length, map, take, get_or, Option, None, Some, option_map, refl, sym, ap, subst, ◌∙◌}
+use Rattle.std.proofs.Common.{◌≡◌, ℕ, ◌+◌, ◌<◌, ◌≤◌, Bool, true, false, IsTrue, List, [], ◌∷◌, ◌++◌, length, map, take, get_or, Option, None, Some, option_map, refl, sym, ap, subst, ◌∙◌}
 use Rattle.std.specs.List.{flat_map}
 use Rattle.std.proofs.lemmas.List.{flat_map_more, take_all, take_more}
 use Rattle.desk_outside.proofs.FolderFacts.{with_bytes-append}
@@ -9,6 +9,7 @@ use Rattle.dep_model.specs.Tuples.{Tuple}
 use Rattle.destinations.specs.Formats.{row_line}
 use Rattle.destinations.specs.declared.format.TableFormat.{TableFormat}
 use Rattle.own_folder.specs.OwnWriting.{finished_in, with_stored}
+use Rattle.own_folder.specs.Places.{is_answer}
 
 pub closed_kept : (known : Option FolderContents) → finished_in (option_map with_none_open known) ≡ finished_in known
 closed_kept None = refl
@@ -23,12 +24,12 @@ pub closed_by : (before after : Option FolderContents) → after ≡ option_map 
 closed_by before after closed = ap finished_in closed ∙ closed_kept before
 
 -- the line of a row
-pub row_put : (before after : Option FolderContents) (format : TableFormat) (front : List ℕ) (row values : Tuple) (bytes : List ℕ) → values ≡ row
-    → bytes ≡ row_line format front values → after ≡ option_map (with_bytes bytes) before
-    → after ≡ option_map (with_bytes (row_line format front row)) before
-row_put before after format front row values bytes are is written =
+pub row_put : (before after : Option FolderContents) (format : TableFormat) (front : List ℕ) (nullable : List Bool)
+    (row values : Tuple) (bytes : List ℕ) → values ≡ row → bytes ≡ row_line format front nullable values → after ≡ option_map (with_bytes bytes) before
+    → after ≡ option_map (with_bytes (row_line format front nullable row)) before
+row_put before after format front nullable row values bytes are is written =
     written
-    ∙ ap (λ (text : List ℕ). option_map (with_bytes text) before) (is ∙ ap (λ (vs : Tuple). row_line format front vs) are)
+    ∙ ap (λ (text : List ℕ). option_map (with_bytes text) before) (is ∙ ap (λ (vs : Tuple). row_line format front nullable vs) are)
 
 -- the elements of a list that is lent
 pub within_lent : {X : Type 0} (lent xs : List X) (i : ℕ) → lent ≡ xs → i < length lent → i < length xs
@@ -117,3 +118,8 @@ pub ruleset file_steps = (stored_in_two, stored_in_four, gone_closed, gone_after
 
 -- ---- what the writing of a row needs
 pub ruleset row_steps = (row_put, closed_by)
+
+-- what was found is an answer of a look
+pub true_answer : (free : Bool) → IsTrue (is_answer free free)
+true_answer true = refl
+true_answer false = refl

@@ -1,4 +1,4 @@
-ghost use Rattle.std.specs.Prelude.{◌≡◌, ℕ, List, Bool};
+ghost use Rattle.std.specs.Prelude.{◌≡◌, ℕ, List, Bool, IsTrue};
 ghost use Rattle.desk_outside.specs.Causes.{HasOutsideCause};
 ghost use Rattle.desk_outside.specs.Folders.{BeginsName};
 
@@ -7,7 +7,7 @@ use desk_outside::OutsideFault;
 /// A place in which folders can be made.
 pub trait FolderMaker: Drop {
     /// Whether a look at this name may be answered so.
-    ghost may_be_free: { Self → List ℕ → Bool → Type 0 };
+    ghost may_be_free: { Self → List ℕ → Bool → Bool };
 
     /// The names of the folders that were to be made, in order.
     ghost made: { Self → List (List ℕ) };
@@ -17,7 +17,7 @@ pub trait FolderMaker: Drop {
 
     /// Whether nothing has this name, or only an empty folder. What cannot be looked at is not free.
     fn is_free(&self, name: &[u8]) -> bool
-        ensures free { may_be_free self.now name.now result };
+        ensures free { IsTrue (may_be_free self.now name.now result) };
 
     /// Makes a folder of this name, unless an empty one is there.
     fn make(&mut self, name: &[u8]) -> Result<(), OutsideFault>

@@ -3,7 +3,7 @@ ghost use Rattle.std.specs.List.{list_any};
 ghost use Rattle.desk_outside.specs.Causes.{HasOutsideCause, is_failed};
 ghost use Rattle.desk_outside.specs.Folders.{BeginsName};
 ghost use Rattle.desk_outside.specs.Planned.{FailsNext, CountsCall};
-ghost use Rattle.own_folder.specs.Places.{is_below, is_free_among, is_taken_by, new_place};
+ghost use Rattle.own_folder.specs.Places.{is_answer, is_below, is_free_among, is_taken_by, new_place};
 
 use crate::maker::FolderMaker;
 use desk_outside::{Argument, OutsideFault, PlannedFaults};
@@ -69,7 +69,7 @@ fn is_below(path: &[u8], name: &[u8]) -> bool
 }
 
 impl FolderMaker for MemoryFolders {
-    ghost may_be_free = { λ place name free. free ≡ is_free_among name place.files };
+    ghost may_be_free = { λ place name free. is_answer (is_free_among name place.files) free };
 
     ghost made = { λ place. place.made };
 

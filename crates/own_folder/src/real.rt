@@ -1,4 +1,4 @@
-ghost use Rattle.std.specs.Prelude.{◌≡◌, [], ⊤};
+ghost use Rattle.std.specs.Prelude.{◌≡◌, [], true};
 
 use crate::maker::FolderMaker;
 use desk_outside::{Argument, OutsideFault};
@@ -61,7 +61,7 @@ fn is_made<R: Files + Alloc + Clone + Drop>(rt: &R, name: &[u8]) -> bool {
 }
 
 impl<R: Files + Alloc + Clone + Drop> FolderMaker for RealFolders<R> {
-    ghost may_be_free = { λ _ _ _. ⊤ };
+    ghost may_be_free = { λ _ _ _. true };
 
     ghost made = { λ place. place.made.items };
 

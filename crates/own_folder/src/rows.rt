@@ -2,16 +2,12 @@
 
 ghost use Rattle.std.specs.Prelude.{◌≡◌, ◌<◌, length, map, option_map, is_ok, IsTrue, OnOk, OnErr};
 ghost use Rattle.std.specs.List.{flat_map};
-ghost use Rattle.attr_sets.specs.Sets.{attributes};
-ghost use Rattle.dep_model.specs.Projections.{project_tuple};
 ghost use Rattle.desk_outside.specs.Causes.{HasOutsideCause};
 ghost use Rattle.desk_outside.specs.Folders.{with_bytes};
 ghost use Rattle.destinations.specs.Formats.{row_line};
 ghost use Rattle.named_tables.specs.Choices.{HasRows, chosen_row};
 ghost use Rattle.own_folder.specs.OwnWriting.{finished_in};
-ghost use Rattle.row_store.specs.Rows.{row_at};
 
-use attr_sets::AttrSet;
 use desk_outside::{Folder, OutsideFault, write_all};
 use destinations::{TableFormat, add_line};
 use named_tables::ChosenTable;
@@ -39,7 +35,7 @@ pub fn put_rows<F: Folder>(
     requires even { HasRows rows.now table.now }
     ensures format { lines.new.format ≡ lines.old.format }
     ensures ok { OnOk result (F.contents folder.new ≡ option_map
-        (with_bytes (flat_map (row_line lines.old.format front.now)
+        (with_bytes (flat_map (row_line lines.old.format front.now table.now.nullable.items)
         (map (chosen_row rows.now table.now) table.now.chosen.items)))
         (F.contents folder.old)) }
     ensures is_open { OnOk result (IsTrue (F.is_open folder.new)) }
@@ -48,7 +44,7 @@ pub fn put_rows<F: Folder>(
     ensures cause { HasOutsideCause (F.faults folder.old) (F.faults folder.new) result }
 {
     for row in &table.chosen {
-        put_row(folder, lines, front, rows, *row as usize, table.scheme)?;
+        put_row(folder, lines, front, rows, *row as usize, table)?;
     }
     Ok(())
 }
@@ -61,26 +57,28 @@ fn put_row<F: Folder>(
     front: &[u8],
     rows: &Rows,
     row: usize,
-    scheme: AttrSet,
+    table: &ChosenTable,
 ) -> Result<(), OutsideFault>
     requires is_open { IsTrue (F.is_open folder.old) }
     requires row { row < length rows.now }
     ensures format { lines.new.format ≡ lines.old.format }
     ensures ok { OnOk result (F.contents folder.new ≡ option_map
-        (with_bytes (row_line lines.old.format front.now (project_tuple (attributes scheme) (row_at rows.now row))))
+        (with_bytes (row_line lines.old.format front.now table.now.nullable.items
+        (chosen_row rows.now table.now row)))
         (F.contents folder.old)) }
     ensures is_open { OnOk result (IsTrue (F.is_open folder.new)) }
     ensures kept { OnErr result (finished_in (F.contents folder.new) ≡ finished_in (F.contents folder.old)) }
     ensures same { F.begun folder.new ≡ F.begun folder.old }
     ensures cause { HasOutsideCause (F.faults folder.old) (F.faults folder.new) result }
 {
-    project_row(&mut lines.values, scheme, rows, row)?;
+    project_row(&mut lines.values, table.scheme, rows, row)?;
     lines.line.clear();
     add_line(
         lines.alloc,
         &mut lines.line,
         lines.format,
         front,
+        &table.nullable,
         &lines.values,
     )?;
     write_all(folder, &lines.line)

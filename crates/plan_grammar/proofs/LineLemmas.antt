@@ -4,6 +4,7 @@ use Rattle.std.specs.Prelude.{nat_le}
 use Rattle.std.proofs.lemmas.Bool.{true≢false, leb-true, leb-false}
 use Rattle.std.proofs.lemmas.List.{append-nil, length_push}
 use Rattle.attr_sets.specs.Attributes.{Attributes, none}
+use Rattle.dep_model.specs.declared.naming.Naming.{Naming}
 use Rattle.lexer.specs.Modes as mode
 use Rattle.lexer.specs.declared.token.LexError.{LexError}
 use Rattle.lexer.specs.Tokens.{Mark, lex}
@@ -129,37 +130,37 @@ line_fits names line schemes (m ∷ ms) stop =
 
 -- ---- all lines
 -- the lines mean the schemes that they add
-pub record AreRead (names : List (List ℕ)) (schemes : List Attributes) (lines : List (List ℕ)) (whole : List Attributes) : Type 0 where
+pub record AreRead (naming : Naming) (names : List (List ℕ)) (schemes : List Attributes) (lines : List (List ℕ)) (whole : List Attributes) : Type 0 where
   pub others : List Attributes
-  pub means : MeansSchemeLines names lines others
+  pub means : MeansSchemeLines naming names lines others
   pub added : whole ≡ schemes ++ others
   pub within_limit : length schemes ≤ MOST_SCHEMES → length whole ≤ MOST_SCHEMES
 
-abbrev pub LinesFit : List (List ℕ) → ℕ → List Attributes → List (List ℕ) → Result (List Attributes) PlanRefusal → Type 0
-LinesFit names number schemes lines (Ok whole) = AreRead names schemes lines whole
-LinesFit names number schemes lines (Err e) = RefusesSchemeLines names number (length schemes) lines e
+abbrev pub LinesFit : Naming → List (List ℕ) → ℕ → List Attributes → List (List ℕ) → Result (List Attributes) PlanRefusal → Type 0
+LinesFit naming names number schemes lines (Ok whole) = AreRead naming names schemes lines whole
+LinesFit naming names number schemes lines (Err e) = RefusesSchemeLines naming names number (length schemes) lines e
 
-lines_after : (names : List (List ℕ)) (number : ℕ) (schemes : List Attributes) (line : List ℕ) (lines : List (List ℕ)) (more : List Attributes) (r : Result (List Attributes) PlanRefusal)
-    → IsRead names schemes (lex mode.plain line).marks (lex mode.plain line).stop more → LinesFit names (number + 1) more lines r → LinesFit names number schemes (line ∷ lines) r
-lines_after names number schemes line lines more (Ok whole) read fit =
+lines_after : (naming : Naming) (names : List (List ℕ)) (number : ℕ) (schemes : List Attributes) (line : List ℕ) (lines : List (List ℕ)) (more : List Attributes) (r : Result (List Attributes) PlanRefusal)
+    → IsRead names schemes (lex (mode.plain naming) line).marks (lex (mode.plain naming) line).stop more → LinesFit naming names (number + 1) more lines r → LinesFit naming names number schemes (line ∷ lines) r
+lines_after naming names number schemes line lines more (Ok whole) read fit =
     ⊎_elim
     (λ blank. record {
       others = fit.others;
-      means = inl (has_tokens (lex mode.plain line) [] blank.0 read.ended, fit.means);
+      means = inl (has_tokens (lex (mode.plain naming) line) [] blank.0 read.ended, fit.means);
       added = fit.added ∙ ap (λ (xs : List Attributes). xs ++ fit.others) blank.1;
       within_limit = λ within_limit. fit.within_limit (subst (λ (xs : List Attributes). length xs ≤ MOST_SCHEMES) (sym blank.1) within_limit);
     })
     (λ adds. record {
       others = adds.x ∷ fit.others;
-      means = inr (adds.x, fit.others, record { marks = (lex mode.plain line).marks; tokens = has_tokens (lex mode.plain line) (lex mode.plain line).marks refl read.ended; scheme = adds.scheme }, fit.means, refl);
+      means = inr (adds.x, fit.others, record { marks = (lex (mode.plain naming) line).marks; tokens = has_tokens (lex (mode.plain naming) line) (lex (mode.plain naming) line).marks refl read.ended; scheme = adds.scheme }, fit.means, refl);
       added = fit.added ∙ ap (λ (xs : List Attributes). xs ++ fit.others) adds.added ∙ append_assoc schemes (adds.x ∷ []) fit.others;
       within_limit = λ within_limit. fit.within_limit (subst (λ (xs : List Attributes). length xs ≤ MOST_SCHEMES) (sym adds.added) (omega (arith, length_push schemes adds.x, adds.room)));
     })
     read.adds
-lines_after names number schemes line lines more (Err e) read fit =
-    inr (read.fine, subst (λ (n : ℕ). RefusesSchemeLines names (number + 1) n lines e) count fit)
+lines_after naming names number schemes line lines more (Err e) read fit =
+    inr (read.fine, subst (λ (n : ℕ). RefusesSchemeLines naming names (number + 1) n lines e) count fit)
   where
-    count : length more ≡ length schemes + scheme_count (lex mode.plain line).marks
+    count : length more ≡ length schemes + scheme_count (lex (mode.plain naming) line).marks
     count = ⊎_elim
         (λ blank. ap (λ (xs : List Attributes). length xs) blank.1 ∙ sym (ap (λ (ms : List Mark). length schemes + scheme_count ms) blank.0 ∙ zero_more (length schemes)))
         (λ adds. ap (λ (xs : List Attributes). length xs) adds.added ∙ length_push schemes adds.x ∙ ap (λ (n : ℕ). length schemes + n) (sym adds.one))
@@ -168,25 +169,25 @@ lines_after names number schemes line lines more (Err e) read fit =
         zero_more : (n : ℕ) → n + 0 ≡ n
         zero_more n = omega arith
 
-lines_join : (names : List (List ℕ)) (number : ℕ) (schemes : List Attributes) (line : List ℕ) (lines : List (List ℕ)) (r : Result (List Attributes) PlanRefusal)
-    → ((more : List Attributes) → LinesFit names (number + 1) more lines (read_scheme_lines names (number + 1) more lines))
-    → LineFits names number schemes (lex mode.plain line).marks (lex mode.plain line).stop r
-    → LinesFit names number schemes (line ∷ lines) (r >>= (λ more. read_scheme_lines names (number + 1) more lines))
-lines_join names number schemes line lines (Ok more) later fit = lines_after names number schemes line lines more (read_scheme_lines names (number + 1) more lines) fit (later more)
-lines_join names number schemes line lines (Err e) later fit = inl fit
+lines_join : (naming : Naming) (names : List (List ℕ)) (number : ℕ) (schemes : List Attributes) (line : List ℕ) (lines : List (List ℕ)) (r : Result (List Attributes) PlanRefusal)
+    → ((more : List Attributes) → LinesFit naming names (number + 1) more lines (read_scheme_lines naming names (number + 1) more lines))
+    → LineFits names number schemes (lex (mode.plain naming) line).marks (lex (mode.plain naming) line).stop r
+    → LinesFit naming names number schemes (line ∷ lines) (r >>= (λ more. read_scheme_lines naming names (number + 1) more lines))
+lines_join naming names number schemes line lines (Ok more) later fit = lines_after naming names number schemes line lines more (read_scheme_lines naming names (number + 1) more lines) fit (later more)
+lines_join naming names number schemes line lines (Err e) later fit = inl fit
 
-pub lines_fit : (names : List (List ℕ)) (number : ℕ) (schemes : List Attributes) (lines : List (List ℕ)) → LinesFit names number schemes lines (read_scheme_lines names number schemes lines)
+pub lines_fit : (naming : Naming) (names : List (List ℕ)) (number : ℕ) (schemes : List Attributes) (lines : List (List ℕ)) → LinesFit naming names number schemes lines (read_scheme_lines naming names number schemes lines)
 unfolding read_scheme_lines
-lines_fit names number schemes [] = record { others = []; means = refl; added = sym (append-nil schemes); within_limit = λ within_limit. within_limit }
-lines_fit names number schemes (line ∷ lines) =
-    lines_join names number schemes line lines (read_scheme_line names number schemes (lex mode.plain line).marks (lex mode.plain line).stop)
-    (λ more. lines_fit names (number + 1) more lines) (line_fits names number schemes (lex mode.plain line).marks (lex mode.plain line).stop)
+lines_fit naming names number schemes [] = record { others = []; means = refl; added = sym (append-nil schemes); within_limit = λ within_limit. within_limit }
+lines_fit naming names number schemes (line ∷ lines) =
+    lines_join naming names number schemes line lines (read_scheme_line names number schemes (lex (mode.plain naming) line).marks (lex (mode.plain naming) line).stop)
+    (λ more. lines_fit naming names (number + 1) more lines) (line_fits names number schemes (lex (mode.plain naming) line).marks (lex (mode.plain naming) line).stop)
 
 -- so what is read of a text is what its lines mean
-pub read_means : (names : List (List ℕ)) (lines : List (List ℕ)) (whole : List Attributes) → read_scheme_lines names 1 [] lines ≡ Ok whole → MeansSchemeLines names lines whole × (length whole ≤ MOST_SCHEMES)
-read_means names lines whole is =
-    let fit : AreRead names [] lines whole = subst (λ (r : Result (List Attributes) PlanRefusal). LinesFit names 1 [] lines r) is (lines_fit names 1 [] lines) in
-    (subst (λ (xs : List Attributes). MeansSchemeLines names lines xs) (sym fit.added) fit.means, fit.within_limit (omega arith))
+pub read_means : (naming : Naming) (names : List (List ℕ)) (lines : List (List ℕ)) (whole : List Attributes) → read_scheme_lines naming names 1 [] lines ≡ Ok whole → MeansSchemeLines naming names lines whole × (length whole ≤ MOST_SCHEMES)
+read_means naming names lines whole is =
+    let fit : AreRead naming names [] lines whole = subst (λ (r : Result (List Attributes) PlanRefusal). LinesFit naming names 1 [] lines r) is (lines_fit naming names 1 [] lines) in
+    (subst (λ (xs : List Attributes). MeansSchemeLines naming names lines xs) (sym fit.added) fit.means, fit.within_limit (omega arith))
 
-pub refused_refuses : (names : List (List ℕ)) (lines : List (List ℕ)) (e : PlanRefusal) → read_scheme_lines names 1 [] lines ≡ Err e → RefusesSchemeLines names 1 0 lines e
-refused_refuses names lines e is = subst (λ (r : Result (List Attributes) PlanRefusal). LinesFit names 1 [] lines r) is (lines_fit names 1 [] lines)
+pub refused_refuses : (naming : Naming) (names : List (List ℕ)) (lines : List (List ℕ)) (e : PlanRefusal) → read_scheme_lines naming names 1 [] lines ≡ Err e → RefusesSchemeLines naming names 1 0 lines e
+refused_refuses naming names lines e is = subst (λ (r : Result (List Attributes) PlanRefusal). LinesFit naming names 1 [] lines r) is (lines_fit naming names 1 [] lines)

@@ -3,6 +3,7 @@
 use Rattle.std.specs.Prelude.{◌≡◌, ◌≤◌, ◌⊎◌, ℕ, ◌+◌, zero, suc, Bool, true, false, not, ◌&&◌, if◌then◌else◌, List, [], ◌∷◌, length, Option, Some, None}
 use Rattle.std.specs.List.{list_any}
 use Rattle.attr_sets.specs.Attributes.{Attributes, below, IsFirstFrom}
+use Rattle.dep_model.specs.declared.naming.Naming.{Naming}
 use Rattle.lexer.specs.Modes as mode
 use Rattle.lexer.specs.declared.token.LexError.{LexError}
 use Rattle.lexer.specs.declared.token.TokenKind.TheVariants as token
@@ -97,28 +98,28 @@ scheme_count [] = 0
 scheme_count (m ∷ ms) = 1
 
 -- lines, of which the first has this number, are refused by the first line with which something is wrong
-abbrev pub RefusesSchemeLines : List (List ℕ) → ℕ → ℕ → List (List ℕ) → PlanRefusal → Type 0
-RefusesSchemeLines names number earlier [] e = ⊥
-RefusesSchemeLines names number earlier (line ∷ lines) e =
-    RefusesLine names number earlier (lex mode.plain line).marks (lex mode.plain line).stop e
-    ⊎ (IsFine names earlier (lex mode.plain line).marks (lex mode.plain line).stop
-    × RefusesSchemeLines names (number + 1) (earlier + scheme_count (lex mode.plain line).marks) lines e)
+abbrev pub RefusesSchemeLines : Naming → List (List ℕ) → ℕ → ℕ → List (List ℕ) → PlanRefusal → Type 0
+RefusesSchemeLines naming names number earlier [] e = ⊥
+RefusesSchemeLines naming names number earlier (line ∷ lines) e =
+    RefusesLine names number earlier (lex (mode.plain naming) line).marks (lex (mode.plain naming) line).stop e
+    ⊎ (IsFine names earlier (lex (mode.plain naming) line).marks (lex (mode.plain naming) line).stop
+    × RefusesSchemeLines naming names (number + 1) (earlier + scheme_count (lex (mode.plain naming) line).marks) lines e)
 
 -- the attributes that are in no scheme
 abbrev pub uncovered_attributes : ℕ → List Attributes → Attributes
 uncovered_attributes n schemes k = below n k && not (list_any (λ scheme. scheme k) schemes)
 
 -- the lines mean schemes, and this is the first attribute that is in none
-pub record LeavesOut (names : List (List ℕ)) (lines : List (List ℕ)) (e : PlanRefusal) : Type 0 where
+pub record LeavesOut (naming : Naming) (names : List (List ℕ)) (lines : List (List ℕ)) (e : PlanRefusal) : Type 0 where
   pub schemes : List Attributes
-  pub means : MeansSchemeLines names lines schemes
+  pub means : MeansSchemeLines naming names lines schemes
   pub schemes_fit : length schemes ≤ MOST_SCHEMES
   pub attribute : ℕ
   pub least : IsFirstFrom (uncovered_attributes (length names) schemes) 0 attribute
   pub is : e ≡ plan.NotCovered attribute
 
 -- a plan text over declared names is refused so
-abbrev pub RefusesPlan : List (List ℕ) → List ℕ → PlanRefusal → Type 0
-RefusesPlan names text e =
-    RefusesSchemeLines names 1 0 (line_texts (without_mark text)) e
-    ⊎ LeavesOut names (line_texts (without_mark text)) e
+abbrev pub RefusesPlan : Naming → List (List ℕ) → List ℕ → PlanRefusal → Type 0
+RefusesPlan naming names text e =
+    RefusesSchemeLines naming names 1 0 (line_texts (without_mark text)) e
+    ⊎ LeavesOut naming names (line_texts (without_mark text)) e

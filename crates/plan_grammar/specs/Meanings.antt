@@ -4,6 +4,7 @@ use Rattle.std.specs.Prelude.{◌≡◌, ◌<◌, ◌≤◌, ◌⊎◌, ℕ, Boo
 use Rattle.std.specs.Str.{bytes_eq}
 use Rattle.attr_sets.specs.Attributes.{Attributes}
 use Rattle.dep_model.specs.Projections.{Covers}
+use Rattle.dep_model.specs.declared.naming.Naming.{Naming}
 use Rattle.lexer.specs.Modes as mode
 use Rattle.lexer.specs.declared.token.TokenKind.{TokenKind}
 use Rattle.lexer.specs.declared.token.TokenKind.TheVariants as token
@@ -35,21 +36,21 @@ pub record IsSchemeLine (names : List (List ℕ)) (ms : List Mark) (x : Attribut
   pub members : x ≡ attributes_of_words names words
 
 -- a line has the tokens of a scheme line
-pub record MeansScheme (names : List (List ℕ)) (line : List ℕ) (x : Attributes) : Type 0 where
+pub record MeansScheme (naming : Naming) (names : List (List ℕ)) (line : List ℕ) (x : Attributes) : Type 0 where
   pub marks : List Mark
-  pub tokens : HasTokens (lex mode.plain line) marks
+  pub tokens : HasTokens (lex (mode.plain naming) line) marks
   pub scheme : IsSchemeLine names marks x
 
 -- lines mean the schemes of their scheme lines, in order; the others have no tokens
-abbrev pub MeansSchemeLines : List (List ℕ) → List (List ℕ) → List Attributes → Type 0
-MeansSchemeLines names [] schemes = schemes ≡ []
-MeansSchemeLines names (line ∷ lines) schemes =
-    (HasTokens (lex mode.plain line) [] × MeansSchemeLines names lines schemes)
-    ⊎ ((x : Attributes) × (others : List Attributes) × MeansScheme names line x × MeansSchemeLines names lines others
+abbrev pub MeansSchemeLines : Naming → List (List ℕ) → List (List ℕ) → List Attributes → Type 0
+MeansSchemeLines naming names [] schemes = schemes ≡ []
+MeansSchemeLines naming names (line ∷ lines) schemes =
+    (HasTokens (lex (mode.plain naming) line) [] × MeansSchemeLines naming names lines schemes)
+    ⊎ ((x : Attributes) × (others : List Attributes) × MeansScheme naming names line x × MeansSchemeLines naming names lines others
     × (schemes ≡ x ∷ others))
 
 -- a plan text over declared names means schemes
-pub record MeansPlan (names : List (List ℕ)) (text : List ℕ) (schemes : List Attributes) : Type 0 where
-  pub lines : MeansSchemeLines names (line_texts (without_mark text)) schemes
+pub record MeansPlan (naming : Naming) (names : List (List ℕ)) (text : List ℕ) (schemes : List Attributes) : Type 0 where
+  pub lines : MeansSchemeLines naming names (line_texts (without_mark text)) schemes
   pub schemes_fit : length schemes ≤ MOST_SCHEMES
   pub covers : Covers (length names) schemes

@@ -2,6 +2,7 @@
 -- meaning, and `Desk` does not cite it.
 use Rattle.std.specs.Prelude.{ℕ, ◌+◌, Bool, true, false, nat_le, if◌then◌else◌, List, [], ◌∷◌, ◌++◌, length, Option, Some, None, Result, Ok, Err}
 use Rattle.attr_sets.specs.Attributes.{Attributes, none, only, union}
+use Rattle.dep_model.specs.declared.naming.Naming.{Naming}
 use Rattle.lexer.specs.Modes as mode
 use Rattle.lexer.specs.declared.token.LexError.{LexError}
 use Rattle.lexer.specs.declared.token.TokenKind.{TokenKind}
@@ -79,9 +80,9 @@ read_scheme_line names line schemes (m ∷ ms) stop =
     >>= (λ x. Ok (schemes ++ x ∷ []))
 
 -- the schemes of lines, of which the first has this number, after other schemes
-unfoldable pub read_scheme_lines : List (List ℕ) → ℕ → List Attributes → List (List ℕ)
+unfoldable pub read_scheme_lines : Naming → List (List ℕ) → ℕ → List Attributes → List (List ℕ)
     → Result (List Attributes) PlanRefusal
-read_scheme_lines names number schemes [] = Ok schemes
-read_scheme_lines names number schemes (line ∷ lines) =
-    read_scheme_line names number schemes (lex mode.plain line).marks (lex mode.plain line).stop
-    >>= (λ more. read_scheme_lines names (number + 1) more lines)
+read_scheme_lines naming names number schemes [] = Ok schemes
+read_scheme_lines naming names number schemes (line ∷ lines) =
+    read_scheme_line names number schemes (lex (mode.plain naming) line).marks (lex (mode.plain naming) line).stop
+    >>= (λ more. read_scheme_lines naming names (number + 1) more lines)

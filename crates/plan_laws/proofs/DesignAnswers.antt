@@ -10,12 +10,13 @@ use Rattle.implication_laws.specs.OneAnswer.{AllowsOne}
 use Rattle.implication_laws.proofs.StepLaws.{same_says, Unless-one}
 use Rattle.desk_responses.specs.ResponseValues.{ResponseValue, Allowed}
 use Rattle.desk_responses.specs.declared.status.Status.TheVariants.{Yes}
-use Rattle.desk_designs.specs.Designs.{WritesTables, WritesForm, WritesSchemes, WritesPlan}
+use Rattle.desk_designs.specs.Designs.{WithoutMissing, WritesTables, WritesForm, WritesSchemes, WritesPlan}
 use Rattle.desk_designs.specs.Drawings.{DrawsTables, DrawsForm, DrawsSchemes}
 use Rattle.desk_designs.specs.Joins.{IsShownLossless, LossStops, WithoutLoss}
 use Rattle.desk_designs.specs.Scripts.{AsksTable, MakesSchemes, MakesTables, ScriptsCheck, ScriptsMigration, ScriptsMigrationByPlan, TableNameStops, WithTableName}
 use Rattle.desk_designs.specs.Decompositions.{WithPlanInForm}
 use Rattle.plan_laws.proofs.DesignTexts.{ddl_same, drawing_same}
+use Rattle.plan_laws.proofs.MissingAnswers.{one_without_missing, same_without_missing}
 use Rattle.plan_laws.proofs.ScriptTexts.{script_same}
 use Rattle.plan_laws.proofs.OneDesign.{one_sound_design}
 use Rattle.plan_laws.proofs.SplitAnswers.{one_in_form}
@@ -36,14 +37,18 @@ one_written s plan others one other at (tables, sound, says) (designs, also, sai
     (ddl_same s tables designs (one_sound_design s plan others tables designs at sound also))
 
 pub one_form_written : (s : Schema) (form : Form) → AllowsOne (WritesForm s form)
-one_form_written s form = one_in_form s form (WritesTables s) (one_written s)
+one_form_written s form =
+    one_in_form s form (λ plan. WithoutMissing s (schemes_of plan) (WritesTables s plan))
+    (same_without_missing s (WritesTables s) (one_written s))
 
 one_schemes_written : (s : Schema) (schemes : List Attributes) → AllowsOne (WritesSchemes s schemes)
 one_schemes_written s schemes one other (plan, is, written) (others, also, again) =
     one_written s plan others one other (is ∙ sym also) written again
 
 pub one_plan_written : (s : Schema) (schemes : List Attributes) → AllowsOne (WritesPlan s schemes)
-one_plan_written s schemes = one_without_loss s schemes (WritesSchemes s schemes) (one_schemes_written s schemes)
+one_plan_written s schemes =
+    one_without_missing s schemes (WithoutLoss s schemes (WritesSchemes s schemes))
+    (one_without_loss s schemes (WritesSchemes s schemes) (one_schemes_written s schemes))
 
 -- ---- `draw`
 one_drawn : (s : Schema) (plan others : List AttrSet) (one other : ResponseValue)
@@ -72,15 +77,17 @@ one_check_scripted s name =
 one_made : (s : Schema) (name : List ℕ) (plan others : List AttrSet) (one other : ResponseValue)
     → schemes_of plan ≡ schemes_of others → MakesTables s name plan one → MakesTables s name others other
     → one ≡ other
-one_made s name plan others one other at (tables, sound, script, says) (designs, also, second, said) =
+one_made s name plan others one other at (tables, sound, (script, says)) (designs, also, (second, said)) =
     same_says Yes _ _ one other says said
     (script_same s (quoted_table name) tables designs
     (one_sound_design s plan others tables designs at sound also))
 
 pub one_form_scripted : (s : Schema) (form : Form) (name : List ℕ) → AllowsOne (ScriptsMigration s form name)
 one_form_scripted s form name =
-    one_after_name name (WithPlanInForm s form (MakesTables s name))
-    (one_in_form s form (MakesTables s name) (one_made s name))
+    one_after_name name
+    (WithPlanInForm s form (λ plan. WithoutMissing s (schemes_of plan) (MakesTables s name plan)))
+    (one_in_form s form (λ plan. WithoutMissing s (schemes_of plan) (MakesTables s name plan))
+    (same_without_missing s (MakesTables s name) (one_made s name)))
 
 one_schemes_made : (s : Schema) (name : List ℕ) (schemes : List Attributes) → AllowsOne (MakesSchemes s name schemes)
 one_schemes_made s name schemes one other (plan, is, made) (others, also, again) =
@@ -89,5 +96,6 @@ one_schemes_made s name schemes one other (plan, is, made) (others, also, again)
 pub one_plan_scripted : (s : Schema) (schemes : List Attributes) (name : List ℕ)
     → AllowsOne (ScriptsMigrationByPlan s schemes name)
 one_plan_scripted s schemes name =
-    one_after_name name (WithoutLoss s schemes (MakesSchemes s name schemes))
-    (one_without_loss s schemes (MakesSchemes s name schemes) (one_schemes_made s name schemes))
+    one_after_name name (WithoutMissing s schemes (WithoutLoss s schemes (MakesSchemes s name schemes)))
+    (one_without_missing s schemes (WithoutLoss s schemes (MakesSchemes s name schemes))
+    (one_without_loss s schemes (MakesSchemes s name schemes) (one_schemes_made s name schemes)))

@@ -1,14 +1,17 @@
 -- What is printed of a design rests on the fields that make two designs the same.
-use Rattle.std.proofs.Common.{◌≡◌, ◌++◌, ℕ, zero, suc, List, [], ◌∷◌, map, refl, ap, ◌∙◌}
+use Rattle.std.proofs.Common.{◌≡◌, ◌++◌, ℕ, zero, suc, Bool, false, List, [], ◌∷◌, map, Option, None, Some, Vec, refl, sym, ap, ◌∙◌}
 use mathlib.Core.Path.{fun_ext}
-use Rattle.std.specs.Prelude.{slice_get, unwrap_or, option_map}
+use Rattle.std.specs.Prelude.{if◌then◌else◌, codes, is_some, slice_get, unwrap_or, option_map}
 use Rattle.std.specs.List.{flat_map}
+use Rattle.std.specs.declared.alloc.Global.{Global}
 use Rattle.attr_sets.specs.Attributes.{Attributes}
 use Rattle.attr_sets.specs.Sets.{attributes}
+use Rattle.attr_sets.specs.declared.set.AttrSet.{AttrSet}
 use Rattle.dep_model.specs.declared.schema.Schema.{Schema}
-use Rattle.ddl_text.specs.Ddl.{column_elements, ddl_text, elements, key_elements, keys_elements, unique_element, reference_element, reference_elements, table_text}
+use Rattle.ddl_text.specs.Ddl.{column_elements, comment, ddl_text, element_lines, elements, is_empty, key_comment, key_elements, keys_elements, left_out_lines, unique_elements, reference_element, reference_elements, table_text}
 use Rattle.ddl_text.specs.Designs.{known_keys}
 use Rattle.ddl_text.specs.declared.table.TableDesign.{TableDesign}
+use Rattle.sql_names.specs.Names.{quoted_name}
 use Rattle.table_drawing.specs.Drawing.{node_text, edge_text, edges_text, drawing_text}
 use Rattle.plan_laws.specs.SameDesigns.{IsSameTable, AreSameTables}
 
@@ -24,7 +27,7 @@ flat_same f g each (t ∷ ts) (u ∷ us) same =
     ∙ ap (λ (text : List ℕ). g u ++ text) (flat_same f g each ts us same.1)
 
 -- the text of the table at a position
-found_same : (f g : TableDesign → List ℕ) → ((t u : TableDesign) → IsSameTable t u → f t ≡ g u)
+pub found_same : (f g : TableDesign → List ℕ) → ((t u : TableDesign) → IsSameTable t u → f t ≡ g u)
     → (one other : List TableDesign) → AreSameTables one other → (j : ℕ)
     → unwrap_or (option_map f (slice_get one j)) [] ≡ unwrap_or (option_map g (slice_get other j)) []
 found_same f g each [] [] same j = refl
@@ -46,8 +49,30 @@ references_same s one other same refs =
 
 keys_same : (s : Schema) (t u : TableDesign) → IsSameTable t u → keys_elements s t ≡ keys_elements s u
 keys_same s t u alike =
-    ap (λ (x : Attributes). key_elements s x ++ map (unique_element s) (known_keys t.other_keys)) alike.key
-    ∙ ap (λ (keys : List Attributes). key_elements s (attributes u.key) ++ map (unique_element s) keys) alike.other_keys
+    ap (λ (x : Attributes). key_elements s x ++ unique_elements s (known_keys t.other_keys)) alike.key
+    ∙ ap (λ (keys : List Attributes). key_elements s (attributes u.key) ++ unique_elements s keys) alike.other_keys
+
+-- what is said of other keys rests on which are known, and on whether any are
+said_known : (s : Schema) (others : Option (Vec AttrSet Global))
+    → key_comment s others
+    ≡ (if is_some others then left_out_lines s (known_keys others) else codes "-- further keys are not looked for\n")
+said_known s None = refl
+said_known s (Some keys) = refl
+
+comment_same : (s : Schema) (t u : TableDesign) → IsSameTable t u → comment s t ≡ comment s u
+comment_same s t u alike =
+    ap (λ (others : List ℕ). if is_empty (attributes t.key) then codes "-- at most one row\n" else others)
+    (said_known s t.other_keys)
+    ∙ ap (λ (key : Attributes). said key (is_some t.other_keys) (known_keys t.other_keys)) alike.key
+    ∙ ap (λ (known : Bool). said (attributes u.key) known (known_keys t.other_keys)) alike.are_known
+    ∙ ap (λ (keys : List Attributes). said (attributes u.key) (is_some u.other_keys) keys) alike.other_keys
+    ∙ sym (ap (λ (others : List ℕ). if is_empty (attributes u.key) then codes "-- at most one row\n" else others)
+    (said_known s u.other_keys))
+  where
+    said : Attributes → Bool → List Attributes → List ℕ
+    said key known keys =
+        if is_empty key then codes "-- at most one row\n"
+        else if known then left_out_lines s keys else codes "-- further keys are not looked for\n"
 
 elements_same : (s : Schema) (one other : List TableDesign) → AreSameTables one other → (t u : TableDesign)
     → IsSameTable t u → elements s one t ≡ elements s other u
@@ -67,7 +92,13 @@ table_same : (s : Schema) (one other : List TableDesign) → AreSameTables one o
     → IsSameTable t u → table_text s one t ≡ table_text s other u
 unfolding table_text
 table_same s one other same t u alike =
-    simp (elements_same s one other same t u alike) (simp (alike.name, alike.key, alike.are_known))
+    ap (λ (elements : List (List ℕ)). written (comment s t) t.name elements) (elements_same s one other same t u alike)
+    ∙ ap (λ (name : List ℕ). written (comment s t) name (elements s other u)) alike.name
+    ∙ ap (λ (said : List ℕ). written said u.name (elements s other u)) (comment_same s t u alike)
+  where
+    written : List ℕ → List ℕ → List (List ℕ) → List ℕ
+    written said name elements =
+        said ++ codes "CREATE TABLE " ++ quoted_name name ++ codes " (\n" ++ element_lines false elements ++ codes "\n);\n"
 
 pub ddl_same : (s : Schema) (one other : List TableDesign) → AreSameTables one other
     → ddl_text s one ≡ ddl_text s other

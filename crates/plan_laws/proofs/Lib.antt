@@ -7,9 +7,11 @@ mod NameLaws
 pub mod OneDesign
 mod DesignTexts
 mod ScriptTexts
+mod MissingAnswers
 pub mod SplitAnswers
 pub mod DesignAnswers
 pub mod RowAnswers
 pub mod PlacedAnswers
+pub mod FolderAnswers
 pub mod SampleAnswers
 pub mod ReasonAnswers

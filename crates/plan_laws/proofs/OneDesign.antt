@@ -7,10 +7,11 @@ use Rattle.attr_sets.specs.Sets.{attributes, is_same}
 use Rattle.attr_sets.specs.declared.set.AttrSet.{AttrSet}
 use Rattle.attr_sets.specs.declared.set.TheConstants.{MOST_ATTRIBUTES}
 use Rattle.attr_sets.proofs.AttributesLemmas.{attributes_below}
-use Rattle.dep_model.specs.Keys.{IsGreedyKey}
 use Rattle.dep_model.specs.Plans.{schemes_of}
-use Rattle.dep_model.specs.Schemas.{width_of, theory_of}
+use Rattle.dep_model.specs.Schemas.{width_of, theory_of, nullable_of}
 use Rattle.dep_model.specs.declared.schema.Schema.{Schema}
+use Rattle.primary_keys.specs.PrimaryKeys.{IsPrimaryKey}
+use Rattle.primary_keys.proofs.PrimaryLemmas.{one_primary_below}
 use Rattle.ddl_text.specs.Designs.{RefersTo, without_key, AreListedBeside, IsBeyondListing, AreOtherKeys, known_keys, IsTableOf, IsDesign}
 use Rattle.ddl_text.specs.declared.table.TableDesign.{TableDesign}
 use Rattle.design_order.specs.Order.{IsInDesignOrder}
@@ -19,7 +20,7 @@ use Rattle.split_forms.proofs.StepLemmas.{cons-head, cons-tail}
 use Rattle.table_names.specs.TableNames.{table_name}
 use Rattle.check_laws.proofs.EachLemmas.{filter-map}
 use Rattle.implication_laws.proofs.OneAnswer.{all_or_many}
-use Rattle.implication_laws.proofs.OneKey.{one_keys, one_key_below}
+use Rattle.implication_laws.proofs.OneKey.{one_keys}
 use Rattle.implication_laws.proofs.OrderedLists.{HoldsAll, one_ordered_list}
 use Rattle.desk_designs.specs.Designs.{IsSoundDesign}
 use Rattle.plan_laws.specs.SameDesigns.{IsSameTable, AreSameTables}
@@ -35,7 +36,7 @@ table_back one other same = record {
   references = sym same.references;
 }
 
-tables_back : (one other : List TableDesign) → AreSameTables one other → AreSameTables other one
+pub tables_back : (one other : List TableDesign) → AreSameTables one other → AreSameTables other one
 tables_back [] [] same = tt
 tables_back [] (u ∷ us) same = absurd same
 tables_back (t ∷ ts) [] same = absurd same
@@ -55,7 +56,7 @@ as_many (t ∷ ts) [] same = absurd same
 as_many (t ∷ ts) (u ∷ us) same = ap (λ (k : ℕ). suc k) (as_many ts us same.1)
 
 -- what is said of the table at a position is said of the other there
-some_there : (P Q : TableDesign → Type 0) → ((t u : TableDesign) → IsSameTable t u → P t → Q u)
+pub some_there : (P Q : TableDesign → Type 0) → ((t u : TableDesign) → IsSameTable t u → P t → Q u)
     → (one other : List TableDesign) → AreSameTables one other → (j : ℕ) → IsSomeAnd (slice_get one j) P
     → IsSomeAnd (slice_get other j) Q
 some_there P Q moves [] [] same j has = absurd has
@@ -147,9 +148,10 @@ module _ (s : Schema) (earlier before : List TableDesign) (x y : AttrSet) (t u :
       ((second.refs.exactly j).0 has))
 
   same_key : attributes t.key ≡ attributes u.key
-  same_key = one_key_below MOST_ATTRIBUTES (width_of s) (theory_of s) (attributes x) (attributes t.key)
-      (attributes u.key) (attributes_below x) first.key
-      (subst (λ (z : Attributes). IsGreedyKey (width_of s) (theory_of s) z (attributes u.key)) (sym at) second.key)
+  same_key = one_primary_below MOST_ATTRIBUTES (width_of s) (theory_of s) (nullable_of s) (attributes x)
+      (attributes t.key) (attributes u.key) (attributes_below x) first.key
+      (subst (λ (z : Attributes). IsPrimaryKey (width_of s) (theory_of s) (nullable_of s) z (attributes u.key)) (sym at)
+      second.key)
 
   same_others : (known_keys t.other_keys ≡ known_keys u.other_keys) × (is_some t.other_keys ≡ is_some u.other_keys)
   same_others = one_list_beside s (attributes x) (attributes t.key) t.other_keys u.other_keys first.other_keys

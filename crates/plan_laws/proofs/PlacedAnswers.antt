@@ -8,9 +8,11 @@ use Rattle.dep_model.specs.declared.schema.Schema.{Schema}
 use Rattle.implication_laws.specs.OneAnswer.{AllowsOne}
 use Rattle.implication_laws.proofs.StepLaws.{Unless-one}
 use Rattle.normal_forms.specs.declared.forms.Form.{Form}
+use Rattle.desk_designs.specs.Designs.{WithoutMissing}
 use Rattle.desk_responses.specs.ResponseValues.{Allowed, ResponseValue}
 use Rattle.desk_tables.specs.Migrations.{MigratesPlan, MigratesRows}
 use Rattle.desk_tables.specs.Overwriting.{IsTableFile, KeepsFiles, MigratesHere, MigratesPlanHere, OverStops}
+use Rattle.plan_laws.proofs.MissingAnswers.{one_without_missing, same_without_missing}
 use Rattle.plan_laws.proofs.RowAnswers.{one_migrated, one_plan_migrated}
 use Rattle.plan_laws.proofs.SplitAnswers.{one_in_form}
 
@@ -38,10 +40,15 @@ same_here s files rows plan others one other at first second =
 pub one_form_placed : (s : Schema) (form : Form) (files : List (List ℕ)) (rows : Relation)
     → AllowsOne (MigratesHere s form files rows)
 one_form_placed s form files rows =
-    one_in_form s form (λ plan. KeepsFiles (length (schemes_of plan)) files (MigratesRows s (schemes_of plan) rows))
-    (same_here s files rows)
+    one_in_form s form
+    (λ plan. WithoutMissing s (schemes_of plan)
+    (KeepsFiles (length (schemes_of plan)) files (MigratesRows s (schemes_of plan) rows)))
+    (same_without_missing s
+    (λ plan. KeepsFiles (length (schemes_of plan)) files (MigratesRows s (schemes_of plan) rows))
+    (same_here s files rows))
 
 pub one_plan_placed : (s : Schema) (plan : List Attributes) (files : List (List ℕ)) (rows : Relation)
     → AllowsOne (MigratesPlanHere s plan files rows)
 one_plan_placed s plan files rows =
-    one_keeping (length plan) files (MigratesPlan s plan rows) (one_plan_migrated s plan rows)
+    one_without_missing s plan (KeepsFiles (length plan) files (MigratesPlan s plan rows))
+    (one_keeping (length plan) files (MigratesPlan s plan rows) (one_plan_migrated s plan rows))

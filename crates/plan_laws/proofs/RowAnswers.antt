@@ -6,13 +6,12 @@ use Rattle.attr_sets.specs.declared.set.AttrSet.{AttrSet}
 use Rattle.csv_migrate.specs.Migration.{tables_of_migration}
 use Rattle.csv_text.specs.Rows.{rows_text}
 use Rattle.dep_model.specs.Plans.{schemes_of}
-use Rattle.dep_model.specs.Schemas.{names_of, width_of, theory_of, LegalFor}
+use Rattle.dep_model.specs.Schemas.{names_of, width_of, theory_of, LegalFor, naming_of}
 use Rattle.dep_model.specs.Tuples.{Relation}
 use Rattle.dep_model.specs.declared.schema.Schema.{Schema}
 use Rattle.design_order.proofs.OrderLemmas.{one_order}
 use Rattle.legality.proofs.OffenceLaws.{one_list}
 use Rattle.named_tables.specs.Tables.{TableValue}
-use Rattle.normal_forms.specs.declared.forms.Form.{Form}
 use Rattle.table_join.specs.Answers.{IsFirstBeyond, IsFirstUncovered, RefusesJoin}
 use Rattle.table_join.specs.Tables.{PartialRelation, plan_of_tables}
 use Rattle.table_join.specs.declared.refusal.JoinRefusal.{JoinRefusal}
@@ -23,10 +22,10 @@ use Rattle.desk_responses.specs.ResponseValues.{ResponseValue, Allowed, Says, ye
 use Rattle.desk_responses.specs.declared.status.Status.TheVariants.{Yes, No, Refused}
 use Rattle.desk_tables.specs.declared.rejoining.TheConstants.{MOST_JOINED_ROWS}
 use Rattle.desk_tables.specs.Legality.{JudgesRows, OffenceStops, WithLegal, legal_text, offences_text}
-use Rattle.desk_tables.specs.Migrations.{AreTablesOf, GivesTables, Migrates, MigratesPlan, MigratesRows, migrated_text}
+use Rattle.desk_tables.specs.Migrations.{AreTablesOf, GivesTables, MigratesPlan, MigratesRows, migrated_text}
 use Rattle.desk_tables.specs.Rejoining.{IsJoinOf, JoinsTables, join_refusal_text}
 use Rattle.plan_laws.proofs.DesignAnswers.{one_without_loss}
-use Rattle.plan_laws.proofs.SplitAnswers.{one_in_form}
+use Rattle.schema_printer.specs.Spelling.{printed_names_of}
 
 -- ---- legal rows
 one_offence_stop : (s : Schema) (rows : Relation) → AllowsOne (OffenceStops s rows)
@@ -55,23 +54,19 @@ one_migration s plan rows tables others first second =
 one_given : (s : Schema) (plan : List Attributes) (rows : Relation) → AllowsOne (GivesTables s plan rows)
 one_given s plan rows one other (tables, are, says) (others, also, said) =
     says
-    ∙ ap (λ (ts : List TableValue). yes_with_tables (migrated_text rows ts) ts)
+    ∙ ap (λ (ts : List TableValue). yes_with_tables (migrated_text (naming_of s) rows ts) ts)
     (one_migration s plan rows tables others are also)
     ∙ sym said
 
 pub one_migrated : (s : Schema) (plan : List Attributes) (rows : Relation) → AllowsOne (MigratesRows s plan rows)
 one_migrated s plan rows = one_with_legal s rows (GivesTables s plan rows) (one_given s plan rows)
 
-same_migrated : (s : Schema) (rows : Relation) (plan others : List AttrSet) (one other : ResponseValue)
+pub same_migrated : (s : Schema) (rows : Relation) (plan others : List AttrSet) (one other : ResponseValue)
     → schemes_of plan ≡ schemes_of others → MigratesRows s (schemes_of plan) rows one
     → MigratesRows s (schemes_of others) rows other → one ≡ other
 same_migrated s rows plan others one other at first second =
     one_migrated s (schemes_of plan) rows one other first
     (subst (λ (schemes : List Attributes). MigratesRows s schemes rows other) (sym at) second)
-
-pub one_form_migrated : (s : Schema) (form : Form) (rows : Relation) → AllowsOne (Migrates s form rows)
-one_form_migrated s form rows =
-    one_in_form s form (λ plan. MigratesRows s (schemes_of plan) rows) (same_migrated s rows)
 
 pub one_plan_migrated : (s : Schema) (plan : List Attributes) (rows : Relation) → AllowsOne (MigratesPlan s plan rows)
 one_plan_migrated s plan rows = one_without_loss s plan (MigratesRows s plan rows) (one_migrated s plan rows)
@@ -130,5 +125,5 @@ one_rejoined s tables one other (inr (why, refused, says)) (inl (rows, is, said)
     absurd (join_goes s tables rows why is refused)
 one_rejoined s tables one other (inr (why, refused, says)) (inr (because, also, said)) =
     same_says Refused _ _ one other says said
-    (ap (join_refusal_text (names_of s))
+    (ap (join_refusal_text (printed_names_of s))
     (one_join_refusal (width_of s) MOST_JOINED_ROWS tables why because refused also))

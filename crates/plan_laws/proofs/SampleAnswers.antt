@@ -1,5 +1,6 @@
 -- `sample` has one answer, since two schemas of the sample have the same names and dependencies.
-use Rattle.std.proofs.Common.{◌≡◌, ◌+◌, ◌<◌, ◌^◌, ℕ, List, [], ◌∷◌, length, map, refl, sym, ap, subst, ◌∙◌, inl, inr}
+use Rattle.std.proofs.Common.{◌≡◌, ◌+◌, ◌<◌, ◌^◌, ℕ, Bool, List, [], ◌∷◌, length, map, refl, sym, ap, ap₂, subst, ◌∙◌, inl, inr}
+use mathlib.Core.Path.{fun_ext}
 use Rattle.std.specs.Prelude.{All}
 use Rattle.attr_sets.specs.Attributes.{Attributes}
 use Rattle.attr_sets.specs.declared.set.AttrSet.{AttrSet}
@@ -7,8 +8,8 @@ use Rattle.csv_migrate.specs.Migration.{tables_from, JoinIs}
 use Rattle.dep_model.specs.Dependencies.{Dependency}
 use Rattle.dep_model.specs.Implication.{IsLegal}
 use Rattle.dep_model.specs.Plans.{schemes_of}
-use Rattle.dep_model.specs.Projections.{ordered_projection, IsLossless}
-use Rattle.dep_model.specs.Schemas.{names_of, naming_of, width_of, theory_of, LegalFor}
+use Rattle.dep_model.specs.Projections.{members_below, ordered_projection, IsLossless}
+use Rattle.dep_model.specs.Schemas.{names_of, naming_of, nullable_of, width_of, theory_of, LegalFor}
 use Rattle.dep_model.specs.Tuples.{Relation}
 use Rattle.dep_model.specs.declared.naming.Naming.{Naming}
 use Rattle.dep_model.specs.declared.schema.Schema.{Schema}
@@ -27,10 +28,11 @@ use Rattle.implication_laws.specs.OneAnswer.{AllowsOne}
 use Rattle.desk_designs.specs.declared.decomposition.TheConstants.{MOST_SPLIT_SCHEMES}
 use Rattle.desk_designs.specs.Decompositions.{IsSplitInForm, SplitStops, WithPlanInForm}
 use Rattle.desk_responses.specs.Lines.{too_wide_text}
-use Rattle.desk_responses.specs.ResponseValues.{ResponseValue, text_only}
+use Rattle.desk_responses.specs.ResponseValues.{ResponseValue, RespondsWithTables, text_only}
 use Rattle.desk_responses.specs.declared.status.Status.TheVariants.{Refused}
-use Rattle.desk_tables.specs.Migrations.{GivesTables, IsSampleSchema, MigratesRows, Samples}
-use Rattle.plan_laws.proofs.RowAnswers.{one_form_migrated}
+use Rattle.desk_tables.specs.Migrations.{GivesTables, IsSampleSchema, MigratesRows, Samples, migrated_text}
+use Rattle.plan_laws.proofs.RowAnswers.{same_migrated}
+use Rattle.plan_laws.proofs.SplitAnswers.{one_in_form}
 
 -- ---- two schemas of the sample
 module _ (s t : Schema) (first : IsSampleSchema s) (second : IsSampleSchema t) where
@@ -67,18 +69,34 @@ module _ (s t : Schema) (first : IsSampleSchema s) (second : IsSampleSchema t) w
     in_form = moved (λ n ds. All (IsInForm n ds Fourth) (schemes_of plan)) is.in_form;
   }
 
-  abbrev made : ℕ → List (List ℕ) → Relation → TableValue
-  made number columns rows = record { name = table_name number; columns = columns; rows = rows }
+  abbrev made : ℕ → List (List ℕ) → List Bool → Relation → TableValue
+  made number columns nullable rows =
+      record { name = table_name number; columns = columns; nullable = nullable; rows = rows }
+
+  -- whether a value of each attribute of a scheme may be missing, by a width and a set
+  abbrev flags : ℕ → Attributes → Attributes → List Bool
+  flags n nullable scheme = map nullable (members_below n scheme)
+
+  -- a schema of bare names has no value that may be missing
+  same_nullable : nullable_of s ≡ nullable_of t
+  same_nullable = fun_ext (λ (k : ℕ).
+      (s.typed.bare first.bare).none_nullable k ∙ sym ((t.typed.bare second.bare).none_nullable k))
+
+  same_flags : (scheme : Attributes) → flags (width_of s) (nullable_of s) scheme ≡ flags (width_of t) (nullable_of t) scheme
+  same_flags scheme =
+      ap (λ (names : List (List ℕ)). flags (length names) (nullable_of s) scheme) same_names
+      ∙ ap (λ (nullable : Attributes). flags (width_of t) nullable scheme) same_nullable
 
   same_tables : (rows : Relation) (number : ℕ) (plan : List Attributes)
       → tables_from s rows number plan ≡ tables_from t rows number plan
   same_tables rows number [] = refl
   same_tables rows number (scheme ∷ plan) =
-      ap (λ (names : List (List ℕ)).
-      made number (members_from scheme 0 names) (ordered_projection scheme rows)
-      ∷ tables_from s rows (number + 1) plan) same_names
+      ap₂ (λ (names : List (List ℕ)) (nullable : List Bool).
+      made number (members_from scheme 0 names) nullable (ordered_projection scheme rows)
+      ∷ tables_from s rows (number + 1) plan) same_names (same_flags scheme)
       ∙ ap (λ (tables : List TableValue).
-      made number (members_from scheme 0 (names_of t)) (ordered_projection scheme rows) ∷ tables)
+      made number (members_from scheme 0 (names_of t)) (flags (width_of t) (nullable_of t) scheme)
+      (ordered_projection scheme rows) ∷ tables)
       (same_tables rows (number + 1) plan)
 
   given_moved : (plan : List Attributes) (rows : Relation) (response : ResponseValue)
@@ -91,7 +109,8 @@ module _ (s t : Schema) (first : IsSampleSchema s) (second : IsSampleSchema t) w
       projections = are.projections ∙ same_tables rows 1 are.ordered;
       joins = moved (λ n ds. JoinIs n are.ordered tables rows) are.joins;
     },
-    responds,
+    subst (λ (naming : Naming). RespondsWithTables (migrated_text naming rows tables) tables response)
+        (first.bare ∙ sym second.bare) responds,
   )
 
   legal : (persons : ℕ) → persons < 2 ^ 64 → LegalFor s (sample_relation persons)
@@ -120,5 +139,6 @@ module _ (s t : Schema) (first : IsSampleSchema s) (second : IsSampleSchema t) w
 -- ---- `sample`
 pub one_sampled : (persons : ℕ) → persons < 2 ^ 64 → AllowsOne (Samples persons)
 one_sampled persons short one other (s, is, first) (t, also, second) =
-    one_form_migrated t Fourth (sample_relation persons) one other
+    one_in_form t Fourth (λ plan. MigratesRows t (schemes_of plan) (sample_relation persons))
+    (same_migrated t (sample_relation persons)) one other
     (answer_moved s t is also persons short one first) second

@@ -3,11 +3,12 @@ use Rattle.std.proofs.Common.{◌≡◌, ℕ, zero, suc, Bool, true, false, not,
 use mathlib.Core.Path.{fun_ext}
 use Rattle.std.proofs.lemmas.List.{reverse-append}
 use Rattle.std.specs.Prelude.{if◌then◌else◌, reverse, is_some, codes}
-use Rattle.std.specs.List.{AllZip, flat_map}
+use Rattle.std.specs.List.{AllZip}
 use Rattle.attr_sets.specs.Attributes.{Attributes, none, union, intersection}
-use Rattle.attr_sets.specs.Sets.{attributes, is_subset}
+use Rattle.attr_sets.specs.Sets.{attributes}
 use Rattle.dep_model.specs.declared.schema.Schema.{Schema}
 use Rattle.dep_model.specs.Schemas.{universe_of}
+use Rattle.ddl_text.specs.Ddl.{is_empty}
 use Rattle.ddl_text.specs.Designs.{known_keys}
 use Rattle.ddl_text.specs.declared.table.TableDesign.{TableDesign}
 use Rattle.sql_names.specs.Names.{quoted_name}
@@ -15,9 +16,9 @@ use Rattle.sql_syntax.specs.Syntax.{Link, Query, joined}
 use Rattle.sql_syntax.specs.Statements.{Element, unique_key, Statement, remark, begin, commit, create_table, create_from, create_view, script_text}
 use Rattle.migrate_queries.specs.declared.joining.JoinedTable.{JoinedTable}
 use Rattle.migrate_queries.specs.Moving.{attribute_names}
-use Rattle.migrate_queries.specs.Created.{columns_made, key_made, keys_made, reference_made, references_made, elements_made, remarks_made, table_made, tables_made}
+use Rattle.migrate_queries.specs.Created.{columns_made, stated_keys, left_out_keys, key_made, keys_made, reference_made, references_made, elements_made, left_out_words, said_of, remarks_made, table_made, tables_made}
 use Rattle.migrate_queries.specs.ViewOrder.{share, put_first, of_first, joined_next, view_order}
-use Rattle.migrate_queries.specs.Script.{copy_name, view_name, copy_query, fill_query, fill, link, links, join_of, joined_tables, view_query, testing, work, migration}
+use Rattle.migrate_queries.specs.Script.{copy_name, view_name, copy_query, fill, link, links, join_of, joined_tables, view_query, testing}
 use Rattle.table_scripts.specs.Migrating.{migrate_text}
 use Rattle.plan_laws.specs.SameDesigns.{IsSameTable, AreSameTables}
 
@@ -41,8 +42,19 @@ references_same s one other same t u alike =
 
 keys_same : (s : Schema) (t u : TableDesign) → IsSameTable t u → keys_made s t ≡ keys_made s u
 keys_same s t u alike =
-    ap (λ (x : Attributes). key_made s x ++ map (λ key. unique_key (attribute_names s key)) (known_keys t.other_keys)) alike.key
-    ∙ ap (λ (keys : List Attributes). key_made s (attributes u.key) ++ map (λ key. unique_key (attribute_names s key)) keys) alike.other_keys
+    ap (λ (x : Attributes). key_made s x ++ map (λ key. unique_key (attribute_names s key)) (stated_keys s (known_keys t.other_keys))) alike.key
+    ∙ ap (λ (keys : List Attributes). key_made s (attributes u.key) ++ map (λ key. unique_key (attribute_names s key)) (stated_keys s keys)) alike.other_keys
+
+said_same : (s : Schema) (t u : TableDesign) → IsSameTable t u → said_of s t ≡ said_of s u
+said_same s t u alike =
+    ap (λ (key : Attributes). said key (is_some t.other_keys) (known_keys t.other_keys)) alike.key
+    ∙ ap (λ (known : Bool). said (attributes u.key) known (known_keys t.other_keys)) alike.are_known
+    ∙ ap (λ (keys : List Attributes). said (attributes u.key) (is_some u.other_keys) keys) alike.other_keys
+  where
+    said : Attributes → Bool → List Attributes → List (List ℕ)
+    said key known keys =
+        if is_empty key then codes "at most one row" ∷ []
+        else if known then map (left_out_words s) (left_out_keys s keys) else codes "further keys are not looked for" ∷ []
 
 elements_same : (s : Schema) (one other : List TableDesign) → AreSameTables one other → (t u : TableDesign) → IsSameTable t u
     → elements_made s one t ≡ elements_made s other u
@@ -54,10 +66,9 @@ elements_same s one other same t u alike =
 table_same : (s : Schema) (one other : List TableDesign) → AreSameTables one other → (t u : TableDesign) → IsSameTable t u
     → table_made s one t ≡ table_made s other u
 table_same s one other same t u alike =
-    ap (λ (x : Attributes). remarks_made x (is_some t.other_keys) ++ create_table (quoted_name t.name) (elements_made s one t) ∷ []) alike.key
-    ∙ ap (λ (known : Bool). remarks_made (attributes u.key) known ++ create_table (quoted_name t.name) (elements_made s one t) ∷ []) alike.are_known
-    ∙ ap (λ (name : List ℕ). remarks_made (attributes u.key) (is_some u.other_keys) ++ create_table (quoted_name name) (elements_made s one t) ∷ []) alike.name
-    ∙ ap (λ (elements : List Element). remarks_made (attributes u.key) (is_some u.other_keys) ++ create_table (quoted_name u.name) elements ∷ [])
+    ap (λ (words : List (List ℕ)). map remark words ++ create_table (quoted_name t.name) (elements_made s one t) ∷ []) (said_same s t u alike)
+    ∙ ap (λ (name : List ℕ). remarks_made s u ++ create_table (quoted_name name) (elements_made s one t) ∷ []) alike.name
+    ∙ ap (λ (elements : List Element). remarks_made s u ++ create_table (quoted_name u.name) elements ∷ [])
     (elements_same s one other same t u alike)
 
 tables_same : (s : Schema) (all every one other : List TableDesign) → AreSameTables all every → AreSameTables one other

@@ -42,6 +42,7 @@ use Rattle.desk_designs.specs.Joins.{IsShownLossless, JudgesJoin, LossStops, los
 use Rattle.desk_texts.specs.Texts.{line}
 use Rattle.desk_designs.specs.NormalForms.{JudgesForm, EndsForm, PassesForm, violated_text}
 use Rattle.desk_designs.specs.Keeping.{JudgesKeeping, loss_text, two_tuples_text}
+use Rattle.shown_rows.specs.Shown.{shown_tuples}
 
 -- ---- what is kept of a list rests on its sets alone
 any_map : {X Y : Type 0} (f : X → Y) (p : Y → Bool) (xs : List X) → list_any (λ x. p (f x)) xs ≡ list_any p (map f xs)
@@ -146,7 +147,7 @@ pub one_loss_stop : (s : Schema) (plan : List Attributes) (one other : ResponseV
 one_loss_stop s plan one other (inl (fits, lossy, found)) (inl (fits', lossy', found')) =
     let same =
     closed_unique (width_of s) (theory_of s) plan MOST_TABLEAU_ROWS found.0 found'.0 found.1.closed found'.1.closed in
-    found.2 ∙ ap (λ (rows : Relation). text_only No (lossy_text (names_of s) rows)) same ∙ sym found'.2
+    found.2 ∙ ap (λ (rows : Relation). text_only No (lossy_text s rows)) same ∙ sym found'.2
 one_loss_stop s plan one other (inl (fits, lossy, found)) (inr (large, says)) = absurd (fits large)
 one_loss_stop s plan one other (inr (large, says)) (inl (fits, lossy, found)) = absurd (fits large)
 one_loss_stop s plan one other (inr (large, says)) (inr (large', says')) = says ∙ sym says'
@@ -231,8 +232,8 @@ one_keeping s plan one other (inr (lost, found)) (inr (lost', found')) =
     one_list (width_of s) (theory_of s) plan 0 (theory_of s) (found.0 ∷ found.1) (found'.0 ∷ found'.1) found.2
     found'.2 in
     let tuples : two_tuples_text s found.0 ≡ two_tuples_text s found'.0 =
-    ap (λ (x : Attributes). line (codes "shown by") ++ rows_text (names_of s) (two_tuples
-    (width_of s) x)) same.0.agreement in
+    ap (λ (x : Attributes). line (codes "shown by") ++ rows_text (names_of s) (shown_tuples s x))
+    same.0.agreement in
     found.3
     ∙ ap (λ (text : List ℕ). text_only No (text ++ two_tuples_text s found.0))
     (same_text s (found.0 ∷ found.1) (found'.0 ∷ found'.1) same)

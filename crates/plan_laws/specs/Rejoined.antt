@@ -8,6 +8,7 @@ use Rattle.dep_model.specs.Tuples.{Relation, SameRelation}
 use Rattle.dep_model.specs.declared.schema.Schema.{Schema}
 use Rattle.design_order.specs.Order.{IsInDesignOrder}
 use Rattle.named_tables.specs.Tables.{TableValue}
+use Rattle.schema_printer.specs.Spelling.{printed_names_of}
 use Rattle.table_join.specs.Answers.{IsOnceEach}
 use Rattle.table_join.specs.Tables.{PartialRelation, plan_of_tables, rows_of_tables}
 use Rattle.table_join.specs.declared.refusal.JoinRefusal.TheVariants.{TooManyRows}
@@ -34,4 +35,4 @@ GivesTheRows schema parts rows =
     (response : ResponseValue) → JoinsTables schema parts response
     → ((found : Relation) × SameRelation found rows × IsOnceEach found
     × Says Yes (rows_text (names_of schema) found) response)
-    ⊎ ((k : ℕ) × Says Refused (join_refusal_text (names_of schema) (TooManyRows k)) response)
+    ⊎ ((k : ℕ) × Says Refused (join_refusal_text (printed_names_of schema) (TooManyRows k)) response)

@@ -15,8 +15,9 @@ ghost use Rattle.desk_designs.specs.Scripts.{ScriptsCheck, ScriptsMigration, Scr
 ghost use Rattle.desk_reasons.specs.SplitReasons.{ExplainsSplit};
 ghost use Rattle.desk_reasons.specs.SynthesisReasons.{ExplainsSynthesis};
 ghost use Rattle.desk_tables.specs.Legality.{JudgesRows};
-ghost use Rattle.desk_tables.specs.Migrations.{Migrates, MigratesPlan, Samples};
+ghost use Rattle.desk_tables.specs.Migrations.{MigratesPlan, Samples};
 ghost use Rattle.desk_tables.specs.Overwriting.{MigratesHere, MigratesPlanHere};
+ghost use Rattle.desk_tables.specs.OwnFolders.{HasOneLook, Looks, MigratesInto, MigratesPlanInto};
 ghost use Rattle.desk_tables.specs.Rejoining.{JoinsTables};
 
 /// `split` has one answer to a schema, in each form and at any width.
@@ -60,10 +61,9 @@ pub fn one_answer_of_check_rows()
     ensures law { (schema : Schema) (rows : Relation) → AllowsOne (JudgesRows schema rows) }
 {}
 
-/// `migrate` has one answer, text and tables, to a schema, a form or a plan, and rows.
+/// `migrate` has one answer, text and tables, to a schema, a plan and rows.
 pub fn one_answer_of_migrate()
-    ensures form { (schema : Schema) (form : Form) (rows : Relation) → AllowsOne (Migrates schema form rows) }
-    ensures plan { (schema : Schema) (plan : List Attributes) (rows : Relation)
+    ensures law { (schema : Schema) (plan : List Attributes) (rows : Relation)
         → AllowsOne (MigratesPlan schema plan rows) }
 {}
 
@@ -73,6 +73,14 @@ pub fn one_answer_of_migrate_here()
         → AllowsOne (MigratesHere schema form files rows) }
     ensures plan { (schema : Schema) (plan : List Attributes) (files : List (List ℕ)) (rows : Relation)
         → AllowsOne (MigratesPlanHere schema plan files rows) }
+{}
+
+/// The same into a folder of its own, where a look at a name has one answer.
+pub fn one_answer_of_migrate_into()
+    ensures form { (looks : Looks) (schema : Schema) (form : Form) (name : List ℕ) (rows : Relation)
+        → HasOneLook looks → AllowsOne (MigratesInto looks schema form name rows) }
+    ensures plan { (looks : Looks) (schema : Schema) (plan : List Attributes) (name : List ℕ) (rows : Relation)
+        → HasOneLook looks → AllowsOne (MigratesPlanInto looks schema plan name rows) }
 {}
 
 /// `sample` has one answer, text and tables, to a number of persons.

@@ -1,6 +1,7 @@
 -- Reading a plan text line by line, and a line word by word.
 use Rattle.std.proofs.Common.{◌≡◌, ◌<◌, ◌+◌, ◌^◌, ℕ, Bool, true, false, List, [], ◌∷◌, ◌++◌, length, Result, Ok, Err, refl, ◌∙◌, arith}
 use Rattle.attr_sets.specs.Attributes.{Attributes, only, union}
+use Rattle.dep_model.specs.declared.naming.Naming.{Naming}
 use Rattle.lexer.specs.Modes as mode
 use Rattle.lexer.specs.Lines.{line_texts, CutsAt}
 use Rattle.lexer.specs.Tokens.{Mark, lex}
@@ -67,31 +68,31 @@ scheme_read names schemes r m after x led read = led_read names schemes r m afte
 
 -- ---- lines
 -- to read the lines that are left is to read all of them
-pub record Reads (names : List (List ℕ)) (text : List ℕ) (schemes : List Attributes) (number : ℕ) (rest : List ℕ) : Type 0 where
-  pub same : read_scheme_lines names 1 [] (line_texts text) ≡ read_scheme_lines names number schemes (line_texts rest)
+pub record Reads (naming : Naming) (names : List (List ℕ)) (text : List ℕ) (schemes : List Attributes) (number : ℕ) (rest : List ℕ) : Type 0 where
+  pub same : read_scheme_lines naming names 1 [] (line_texts text) ≡ read_scheme_lines naming names number schemes (line_texts rest)
   pub room : number + length rest < 2 ^ 31
 
-abbrev pub line_read : List (List ℕ) → ℕ → List Attributes → List ℕ → Result (List Attributes) PlanRefusal
-line_read names number schemes line = read_scheme_line names number schemes (lex mode.plain line).marks (lex mode.plain line).stop
+abbrev pub line_read : Naming → List (List ℕ) → ℕ → List Attributes → List ℕ → Result (List Attributes) PlanRefusal
+line_read naming names number schemes line = read_scheme_line names number schemes (lex (mode.plain naming) line).marks (lex (mode.plain naming) line).stop
 
-pub line_refused : (names : List (List ℕ)) (number : ℕ) (schemes : List Attributes) (line : List ℕ) (lines ls : List (List ℕ)) (e : PlanRefusal)
-    → ls ≡ line ∷ lines → line_read names number schemes line ≡ Err e → read_scheme_lines names number schemes ls ≡ Err e
+pub line_refused : (naming : Naming) (names : List (List ℕ)) (number : ℕ) (schemes : List Attributes) (line : List ℕ) (lines ls : List (List ℕ)) (e : PlanRefusal)
+    → ls ≡ line ∷ lines → line_read naming names number schemes line ≡ Err e → read_scheme_lines naming names number schemes ls ≡ Err e
 unfolding read_scheme_lines
-line_refused names number schemes line lines ls e whole h = rw whole (rw h refl)
+line_refused naming names number schemes line lines ls e whole h = rw whole (rw h refl)
 
-pub last_read : (names : List (List ℕ)) (number : ℕ) (schemes more : List Attributes) (line : List ℕ) (ls : List (List ℕ))
-    → ls ≡ line ∷ [] → line_read names number schemes line ≡ Ok more → read_scheme_lines names number schemes ls ≡ Ok more
+pub last_read : (naming : Naming) (names : List (List ℕ)) (number : ℕ) (schemes more : List Attributes) (line : List ℕ) (ls : List (List ℕ))
+    → ls ≡ line ∷ [] → line_read naming names number schemes line ≡ Ok more → read_scheme_lines naming names number schemes ls ≡ Ok more
 unfolding read_scheme_lines
-last_read names number schemes more line ls whole h = rw whole (rw h refl)
+last_read naming names number schemes more line ls whole h = rw whole (rw h refl)
 
-next_lines : (names : List (List ℕ)) (number : ℕ) (schemes more : List Attributes) (line : List ℕ) (lines ls : List (List ℕ))
-    → ls ≡ line ∷ lines → line_read names number schemes line ≡ Ok more → read_scheme_lines names number schemes ls ≡ read_scheme_lines names (number + 1) more lines
+next_lines : (naming : Naming) (names : List (List ℕ)) (number : ℕ) (schemes more : List Attributes) (line : List ℕ) (lines ls : List (List ℕ))
+    → ls ≡ line ∷ lines → line_read naming names number schemes line ≡ Ok more → read_scheme_lines naming names number schemes ls ≡ read_scheme_lines naming names (number + 1) more lines
 unfolding read_scheme_lines
-next_lines names number schemes more line lines ls whole read = rw whole (rw read refl)
+next_lines naming names number schemes more line lines ls whole read = rw whole (rw read refl)
 
-pub reads_more : (names : List (List ℕ)) (text : List ℕ) (schemes more : List Attributes) (number : ℕ) (rest line after : List ℕ)
-    → Reads names text schemes number rest → CutsAt rest line after → line_read names number schemes line ≡ Ok more → Reads names text more (number + 1) after
-reads_more names text schemes more number rest line after reads cut read = record {
-  same = reads.same ∙ next_lines names number schemes more line (line_texts after) (line_texts rest) cut.lines read;
+pub reads_more : (naming : Naming) (names : List (List ℕ)) (text : List ℕ) (schemes more : List Attributes) (number : ℕ) (rest line after : List ℕ)
+    → Reads naming names text schemes number rest → CutsAt rest line after → line_read naming names number schemes line ≡ Ok more → Reads naming names text more (number + 1) after
+reads_more naming names text schemes more number rest line after reads cut read = record {
+  same = reads.same ∙ next_lines naming names number schemes more line (line_texts after) (line_texts rest) cut.lines read;
   room = omega (arith, reads.room, cut.shorter);
 }

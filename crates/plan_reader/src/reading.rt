@@ -3,7 +3,7 @@ ghost use Rattle.attr_sets.specs.Attributes.{none};
 ghost use Rattle.attr_sets.specs.Sets.{attributes};
 ghost use Rattle.dep_model.specs.Failures.{RefusesAs};
 ghost use Rattle.dep_model.specs.Plans.{schemes_of};
-ghost use Rattle.dep_model.specs.Schemas.{names_of};
+ghost use Rattle.dep_model.specs.Schemas.{naming_of, names_of};
 ghost use Rattle.lexer.specs.Lines.{line_texts};
 ghost use Rattle.lexer.specs.Modes.{plain};
 ghost use Rattle.lexer.specs.Tokens.{lex, bytes_of};
@@ -33,8 +33,8 @@ pub const MOST_PLAN_BYTES: usize = 1_048_576;
 pub fn read_plan(alloc: Global, schema: &Schema, text: &[u8]) -> Result<Plan, Failure<PlanRefusal>>
     requires { length text.now ≤ MOST_PLAN_BYTES }
     ensures universe { IfOk result (λ plan. IsPlanOver schema.now plan) }
-    ensures ok { IfOk result (λ plan. MeansPlan (names_of schema.now) text.now (plan_of plan)) }
-    ensures err { IfErr result (RefusesAs (RefusesPlan (names_of schema.now) text.now)) }
+    ensures ok { IfOk result (λ plan. MeansPlan (naming_of schema.now) (names_of schema.now) text.now (plan_of plan)) }
+    ensures err { IfErr result (RefusesAs (RefusesPlan (naming_of schema.now) (names_of schema.now) text.now)) }
 {
     let schemes = match read_lines(alloc, schema, without_mark(text)) {
         Ok(schemes) => schemes,
@@ -53,10 +53,11 @@ fn read_lines(
     text: &[u8],
 ) -> Result<Vec<AttrSet>, Failure<PlanRefusal>>
     requires { length text.now ≤ MOST_PLAN_BYTES }
-    ensures ok { IfOk result (λ schemes. read_scheme_lines (names_of schema.now) 1 [] (line_texts text.now)
+    ensures ok { IfOk result (λ schemes. read_scheme_lines (naming_of schema.now) (names_of schema.now) 1 []
+        (line_texts text.now)
         ≡ Ok (schemes_of schemes.items)) }
     ensures err { IfErr result (λ failure. Refuses failure
-        (read_scheme_lines (names_of schema.now) 1 [] (line_texts text.now))) }
+        (read_scheme_lines (naming_of schema.now) (names_of schema.now) 1 [] (line_texts text.now))) }
 {
     let guide = Guide::of(schema);
     let names = Names::Guided(schema, &guide);
@@ -65,7 +66,7 @@ fn read_lines(
     let mut rest = text;
     'lines: loop {
         let (line, after) = cut_line(rest);
-        match read_line(&names, number, line, &mut schemes) {
+        match read_line(schema, &names, number, line, &mut schemes) {
             Err(failure) => return Err(failure),
             Ok(()) => match after {
                 None => return Ok(schemes),
@@ -80,6 +81,7 @@ fn read_lines(
 
 // Reads a line, and adds its scheme if it has tokens.
 fn read_line(
+    schema: &Schema,
     names: &Names<'_>,
     number: u32,
     line: &[u8],
@@ -88,11 +90,13 @@ fn read_line(
     requires within_limit { length (names_in names.now) ≤ MOST_ATTRIBUTES }
     requires fits_u32 { 1 + length line.now < 2 ^ 32 }
     ensures ok { OnOk result (read_scheme_line (names_in names.now) number (schemes_of schemes.old.items)
-        (lex plain line.now).marks (lex plain line.now).stop ≡ Ok (schemes_of schemes.new.items)) }
+        (lex (plain (naming_of schema.now)) line.now).marks (lex (plain (naming_of schema.now)) line.now).stop
+        ≡ Ok (schemes_of schemes.new.items)) }
     ensures err { IfErr result (λ failure. Refuses failure (read_scheme_line (names_in names.now) number
-        (schemes_of schemes.old.items) (lex plain line.now).marks (lex plain line.now).stop)) }
+        (schemes_of schemes.old.items) (lex (plain (naming_of schema.now)) line.now).marks
+        (lex (plain (naming_of schema.now)) line.now).stop)) }
 {
-    let start = Cursor::start(number, Mode::PLAIN, line);
+    let start = Cursor::start(number, Mode::plain(schema.naming()), line);
     match start.next() {
         NextToken::End => Ok(()),
         NextToken::Refusal(refusal) => Err(Failure::Refused(PlanRefusal::Text(refusal))),

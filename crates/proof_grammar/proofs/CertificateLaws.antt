@@ -4,7 +4,7 @@ use Rattle.std.proofs.lemmas.Bool.{cases_lt}
 use Rattle.std.proofs.lemmas.List.{append-nil, length_push, nil_from_length}
 use Rattle.std.proofs.lemmas.Option.{slice_get-get_or}
 use Rattle.dep_model.specs.declared.schema.Schema.{Schema}
-use Rattle.dep_model.specs.Schemas.{names_of}
+use Rattle.dep_model.specs.Schemas.{names_of, naming_of}
 use Rattle.derivation.specs.Trees.{Tree}
 use Rattle.lexer.specs.Modes as mode
 use Rattle.lexer.specs.Lines.{line_texts, without_mark}
@@ -97,7 +97,7 @@ end_fits s text fresh lines trees state last (Err e) count afterwards (inr first
         first = λ n low high. first.earlier n low (omega (arith, high));
         before = position.before;
         here = position.here;
-        stands = subst (StandsAt text position.before position.here) (ap (λ (c : LineDiagnostic). c.line) (sym first.is))
+        stands = subst (StandsAt (naming_of s) text position.before position.here) (ap (λ (c : LineDiagnostic). c.line) (sym first.is))
             position.stands;
         is_number = omega (arith, position.count);
         is = ap (λ (c : LineDiagnostic). c.diagnostic) first.is;
@@ -116,7 +116,7 @@ FitsOn s text number texts =
 line_fits : (k : LineKind) (s : Schema) (text : List ℕ) (number : ℕ) (here : List ℕ) (texts before : List (List ℕ))
     (fresh : Bool) (lines : List Line) (trees : List Tree) (state : CheckerStateValue)
     → line_texts (without_mark text) ≡ before ++ here ∷ texts → number ≡ length before + 1
-    → HasReadLines s text before fresh lines trees state → Counts k fresh here → FitsOn s text (number + 1) texts
+    → HasReadLines s text before fresh lines trees state → Counts (naming_of s) k fresh here → FitsOn s text (number + 1) texts
     → read_proof s text ≡ read_from s number texts (read_as k s fresh number state here)
     → TextFits s text (read_from s number texts (read_as k s fresh number state here))
 line_fits Blank s text number here texts before fresh lines trees state cut count afterwards counts on is =
@@ -128,9 +128,9 @@ line_fits Opening s text number here texts before fresh lines trees state cut co
     (omega (arith, count, length-append before (here ∷ [])))
     (line_passed_over s text before fresh false lines trees state here afterwards counts) is
 line_fits Certificate s text number here texts before fresh lines trees state cut count afterwards counts on is =
-    by_cases (certificate_line (names_of s) (rest_from number 1 (lex mode.numbered here))) refl is
+    by_cases (certificate_line (names_of s) (rest_from number 1 (lex (mode.numbered (naming_of s)) here))) refl is
   where
-    stands : StandsAt text before here number
+    stands : StandsAt (naming_of s) text before here number
     stands = record {
       after = texts;
       cut = cut;
@@ -139,7 +139,7 @@ line_fits Certificate s text number here texts before fresh lines trees state cu
     }
 
     by_cases : (r : Result Line SchemaRefusal)
-        → certificate_line (names_of s) (rest_from number 1 (lex mode.numbered here)) ≡ r
+        → certificate_line (names_of s) (rest_from number 1 (lex (mode.numbered (naming_of s)) here)) ≡ r
         → read_proof s text ≡ read_from s number texts (in_line r >>= λ l. without_more_yes (enter_line s number state l))
         → TextFits s text (read_from s number texts (in_line r >>= λ l. without_more_yes (enter_line s number state l)))
     by_cases (Err refusal) grammar is = inl (record {
@@ -152,15 +152,15 @@ line_fits Certificate s text number here texts before fresh lines trees state cu
       read = afterwards.read;
       why = inl (record {
         refusal = refusal;
-        grammar = (refusals.refusal_law (names_of s) number here refusal).0 grammar;
+        grammar = (refusals.refusal_law (naming_of s) (names_of s) number here refusal).0 grammar;
         is = refl;
       });
     })
     by_cases (Ok l) grammar is = by_line (enter_line s number state l) refl
         (enters s number lines trees state l afterwards.follows (line_of_attributes s here l means)) is
       where
-        means : MeansLine (names_of s) here l
-        means = line_there (names_of s) number here l grammar
+        means : MeansLine (naming_of s) (names_of s) here l
+        means = line_there (naming_of s) (names_of s) number here l grammar
 
         by_line : (r : Result CheckerStateValue Diagnostic) → enter_line s number state l ≡ r → Enters s lines trees l r
             → read_proof s text ≡ read_from s number texts (without_more_yes r)
@@ -191,8 +191,8 @@ all_lines_fit s text number [] before fresh lines trees state cut count afterwar
     (finishes s (λ n. uses n lines) trees state.unused (number - 1) state.lines afterwards.follows.slots
     afterwards.follows.fresh) is
 all_lines_fit s text number (here ∷ texts) before fresh lines trees state cut count afterwards is =
-    line_fits (line_kind fresh (lex mode.numbered here)) s text number here texts before fresh lines trees state cut
-    count afterwards (kind_counts fresh here _ refl) (all_lines_fit s text (number + 1) texts) is
+    line_fits (line_kind fresh (lex (mode.numbered (naming_of s)) here)) s text number here texts before fresh lines trees state cut
+    count afterwards (kind_counts (naming_of s) fresh here _ refl) (all_lines_fit s text (number + 1) texts) is
 
 pub text_fits : (s : Schema) (text : List ℕ) → TextFits s text (read_proof s text)
 unfolding read_proof
@@ -206,7 +206,7 @@ spelled_there s text t h = subst (TextFits s text) h (text_fits s text)
 -- ---- from what a text spells
 -- a text whose lines are read is read as they are finished
 pub end_back : (s : Schema) (text : List ℕ) (lines : List Line) (trees : List Tree) (r : Result Tree LineDiagnostic)
-    → MeanLines (names_of s) (certificate_lines text) lines → AreRead s lines trees
+    → MeanLines (naming_of s) (names_of s) (certificate_lines (naming_of s) text) lines → AreRead s lines trees
     → ((fresh : Bool) (state : CheckerStateValue) → HasReadLines s text (line_texts (without_mark text)) fresh lines trees state
     → Finishes (λ n. uses n lines) trees (length (line_texts (without_mark text)) + 1 - 1) state.lines r)
     → read_proof s text ≡ r

@@ -27,7 +27,7 @@ use Rattle.proof_grammar.specs.declared.line_kind.LineKind.TheVariants.{Blank, O
 use Rattle.lexer.specs.Modes as mode
 use Rattle.lexer.specs.Lines.{line_texts, without_mark}
 use Rattle.lexer.specs.Tokens.{lex}
-use Rattle.dep_model.specs.Schemas.{names_of}
+use Rattle.dep_model.specs.Schemas.{names_of, naming_of}
 use Rattle.proof_grammar.specs.Texts.{in_line, read_as, line_kind, read_one, at_line, read_certificate_lines, read_proof}
 use Rattle.proof_grammar.specs.Checked.{IsChecked}
 use Rattle.proof_grammar.specs.ValidStates.{Stands, IfOpen, AllStand, open_nodes, all_nodes, IsCheckerState}
@@ -229,7 +229,7 @@ read_as_keeps Blank s fresh number state text is = is
 read_as_keeps Opening s fresh number state text is = is
 read_as_keeps Certificate s fresh number state text is =
     bind_each (λ next. IsCheckerState s next.1)
-    (in_line (certificate_line (names_of s) (rest_from number 1 (lex mode.numbered text)))) _
+    (in_line (certificate_line (names_of s) (rest_from number 1 (lex (mode.numbered (naming_of s)) text)))) _
     (λ l read. bind_each (λ next. IsCheckerState s next.1) (enter_line s number state l) _
     (λ next enter. ok_at (IsCheckerState s) _ next enter (entered_keeps s number state l is)))
 
@@ -237,7 +237,7 @@ pub read_one_keeps : (s : Schema) (fresh : Bool) (number : ℕ) (state : Checker
 unfolding read_one
 read_one_keeps s fresh number state text next is h =
     ok_at (λ (x : Bool × CheckerStateValue). IsCheckerState s x.1) _ next h
-    (read_as_keeps (line_kind fresh (lex mode.numbered text)) s fresh number state text is)
+    (read_as_keeps (line_kind fresh (lex (mode.numbered (naming_of s)) text)) s fresh number state text is)
 
 finished_checked : (s : Schema) (last : ℕ) (state : CheckerStateValue) (i : Option ℕ) (o : Option Opened)
     → IsCheckerState s state → root state.unused ≡ o → IfOk (finished_at last state.lines i o) (IsChecked s)

@@ -6,9 +6,10 @@ use Rattle.std.proofs.lemmas.Bool.Decides.{nat_tests}
 use Rattle.attr_sets.specs.Attributes.{Attributes, below}
 use Rattle.dep_model.specs.declared.schema.Schema.{Schema}
 use Rattle.dep_model.specs.Dependencies.{left_of, right_of}
-use Rattle.dep_model.specs.Schemas.{names_of}
+use Rattle.dep_model.specs.Schemas.{names_of, naming_of}
 use Rattle.derivation.specs.Trees.{augmentation, complementation, maugmentation, replication}
 use Rattle.derivation.proofs.WithinLemmas.{OfAttributes}
+use Rattle.dep_model.specs.declared.naming.Naming.{Naming}
 use Rattle.lexer.specs.Modes as mode
 use Rattle.lexer.specs.declared.token.LexError.{LexError}
 use Rattle.lexer.specs.Tokens.{Mark, lex}
@@ -25,38 +26,41 @@ use Rattle.proof_grammar.specs.Texts.{is_yes, is_blank, is_blank_from, kind_from
 use Rattle.proof_grammar.proofs.PreparedLaws.{BodyOfAttributes, IsLineOfAttributes}
 
 -- ---- the lines that count from a line on; `fresh` is whether a `yes` may still come
-abbrev pub lines_that_count : List (List ℕ) → List (List ℕ)
-lines_that_count texts = filter (λ line. not (is_blank (lex mode.numbered line))) texts
+abbrev pub lines_that_count : Naming → List (List ℕ) → List (List ℕ)
+lines_that_count naming texts = filter (λ line. not (is_blank (lex (mode.numbered naming) line))) texts
 
-abbrev pub lines_to_read : Bool → List (List ℕ) → List (List ℕ)
-lines_to_read true texts = certificate_lines_of texts
-lines_to_read false texts = lines_that_count texts
+abbrev pub lines_to_read : Naming → Bool → List (List ℕ) → List (List ℕ)
+lines_to_read naming true texts = certificate_lines_of naming texts
+lines_to_read naming false texts = lines_that_count naming texts
 
 -- how a line changes them
-abbrev pub Counts : LineKind → Bool → List ℕ → Type 0
-Counts Blank fresh text = (texts : List (List ℕ)) → lines_to_read fresh (text ∷ texts) ≡ lines_to_read fresh texts
-Counts Opening fresh text = (texts : List (List ℕ)) → lines_to_read fresh (text ∷ texts) ≡ lines_to_read false texts
-Counts Certificate fresh text = (texts : List (List ℕ)) → lines_to_read fresh (text ∷ texts) ≡ text ∷ lines_to_read false texts
+abbrev pub Counts : Naming → LineKind → Bool → List ℕ → Type 0
+Counts naming Blank fresh text = (texts : List (List ℕ)) → lines_to_read naming fresh (text ∷ texts) ≡ lines_to_read naming fresh texts
+Counts naming Opening fresh text = (texts : List (List ℕ)) → lines_to_read naming fresh (text ∷ texts) ≡ lines_to_read naming false texts
+Counts naming Certificate fresh text = (texts : List (List ℕ)) → lines_to_read naming fresh (text ∷ texts) ≡ text ∷ lines_to_read naming false texts
 
-pub kind_counts : (fresh : Bool) (text : List ℕ) (k : LineKind) → line_kind fresh (lex mode.numbered text) ≡ k → Counts k fresh text
+pub kind_counts : (naming : Naming) (fresh : Bool) (text : List ℕ) (k : LineKind)
+    → line_kind fresh (lex (mode.numbered naming) text) ≡ k → Counts naming k fresh text
 unfolding line_kind
-kind_counts fresh text k e =
-    subst (λ (j : LineKind). Counts j fresh text) e
-    (by_cases fresh (lex mode.numbered text).marks (lex mode.numbered text).stop refl refl)
+kind_counts naming fresh text k e =
+    subst (λ (j : LineKind). Counts naming j fresh text) e
+    (by_cases fresh (lex (mode.numbered naming) text).marks (lex (mode.numbered naming) text).stop refl refl)
   where
-    by_cases : (a : Bool) (ms : List Mark) (stop : Option LexError) → (lex mode.numbered text).marks ≡ ms
-        → (lex mode.numbered text).stop ≡ stop → Counts (kind_from a ms stop) a text
+    by_cases : (a : Bool) (ms : List Mark) (stop : Option LexError)
+        → (lex (mode.numbered naming) text).marks ≡ ms
+        → (lex (mode.numbered naming) text).stop ≡ stop → Counts naming (kind_from a ms stop) a text
     by_cases true [] None marks ends = λ texts. rw (marks, ends) refl
     by_cases false [] None marks ends = λ texts. rw (marks, ends) refl
     by_cases true [] (Some stop) marks ends = λ texts. rw (marks, ends, marks) refl
     by_cases false [] (Some stop) marks ends = λ texts. rw (marks, ends) refl
     by_cases true (m ∷ ms) stop marks ends =
-        cond_both (is_yes m.kind m.word && is_blank_from ms stop) Opening Certificate (λ j. Counts j true text)
+        cond_both (is_yes m.kind m.word && is_blank_from ms stop) Opening Certificate (λ j. Counts naming j true text)
         (λ says texts. rw (marks, marks, ends, says) refl) (λ says texts. rw (marks, marks, ends, says) refl)
     by_cases false (m ∷ ms) stop marks ends = λ texts. rw marks refl
 
 -- ---- the sets of a line
-of_attributes : (s : Schema) (ms : List Mark) (x : Attributes) → IsSide format.Plain (names_of s) ms x → OfAttributes x
+of_attributes : (s : Schema) (ms : List Mark) (x : Attributes) → IsSide format.Plain (names_of s) ms x
+    → OfAttributes x
 of_attributes s ms x (inl empty) k member =
     let wrong : true ≡ false = sym member ∙ ap (λ (y : Attributes). y k) empty.nothing in cc
 of_attributes s ms x (inr not_empty) k member =
@@ -64,7 +68,8 @@ of_attributes s ms x (inr not_empty) k member =
     named_within (names_of s) ms k (ap (λ (y : Attributes). y k) (sym not_empty.members) ∙ member) in
     grind (arith, nat_tests, inside, s.valid.names_within_limit)
 
-pub rule_of_attributes : (s : Schema) (ms : List Mark) (b : Body) → IsRule (names_of s) ms b → BodyOfAttributes b
+pub rule_of_attributes : (s : Schema) (ms : List Mark) (b : Body) → IsRule (names_of s) ms b
+    → BodyOfAttributes b
 rule_of_attributes s ms (by_given k) is = tt
 rule_of_attributes s ms by_reflexivity is = tt
 rule_of_attributes s ms by_mreflexivity is = tt
@@ -77,7 +82,8 @@ rule_of_attributes s ms (by_step (maugmentation w z) p) is = (
 rule_of_attributes s ms (by_step replication p) is = tt
 rule_of_attributes s ms (by_pair rule p q) is = tt
 
-pub line_of_attributes : (s : Schema) (text : List ℕ) (l : Line) → MeansLine (names_of s) text l → IsLineOfAttributes l
+pub line_of_attributes : (s : Schema) (text : List ℕ) (l : Line)
+    → MeansLine (naming_of s) (names_of s) text l → IsLineOfAttributes l
 line_of_attributes s text l means =
     let d = means.is_line.dependency in
     let left : left_of (dependency_of_sign d.sign d.x d.y) ≡ d.x =

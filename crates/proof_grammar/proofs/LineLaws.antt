@@ -3,6 +3,7 @@ use Rattle.std.specs.Prelude.{◌↔◌, ok_or}
 use Rattle.std.proofs.Common.{◌≡◌, ℕ, false, List, [], ◌∷◌, ◌++◌, Option, Some, None, Ok, refl, sym, ◌∙◌, ap, subst, append_assoc}
 use Rattle.dep_model.specs.Dependencies.{Dependency}
 use Rattle.derivation.proofs.RuleTableLemmas.{the_ok}
+use Rattle.dep_model.specs.declared.naming.Naming.{Naming}
 use Rattle.lexer.specs.Modes as mode
 use Rattle.lexer.specs.declared.token.LexError.{LexError}
 use Rattle.lexer.specs.declared.token.TokenKind.{TokenKind}
@@ -41,7 +42,8 @@ pub record ReadsDependency (names : List (List ℕ)) (r : Rest) (d : Dependency)
   pub is : IsDependency format.Plain names marks d
   pub stop : next.stop ≡ r.stop
 
-pub dependency_there : (names : List (List ℕ)) (r : Rest) (d : Dependency × Rest) → stated_dependency names r ≡ Ok d → ReadsDependency names r d.0 d.1
+pub dependency_there : (names : List (List ℕ)) (r : Rest) (d : Dependency × Rest)
+    → stated_dependency names r ≡ Ok d → ReadsDependency names r d.0 d.1
 unfolding stated_dependency arrow
 dependency_there names r d e =
     let x = bind_ok (side names r) _ d e in
@@ -94,7 +96,8 @@ pub record ReadsLine (names : List (List ℕ)) (start : Rest) (l : Line) : Type 
   pub is_line : IsCertificateLine names start.marks l
   pub stop : start.stop ≡ None
 
-pub line_reads : (names : List (List ℕ)) (start : Rest) (l : Line) → certificate_line names start ≡ Ok l → ReadsLine names start l
+pub line_reads : (names : List (List ℕ)) (start : Rest) (l : Line) → certificate_line names start ≡ Ok l
+    → ReadsLine names start l
 unfolding certificate_line certificate_line_from number
 line_reads names start l e =
     let t = bind_ok (take what.Number start) _ l e in
@@ -133,13 +136,16 @@ line_reads names start l e =
     })
 
 -- a line that is read means what is read
-pub line_there : (names : List (List ℕ)) (number : ℕ) (text : List ℕ) (l : Line) → certificate_line names (rest_from number 1 (lex mode.numbered text)) ≡ Ok l → MeansLine names text l
-line_there names number text l e =
-    let reads = line_reads names (rest_from number 1 (lex mode.numbered text)) l e in
-    record { marks = (lex mode.numbered text).marks; tokens = λ i. record { marks = (lex mode.numbered text).marks; stop = reads.stop i }; is_line = reads.is_line }
+pub line_there : (naming : Naming) (names : List (List ℕ)) (number : ℕ) (text : List ℕ) (l : Line)
+    → certificate_line names (rest_from number 1 (lex (mode.numbered naming) text)) ≡ Ok l
+    → MeansLine naming names text l
+line_there naming names number text l e =
+    let reads = line_reads names (rest_from number 1 (lex (mode.numbered naming) text)) l e in
+    record { marks = (lex (mode.numbered naming) text).marks; tokens = λ i. record { marks = (lex (mode.numbered naming) text).marks; stop = reads.stop i }; is_line = reads.is_line }
 
 -- tokens that are a line are read as it, from any column
-pub marks_read : (names : List (List ℕ)) (at from : ℕ) (ms : List Mark) (l : Line) → IsCertificateLine names ms l → certificate_line names (rest_at at from ms) ≡ Ok l
+pub marks_read : (names : List (List ℕ)) (at from : ℕ) (ms : List Mark) (l : Line)
+    → IsCertificateLine names ms l → certificate_line names (rest_at at from ms) ≡ Ok l
 unfolding certificate_line certificate_line_from stated_dependency arrow take colon refusal_at_end
 marks_read names at from ms l is =
     let d = is.dependency in
@@ -166,5 +172,7 @@ marks_read names at from ms l is =
     (ap (λ z. Ok (record { number = l.number; stated = z; body = l.body })) (sym d.states))
 
 -- and a line that has a meaning is read as it
-pub line_back : (names : List (List ℕ)) (number : ℕ) (text : List ℕ) (l : Line) → MeansLine names text l → certificate_line names (rest_from number 1 (lex mode.numbered text)) ≡ Ok l
-line_back names at text l means = ap (λ t. certificate_line names (rest_from at 1 t)) means.tokens ∙ marks_read names at 1 means.marks l means.is_line
+pub line_back : (naming : Naming) (names : List (List ℕ)) (number : ℕ) (text : List ℕ) (l : Line)
+    → MeansLine naming names text l
+    → certificate_line names (rest_from number 1 (lex (mode.numbered naming) text)) ≡ Ok l
+line_back naming names at text l means = ap (λ t. certificate_line names (rest_from at 1 t)) means.tokens ∙ marks_read names at 1 means.marks l means.is_line

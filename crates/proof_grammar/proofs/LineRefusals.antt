@@ -4,6 +4,7 @@ use Rattle.std.proofs.Common.{◌≡◌, ◌<◌, ◌⊎◌, inl, inr, ⊎_elim,
 use Rattle.std.proofs.lemmas.Bool.{true≢false, false_from_ne_true}
 use Rattle.std.proofs.lemmas.List.{length-map, take_all}
 use Rattle.std.proofs.lemmas.Option.{none-some, same_Some, slice_get_within, slice_get_cases}
+use Rattle.dep_model.specs.declared.naming.Naming.{Naming}
 use Rattle.lexer.specs.Modes as mode
 use Rattle.lexer.specs.declared.token.LexError.{LexError}
 use Rattle.lexer.specs.Tokens.{Mark, lex}
@@ -38,6 +39,7 @@ Takes s _ = ⊥
 one_wanted : (s : Shape) (w : What) → Takes s w → w ≡ wanted_by s
 one_wanted s what.Name takes = absurd takes
 one_wanted s what.Scheme takes = absurd takes
+one_wanted s what.Type takes = absurd takes
 one_wanted (at_number a) what.Number takes = refl
 one_wanted (at_side k) what.Side takes = refl
 one_wanted (at_side k) what.With takes = absurd (takes.2 refl)
@@ -188,9 +190,9 @@ judged_refuses names at ms stop (Err f) e first =
           (λ p. one_want (take p (token_forms ms))) refuses other),
     )
 
-pub refusal_law : (names : List (List ℕ)) (number : ℕ) (text : List ℕ) (e : SchemaRefusal)
-    → (certificate_line names (rest_from number 1 (lex mode.numbered text)) ≡ Err e)
-    ↔ RefusesCertificateLine names number text e
-refusal_law names number text e =
-    let l = lex mode.numbered text in
+pub refusal_law : (naming : Naming) (names : List (List ℕ)) (number : ℕ) (text : List ℕ) (e : SchemaRefusal)
+    → (certificate_line names (rest_from number 1 (lex (mode.numbered naming) text)) ≡ Err e)
+    ↔ RefusesCertificateLine naming names number text e
+refusal_law naming names number text e =
+    let l = lex (mode.numbered naming) text in
     judged_refuses names number l.marks l.stop _ e (line_judged names number 1 l.marks l.stop)

@@ -3,6 +3,7 @@ use Rattle.std.proofs.Common.{◌≡◌, ◌<◌, ◌≤◌, ⊎_elim, ℕ, true
 use Rattle.std.specs.Prelude.{filter}
 use Rattle.std.proofs.lemmas.Bool.{cases_order}
 use Rattle.std.proofs.lemmas.List.Elements.{filter-append}
+use Rattle.dep_model.specs.declared.naming.Naming.{Naming}
 use Rattle.lexer.specs.Modes as mode
 use Rattle.lexer.specs.Tokens.{lex}
 use Rattle.proof_grammar.specs.Meanings.{certificate_lines_of, is_yes_alone, without_yes}
@@ -10,9 +11,9 @@ use Rattle.proof_grammar.specs.Texts.{is_blank}
 use Rattle.proof_grammar.specs.Refusals.{StandsAt}
 
 -- ---- more lines have no fewer certificate lines
-without_yes_grows : (xs ys : List (List ℕ)) → length (without_yes xs) ≤ length (without_yes (xs ++ ys))
-without_yes_grows [] ys = omega arith
-without_yes_grows (x ∷ xs) ys = elim (is_yes_alone (lex mode.numbered x))
+without_yes_grows : (naming : Naming) (xs ys : List (List ℕ)) → length (without_yes naming xs) ≤ length (without_yes naming (xs ++ ys))
+without_yes_grows naming [] ys = omega arith
+without_yes_grows naming (x ∷ xs) ys = elim (is_yes_alone (lex (mode.numbered naming) x))
     as (λ b. length (cond b xs (x ∷ xs)) ≤ length (cond b (xs ++ ys) (x ∷ xs ++ ys))) [
       | true ↦ omega (arith, length-append xs ys)
       | false ↦ omega (arith, length-append xs ys)
@@ -34,33 +35,33 @@ goes_beyond (x ∷ xs) here after (y ∷ ys) more e less =
     record { between = beyond.between; whole = λ i. same i ∷ beyond.whole i }
 goes_beyond _ here after [] more e less = absurd (omega (arith, less))
 
-not_beyond : (text : List ℕ) (before other : List (List ℕ)) (here there : List ℕ) (at by : ℕ)
-    → StandsAt text before here at → StandsAt text other there by
-    → length (certificate_lines_of before) ≡ length (certificate_lines_of other) → length before < length other → ⊥
-not_beyond text before other here there at by stands stands_there same less =
+not_beyond : (naming : Naming) (text : List ℕ) (before other : List (List ℕ)) (here there : List ℕ) (at by : ℕ)
+    → StandsAt naming text before here at → StandsAt naming text other there by
+    → length (certificate_lines_of naming before) ≡ length (certificate_lines_of naming other) → length before < length other → ⊥
+not_beyond naming text before other here there at by stands stands_there same less =
     let beyond = goes_beyond before here stands.after other (there ∷ stands_there.after)
     (sym stands.cut ∙ stands_there.cut) less in
     let first = before ++ here ∷ [] in
     let longer : other ≡ first ++ beyond.between =
     beyond.whole ∙ sym (append_assoc before (here ∷ []) beyond.between) in
-    let spoken = λ (line : List ℕ). not (is_blank (lex mode.numbered line)) in
-    let grows : length (certificate_lines_of first) ≤ length (certificate_lines_of (first ++ beyond.between)) =
+    let spoken = λ (line : List ℕ). not (is_blank (lex (mode.numbered naming) line)) in
+    let grows : length (certificate_lines_of naming first) ≤ length (certificate_lines_of naming (first ++ beyond.between)) =
     rw (filter-append spoken first beyond.between)
-    (without_yes_grows (filter spoken first) (filter spoken beyond.between)) in
+    (without_yes_grows naming (filter spoken first) (filter spoken beyond.between)) in
     omega (
       arith,
       same,
       grows,
-      ap (λ ls. length (certificate_lines_of ls)) longer,
+      ap (λ ls. length (certificate_lines_of naming ls)) longer,
       ap length stands.counts,
-      length-append (certificate_lines_of before) (here ∷ []),
+      length-append (certificate_lines_of naming before) (here ∷ []),
     )
 
-pub same_position : (text : List ℕ) (before other : List (List ℕ)) (here there : List ℕ) (at by : ℕ)
-    → StandsAt text before here at → StandsAt text other there by
-    → length (certificate_lines_of before) ≡ length (certificate_lines_of other) → at ≡ by
-same_position text before other here there at by stands stands_there same = ⊎_elim
+pub same_position : (naming : Naming) (text : List ℕ) (before other : List (List ℕ)) (here there : List ℕ) (at by : ℕ)
+    → StandsAt naming text before here at → StandsAt naming text other there by
+    → length (certificate_lines_of naming before) ≡ length (certificate_lines_of naming other) → at ≡ by
+same_position naming text before other here there at by stands stands_there same = ⊎_elim
     (λ equal. omega (arith, equal, stands.number, stands_there.number))
-    (⊎_elim (λ less. absurd (not_beyond text before other here there at by stands stands_there same less))
-    (λ more. absurd (not_beyond text other before there here by at stands_there stands (sym same) more)))
+    (⊎_elim (λ less. absurd (not_beyond naming text before other here there at by stands stands_there same less))
+    (λ more. absurd (not_beyond naming text other before there here by at stands_there stands (sym same) more)))
     (cases_order (length before) (length other))

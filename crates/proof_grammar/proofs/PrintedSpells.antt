@@ -1,7 +1,6 @@
--- What is printed of a derivation over bare names spells its tree, also after the answer `yes`.
-use Rattle.std.proofs.Common.{◌≡◌, ◌≤◌, ℕ, Bool, true, List, ◌++◌, length, ap, sym, subst, arith}
-use Rattle.std.specs.Prelude.{codes}
-use Rattle.dep_model.specs.declared.naming.Naming.TheVariants.{Bare}
+-- What is printed of a derivation spells its tree, also after the answer `yes`.
+use Rattle.std.proofs.Common.{◌≡◌, ◌≤◌, Bool, true, ◌++◌, length, arith}
+use Rattle.std.specs.Prelude.{All, codes}
 use Rattle.dep_model.specs.declared.schema.Schema.{Schema}
 use Rattle.dep_model.specs.Dependencies.{Dependency}
 use Rattle.dep_model.specs.Schemas.{names_of, naming_of}
@@ -12,9 +11,9 @@ use Rattle.derivation.specs.Derivs.{tree_of}
 use Rattle.derivation.specs.Trees.{nodes}
 use Rattle.derivation.proofs.WithinLemmas.{tree_of-attributes}
 use Rattle.schema_grammar.specs.declared.format.Format.TheVariants as format
-use Rattle.schema_grammar.specs.Printed.{AreNames}
-use Rattle.schema_printer.proofs.SpellingLemmas.{printed_bare}
-use Rattle.proof_grammar.specs.Printing.{node_lines_after, certificate_lines_text, canonical_certificate}
+use Rattle.schema_printer.specs.Spelling.{printed_names_of}
+use Rattle.proof_grammar.specs.Printing.{node_lines_after, canonical_certificate}
+use Rattle.schema_grammar.specs.Printed.{IsReadBack}
 use Rattle.proof_grammar.specs.Spelling.{Spells}
 use Rattle.proof_grammar.proofs.CountLaws.{lines_count}
 use Rattle.proof_grammar.proofs.PrintedCertificates.{answer_text, printed_lines_mean}
@@ -22,18 +21,23 @@ use Rattle.proof_grammar.proofs.PrintedNodes.{printed_nodes}
 use Rattle.proof_grammar.proofs.PrintedWithin.{tree_printable}
 
 pub printed_spells : (answered : Bool) (s : Schema) (p : Deriv) (d : Dependency)
-    → naming_of s ≡ Bare → AreNames format.Plain (names_of s) → Proves s (tree_of p) d → nodes (tree_of p) ≤ MOST_NODES
+    → All (IsReadBack format.Plain (naming_of s)) (names_of s) → Proves s (tree_of p) d
+    → nodes (tree_of p) ≤ MOST_NODES
     → Spells s (answer_text answered ++ canonical_certificate s (tree_of p)) (tree_of p)
-printed_spells answered s p d bare are proves within_limit =
+unfolding printed_names_of
+printed_spells answered s p d are proves within_limit =
     let lines = node_lines_after s 0 (tree_of p) in
-    let mean = printed_lines_mean answered (names_of s) lines are
-    (tree_printable s (tree_of p) d 0 (tree_of-attributes p) proves (omega (arith, within_limit))) in
-    let same = ap (λ (names : List (List ℕ)). answer_text answered ++ certificate_lines_text names lines) (sym (printed_bare s bare)) in
-    subst (λ (text : List ℕ). Spells s text (tree_of p)) same
-    (record { lines = lines; mean = mean; nodes = printed_nodes s (tree_of p) d proves })
+    record {
+      lines = lines;
+      mean = printed_lines_mean answered (naming_of s) (names_of s) lines
+          (record { each = are; differ = s.valid.names_differ })
+          (tree_printable s (tree_of p) d 0 (tree_of-attributes p) proves (omega (arith, within_limit)));
+      nodes = printed_nodes s (tree_of p) d proves;
+    }
 
-pub answered_spells : (s : Schema) (p : Deriv) (d : Dependency) → naming_of s ≡ Bare → AreNames format.Plain (names_of s) → Proves s (tree_of p) d
+pub answered_spells : (s : Schema) (p : Deriv) (d : Dependency)
+    → All (IsReadBack format.Plain (naming_of s)) (names_of s) → Proves s (tree_of p) d
     → nodes (tree_of p) ≤ MOST_NODES
     → (w : Spells s (codes "yes\n" ++ canonical_certificate s (tree_of p)) (tree_of p)) × (length w.lines ≡ nodes (tree_of p))
-answered_spells s p d bare are proves within_limit =
-    let w = printed_spells true s p d bare are proves within_limit in (w, lines_count s w.lines (tree_of p) w.nodes)
+answered_spells s p d are proves within_limit =
+    let w = printed_spells true s p d are proves within_limit in (w, lines_count s w.lines (tree_of p) w.nodes)

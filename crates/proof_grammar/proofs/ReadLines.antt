@@ -7,9 +7,10 @@ use Rattle.std.proofs.lemmas.Bool.{cases_lt, cond_both}
 use Rattle.std.proofs.lemmas.List.{append-nil, get_or_append_left}
 use Rattle.std.proofs.lemmas.List.Elements.{All-push}
 use Rattle.dep_model.specs.declared.schema.Schema.{Schema}
-use Rattle.dep_model.specs.Schemas.{names_of}
+use Rattle.dep_model.specs.Schemas.{names_of, naming_of}
 use Rattle.derivation.specs.declared.measures.TheConstants.{MOST_LEVELS}
 use Rattle.derivation.specs.Trees.{Tree, depth}
+use Rattle.dep_model.specs.declared.naming.Naming.{Naming}
 use Rattle.proof_grammar.specs.declared.line_kind.LineKind.TheVariants.{Certificate}
 use Rattle.proof_grammar.specs.CheckerStates.{Opened, CheckerStateValue, prepare_line, within_limits, add_line, enter_line}
 use Rattle.proof_grammar.specs.Diagnostics.{Diagnostic, LineDiagnostic, wrong_number}
@@ -30,16 +31,19 @@ use Rattle.proof_grammar.specs.Wrongs.{AreRead}
 
 -- ---- what is read of a line
 -- the checker state after a certificate line, after which no `yes` may come
-abbrev pub without_more_yes : Result CheckerStateValue Diagnostic → Result (Bool × CheckerStateValue) Diagnostic
+abbrev pub without_more_yes : Result CheckerStateValue Diagnostic
+    → Result (Bool × CheckerStateValue) Diagnostic
 without_more_yes r = r >>= λ next. Ok (false, next)
 
 -- what is read of a line, and after it
-abbrev pub read_from : Schema → ℕ → List (List ℕ) → Result (Bool × CheckerStateValue) Diagnostic → Result Tree LineDiagnostic
+abbrev pub read_from : Schema → ℕ → List (List ℕ) → Result (Bool × CheckerStateValue) Diagnostic
+    → Result Tree LineDiagnostic
 read_from s number texts r = at_line number r >>= λ next. read_certificate_lines s next.0 (number + 1) next.1 texts
 
 -- ---- what follows lines
 -- no line is used twice
-follows_once : (s : Schema) (used : ℕ → ℕ) (ts : List Tree) (state : CheckerStateValue) (n : ℕ) → Follows s used ts state → 0 < n → used n ≤ 1
+follows_once : (s : Schema) (used : ℕ → ℕ) (ts : List Tree) (state : CheckerStateValue) (n : ℕ)
+    → Follows s used ts state → 0 < n → used n ≤ 1
 follows_once s used ts state n follows low =
     let size = slots_size s used 0 ts state.unused follows.slots in
     ⊎_elim
@@ -57,7 +61,8 @@ follows_once s used ts state n follows low =
     slot often t None is = omega (arith, is)
 
 -- the line of the text is kept
-entered_adds : (s : Schema) (at : ℕ) (state next : CheckerStateValue) (l : Line) → enter_line s at state l ≡ Ok next → next.lines ≡ state.lines ++ at ∷ []
+entered_adds : (s : Schema) (at : ℕ) (state next : CheckerStateValue) (l : Line)
+    → enter_line s at state l ≡ Ok next → next.lines ≡ state.lines ++ at ∷ []
 unfolding enter_line
 entered_adds s at state next l h =
     let os = state.unused in
@@ -71,40 +76,44 @@ entered_adds s at state next l h =
     (λ other. tt))
 
 -- ---- lines and what they mean
-pub mean_size : (names : List (List ℕ)) (texts : List (List ℕ)) (lines : List Line) → MeanLines names texts lines → length texts ≡ length lines
-mean_size names [] [] mean = refl
-mean_size names [] (l ∷ ls) mean = absurd mean
-mean_size names (text ∷ texts) [] mean = absurd mean
-mean_size names (text ∷ texts) (l ∷ ls) mean = ap suc (mean_size names texts ls mean.1)
+pub mean_size : (naming : Naming) (names : List (List ℕ)) (texts : List (List ℕ)) (lines : List Line)
+    → MeanLines naming names texts lines → length texts ≡ length lines
+mean_size naming names [] [] mean = refl
+mean_size naming names [] (l ∷ ls) mean = absurd mean
+mean_size naming names (text ∷ texts) [] mean = absurd mean
+mean_size naming names (text ∷ texts) (l ∷ ls) mean = ap suc (mean_size naming names texts ls mean.1)
 
-mean_more : (names : List (List ℕ)) (texts : List (List ℕ)) (lines : List Line) (text : List ℕ) (l : Line) → MeanLines names texts lines → MeansLine names text l
-    → MeanLines names (texts ++ text ∷ []) (lines ++ l ∷ [])
-mean_more names [] [] text l mean means = (means, tt)
-mean_more names [] (m ∷ ms) text l mean means = absurd mean
-mean_more names (t ∷ ts) [] text l mean means = absurd mean
-mean_more names (t ∷ ts) (m ∷ ms) text l mean means = (mean.0, mean_more names ts ms text l mean.1 means)
+mean_more : (naming : Naming) (names : List (List ℕ)) (texts : List (List ℕ)) (lines : List Line) (text : List ℕ) (l : Line) → MeanLines naming names texts lines → MeansLine naming names text l
+    → MeanLines naming names (texts ++ text ∷ []) (lines ++ l ∷ [])
+mean_more naming names [] [] text l mean means = (means, tt)
+mean_more naming names [] (m ∷ ms) text l mean means = absurd mean
+mean_more naming names (t ∷ ts) [] text l mean means = absurd mean
+mean_more naming names (t ∷ ts) (m ∷ ms) text l mean means = (mean.0, mean_more naming names ts ms text l mean.1 means)
 
-pub nothing_counts : (fresh : Bool) → lines_to_read fresh [] ≡ []
-nothing_counts true = refl
-nothing_counts false = refl
+pub nothing_counts : (naming : Naming) (fresh : Bool) → lines_to_read naming fresh [] ≡ []
+nothing_counts naming true = refl
+nothing_counts naming false = refl
 
 -- ---- after some lines
 -- where a certificate line after so many others stands in a text
-pub record IsPosition (text : List ℕ) (at i : ℕ) : Type 0 where
+pub record IsPosition (naming : Naming) (text : List ℕ) (at i : ℕ) : Type 0 where
   pub before : List (List ℕ)
   pub here : List ℕ
-  pub stands : StandsAt text before here at
-  pub count : length (certificate_lines_of before) ≡ i
+  pub stands : StandsAt naming text before here at
+  pub count : length (certificate_lines_of naming before) ≡ i
 
 pub record HasReadLines (s : Schema) (text : List ℕ) (before : List (List ℕ)) (fresh : Bool) (lines : List Line) (trees : List Tree) (state : CheckerStateValue) : Type 0 where
-  pub counts : (more : List (List ℕ)) → certificate_lines_of (before ++ more) ≡ certificate_lines_of before ++ lines_to_read fresh more
-  pub mean : MeanLines (names_of s) (certificate_lines_of before) lines
+  pub counts : (more : List (List ℕ))
+      → certificate_lines_of (naming_of s) (before ++ more) ≡ certificate_lines_of (naming_of s) before ++ lines_to_read (naming_of s) fresh more
+  pub mean : MeanLines (naming_of s) (names_of s) (certificate_lines_of (naming_of s) before) lines
   pub read : AreRead s lines trees
   pub follows : Follows s (λ n. uses n lines) trees state
   pub size : length state.lines ≡ length trees
-  pub positions : (i : ℕ) → i < length state.lines → IsPosition text (slice_index state.lines i) i
+  pub positions : (i : ℕ) → i < length state.lines
+      → IsPosition (naming_of s) text (slice_index state.lines i) i
 
-pub at_start : (s : Schema) (text : List ℕ) → HasReadLines s text [] true [] [] (record { lines = []; unused = [] })
+pub at_start : (s : Schema) (text : List ℕ)
+    → HasReadLines s text [] true [] [] (record { lines = []; unused = [] })
 at_start s text = record {
   counts = λ more. refl;
   mean = tt;
@@ -116,17 +125,18 @@ at_start s text = record {
 
 -- a line that does not count
 pub line_passed_over : (s : Schema) (text : List ℕ) (before : List (List ℕ)) (fresh next : Bool) (lines : List Line) (trees : List Tree) (state : CheckerStateValue) (here : List ℕ)
-    → HasReadLines s text before fresh lines trees state → ((more : List (List ℕ)) → lines_to_read fresh (here ∷ more) ≡ lines_to_read next more) → HasReadLines s text (before ++ here ∷ []) next lines trees state
+    → HasReadLines s text before fresh lines trees state
+    → ((more : List (List ℕ)) → lines_to_read (naming_of s) fresh (here ∷ more) ≡ lines_to_read (naming_of s) next more) → HasReadLines s text (before ++ here ∷ []) next lines trees state
 line_passed_over s text before fresh next lines trees state here afterwards skips =
-    let so_far = certificate_lines_of before in
-    let same : certificate_lines_of (before ++ here ∷ []) ≡ so_far =
-    afterwards.counts (here ∷ []) ∙ ap (λ (ls : List (List ℕ)). so_far ++ ls) (skips [] ∙ nothing_counts next) ∙ append-nil so_far in
+    let so_far = certificate_lines_of (naming_of s) before in
+    let same : certificate_lines_of (naming_of s) (before ++ here ∷ []) ≡ so_far =
+    afterwards.counts (here ∷ []) ∙ ap (λ (ls : List (List ℕ)). so_far ++ ls) (skips [] ∙ nothing_counts (naming_of s) next) ∙ append-nil so_far in
     record {
-      counts = λ more. ap certificate_lines_of (append_assoc before (here ∷ []) more)
+      counts = λ more. ap (certificate_lines_of (naming_of s)) (append_assoc before (here ∷ []) more)
           ∙ afterwards.counts (here ∷ more)
           ∙ ap (λ (ls : List (List ℕ)). so_far ++ ls) (skips more)
-          ∙ ap (λ (ls : List (List ℕ)). ls ++ lines_to_read next more) (sym same);
-      mean = subst (λ (ls : List (List ℕ)). MeanLines (names_of s) ls lines) (sym same) afterwards.mean;
+          ∙ ap (λ (ls : List (List ℕ)). ls ++ lines_to_read (naming_of s) next more) (sym same);
+      mean = subst (λ (ls : List (List ℕ)). MeanLines (naming_of s) (names_of s) ls lines) (sym same) afterwards.mean;
       read = afterwards.read;
       follows = afterwards.follows;
       size = afterwards.size;
@@ -135,15 +145,17 @@ line_passed_over s text before fresh next lines trees state here afterwards skip
 
 -- where a certificate line counts, it stands after those before
 pub counts_here : (s : Schema) (text : List ℕ) (before : List (List ℕ)) (fresh : Bool) (lines : List Line) (trees : List Tree) (state : CheckerStateValue) (here : List ℕ)
-    → HasReadLines s text before fresh lines trees state → Counts Certificate fresh here → certificate_lines_of (before ++ here ∷ []) ≡ certificate_lines_of before ++ here ∷ []
-counts_here s text before fresh lines trees state here afterwards counts = afterwards.counts (here ∷ []) ∙ ap (λ (ls : List (List ℕ)). certificate_lines_of before ++ ls) (counts [])
+    → HasReadLines s text before fresh lines trees state → Counts (naming_of s) Certificate fresh here
+    → certificate_lines_of (naming_of s) (before ++ here ∷ []) ≡ certificate_lines_of (naming_of s) before ++ here ∷ []
+counts_here s text before fresh lines trees state here afterwards counts = afterwards.counts (here ∷ []) ∙ ap (λ (ls : List (List ℕ)). certificate_lines_of (naming_of s) before ++ ls) (counts [])
 
 -- a line is entered
 pub one_more : (s : Schema) (text : List ℕ) (before : List (List ℕ)) (fresh : Bool) (lines : List Line) (trees : List Tree) (state : CheckerStateValue) (here : List ℕ) (at : ℕ) (l : Line) (u : Tree)
-    (next : CheckerStateValue) → HasReadLines s text before fresh lines trees state → Counts Certificate fresh here → StandsAt text before here at → MeansLine (names_of s) here l
-    → enter_line s at state l ≡ Ok next → IsEntered s (λ n. uses n lines) trees l next u → HasReadLines s text (before ++ here ∷ []) false (lines ++ l ∷ []) (trees ++ u ∷ []) next
+    (next : CheckerStateValue) → HasReadLines s text before fresh lines trees state → Counts (naming_of s) Certificate fresh here → StandsAt (naming_of s) text before here at → MeansLine (naming_of s) (names_of s) here l
+    → enter_line s at state l ≡ Ok next → IsEntered s (λ n. uses n lines) trees l next u
+    → HasReadLines s text (before ++ here ∷ []) false (lines ++ l ∷ []) (trees ++ u ∷ []) next
 one_more s text before fresh lines trees state here at l u next afterwards counts stands means enter is =
-    let so_far = certificate_lines_of before in
+    let so_far = certificate_lines_of (naming_of s) before in
     let whole = counts_here s text before fresh lines trees state here afterwards counts in
     let adds = entered_adds s at state next l enter in
     let count = nodes_size s [] lines trees afterwards.read.nodes in
@@ -156,17 +168,17 @@ one_more s text before fresh lines trees state here at l u next afterwards count
       fresh = λ n h. sym (sums n) ∙ is.follows.fresh n h;
     } in
     let position : (i : ℕ) → i < length (state.lines ++ at ∷ [])
-    → IsPosition text (slice_index (state.lines ++ at ∷ []) i) i = λ i h.
+    → IsPosition (naming_of s) text (slice_index (state.lines ++ at ∷ []) i) i = λ i h.
     ⊎_elim
     (λ (inside : i < length state.lines).
-    subst (λ (n : ℕ). IsPosition text n i) (sym (get_or_append_left state.lines (at ∷ []) 0 i inside))
+    subst (λ (n : ℕ). IsPosition (naming_of s) text n i) (sym (get_or_append_left state.lines (at ∷ []) 0 i inside))
     (afterwards.positions i inside))
     (λ (past : length state.lines ≤ i).
     let last : length state.lines ≡ i = omega (arith, past, h, length-append state.lines (at ∷ [])) in
     let value : slice_index (state.lines ++ at ∷ []) i ≡ at =
     sym (ap (slice_index (state.lines ++ at ∷ [])) last) ∙ get_or-append_seam state.lines at [] 0 in
-    let size = mean_size (names_of s) so_far lines afterwards.mean in
-    subst (λ (n : ℕ). IsPosition text n i) (sym value)
+    let size = mean_size (naming_of s) (names_of s) so_far lines afterwards.mean in
+    subst (λ (n : ℕ). IsPosition (naming_of s) text n i) (sym value)
     (record {
       before = before;
       here = here;
@@ -175,13 +187,13 @@ one_more s text before fresh lines trees state here at l u next afterwards count
     }))
     (cases_lt i (length state.lines)) in
     record {
-      counts = λ more. ap certificate_lines_of (append_assoc before (here ∷ []) more)
+      counts = λ more. ap (certificate_lines_of (naming_of s)) (append_assoc before (here ∷ []) more)
           ∙ afterwards.counts (here ∷ more)
           ∙ ap (λ (ls : List (List ℕ)). so_far ++ ls) (counts more)
-          ∙ sym (append_assoc so_far (here ∷ []) (lines_to_read false more))
-          ∙ ap (λ (ls : List (List ℕ)). ls ++ lines_to_read false more) (sym whole);
-      mean = subst (λ (ls : List (List ℕ)). MeanLines (names_of s) ls (lines ++ l ∷ [])) (sym whole)
-          (mean_more (names_of s) so_far lines here l afterwards.mean means);
+          ∙ sym (append_assoc so_far (here ∷ []) (lines_to_read (naming_of s) false more))
+          ∙ ap (λ (ls : List (List ℕ)). ls ++ lines_to_read (naming_of s) false more) (sym whole);
+      mean = subst (λ (ls : List (List ℕ)). MeanLines (naming_of s) (names_of s) ls (lines ++ l ∷ [])) (sym whole)
+          (mean_more (naming_of s) (names_of s) so_far lines here l afterwards.mean means);
       read = record {
         nodes = AreNodes-append s [] lines trees (l ∷ []) (u ∷ []) afterwards.read.nodes (is.node, tt);
         once = λ n low. follows_once s used (trees ++ u ∷ []) next n follows low;
@@ -191,6 +203,6 @@ one_more s text before fresh lines trees state here at l u next afterwards count
       follows = follows;
       size = ap length adds
           ∙ omega (arith, length-append state.lines (at ∷ []), length-append trees (u ∷ []), afterwards.size);
-      positions = subst (λ (ls : List ℕ). (i : ℕ) → i < length ls → IsPosition text (slice_index ls i) i)
+      positions = subst (λ (ls : List ℕ). (i : ℕ) → i < length ls → IsPosition (naming_of s) text (slice_index ls i) i)
           (sym adds) position;
     }

@@ -3,7 +3,7 @@ use Rattle.std.proofs.Common.{◌≡◌, ◌⊎◌, ⊎_elim, ◌+◌, ◌-◌, 
 use Rattle.std.specs.Prelude.{slice_index}
 use Rattle.std.proofs.lemmas.List.{nil_from_length}
 use Rattle.dep_model.specs.declared.schema.Schema.{Schema}
-use Rattle.dep_model.specs.Schemas.{names_of}
+use Rattle.dep_model.specs.Schemas.{names_of, naming_of}
 use Rattle.derivation.specs.Trees.{Tree}
 use Rattle.lexer.specs.Modes as mode
 use Rattle.lexer.specs.Lines.{line_texts, without_mark}
@@ -37,32 +37,32 @@ refused_there s text e h = subst (TextFits s text) h (text_fits s text)
 -- a line that stands in a text counts
 not_passed : (s : Schema) (text : List ℕ) (before : List (List ℕ)) (here : List ℕ) (at : ℕ) (fresh : Bool)
     (lines : List Line) (trees : List Tree) (state : CheckerStateValue) → HasReadLines s text before fresh lines trees state
-    → StandsAt text before here at → lines_to_read fresh (here ∷ []) ≡ [] → ⊥
+    → StandsAt (naming_of s) text before here at → lines_to_read (naming_of s) fresh (here ∷ []) ≡ [] → ⊥
 not_passed s text before here at fresh lines trees state afterwards stands none =
     omega (
       arith,
       ap length (sym stands.counts ∙ afterwards.counts (here ∷ [])),
-      length-append (certificate_lines_of before) (here ∷ []),
-      length-append (certificate_lines_of before) (lines_to_read fresh (here ∷ [])),
+      length-append (certificate_lines_of (naming_of s) before) (here ∷ []),
+      length-append (certificate_lines_of (naming_of s) before) (lines_to_read (naming_of s) fresh (here ∷ [])),
       ap length none,
     )
 
 line_refuses : (k : LineKind) (s : Schema) (text : List ℕ) (e : LineDiagnostic) (before after : List (List ℕ))
     (here : List ℕ) (fresh : Bool) (lines : List Line) (trees : List Tree) (state : CheckerStateValue)
-    → HasReadLines s text before fresh lines trees state → StandsAt text before here e.line → Counts k fresh here
-    → IsBadLine (names_of s) here e.line e.diagnostic ⊎ IsWrongLine s lines trees here e.diagnostic
+    → HasReadLines s text before fresh lines trees state → StandsAt (naming_of s) text before here e.line → Counts (naming_of s) k fresh here
+    → IsBadLine (naming_of s) (names_of s) here e.line e.diagnostic ⊎ IsWrongLine s lines trees here e.diagnostic
     → read_from s e.line after (read_as k s fresh e.line state here) ≡ Err e
 line_refuses Blank s text e before after here fresh lines trees state afterwards stands counts why =
     absurd (not_passed s text before here e.line fresh lines trees state afterwards stands
-    (counts [] ∙ nothing_counts fresh))
+    (counts [] ∙ nothing_counts (naming_of s) fresh))
 line_refuses Opening s text e before after here fresh lines trees state afterwards stands counts why =
     absurd (not_passed s text before here e.line fresh lines trees state afterwards stands (counts []))
 line_refuses Certificate s text e before after here fresh lines trees state afterwards stands counts (inl bad) =
-    rw ((refusals.refusal_law (names_of s) e.line here bad.refusal).1 bad.grammar)
+    rw ((refusals.refusal_law (naming_of s) (names_of s) e.line here bad.refusal).1 bad.grammar)
     (ap (λ c. Err (diagnostic_at e.line c)) (sym bad.is))
 line_refuses Certificate s text e before after here fresh lines trees state afterwards stands counts (inr wrong) =
     let own = line_of_attributes s here wrong.line wrong.means in
-    let reads = line_back (names_of s) e.line here wrong.line wrong.means in
+    let reads = line_back (naming_of s) (names_of s) e.line here wrong.line wrong.means in
     let refuses = refused_entered s e.line lines trees state wrong.line e.diagnostic afterwards.follows own wrong.wrong in
     rw (reads, refuses) refl
 
@@ -78,8 +78,8 @@ refused_back s text e (inl refused) =
     ap (read_certificate_lines s true 1 (record { lines = []; unused = [] })) stands.cut
     ∙ walk.same
     ∙ ap (λ n. read_certificate_lines s walk.fresh n walk.state after_it) (sym stands.number)
-    ∙ line_refuses (line_kind walk.fresh (lex mode.numbered here)) s text e refused.before stands.after here walk.fresh
-    refused.lines refused.trees walk.state walk.afterwards stands (kind_counts walk.fresh here _ refl) refused.why
+    ∙ line_refuses (line_kind walk.fresh (lex (mode.numbered (naming_of s)) here)) s text e refused.before stands.after here walk.fresh
+    refused.lines refused.trees walk.state walk.afterwards stands (kind_counts (naming_of s) walk.fresh here _ refl) refused.why
 refused_back s text e (inr refused) =
     let size = nodes_size s [] refused.lines refused.trees refused.read.nodes in
     end_back s text refused.lines refused.trees (Err e) refused.mean refused.read (λ fresh state afterwards. ⊎_elim
@@ -91,7 +91,7 @@ refused_back s text e (inr refused) =
     let number : i + 1 ≡ never.number = omega (arith, never.not_empty) in
     let position = afterwards.positions i (omega (arith, never.not_last, never.not_empty, size, afterwards.size)) in
     let at : slice_index state.lines i ≡ e.line =
-    same_position text position.before never.before position.here never.here (slice_index state.lines i) e.line position.stands
+    same_position (naming_of s) text position.before never.before position.here never.here (slice_index state.lines i) e.line position.stands
     never.stands (omega (arith, position.count, never.is_number)) in
     inr (record {
       at = i;

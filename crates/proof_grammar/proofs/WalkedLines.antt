@@ -3,7 +3,7 @@ use Rattle.std.proofs.Common.{◌≡◌, ◌<◌, ◌≤◌, ◌+◌, ℕ, Bool,
 use Rattle.std.proofs.Math.Seq.{get_or-append_seam}
 use Rattle.std.proofs.lemmas.List.{append-nil}
 use Rattle.dep_model.specs.declared.schema.Schema.{Schema}
-use Rattle.dep_model.specs.Schemas.{names_of}
+use Rattle.dep_model.specs.Schemas.{names_of, naming_of}
 use Rattle.derivation.specs.declared.measures.TheConstants.{MOST_NODES, MOST_LEVELS}
 use Rattle.derivation.specs.Trees.{Tree, depth}
 use Rattle.lexer.specs.Modes as mode
@@ -47,7 +47,7 @@ record HasCome (s : Schema) (text : List ℕ) (after whole : List (List ℕ)) (a
   front : whole ≡ before ++ texts
   count : number ≡ length before + 1
   afterwards : HasReadLines s text before fresh lines trees state
-  mean : MeanLines (names_of s) (lines_to_read fresh texts) more
+  mean : MeanLines (naming_of s) (names_of s) (lines_to_read (naming_of s) fresh texts) more
   all_lines : all ≡ lines ++ more
   all_trees : grown ≡ trees ++ us
   nodes : AreNodes s trees more us
@@ -56,7 +56,7 @@ record HasCome (s : Schema) (text : List ℕ) (after whole : List (List ℕ)) (a
 Walks-skipped : (s : Schema) (text : List ℕ) (after whole : List (List ℕ)) (all : List Line) (grown : List Tree) (number : ℕ)
     (here : List ℕ) (texts : List (List ℕ)) (more : List Line) (us : List Tree)
     (w : HasCome s text after whole all grown number (here ∷ texts) more us) (fresh : Bool)
-    → ((rest : List (List ℕ)) → lines_to_read w.fresh (here ∷ rest) ≡ lines_to_read fresh rest)
+    → ((rest : List (List ℕ)) → lines_to_read (naming_of s) w.fresh (here ∷ rest) ≡ lines_to_read (naming_of s) fresh rest)
     → HasCome s text after whole all grown (number + 1) texts more us
 Walks-skipped s text after whole all grown number here texts more us w fresh counts = record {
   before = w.before ++ here ∷ [];
@@ -68,14 +68,15 @@ Walks-skipped s text after whole all grown number here texts more us w fresh cou
   front = w.front ∙ sym (append_assoc w.before (here ∷ []) texts);
   count = omega (arith, w.count, length-append w.before (here ∷ []));
   afterwards = line_passed_over s text w.before w.fresh fresh w.lines w.trees w.state here w.afterwards counts;
-  mean = subst (λ (ls : List (List ℕ)). MeanLines (names_of s) ls more) (counts texts) w.mean;
+  mean = subst (λ (ls : List (List ℕ)). MeanLines (naming_of s) (names_of s) ls more) (counts texts) w.mean;
   all_lines = w.all_lines;
   all_trees = w.all_trees;
   nodes = w.nodes;
 }
 
 -- what is walked of lines
-abbrev Walks : Schema → List ℕ → List (List ℕ) → List (List ℕ) → List Line → List Tree → ℕ → List (List ℕ) → Type 0
+abbrev Walks : Schema → List ℕ → List (List ℕ) → List (List ℕ) → List Line → List Tree → ℕ
+    → List (List ℕ) → Type 0
 Walks s text after whole all grown number texts =
     (more : List Line) (us : List Tree) (w : HasCome s text after whole all grown number texts more us)
     → IsWalked s text whole after all grown (read_certificate_lines s w.fresh number w.state (texts ++ after))
@@ -83,7 +84,7 @@ Walks s text after whole all grown number texts =
 walk_more : (k : LineKind) (s : Schema) (text : List ℕ) (after whole : List (List ℕ)) (all : List Line)
     (grown : List Tree) (number : ℕ) (here : List ℕ) (texts : List (List ℕ)) (more : List Line) (us : List Tree)
     (w : HasCome s text after whole all grown number (here ∷ texts) more us) → AreRead s all grown
-    → Counts k w.fresh here → Walks s text after whole all grown (number + 1) texts
+    → Counts (naming_of s) k w.fresh here → Walks s text after whole all grown (number + 1) texts
     → IsWalked s text whole after all grown
     (read_from s number (texts ++ after) (read_as k s w.fresh number w.state here))
 unfolding Walks-skipped
@@ -92,10 +93,10 @@ walk_more Blank s text after whole all grown number here texts more us w read co
 walk_more Opening s text after whole all grown number here texts more us w read counts on =
     on more us (Walks-skipped s text after whole all grown number here texts more us w false counts)
 walk_more Certificate s text after whole all grown number here texts [] us w read counts on =
-    absurd (subst (λ (ls : List (List ℕ)). MeanLines (names_of s) ls []) (counts texts) w.mean)
+    absurd (subst (λ (ls : List (List ℕ)). MeanLines (naming_of s) (names_of s) ls []) (counts texts) w.mean)
 walk_more Certificate s text after whole all grown number here texts (l ∷ more) [] w read counts on = absurd w.nodes
 walk_more Certificate s text after whole all grown number here texts (l ∷ more) (u ∷ us) w read counts on =
-    let means = subst (λ (ls : List (List ℕ)). MeanLines (names_of s) ls (l ∷ more)) (counts texts) w.mean in
+    let means = subst (λ (ls : List (List ℕ)). MeanLines (naming_of s) (names_of s) ls (l ∷ more)) (counts texts) w.mean in
     let size = nodes_size s [] w.lines w.trees w.afterwards.read.nodes in
     let room : length w.trees < MOST_NODES =
     omega (arith, read.lines_fit, ap length w.all_lines, length-append w.lines (l ∷ more), size) in
@@ -115,13 +116,13 @@ walk_more Certificate s text after whole all grown number here texts (l ∷ more
     ) in
     let own = line_of_attributes s here l means.0 in
     let enters = entered_back s number w.lines w.trees w.state l u w.afterwards.follows own w.nodes.0 room flat once in
-    let stands : StandsAt text w.before here number = record {
+    let stands : StandsAt (naming_of s) text w.before here number = record {
       after = texts ++ after;
       cut = w.cut;
       number = w.count;
       counts = counts_here s text w.before w.fresh w.lines w.trees w.state here w.afterwards counts;
     } in
-    rw (line_back (names_of s) number here l means.0, enters.1) (on more us (record {
+    rw (line_back (naming_of s) (names_of s) number here l means.0, enters.1) (on more us (record {
       before = w.before ++ here ∷ [];
       fresh = false;
       lines = w.lines ++ l ∷ [];
@@ -157,14 +158,15 @@ walk s text after whole all grown number [] read [] [] w =
     (subst (λ ts. of w.before all ts) same_trees (subst (λ ls. of w.before ls w.trees) same_lines start))
 walk s text after whole all grown number [] read [] (u ∷ us) w = absurd w.nodes
 walk s text after whole all grown number [] read (l ∷ more) us w =
-    absurd (subst (λ (ls : List (List ℕ)). MeanLines (names_of s) ls (l ∷ more)) (nothing_counts w.fresh) w.mean)
+    absurd (subst (λ (ls : List (List ℕ)). MeanLines (naming_of s) (names_of s) ls (l ∷ more)) (nothing_counts (naming_of s) w.fresh) w.mean)
 walk s text after whole all grown number (here ∷ texts) read more us w =
-    walk_more (line_kind w.fresh (lex mode.numbered here)) s text after whole all grown number here texts more us w read
-    (kind_counts w.fresh here _ refl) (walk s text after whole all grown (number + 1) texts read)
+    walk_more (line_kind w.fresh (lex (mode.numbered (naming_of s)) here)) s text after whole all grown number here texts more us w read
+    (kind_counts (naming_of s) w.fresh here _ refl) (walk s text after whole all grown (number + 1) texts read)
 
 -- the reader after lines of a text that are read
 pub read_lines_walked : (s : Schema) (text : List ℕ) (before after : List (List ℕ)) (lines : List Line) (trees : List Tree)
-    → line_texts (without_mark text) ≡ before ++ after → MeanLines (names_of s) (certificate_lines_of before) lines
+    → line_texts (without_mark text) ≡ before ++ after
+    → MeanLines (naming_of s) (names_of s) (certificate_lines_of (naming_of s) before) lines
     → AreRead s lines trees → IsWalked s text before after lines trees
     (read_certificate_lines s true 1 (record { lines = []; unused = [] }) (before ++ after))
 read_lines_walked s text before after lines trees cut mean read =

@@ -1,7 +1,6 @@
 -- The laws that tie the reading of a certificate to what it spells, and what printed certificates
 -- spell: for the functions of `laws.rt`. `Desk` does not cite it.
-use Rattle.std.specs.Prelude.{◌≡◌, ◌≤◌, ◌↔◌, ℕ, List, ◌++◌, length, codes, Ok, Err}
-use Rattle.dep_model.specs.declared.naming.Naming.TheVariants.{Bare}
+use Rattle.std.specs.Prelude.{◌≡◌, ◌≤◌, ◌↔◌, ℕ, List, ◌++◌, length, map, All, codes, Ok, Err}
 use Rattle.dep_model.specs.declared.schema.Schema.{Schema}
 use Rattle.dep_model.specs.Dependencies.{Dependency}
 use Rattle.dep_model.specs.Schemas.{names_of, naming_of}
@@ -10,16 +9,18 @@ use Rattle.derivation.specs.declared.measures.TheConstants.{MOST_NODES, MOST_LEV
 use Rattle.derivation.specs.Conclusions.{Proves}
 use Rattle.derivation.specs.Derivs.{tree_of}
 use Rattle.derivation.specs.Trees.{Tree, nodes, depth}
+use Rattle.dep_model.specs.declared.naming.Naming.{Naming}
 use Rattle.lexer.specs.Modes as mode
 use Rattle.lexer.specs.Tokens.{lex}
 use Rattle.schema_grammar.specs.declared.format.Format.TheVariants as format
 use Rattle.schema_grammar.specs.declared.refusal.SchemaRefusal.{SchemaRefusal}
-use Rattle.schema_grammar.specs.Printed.{AreNames}
+use Rattle.schema_printer.specs.Spelling.{spelling}
 use Rattle.schema_grammar.specs.Rests.{rest_from}
 use Rattle.proof_grammar.specs.Diagnostics.{LineDiagnostic}
 use Rattle.proof_grammar.specs.LineDiagnostics.{RefusesCertificateLine}
 use Rattle.proof_grammar.specs.Lines.{Line, certificate_line}
 use Rattle.proof_grammar.specs.Meanings.{MeansLine}
+use Rattle.schema_grammar.specs.Printed.{IsReadBack, AreReadBack}
 use Rattle.proof_grammar.specs.Printable.{IsPrintableLine}
 use Rattle.proof_grammar.specs.Printing.{certificate_line_text, node_lines_after, canonical_certificate}
 use Rattle.proof_grammar.specs.Refusals.{IsRefusedCertificate}
@@ -30,15 +31,16 @@ use Rattle.proof_grammar.specs.Texts.{read_proof}
 -- a line is read exactly as what it means
 abbrev pub LineMeaning : Type 0
 LineMeaning =
-    (names : List (List ℕ)) (number : ℕ) (text : List ℕ) (l : Line)
-    → (certificate_line names (rest_from number 1 (lex mode.numbered text)) ≡ Ok l) ↔ MeansLine names text l
+    (naming : Naming) (names : List (List ℕ)) (number : ℕ) (text : List ℕ) (l : Line)
+    → (certificate_line names (rest_from number 1 (lex (mode.numbered naming) text)) ≡ Ok l)
+    ↔ MeansLine naming names text l
 
 -- the reading of a line refuses it exactly as the grammar does
 abbrev pub LineRefusal : Type 0
 LineRefusal =
-    (names : List (List ℕ)) (number : ℕ) (text : List ℕ) (e : SchemaRefusal)
-    → (certificate_line names (rest_from number 1 (lex mode.numbered text)) ≡ Err e)
-    ↔ RefusesCertificateLine names number text e
+    (naming : Naming) (names : List (List ℕ)) (number : ℕ) (text : List ℕ) (e : SchemaRefusal)
+    → (certificate_line names (rest_from number 1 (lex (mode.numbered naming) text)) ≡ Err e)
+    ↔ RefusesCertificateLine naming names number text e
 
 -- a certificate is read exactly as the tree that it spells within the limits
 abbrev pub SpelledIsRead : Type 0
@@ -61,8 +63,10 @@ CertificateRefusal = (s : Schema) (text : List ℕ) (e : LineDiagnostic)
 -- a printed line, without its line feed, means the line
 abbrev pub PrintedLineMeans : Type 0
 PrintedLineMeans =
-    (names : List (List ℕ)) (l : Line) → AreNames format.Plain names → IsPrintableLine names l
-    → (text : List ℕ) × (certificate_line_text names l ≡ text ++ codes "\n") × MeansLine names text l
+    (naming : Naming) (names : List (List ℕ)) (l : Line) → AreReadBack format.Plain naming names
+    → IsPrintableLine names l
+    → (text : List ℕ) × (certificate_line_text (map (spelling naming) names) l ≡ text ++ codes "\n")
+    × MeansLine naming names text l
 
 -- the lines that are printed of a tree are its nodes
 abbrev pub PrintedNodes : Type 0
@@ -71,16 +75,16 @@ PrintedNodes =
     → AreNodesOf s (node_lines_after s 0 (tree_of p)) (tree_of p)
     × (length (node_lines_after s 0 (tree_of p)) ≡ nodes (tree_of p))
 
--- what is printed of a derivation over a schema of bare names after these bytes spells its tree
+-- what is printed of a derivation after these bytes spells its tree
 abbrev pub PrintedSpells : List ℕ → Type 0
 PrintedSpells before =
-    (s : Schema) (p : Deriv) (d : Dependency) → naming_of s ≡ Bare → AreNames format.Plain (names_of s)
+    (s : Schema) (p : Deriv) (d : Dependency) → All (IsReadBack format.Plain (naming_of s)) (names_of s)
     → Proves s (tree_of p) d → nodes (tree_of p) ≤ MOST_NODES
     → Spells s (before ++ canonical_certificate s (tree_of p)) (tree_of p)
 
 -- and is read as it
 abbrev pub PrintedIsRead : List ℕ → Type 0
 PrintedIsRead before =
-    (s : Schema) (p : Deriv) (d : Dependency) → naming_of s ≡ Bare → AreNames format.Plain (names_of s)
+    (s : Schema) (p : Deriv) (d : Dependency) → All (IsReadBack format.Plain (naming_of s)) (names_of s)
     → Proves s (tree_of p) d → nodes (tree_of p) ≤ MOST_NODES → depth (tree_of p) ≤ MOST_LEVELS
     → read_proof s (before ++ canonical_certificate s (tree_of p)) ≡ Ok (tree_of p)

@@ -1,6 +1,7 @@
 -- What is wrong with a line of a certificate by its grammar, and how the grammar refuses the line:
 -- for `Refusals`.
 use Rattle.std.specs.Prelude.{◌≡◌, ◌<◌, ◌⊎◌, ℕ, suc, Bool, true, false, List, [], ◌∷◌, ◌++◌, length, take, map, Option, Some, None, slice_get}
+use Rattle.dep_model.specs.declared.naming.Naming.{Naming}
 use Rattle.lexer.specs.Modes as mode
 use Rattle.lexer.specs.declared.token.LexError.{LexError}
 use Rattle.lexer.specs.declared.token.TokenKind.{TokenKind}
@@ -107,6 +108,6 @@ RefusesTokens names line ms stop e =
     IsFirst (TokensDiagnostic names ms stop) (TokensWant ms) (span_at line 1 ms stop) e
 
 -- the line of this number of a certificate's text is refused so
-abbrev pub RefusesCertificateLine : List (List ℕ) → ℕ → List ℕ → SchemaRefusal → Type 0
-RefusesCertificateLine names line text e =
-    RefusesTokens names line (lex mode.numbered text).marks (lex mode.numbered text).stop e
+abbrev pub RefusesCertificateLine : Naming → List (List ℕ) → ℕ → List ℕ → SchemaRefusal → Type 0
+RefusesCertificateLine naming names line text e =
+    let l = lex (mode.numbered naming) text in RefusesTokens names line l.marks l.stop e

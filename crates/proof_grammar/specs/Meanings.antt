@@ -3,6 +3,7 @@
 use Rattle.std.specs.Prelude.{◌≡◌, ℕ, Bool, false, ◌&&◌, not, if◌then◌else◌, List, [], ◌∷◌, ◌++◌, filter, Option, codes}
 use Rattle.attr_sets.specs.Attributes.{Attributes}
 use Rattle.derivation.specs.Trees.{Step, augmentation, complementation, maugmentation, replication, Pair, transitivity, mtransitivity, coalescence}
+use Rattle.dep_model.specs.declared.naming.Naming.{Naming}
 use Rattle.lexer.specs.Modes as mode
 use Rattle.lexer.specs.declared.token.LexError.{LexError}
 use Rattle.lexer.specs.declared.token.TokenKind.TheVariants as token
@@ -24,17 +25,19 @@ abbrev pub is_yes_alone : Lexed → Bool
 is_yes_alone l = is_yes_from l.marks l.stop
 
 -- the lines without the first, where that is `yes`
-abbrev pub without_yes : List (List ℕ) → List (List ℕ)
-without_yes [] = []
-without_yes (line ∷ lines) = if is_yes_alone (lex mode.numbered line) then lines else line ∷ lines
+abbrev pub without_yes : Naming → List (List ℕ) → List (List ℕ)
+without_yes naming [] = []
+without_yes naming (line ∷ lines) =
+    if is_yes_alone (lex (mode.numbered naming) line) then lines else line ∷ lines
 
 -- the lines that are not blank, but for a first `yes`
-abbrev pub certificate_lines_of : List (List ℕ) → List (List ℕ)
-certificate_lines_of lines = without_yes (filter (λ line. not (is_blank (lex mode.numbered line))) lines)
+abbrev pub certificate_lines_of : Naming → List (List ℕ) → List (List ℕ)
+certificate_lines_of naming lines =
+    without_yes naming (filter (λ line. not (is_blank (lex (mode.numbered naming) line))) lines)
 
 -- those of a text
-abbrev pub certificate_lines : List ℕ → List (List ℕ)
-certificate_lines text = certificate_lines_of (line_texts (without_mark text))
+abbrev pub certificate_lines : Naming → List ℕ → List (List ℕ)
+certificate_lines naming text = certificate_lines_of naming (line_texts (without_mark text))
 
 -- ---- the grammar of a line
 abbrev pub IsColon : Mark → Type 0
@@ -145,13 +148,14 @@ pub record IsCertificateLine (names : List (List ℕ)) (ms : List Mark) (l : Lin
   pub is_rule : IsRule names rule l.body
 
 -- a text has the tokens of a line
-pub record MeansLine (names : List (List ℕ)) (text : List ℕ) (l : Line) : Type 0 where
+pub record MeansLine (naming : Naming) (names : List (List ℕ)) (text : List ℕ) (l : Line) : Type 0 where
   pub marks : List Mark
-  pub tokens : HasTokens (lex mode.numbered text) marks
+  pub tokens : HasTokens (lex (mode.numbered naming) text) marks
   pub is_line : IsCertificateLine names marks l
 
 -- each text means its line
-abbrev pub MeanLines : List (List ℕ) → List (List ℕ) → List Line → Type 0
-MeanLines names [] [] = Unit {0}
-MeanLines names (text ∷ texts) (l ∷ ls) = MeansLine names text l × MeanLines names texts ls
-MeanLines names _ _ = ⊥
+abbrev pub MeanLines : Naming → List (List ℕ) → List (List ℕ) → List Line → Type 0
+MeanLines naming names [] [] = Unit {0}
+MeanLines naming names (text ∷ texts) (l ∷ ls) =
+    MeansLine naming names text l × MeanLines naming names texts ls
+MeanLines naming names _ _ = ⊥

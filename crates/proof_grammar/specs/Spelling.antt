@@ -4,7 +4,7 @@ use Rattle.std.specs.Prelude.{◌≡◌, ◌<◌, ◌≤◌, ℕ, ◌+◌, List,
 use Rattle.std.specs.List.{flat_map}
 use Rattle.dep_model.specs.declared.schema.Schema.{Schema}
 use Rattle.dep_model.specs.Dependencies.{left_of, right_of}
-use Rattle.dep_model.specs.Schemas.{names_of}
+use Rattle.dep_model.specs.Schemas.{names_of, naming_of}
 use Rattle.derivation.specs.declared.measures.TheConstants.{MOST_NODES, MOST_LEVELS}
 use Rattle.derivation.specs.Trees.{Tree, depth, leaf, step, pair, given, reflexivity, mreflexivity, Step, Pair}
 use Rattle.derivation.specs.Conclusions.{Proves}
@@ -79,7 +79,7 @@ pub record AreNodesOf (s : Schema) (lines : List Line) (t : Tree) : Type 0 where
 -- the certificate lines of a text are the nodes of a tree
 pub record Spells (s : Schema) (text : List ℕ) (t : Tree) : Type 0 where
   pub lines : List Line
-  pub mean : MeanLines (names_of s) (certificate_lines text) lines
+  pub mean : MeanLines (naming_of s) (names_of s) (certificate_lines (naming_of s) text) lines
   pub nodes : AreNodesOf s lines t
 
 -- the same within the limits of a certificate

@@ -3,7 +3,7 @@
 use Rattle.std.specs.Prelude.{ℕ, ◌+◌, ◌-◌, Bool, true, false, ◌&&◌, if◌then◌else◌, List, [], ◌∷◌, Option, None, Some, Result, Ok, Err, codes}
 use Rattle.std.specs.Str.{bytes_eq}
 use Rattle.dep_model.specs.declared.schema.Schema.{Schema}
-use Rattle.dep_model.specs.Schemas.{names_of}
+use Rattle.dep_model.specs.Schemas.{names_of, naming_of}
 use Rattle.derivation.specs.Trees.{Tree}
 use Rattle.lexer.specs.Modes as mode
 use Rattle.lexer.specs.declared.token.LexError.{LexError}
@@ -57,14 +57,15 @@ abbrev pub read_as : LineKind → Schema → Bool → ℕ → CheckerStateValue 
 read_as Blank s fresh number state text = Ok (fresh, state)
 read_as Opening s fresh number state text = Ok (false, state)
 read_as Certificate s fresh number state text =
-    in_line (certificate_line (names_of s) (rest_from number 1 (lex mode.numbered text)))
+    in_line (certificate_line (names_of s) (rest_from number 1 (lex (mode.numbered (naming_of s)) text)))
     >>= λ l. enter_line s number state l
     >>= λ next. Ok (false, next)
 
 -- the checker state after one line of the text more, and whether a `yes` may still come
-unfoldable pub read_one : Schema → Bool → ℕ → CheckerStateValue → List ℕ → Result (Bool × CheckerStateValue) Diagnostic
+unfoldable pub read_one : Schema → Bool → ℕ → CheckerStateValue → List ℕ
+    → Result (Bool × CheckerStateValue) Diagnostic
 read_one s fresh number state text =
-    read_as (line_kind fresh (lex mode.numbered text)) s fresh number state text
+    read_as (line_kind fresh (lex (mode.numbered (naming_of s)) text)) s fresh number state text
 
 -- a diagnostic gets its line
 abbrev pub at_line : {A : Type 0} → ℕ → Result A Diagnostic → Result A LineDiagnostic

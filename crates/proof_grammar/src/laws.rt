@@ -27,15 +27,15 @@ pub fn printed_nodes()
     ensures law { PrintedNodes }
 {}
 
-/// What is printed of a derivation over a schema of bare names spells its tree, also where the answer
-/// `yes` stands before it.
+/// What is printed of a derivation spells its tree, however its schema names attributes, also where the
+/// answer `yes` stands before it. Where names are bare, none of them may be reserved.
 pub fn printed_spells()
     ensures printed { PrintedSpells [] }
     ensures answered { PrintedSpells (codes "yes\n") }
 {}
 
-/// What is printed of a derivation over a schema of bare names within the limits is read again as its
-/// tree, also where the answer `yes` stands before it.
+/// What is printed of a derivation within the limits is read again as its tree, also where the answer
+/// `yes` stands before it. Where names are bare, none of them may be reserved.
 pub fn printed_is_read()
     ensures printed { PrintedIsRead [] }
     ensures answered { PrintedIsRead (codes "yes\n") }

@@ -40,9 +40,9 @@ pub fn sort_by_class(
     requires rhs { IsSubset (attributes rhs) (below width) }
     ensures sorted { IfOk result (AreSorted (attributes lhs) (attributes rhs) rows.now) }
 {
-    let sides = lhs.union(rhs);
+    let own = rhs.difference(lhs);
     let groups = Groups::by_agreement(alloc, codes, lhs)?;
-    let classes = Groups::by_agreement(alloc, codes, sides)?;
+    let classes = groups.refined(alloc, codes, own)?;
     let sizes = row_counts(alloc, classes.numbers(), classes.firsts().len())?;
     let owners = numbers_of(alloc, groups.numbers(), classes.firsts())?;
     let mut chosen = numbers_of(alloc, classes.numbers(), groups.firsts())?;

@@ -40,12 +40,12 @@ pub fn sort_by_part(
 {
     let universe = AttrSet::full(width);
     let sides = lhs.union(rhs);
+    let own = rhs.difference(lhs);
     let outside = universe.difference(sides);
-    let others = lhs.union(outside);
     let groups = Groups::by_agreement(alloc, codes, lhs)?;
-    let lefts = Groups::by_agreement(alloc, codes, sides)?;
-    let rests = Groups::by_agreement(alloc, codes, others)?;
-    let all = Groups::by_agreement(alloc, codes, universe)?;
+    let lefts = groups.refined(alloc, codes, own)?;
+    let rests = groups.refined(alloc, codes, outside)?;
+    let all = lefts.refined(alloc, codes, outside)?;
     let left_groups = numbers_of(alloc, groups.numbers(), lefts.firsts())?;
     let wanted = part_counts(alloc, &groups, &rests)?;
     let present = part_counts(alloc, &lefts, &all)?;

@@ -1,6 +1,7 @@
 -- Which lines have no token.
 use Rattle.std.proofs.Common.{◌≡◌, ℕ, ◌+◌, zero, suc, Bool, true, false, cond, ◌==◌, ◌&&◌, List, [], ◌∷◌, take, drop, Option, Some, None, nat_eq, refl, sym, ◌∙◌, ap, arith}
 use Rattle.std.specs.List.{starts_with}
+use Rattle.dep_model.specs.declared.naming.Naming.TheVariants.{Bare}
 use Rattle.dep_model.specs.Names.{is_bare_name, is_name_byte}
 use Rattle.lexer.specs.declared.piece.Piece.{Piece}
 use Rattle.lexer.specs.declared.piece.Piece.TheVariants as piece
@@ -9,7 +10,9 @@ use Rattle.lexer.specs.Modes as mode
 use Rattle.lexer.specs.Bytes.{is_gap, is_number, run_length}
 use Rattle.lexer.specs.Pieces.{front_piece, run_piece, closed_piece, quoted_piece}
 use Rattle.lexer.specs.Quotes.{is_name, closing_quote, undoubled}
-use Rattle.lexer.specs.Tokens.{Lexed, tokens_after, led_by}
+use Rattle.lexer.specs.Tokens.{Lexed, tokens_after, led_by, lex}
+use Rattle.schema_grammar.specs.declared.format.Format.{Format}
+use Rattle.schema_grammar.specs.LineTokens.{naming_in, mode_by_head, line_mode, lex_line}
 use Rattle.schema_grammar.specs.Meanings.{HasTokens}
 
 -- what a piece is to a line without tokens: a gap, a comment, or more than these
@@ -59,11 +62,19 @@ piece_plain (piece.Flaw why n) q column text numbered plain same rest h = let wr
 piece_plain p q column text numbered plain same rest h = absurd (omega arith)
 
 -- a line without tokens, numbers counted, has none
-pub lexed_plain : (skip column : ℕ) (text : List ℕ) → HasTokens (tokens_after mode.numbered skip column text) []
-    → HasTokens (tokens_after mode.plain skip column text) []
+pub lexed_plain : (skip column : ℕ) (text : List ℕ) → HasTokens (tokens_after (mode.numbered Bare) skip column text) []
+    → HasTokens (tokens_after (mode.plain Bare) skip column text) []
 unfolding tokens_after
 lexed_plain skip column [] h = refl
 lexed_plain zero column (b ∷ bs) h =
-    piece_plain (front_piece mode.numbered (b ∷ bs)) (front_piece mode.plain (b ∷ bs)) column (b ∷ bs) (λ skip. tokens_after mode.numbered skip (column + 1) bs) (λ skip. tokens_after mode.plain skip (column + 1) bs)
-    (front_class mode.numbered b bs ∙ sym (front_class mode.plain b bs)) (lexed_plain zero (column + 1) bs) h
+    piece_plain (front_piece (mode.numbered Bare) (b ∷ bs)) (front_piece (mode.plain Bare) (b ∷ bs)) column (b ∷ bs) (λ skip. tokens_after (mode.numbered Bare) skip (column + 1) bs) (λ skip. tokens_after (mode.plain Bare) skip (column + 1) bs)
+    (front_class (mode.numbered Bare) b bs ∙ sym (front_class (mode.plain Bare) b bs)) (lexed_plain zero (column + 1) bs) h
 lexed_plain (suc n) column (b ∷ bs) h = lexed_plain n (column + 1) bs h
+
+-- and so no token where a line of a schema text is read
+pub blank_line : (f : Format) (text : List ℕ) → HasTokens (lex (mode.plain (naming_in f)) text) []
+    → HasTokens (lex_line f text) []
+unfolding line_mode
+blank_line f text none =
+    let same : line_mode f text ≡ mode.plain (naming_in f) = ap (λ l. mode_by_head f l.marks) none in
+    ap (λ m. lex m text) same ∙ none

@@ -5,6 +5,7 @@ use Rattle.std.proofs.Math.Seq.{take-length, take-suc}
 use Rattle.std.proofs.lemmas.Bool.{cases_order}
 use Rattle.std.proofs.lemmas.List.{length-map}
 use Rattle.std.proofs.lemmas.Option.{slice_get-map, slice_get_within, get_or_from_slice_get}
+use Rattle.dep_model.specs.declared.naming.Naming.{Naming}
 use Rattle.dep_model.specs.Dependencies.{Dependency}
 use Rattle.lexer.specs.declared.token.Flaw.{Flaw}
 use Rattle.lexer.specs.declared.token.Flaw.TheVariants as flaw
@@ -16,6 +17,7 @@ use Rattle.schema_grammar.specs.declared.refusal.SchemaRefusalKind.{SchemaRefusa
 use Rattle.schema_grammar.specs.declared.refusal.SchemaRefusalKind.TheVariants as kind
 use Rattle.schema_grammar.specs.declared.refusal.Span.{Span}
 use Rattle.schema_grammar.specs.declared.refusal.What.{What}
+use Rattle.schema_grammar.specs.declared.refusal.What.TheVariants as what
 use Rattle.schema_grammar.specs.declared.format.Format.{Format}
 use Rattle.schema_grammar.specs.declared.format.Format.TheVariants as format
 use Rattle.schema_grammar.specs.DiagnosticKinds.{DiagnosticKind, expected, number_of, diagnostic_kind, diagnostic_of_flaw}
@@ -32,6 +34,8 @@ flaw_kind flaw.BadName = refl
 
 pub Carries-map : (P Q : What → Type 0) → ((w : What) → P w → Q w) → (why : SchemaRefusalKind) → Carries P why → Carries Q why
 Carries-map P Q f (kind.Expected w) h = f w h
+Carries-map P Q f kind.NoScale h = f what.Number h
+Carries-map P Q f kind.NoType h = f what.Type h
 Carries-map P Q f why h = tt
 
 pub flaw_carries : (Wanted : What → Type 0) (why : Flaw) → Carries Wanted (kind_of_flaw why)
@@ -308,8 +312,8 @@ line-law f declared line ms stop =
     fits (Ok d) none = none
     fits (Err e) first = first
 
-pub goal-diagnostic-law : (declared : List (List ℕ)) (text : List ℕ) → FitsGoal declared text (read_goal declared text)
-goal-diagnostic-law declared text = line-law format.Plain declared 1 (lex mode.goal text).marks (lex mode.goal text).stop
+pub goal-diagnostic-law : (naming : Naming) (declared : List (List ℕ)) (text : List ℕ) → FitsGoal naming declared text (read_goal naming declared text)
+goal-diagnostic-law naming declared text = line-law format.Plain declared 1 (lex (mode.goal naming) text).marks (lex (mode.goal naming) text).stop
 
-pub goal_refused : (declared : List (List ℕ)) (text : List ℕ) (e : SchemaRefusal) → read_goal declared text ≡ Err e → RefusesGoal declared text e
-goal_refused declared text e h = subst (FitsGoal declared text) h (goal-diagnostic-law declared text)
+pub goal_refused : (naming : Naming) (declared : List (List ℕ)) (text : List ℕ) (e : SchemaRefusal) → read_goal naming declared text ≡ Err e → RefusesGoal naming declared text e
+goal_refused naming declared text e h = subst (FitsGoal naming declared text) h (goal-diagnostic-law naming declared text)

@@ -1,11 +1,12 @@
 -- A goal is read exactly where the grammar has its dependency.
-use Rattle.std.proofs.Common.{◌≡◌, ◌<◌, ◌+◌, inl, inr, ℕ, Bool, true, false, cond, List, [], ◌∷◌, ◌++◌, length, Option, Some, None, Ok, Err, refl, sym, ◌∙◌, ap, arith, ⊎_elim}
+use Rattle.std.proofs.Common.{◌≡◌, ◌<◌, ◌+◌, inl, inr, ℕ, Bool, true, false, cond, List, [], ◌∷◌, ◌++◌, Option, Some, None, Ok, Err, refl, sym, ◌∙◌, ap, arith, ⊎_elim}
 use Rattle.std.proofs.lemmas.Bool.{cases_Bool}
 use Rattle.std.specs.List.{All}
 use Rattle.std.proofs.lemmas.List.Elements.{All-cons, All-nil, All-head, All-tail}
 use Rattle.schema_grammar.proofs.RefusalLemmas.{and_then-ok}
 use Rattle.std.specs.Prelude.{◌↔◌}
 use Rattle.attr_sets.specs.Attributes.{Attributes, only, none, union}
+use Rattle.dep_model.specs.declared.naming.Naming.{Naming}
 use Rattle.dep_model.specs.Dependencies.{Dependency}
 use Rattle.dep_model.specs.Schemas.{attribute_named}
 use Rattle.lexer.specs.Modes as mode
@@ -370,14 +371,14 @@ no_stop f declared line r from l d e = by_cases l.stop refl
         absurd (follow_has_no_stop f declared line r from l.marks stop d
         (ap (follow f declared line r from l.marks) (sym same) ∙ e))
 
-pub goal-law : (declared : List (List ℕ)) (text : List ℕ) (d : Dependency) → (read_goal declared text ≡ Ok d) ↔ MeansGoal declared text d
-goal-law declared text d = (there, back)
+pub goal-law : (naming : Naming) (declared : List (List ℕ)) (text : List ℕ) (d : Dependency) → (read_goal naming declared text ≡ Ok d) ↔ MeansGoal naming declared text d
+goal-law naming declared text d = (there, back)
   where
-    there : read_goal declared text ≡ Ok d → MeansGoal declared text d
+    there : read_goal naming declared text ≡ Ok d → MeansGoal naming declared text d
     there e =
-        let whole = no_stop format.Plain declared 1 start 1 (lex mode.goal text) d e in
-        let here : follow_rest format.Plain declared start (rest_from 1 1 (record { marks = (lex mode.goal text).marks; stop = None })) ≡ Ok d = ap (λ l. follow_rest format.Plain declared start (rest_from 1 1 l)) (sym whole) ∙ e in
-        record { marks = (lex mode.goal text).marks; tokens = whole; dependency = (dependency-law format.Plain declared 1 1 _ d).0 here }
+        let whole = no_stop format.Plain declared 1 start 1 (lex (mode.goal naming) text) d e in
+        let here : follow_rest format.Plain declared start (rest_from 1 1 (record { marks = (lex (mode.goal naming) text).marks; stop = None })) ≡ Ok d = ap (λ l. follow_rest format.Plain declared start (rest_from 1 1 l)) (sym whole) ∙ e in
+        record { marks = (lex (mode.goal naming) text).marks; tokens = whole; dependency = (dependency-law format.Plain declared 1 1 _ d).0 here }
 
-    back : MeansGoal declared text d → read_goal declared text ≡ Ok d
+    back : MeansGoal naming declared text d → read_goal naming declared text ≡ Ok d
     back means = ap (λ l. follow_rest format.Plain declared start (rest_from 1 1 l)) means.tokens ∙ (dependency-law format.Plain declared 1 1 means.marks d).1 means.dependency

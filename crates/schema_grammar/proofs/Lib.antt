@@ -9,10 +9,11 @@ pub mod LinesLaws
 pub mod NameLaws
 pub mod OneRefusal
 pub mod OneTextRefusal
+pub mod PrintedColumns
+pub mod PrintedDeclarations
 pub mod PrintedDependencies
 pub mod PrintedLexing
 pub mod PrintedSchemas
-pub mod PrintedSides
 pub mod PrintedTexts
 pub mod RefusalLemmas
 pub mod RiseLemmas
@@ -21,6 +22,8 @@ pub mod SetLaws
 pub mod ShapeLemmas
 pub mod SideLemmas
 pub mod SoundLemmas
+pub mod SpelledSides
+pub mod SpelledWords
 pub mod TextLaws
 pub mod WithinLemmas
 pub mod WordLemmas

@@ -2,14 +2,14 @@
 use Rattle.std.proofs.Common.{◌≡◌, ◌<◌, ◌+◌, ◌-◌, ◌⊎◌, inl, inr, ℕ, zero, suc, List, [], ◌∷◌, ◌++◌, length, Some, None, Ok, Err, Result, refl, sym, ◌∙◌, ap, subst, arith, ◌==◌, ⊎_elim, length-append}
 use Rattle.std.proofs.lemmas.Bool.{cases_Bool}
 use Rattle.std.proofs.lemmas.Bool.Decides.{nat_tests}
-use Rattle.lexer.specs.Modes as mode
-use Rattle.lexer.specs.Tokens.{Mark, lex}
+use Rattle.lexer.specs.Tokens.{Mark}
 use Rattle.schema_grammar.specs.declared.refusal.SchemaRefusal.{SchemaRefusal}
 use Rattle.schema_grammar.specs.declared.refusal.SchemaRefusalKind.TheVariants as kind
 use Rattle.schema_grammar.specs.declared.format.Format.{Format}
 use Rattle.schema_grammar.specs.DiagnosticKinds.{DiagnosticKind}
 use Rattle.schema_grammar.specs.Diagnostics.{TextLineDiagnostic, FitsTextLine, span_at}
 use Rattle.schema_grammar.specs.Declarations.{Declarations, read_line}
+use Rattle.schema_grammar.specs.LineTokens.{lex_line}
 use Rattle.schema_grammar.specs.Refusals.{refusal}
 use Rattle.schema_grammar.specs.Rests.{◌>>=◌}
 use Rattle.schema_grammar.specs.Schemas.{MeansTextLine, MeansLines, LinesDiagnostic, IsFirstOfLines, FitsLines}
@@ -19,9 +19,9 @@ use Rattle.schema_grammar.proofs.DeclaringLaws.{line_there, line_back}
 use Rattle.dep_model.proofs.ListLemmas.{cons_parts}
 
 pub line-law : (f : Format) (number : ℕ) (d : Declarations) (text : List ℕ)
-    → FitsTextLine f d number (lex mode.plain text).marks (lex mode.plain text).stop (read_line f number d text)
+    → FitsTextLine f d number (lex_line f text).marks (lex_line f text).stop (read_line f number d text)
 unfolding read_line
-line-law f number d text = text-line-law f d number (lex mode.plain text).marks (lex mode.plain text).stop
+line-law f number d text = text-line-law f d number (lex_line f text).marks (lex_line f text).stop
 
 -- the line of a refusal is that of its line's number
 span-line : (line next_column : ℕ) (ms : List Mark) (stop : _) (p : ℕ) → (span_at line next_column ms stop p).line ≡ line
@@ -33,7 +33,7 @@ span-line line next_column (m ∷ ms) stop (suc p) = span-line line (m.column + 
 -- a diagnostic of lines is one of the first line, or of the lines after it
 abbrev DiagnosticParts : Format → ℕ → Declarations → List ℕ → List (List ℕ) → ℕ → ℕ → DiagnosticKind → Type 0
 DiagnosticParts f first d line lines l p n =
-    ((l ≡ first) × TextLineDiagnostic f d (lex mode.plain line).marks (lex mode.plain line).stop p n)
+    ((l ≡ first) × TextLineDiagnostic f d (lex_line f line).marks (lex_line f line).stop p n)
     ⊎ ((first < l) × ((next : Declarations) → read_line f first d line ≡ Ok next
     → LinesDiagnostic f (first + 1) next lines l p n))
 
@@ -47,8 +47,8 @@ diagnostic_parts f first d line lines l p n diagnostic =
         → DiagnosticParts f first d line lines l p n
     by_cases [] cut means stands_on =
         let same = cons_parts line diagnostic.line lines diagnostic.after cut in
-        let of : List ℕ → Type 0 = λ t. TextLineDiagnostic f diagnostic.declared (lex mode.plain t).marks (lex mode.plain t).stop p n in
-        let of_d : Declarations → Type 0 = λ t. TextLineDiagnostic f t (lex mode.plain line).marks (lex mode.plain line).stop p n in
+        let of : List ℕ → Type 0 = λ t. TextLineDiagnostic f diagnostic.declared (lex_line f t).marks (lex_line f t).stop p n in
+        let of_d : Declarations → Type 0 = λ t. TextLineDiagnostic f t (lex_line f line).marks (lex_line f line).stop p n in
         inl ((omega arith), subst of_d means (subst of (sym same.0) diagnostic.diagnostic))
     by_cases (one ∷ before) cut (middle, here, rest) stands_on =
         let same = cons_parts line one lines (before ++ diagnostic.line ∷ diagnostic.after) cut in
@@ -73,7 +73,7 @@ diagnostic_parts f first d line lines l p n diagnostic =
 
 lines_after : (f : Format) (first : ℕ) (d next : Declarations) (line : List ℕ) (lines : List (List ℕ))
     (res : Result Declarations SchemaRefusal) → read_line f first d line ≡ Ok next
-    → FitsTextLine f d first (lex mode.plain line).marks (lex mode.plain line).stop (Ok next)
+    → FitsTextLine f d first (lex_line f line).marks (lex_line f line).stop (Ok next)
     → FitsLines f (first + 1) next lines res → FitsLines f first d (line ∷ lines) res
 lines_after f first d next line lines (Ok whole) read none fits = λ l p n diagnostic.
     ⊎_elim (λ here. none p n here.1) (λ later. fits l p n (later.1 next read))
@@ -106,9 +106,9 @@ lines_after f first d next line lines (Err e) read none (inr empty) = inr (recor
 -- a line that is refused
 line_here : (f : Format) (first : ℕ) (d : Declarations) (line : List ℕ) (lines : List (List ℕ))
     (e : SchemaRefusal)
-    → FitsTextLine f d first (lex mode.plain line).marks (lex mode.plain line).stop (Err e) → IsFirstOfLines f first d (line ∷ lines) e
+    → FitsTextLine f d first (lex_line f line).marks (lex_line f line).stop (Err e) → IsFirstOfLines f first d (line ∷ lines) e
 line_here f first d line lines e found =
-    let on : e.span.line ≡ first = ap (λ s. s.line) found.there ∙ span-line first 1 (lex mode.plain line).marks (lex mode.plain line).stop found.position in
+    let on : e.span.line ≡ first = ap (λ s. s.line) found.there ∙ span-line first 1 (lex_line f line).marks (lex_line f line).stop found.position in
     record {
       position = found.position;
       stands = record {
@@ -122,7 +122,7 @@ line_here f first d line lines e found =
         diagnostic = found.stands;
       };
       carries = found.carries;
-      there = found.there ∙ ap (λ k. span_at k 1 (lex mode.plain line).marks (lex mode.plain line).stop found.position) (sym on);
+      there = found.there ∙ ap (λ k. span_at k 1 (lex_line f line).marks (lex_line f line).stop found.position) (sym on);
       least = λ l p n diagnostic.
           ⊎_elim (λ here. inr (on ∙ sym here.0, found.least p n here.1))
           (λ later. inl (omega (arith, on, later.0))) (diagnostic_parts f first d line lines l p n diagnostic);
@@ -146,7 +146,7 @@ lines-law f first d [] = elim (cases_Bool (length d.names == 0)) [
 ]
 lines-law f first d (line ∷ lines) = by_cases (λ next. lines-law f (first + 1) next lines) (read_line f first d line) refl (line-law f first d line)
   where
-    by_cases : ((next : Declarations) → FitsLines f (first + 1) next lines (read_lines f (first + 1) next lines)) → (o : Result Declarations SchemaRefusal) → read_line f first d line ≡ o → FitsTextLine f d first (lex mode.plain line).marks (lex mode.plain line).stop o
+    by_cases : ((next : Declarations) → FitsLines f (first + 1) next lines (read_lines f (first + 1) next lines)) → (o : Result Declarations SchemaRefusal) → read_line f first d line ≡ o → FitsTextLine f d first (lex_line f line).marks (lex_line f line).stop o
         → FitsLines f first d (line ∷ lines) (o >>= (λ next. read_lines f (first + 1) next lines))
     by_cases rest (Ok next) read fits =
         lines_after f first d next line lines (read_lines f (first + 1) next lines) read fits (rest next)

@@ -1,9 +1,11 @@
 -- A text has one refusal at most: the first diagnostic, and what it carries.
-use Rattle.std.proofs.Common.{◌≡◌, ◌<◌, ◌≤◌, ◌⊎◌, ℕ, true, List, [], ◌∷◌, ◌++◌, take, Option, Some, None, Ok, Err, Result, refl, sym, ◌∙◌, ap, subst, arith}
+use Rattle.std.proofs.Common.{◌≡◌, ◌<◌, ◌≤◌, ◌⊎◌, ℕ, zero, suc, true, List, [], ◌∷◌, ◌++◌, take, Option, Some, None, Ok, Err, Result, refl, sym, ◌∙◌, ap, subst, arith}
 use Rattle.lexer.specs.declared.token.TokenKind.{TokenKind}
 use Rattle.lexer.specs.declared.token.TokenKind.TheVariants as token
 use Rattle.lexer.specs.Tokens.{Mark}
 use Rattle.schema_grammar.specs.declared.format.Format.{Format}
+use Rattle.schema_grammar.specs.declared.line_kind.LineKind.{LineKind}
+use Rattle.schema_grammar.specs.declared.line_kind.LineKind.TheVariants as begins
 use Rattle.schema_grammar.specs.declared.refusal.SchemaRefusal.{SchemaRefusal}
 use Rattle.schema_grammar.specs.declared.refusal.SchemaRefusalKind.{SchemaRefusalKind}
 use Rattle.schema_grammar.specs.declared.refusal.SchemaRefusalKind.TheVariants as kind
@@ -11,8 +13,8 @@ use Rattle.schema_grammar.specs.declared.refusal.Span.{Span}
 use Rattle.schema_grammar.specs.declared.refusal.What.{What}
 use Rattle.schema_grammar.specs.declared.refusal.What.TheVariants as what
 use Rattle.schema_grammar.specs.DiagnosticKinds.{DiagnosticKind, number_of, IsNoLater, diagnostic_kind}
-use Rattle.schema_grammar.specs.Diagnostics.{Wants, AtFirst, NamesWant, HeadWants, TextLineWants, Carries, IsFirst, kinds}
-use Rattle.schema_grammar.specs.Words.{column_type_of_token}
+use Rattle.schema_grammar.specs.Diagnostics.{Wants, AtFirst, NamesWant, ColumnsWant, HeadWants, TextLineWants, Carries, IsFirst, kinds}
+use Rattle.schema_grammar.specs.Words.{line_kind}
 use Rattle.schema_grammar.proofs.KindLemmas.{kind_from_number}
 use Rattle.schema_grammar.proofs.ShapeLemmas.{Shape, at_start, in_left, past_empty, past_arrow, in_right, past_end, bind, runs, is_final, wanted_by, runs-append, begins_to, line_ends}
 
@@ -23,6 +25,8 @@ OneWant Wanted = (w v : What) → Wanted w → Wanted v → w ≡ v
 -- a kind of refusal is the kind of its diagnostic, and what it carries
 same_kind : (Wanted : What → Type 0) (k l : SchemaRefusalKind) → OneWant Wanted → Carries Wanted k → Carries Wanted l → diagnostic_kind k ≡ diagnostic_kind l → k ≡ l
 same_kind Wanted (kind.Expected w) (kind.Expected v) one h g e = ap (λ x. kind.Expected x) (one w v h g)
+same_kind Wanted kind.NoScale kind.NoType one h g e = let wrong = one what.Number what.Type h g in cc
+same_kind Wanted kind.NoType kind.NoScale one h g e = let wrong = one what.Number what.Type g h in cc
 same_kind Wanted k kind.StrangeByte one h g e = cc
 same_kind Wanted k l one h g e = cc
 
@@ -101,12 +105,22 @@ one_want ks w v h g = let first = wanted_at ks w h in let second = wanted_at ks 
 pub AtFirst-one : (first : What) (position : ℕ) → OneWant (AtFirst first position)
 AtFirst-one first position w v one other = grind arith
 
+-- of what is wanted after the first token
+later-one : (Wants : ℕ → What → Type 0) → ((later : ℕ) → OneWant (Wants later)) → (p : ℕ)
+    → OneWant (λ w. (later : ℕ) × (p ≡ suc later) × Wants later w)
+later-one Wants each p w v (later, is, one) (other, again, two) =
+    let same : other ≡ later = omega arith in each later w v one (subst (λ (k : ℕ). Wants k v) same two)
+
+columns-one : (k : LineKind) (later : ℕ) → OneWant (ColumnsWant k later)
+columns-one k zero w v one two = one ∙ sym two
+columns-one k (suc later) w v one two = AtFirst-one what.Name later w v one two
+
 pub one_text_line : (f : Format) (ms : List Mark) (p : ℕ) → OneWant (TextLineWants f ms p)
 one_text_line f [] p w v h g = absurd h
-one_text_line f (m ∷ ms) p w v h g =
-    (elim (column_type_of_token f m.kind m.word) as (λ o. HeadWants m ms o p w → HeadWants m ms o p v → w ≡ v) [
-      | Some column ↦ λ (later, is, one) (other, again, two).
-          AtFirst-one what.Name later w v one
-          (let same : other ≡ later = omega arith in subst (λ (k : ℕ). NamesWant k v) same two)
-      | None ↦ λ one two. one_want (take p (kinds (m ∷ ms))) w v one two
-    ]) h g
+one_text_line f (m ∷ ms) p w v h g = by_kind (line_kind f m.kind m.word) h g
+  where
+    by_kind : (k : LineKind) → HeadWants m ms k p w → HeadWants m ms k p v → w ≡ v
+    by_kind (begins.Names purpose) one two = later-one NamesWant (AtFirst-one what.Name) p w v one two
+    by_kind begins.Decimal one two = later-one (ColumnsWant begins.Decimal) (columns-one begins.Decimal) p w v one two
+    by_kind begins.Other one two = later-one (ColumnsWant begins.Other) (columns-one begins.Other) p w v one two
+    by_kind begins.Dependency one two = one_want (take p (kinds (m ∷ ms))) w v one two

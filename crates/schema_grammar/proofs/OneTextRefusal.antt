@@ -2,6 +2,8 @@
 use Rattle.std.specs.Prelude.{◌↔◌}
 use Rattle.std.proofs.Common.{◌≡◌, ◌+◌, inl, inr, ℕ, List, [], ◌∷◌, length, Err, refl, sym, ◌∙◌, ap, arith, ⊎_elim}
 use Rattle.std.proofs.lemmas.List.{append-nil}
+use Rattle.dep_model.specs.declared.naming.Naming.{Naming}
+use Rattle.dep_model.specs.declared.naming.Naming.TheVariants.{Bare}
 use Rattle.lexer.specs.Modes as mode
 use Rattle.lexer.specs.Lines.{line_texts, without_mark}
 use Rattle.lexer.specs.Tokens.{lex}
@@ -11,16 +13,17 @@ use Rattle.schema_grammar.specs.declared.refusal.SchemaRefusal.{SchemaRefusal}
 use Rattle.schema_grammar.specs.declared.refusal.What.TheVariants as what
 use Rattle.schema_grammar.specs.Diagnostics.{TextLineWants, IsFirst, TextLineDiagnostic, FitsTextLine, FitsGoal, RefusesGoal, span_at}
 use Rattle.schema_grammar.specs.Declarations.{Declarations, no_declaration, read_line}
+use Rattle.schema_grammar.specs.LineTokens.{naming_in, lex_line}
 use Rattle.schema_grammar.specs.Reading.{read_goal}
 use Rattle.schema_grammar.specs.Rests.{◌>>=◌}
 use Rattle.schema_grammar.specs.Schemas.{RefusesLines, FitsVersion, RefusesText, RefusesSchema}
-use Rattle.schema_grammar.specs.Texts.{read_lines, read_opening, read_text, finish}
+use Rattle.schema_grammar.specs.Texts.{read_lines, read_all, read_opening, read_text, finish}
 use Rattle.schema_grammar.proofs.DiagnosticLaws.{goal-diagnostic-law, goal_refused}
 use Rattle.schema_grammar.proofs.DeclaringLaws.{before_read}
 use Rattle.schema_grammar.proofs.LinesLaws.{line-law}
 use Rattle.schema_grammar.proofs.OneRefusal.{one_refused, AtFirst-one, one_text_line, one_want}
 use Rattle.schema_grammar.proofs.TextLaws.{version-law, schema_refused}
-use Rattle.schema_grammar.proofs.SchemaLaws.{plain_opening, typed_opening, version_opening}
+use Rattle.schema_grammar.proofs.SchemaLaws.{plain_opening, versioned_opening, version_opening}
 
 -- lines are refused so where the definition refuses them so
 lines_refused : (f : Format) (first : ℕ) (d : Declarations) (lines : List (List ℕ)) (e : SchemaRefusal)
@@ -29,8 +32,8 @@ lines_refused : (f : Format) (first : ℕ) (d : Declarations) (lines : List (Lis
 unfolding read_lines finish
 lines_refused f first d lines e (inl found) =
     let stands = found.stands in
-    let marks = (lex mode.plain stands.line).marks in
-    let stop = (lex mode.plain stands.line).stop in
+    let marks = (lex_line f stands.line).marks in
+    let stop = (lex_line f stands.line).stop in
     let number = first + length stands.before in
     let on_line : IsFirst (TextLineDiagnostic f stands.declared marks stop) (TextLineWants f marks)
     (span_at number 1 marks stop) e = record {
@@ -70,22 +73,22 @@ schema-refusal-law text e = (schema_refused text e, back)
 
     back : RefusesText 1 lines e → read_opening 1 lines ≡ Err e
     back (inl (none, refuses)) =
-        plain_opening 1 lines none ∙ lines_refused format.Plain 1 no_declaration lines e refuses
+        plain_opening 1 lines none ∙ lines_refused format.Plain 1 (no_declaration Bare) lines e refuses
     back (inr (has, inl first)) =
         let refused = one_refused
         (FitsVersion (length has.before + 1) (has.head.column + has.head.length) has.others
-        (lex mode.numbered has.version).stop) _ _ _
+        (lex (mode.numbered Bare) has.version).stop) _ _ _
         (λ x none. none) (λ g first. first) (AtFirst-one what.Number) _ e (version-law _ _ _ _) first in
-        typed_opening 1 lines has
-        ∙ ap (λ r. r >>= (λ d. read_lines format.Typed (length has.before + 1 + 1) d has.later)) refused
-    back (inr (has, inr (is, refuses))) =
-        version_opening 1 lines has.before has.version has.later has.cut has.blank is
-        ∙ lines_refused format.Typed (length has.before + 1 + 1) no_declaration has.later e refuses
+        versioned_opening 1 lines has
+        ∙ ap (λ r. r >>= (λ f. read_all f (length has.before + 1 + 1) has.later)) refused
+    back (inr (has, inr (f, is, refuses))) =
+        version_opening 1 lines has.before has.version has.later f has.cut has.blank is
+        ∙ lines_refused f (length has.before + 1 + 1) (no_declaration (naming_in f)) has.later e refuses
 
-pub goal-refusal-law : (declared : List (List ℕ)) (text : List ℕ) (e : SchemaRefusal) → (read_goal declared text ≡ Err e) ↔ RefusesGoal declared text e
-goal-refusal-law declared text e = (
-  goal_refused declared text e,
+pub goal-refusal-law : (naming : Naming) (declared : List (List ℕ)) (text : List ℕ) (e : SchemaRefusal) → (read_goal naming declared text ≡ Err e) ↔ RefusesGoal naming declared text e
+goal-refusal-law naming declared text e = (
+  goal_refused naming declared text e,
   λ first.
-      one_refused (FitsGoal declared text) _ _ _ (λ x none. none) (λ g first. first) (λ p. one_want _) _ e
-      (goal-diagnostic-law declared text) first,
+      one_refused (FitsGoal naming declared text) _ _ _ (λ x none. none) (λ g first. first) (λ p. one_want _) _ e
+      (goal-diagnostic-law naming declared text) first,
 )

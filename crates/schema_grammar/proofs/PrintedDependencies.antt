@@ -1,43 +1,82 @@
--- What is printed of a dependency means it.
-use Rattle.std.proofs.Common.{◌≡◌, ◌+◌, inl, inr, ℕ, true, false, List, [], ◌∷◌, ◌++◌, length, None, refl, sym, ◌∙◌, ap, subst, append_assoc}
-use Rattle.std.specs.Prelude.{codes}
+-- What is printed of a dependency means it, and so do the lines of dependencies at a text's end.
+use Rattle.std.proofs.Common.{◌≡◌, ◌≤◌, ◌+◌, inl, inr, ℕ, Bool, true, false, cond, List, [], ◌∷◌, ◌++◌, length, None, refl, sym, ◌∙◌, ap, subst, arith, append_assoc, length-append}
+use Rattle.std.specs.Prelude.{codes, map}
+use Rattle.std.specs.List.{All}
 use Rattle.std.specs.Str.{bytes_eq}
-use Rattle.std.proofs.lemmas.Bool.{cases_Bool}
 use Rattle.std.proofs.lemmas.List.{append-nil}
+use Rattle.std.proofs.lemmas.List.Elements.{All-head, All-tail}
 use Rattle.std.proofs.lemmas.Slice.Eq.{bytes_eq-Decides}
 use Rattle.attr_sets.specs.Attributes.{Attributes, IsSubset, below}
+use Rattle.dep_model.specs.declared.naming.Naming.{Naming}
 use Rattle.dep_model.specs.Dependencies.{Dependency, fd, mvd, IsWithin}
 use Rattle.lexer.specs.declared.mode.Mode.{Mode}
 use Rattle.lexer.specs.Modes as mode
+use Rattle.lexer.specs.Modes.{has_quotes}
+use Rattle.lexer.specs.declared.token.TokenKind.{TokenKind}
 use Rattle.lexer.specs.declared.token.TokenKind.TheVariants as token
 use Rattle.lexer.specs.Tokens.{Mark, Lexed, tokens_after, lex, led_by_mark}
-use Rattle.lexer.proofs.Steps.{at_end}
 use Rattle.schema_grammar.specs.declared.symbol.Sign.{Sign}
 use Rattle.schema_grammar.specs.declared.symbol.Sign.TheVariants as sign
+use Rattle.schema_grammar.specs.declared.format.TheConstants.{MOST_DEPENDENCY_LINES}
 use Rattle.schema_grammar.specs.declared.format.Format.{Format}
 use Rattle.schema_grammar.specs.declared.format.Format.TheVariants as format
+use Rattle.schema_grammar.specs.declared.line_kind.LineKind.{LineKind}
+use Rattle.schema_grammar.specs.declared.line_kind.LineKind.TheVariants as begins
+use Rattle.schema_grammar.specs.Declarations.{Declarations, add_dependency}
 use Rattle.schema_grammar.specs.Grammar.{dependency_of_sign}
+use Rattle.schema_grammar.specs.LineTokens.{naming_in, mode_of_kind, mode_by_head, line_mode, lex_line}
 use Rattle.schema_grammar.specs.Meanings.{HasTokens, IsArrow, IsDependency}
+use Rattle.schema_grammar.specs.Printed.{IsReadBack, AreReadBack}
+use Rattle.schema_grammar.specs.Schemas.{MeansLines}
+use Rattle.schema_grammar.specs.Words.{is_reserved, is_reserved_token, opening_words, begun_by, line_kind}
 use Rattle.schema_printer.specs.Printing.{side_text, members_from, set_text, dependency_text}
-use Rattle.schema_grammar.specs.Words.{is_reserved, column_type_of_token, column_type_of_word}
-use Rattle.schema_grammar.specs.Printed.{AreNames}
-use Rattle.schema_grammar.proofs.PrintedLexing.{AllNames, Apart, side_marks, side_end, led_by_marks, side_lexed, arrow_lexed, double_arrow_lexed}
-use Rattle.schema_grammar.proofs.PrintedSides.{EachKnown, printed_side, printed_names, members_known}
+use Rattle.schema_printer.specs.Spelling.{is_schema_word, spelling}
+use Rattle.schema_grammar.proofs.BlankLemmas.{blank_line}
+use Rattle.schema_grammar.proofs.PrintedLexing.{arrow_lexed, double_arrow_lexed}
+use Rattle.schema_grammar.proofs.PrintedTexts.{Bytes, bytes_both, EachBytes}
+use Rattle.schema_grammar.proofs.SpelledSides.{kind_not_reserved, printed_side, printed_names}
+use Rattle.schema_grammar.proofs.SpelledWords.{Parted, kind_of, led_by_all, side_marks, side_end, side_lexed, last_side, members_spelled, side_bytes, nothing_left}
 
-pub led_marks : (ms : List Mark) (l : Lexed) → led_by_marks ms l ≡ record { marks = ms ++ l.marks; stop = l.stop }
-led_marks [] l = refl
-led_marks (m ∷ ms) l = ap (led_by_mark m) (led_marks ms l)
+-- ---- how a line is read by its first token
+-- as its tokens are where no number is one
+pub plain_line : (f : Format) (line : List ℕ) (m : Mark) (ms : List Mark)
+    → HasTokens (lex (mode.plain (naming_in f)) line) (m ∷ ms)
+    → mode_of_kind f (line_kind f m.kind m.word) ≡ mode.plain (naming_in f) → HasTokens (lex_line f line) (m ∷ ms)
+unfolding line_mode
+plain_line f line m ms tokens e =
+    let same : line_mode f line ≡ mode.plain (naming_in f) = ap (λ (l : Lexed). mode_by_head f l.marks) tokens ∙ e in
+    ap (λ (taken : Mode). lex taken line) same ∙ tokens
 
-pub nothing_left : (m : Mode) (column : ℕ) → tokens_after m 0 column [] ≡ record { marks = []; stop = None }
-nothing_left m column = at_end m column [] refl
+-- a word that is not reserved begins a dependency
+abbrev AllReserved : Format → List (List ℕ × LineKind) → Type 0
+AllReserved f [] = Unit {0}
+AllReserved f ((key, k) ∷ words) = (is_reserved f key ≡ true) × AllReserved f words
 
-pub last_side : (m : Mode) (column : ℕ) (words : List (List ℕ)) → AllNames words
-    → tokens_after m 0 column (side_text words) ≡ record { marks = side_marks column words; stop = None }
-last_side m column words names =
-    ap (tokens_after m 0 column) (sym (append-nil (side_text words))) ∙ side_lexed m column words [] names tt
-    ∙ ap (led_by_marks (side_marks column words)) (nothing_left m (side_end column words)) ∙ led_marks (side_marks column words) _
-    ∙ ap (λ ms. record { marks = ms; stop = None }) (append-nil (side_marks column words))
+words_reserved : (f : Format) → AllReserved f (opening_words f)
+unfolding is_reserved is_schema_word
+words_reserved format.Plain = (refl, tt)
+words_reserved format.Typed = (refl, (refl, (refl, tt)))
+words_reserved format.Full = (refl, (refl, (refl, (refl, (refl, (refl, (refl, (refl, (refl, tt)))))))))
 
+begins_dependency : (f : Format) (words : List (List ℕ × LineKind)) (word : List ℕ) → AllReserved f words
+    → is_reserved f word ≡ false → begun_by words word ≡ begins.Dependency
+begins_dependency f [] word each none = refl
+begins_dependency f ((key, k) ∷ words) word (here, rest) none =
+    by_cases (bytes_eq word key) refl (begins_dependency f words word rest none)
+  where
+    by_cases : (b : Bool) → bytes_eq word key ≡ b → begun_by words word ≡ begins.Dependency
+        → cond b k (begun_by words word) ≡ begins.Dependency
+    by_cases true is later =
+        let wrong : true ≡ false = sym here ∙ ap (is_reserved f) (sym ((bytes_eq-Decides word key).0 is)) ∙ none in cc
+    by_cases false is later = later
+
+pub unreserved_dependency : (f : Format) (k : TokenKind) (word : List ℕ) → is_reserved_token f k word ≡ false
+    → line_kind f k word ≡ begins.Dependency
+unfolding line_kind
+unreserved_dependency f token.Identifier word none = begins_dependency f (opening_words f) word (words_reserved f) none
+unreserved_dependency f k word none = refl
+
+-- ---- the tokens of a dependency
 -- the arrow of a dependency, as it is printed
 abbrev sign_text : Sign → List ℕ
 sign_text sign.Functional = codes " -> "
@@ -48,111 +87,175 @@ sign_mark sign.Functional column = record { kind = token.Arrow; column = column;
 sign_mark sign.Multivalued column =
     record { kind = token.DoubleArrow; column = column; length = 3; word = 45 ∷ 62 ∷ 62 ∷ [] }
 
-abbrev right_column : Sign → List (List ℕ) → ℕ
-right_column sign.Functional left = side_end 1 left + 1 + 2 + 1
-right_column sign.Multivalued left = side_end 1 left + 1 + 3 + 1
+abbrev right_column : Sign → ℕ → ℕ
+right_column sign.Functional column = column + 1 + 2 + 1
+right_column sign.Multivalued column = column + 1 + 3 + 1
 
-abbrev sides_marks : Sign → List (List ℕ) → List (List ℕ) → List Mark
-sides_marks s left right =
-    side_marks 1 left ++ sign_mark s (side_end 1 left + 1) ∷ side_marks (right_column s left) right
+sign_lexed : (s : Sign) (m : Mode) (column : ℕ) (rest : List ℕ)
+    → tokens_after m 0 column (sign_text s ++ rest)
+    ≡ led_by_mark (sign_mark s (column + 1)) (tokens_after m 0 (right_column s column) rest)
+sign_lexed sign.Functional m column rest = arrow_lexed m column rest
+sign_lexed sign.Multivalued m column rest = double_arrow_lexed m column rest
 
-sides_lexed : (s : Sign) (left right : List (List ℕ)) → AllNames left → AllNames right
-    → HasTokens (lex mode.plain ((side_text left ++ sign_text s) ++ side_text right))
-    (sides_marks s left right)
-sides_lexed s left right left_names right_names =
-    ap (tokens_after mode.plain 0 1) (append_assoc (side_text left) (sign_text s) (side_text right))
-    ∙ side_lexed mode.plain 1 left (sign_text s ++ side_text right) left_names
-    (elim s as (λ s. Apart (sign_text s ++ side_text right)) [ sign.Functional ↦ refl | _ ↦ refl ])
-    ∙ ap (led_by_marks (side_marks 1 left))
-    (sign_lexed s ∙ ap (led_by_mark (sign_mark s (side_end 1 left + 1)))
-    (last_side mode.plain (right_column s left) right right_names))
-    ∙ led_marks (side_marks 1 left) _
-  where
-    sign_lexed : (s : Sign) → tokens_after mode.plain 0 (side_end 1 left) (sign_text s ++ side_text right)
-        ≡ led_by_mark (sign_mark s (side_end 1 left + 1))
-        (tokens_after mode.plain 0 (right_column s left) (side_text right))
-    sign_lexed sign.Functional = arrow_lexed mode.plain (side_end 1 left) (side_text right)
-    sign_lexed sign.Multivalued = double_arrow_lexed mode.plain (side_end 1 left) (side_text right)
+abbrev sides_marks : Naming → Sign → List (List ℕ) → List (List ℕ) → List Mark
+sides_marks naming s left right =
+    side_marks naming 1 left
+    ++ sign_mark s (side_end naming 1 left + 1) ∷ side_marks naming (right_column s (side_end naming 1 left)) right
 
-reserved_word : (f : Format) (word key : List ℕ) → bytes_eq word key ≡ true → is_reserved f key ≡ true → is_reserved f word ≡ false → ⊥
-reserved_word f word key same reserved not_reserved =
-    let wrong : true ≡ false = sym reserved ∙ ap (is_reserved f) (sym ((bytes_eq-Decides word key).0 same))
-    ∙ not_reserved in cc
+sides_lexed : (f : Format) (naming : Naming) (m : Mode) (s : Sign) (left right : List (List ℕ))
+    → m.quotes ≡ has_quotes naming → All (IsReadBack f naming) left → All (IsReadBack f naming) right
+    → HasTokens (lex m ((side_text (map (spelling naming) left) ++ sign_text s) ++ side_text (map (spelling naming) right)))
+    (sides_marks naming s left right)
+sides_lexed f naming m s left right taken left_names right_names =
+    let after = side_end naming 1 left in
+    let first = side_text (map (spelling naming) left) in
+    let last = side_text (map (spelling naming) right) in
+    ap (tokens_after m 0 1) (append_assoc first (sign_text s) last)
+    ∙ side_lexed f naming m 1 left (sign_text s ++ last) taken left_names
+    (elim s as (λ s. Parted (sign_text s ++ last)) [ sign.Functional ↦ (refl, refl) | _ ↦ (refl, refl) ])
+    ∙ ap (led_by_all (side_marks naming 1 left))
+    (sign_lexed s m after last ∙ ap (led_by_mark (sign_mark s (after + 1)))
+    (last_side f naming m (right_column s after) right taken right_names))
 
--- a word that is not reserved declares nothing
-not_reserved_declares : (f : Format) (word : List ℕ) → is_reserved f word ≡ false → column_type_of_word f word ≡ None
-unfolding is_reserved column_type_of_word
-not_reserved_declares format.Plain word e = elim (cases_Bool (bytes_eq word (codes "attributes"))) [
-  | inl is ↦ absurd (reserved_word format.Plain word (codes "attributes") is refl e)
-  | inr other ↦ rw other refl
-]
-not_reserved_declares format.Typed word e = elim (cases_Bool (bytes_eq word (codes "attributes"))) [
-  | inl is ↦ absurd (reserved_word format.Typed word (codes "attributes") is refl e)
-  | inr first ↦ elim (cases_Bool (bytes_eq word (codes "text"))) [
-    | inl is ↦ absurd (reserved_word format.Typed word (codes "text") is refl e)
-    | inr second ↦ elim (cases_Bool (bytes_eq word (codes "integer"))) [
-      | inl is ↦ absurd (reserved_word format.Typed word (codes "integer") is refl e)
-      | inr third ↦ rw (first, second, third) refl
-    ]
-  ]
-]
-
+-- ---- what they mean
 -- what is printed of a dependency, as tokens of a dependency line
 pub record PrintsLine (f : Format) (names : List (List ℕ)) (line : List ℕ) (d : Dependency) : Type 0 where
   pub head : Mark
   pub others : List Mark
-  pub tokens : HasTokens (lex mode.plain line) (head ∷ others)
-  pub stating : column_type_of_token f head.kind head.word ≡ None
+  pub tokens : HasTokens (lex_line f line) (head ∷ others)
+  pub stating : line_kind f head.kind head.word ≡ begins.Dependency
   pub dependency : IsDependency f names (head ∷ others) d
 
--- the first of the marks of a side, which states no names
+-- the first of the marks of a side, which begins a dependency
 record Heads (f : Format) (ms : List Mark) : Type 0 where
   head : Mark
   others : List Mark
   whole : ms ≡ head ∷ others
-  stating : column_type_of_token f head.kind head.word ≡ None
+  stating : line_kind f head.kind head.word ≡ begins.Dependency
 
-side_heads : (f : Format) (names : List (List ℕ)) (column : ℕ) (words : List (List ℕ))
-    → EachKnown f names words → Heads f (side_marks column words)
-unfolding column_type_of_token
-side_heads f names column [] known = record { head = _; others = _; whole = refl; stating = refl }
-side_heads f names column (word ∷ words) (here, rest) =
-    record { head = _; others = _; whole = refl; stating = not_reserved_declares f word here.1.not_reserved }
+side_heads : (f : Format) (naming : Naming) (column : ℕ) (names : List (List ℕ))
+    → All (IsReadBack f naming) names → Heads f (side_marks naming column names)
+unfolding line_kind
+side_heads f naming column [] all = record { head = _; others = _; whole = refl; stating = refl }
+side_heads f naming column (name ∷ names) all = record {
+  head = _;
+  others = _;
+  whole = refl;
+  stating = unreserved_dependency f (kind_of naming name) name
+      (kind_not_reserved f naming name (All-head (IsReadBack f naming) name names all));
+}
 
-printed_sides : (f : Format) (names : List (List ℕ)) (s : Sign) (x y : Attributes) → AreNames f names
+printed_sides : (f : Format) (names : List (List ℕ)) (s : Sign) (x y : Attributes) → AreReadBack f (naming_in f) names
     → IsSubset x (below (length names)) → IsSubset y (below (length names))
-    → PrintsLine f names ((set_text names x ++ sign_text s) ++ set_text names y) (dependency_of_sign s x y)
-unfolding set_text
+    → PrintsLine f names
+    ((side_text (map (spelling (naming_in f)) (members_from x 0 names)) ++ sign_text s)
+    ++ side_text (map (spelling (naming_in f)) (members_from y 0 names))) (dependency_of_sign s x y)
 printed_sides f names s x y are left right =
-    let column = side_end 1 (members_from x 0 names) + 1 in
-    let heads = side_heads f names 1 (members_from x 0 names)
-    (members_known f x names [] names 0 are (record { whole = refl; size = refl })) in
-    let rest = sign_mark s column ∷ side_marks
-    (right_column s (members_from x 0 names)) (members_from y 0 names) in
+    let naming = naming_in f in
+    let lefts = members_from x 0 names in
+    let rights = members_from y 0 names in
+    let after = side_end naming 1 lefts in
+    let heads = side_heads f naming 1 lefts (printed_names f naming names x are) in
+    let rest = sign_mark s (after + 1) ∷ side_marks naming (right_column s after) rights in
+    let line = (side_text (map (spelling naming) lefts) ++ sign_text s) ++ side_text (map (spelling naming) rights) in
+    let tokens : HasTokens (lex (mode.plain naming) line) (heads.head ∷ (heads.others ++ rest)) =
+    sides_lexed f naming (mode.plain naming) s lefts rights refl (printed_names f naming names x are)
+    (printed_names f naming names y are)
+    ∙ ap (λ ms. record { marks = ms ++ rest; stop = None }) heads.whole in
     record {
       head = heads.head;
       others = heads.others ++ rest;
-      tokens = sides_lexed s (members_from x 0 names) (members_from y 0 names) (printed_names f names x are)
-          (printed_names f names y are)
-          ∙ ap (λ ms. record { marks = ms ++ rest; stop = None }) heads.whole;
+      tokens = plain_line f line heads.head (heads.others ++ rest) tokens (ap (mode_of_kind f) heads.stating);
       stating = heads.stating;
       dependency = subst (λ (ms : List Mark). IsDependency f names ms (dependency_of_sign s x y))
           (ap (λ ms. ms ++ rest) heads.whole) (record {
-            lhs = side_marks 1 (members_from x 0 names);
-            arrow = sign_mark s column;
-            rhs = side_marks (right_column s (members_from x 0 names)) (members_from y 0 names);
+            lhs = side_marks naming 1 lefts;
+            arrow = sign_mark s (after + 1);
+            rhs = side_marks naming (right_column s after) rights;
             x = x;
             y = y;
             sign = s;
             whole = refl;
-            left_side = printed_side f names x 1 are left;
-            is_arrow = elim s as (λ s. IsArrow s (sign_mark s column).kind) [ sign.Functional ↦ refl | _ ↦ refl ];
-            right_side = printed_side f names y (right_column s (members_from x 0 names)) are right;
+            left_side = printed_side f naming names x 1 are left;
+            is_arrow = elim s as (λ s. IsArrow s (sign_mark s (after + 1)).kind) [ sign.Functional ↦ refl | _ ↦ refl ];
+            right_side = printed_side f naming names y (right_column s after) are right;
             states = refl;
           });
     }
 
-pub printed_line : (f : Format) (names : List (List ℕ)) (d : Dependency) → AreNames f names → IsWithin (below (length names)) d → PrintsLine f names (dependency_text names d) d
-unfolding dependency_text
-printed_line f names (fd x y) are within = printed_sides f names sign.Functional x y are within.0 within.1
-printed_line f names (mvd x y) are within = printed_sides f names sign.Multivalued x y are within.0 within.1
+-- the printed text of a dependency, by its sides
+sides_text : (naming : Naming) (names : List (List ℕ)) (s : Sign) (x y : Attributes)
+    → dependency_text (map (spelling naming) names) (dependency_of_sign s x y)
+    ≡ (side_text (map (spelling naming) (members_from x 0 names)) ++ sign_text s)
+    ++ side_text (map (spelling naming) (members_from y 0 names))
+unfolding dependency_text set_text
+sides_text naming names sign.Functional x y = rw (members_spelled naming x 0 names, members_spelled naming y 0 names) refl
+sides_text naming names sign.Multivalued x y = rw (members_spelled naming x 0 names, members_spelled naming y 0 names) refl
+
+stated_line : (f : Format) (names : List (List ℕ)) (s : Sign) (x y : Attributes) → AreReadBack f (naming_in f) names
+    → IsSubset x (below (length names)) → IsSubset y (below (length names))
+    → PrintsLine f names (dependency_text (map (spelling (naming_in f)) names) (dependency_of_sign s x y)) (dependency_of_sign s x y)
+stated_line f names s x y are left right =
+    subst (λ (line : List ℕ). PrintsLine f names line (dependency_of_sign s x y))
+    (sym (sides_text (naming_in f) names s x y)) (printed_sides f names s x y are left right)
+
+pub printed_line : (f : Format) (names : List (List ℕ)) (d : Dependency) → AreReadBack f (naming_in f) names → IsWithin (below (length names)) d
+    → PrintsLine f names (dependency_text (map (spelling (naming_in f)) names) d) d
+printed_line f names (fd x y) are within = stated_line f names sign.Functional x y are within.0 within.1
+printed_line f names (mvd x y) are within = stated_line f names sign.Multivalued x y are within.0 within.1
+
+-- ---- lines of dependencies
+stated_bytes : (f : Format) (naming : Naming) (names : List (List ℕ)) (s : Sign) (x y : Attributes) → AreReadBack f naming names
+    → Bytes (dependency_text (map (spelling naming) names) (dependency_of_sign s x y))
+stated_bytes f naming names s x y are =
+    let left = side_text (map (spelling naming) (members_from x 0 names)) in
+    let right = side_text (map (spelling naming) (members_from y 0 names)) in
+    subst Bytes (sym (sides_text naming names s x y))
+    (bytes_both (left ++ sign_text s) right
+    (bytes_both left (sign_text s) (side_bytes f naming _ (printed_names f naming names x are))
+    (elim s as (λ s. Bytes (sign_text s)) [ sign.Functional ↦ refl | _ ↦ refl ]))
+    (side_bytes f naming _ (printed_names f naming names y are)))
+
+dependency_bytes : (f : Format) (naming : Naming) (names : List (List ℕ)) (d : Dependency) → AreReadBack f naming names
+    → Bytes (dependency_text (map (spelling naming) names) d)
+dependency_bytes f naming names (fd x y) are = stated_bytes f naming names sign.Functional x y are
+dependency_bytes f naming names (mvd x y) are = stated_bytes f naming names sign.Multivalued x y are
+
+pub each_dependency : (f : Format) (naming : Naming) (names : List (List ℕ)) (deps : List Dependency) → AreReadBack f naming names
+    → EachBytes (map (dependency_text (map (spelling naming) names)) deps)
+each_dependency f naming names [] are = tt
+each_dependency f naming names (d ∷ deps) are = (dependency_bytes f naming names d are, each_dependency f naming names deps are)
+
+-- the numbers of lines from one on
+abbrev pub line_numbers : ℕ → List Dependency → List ℕ
+line_numbers n [] = []
+line_numbers n (d ∷ ds) = n ∷ line_numbers (n + 1) ds
+
+abbrev pub with_dependencies : Declarations → List Dependency → List ℕ → Declarations
+with_dependencies d deps lines = record d { deps = d.deps ++ deps; lines = d.lines ++ lines }
+
+-- the lines of dependencies, and the empty line after the last line feed
+pub dependencies_mean : (f : Format) (number : ℕ) (d : Declarations) (deps : List Dependency)
+    → AreReadBack f (naming_in f) d.names → All (IsWithin (below (length d.names))) deps
+    → length d.deps + length deps ≤ MOST_DEPENDENCY_LINES
+    → MeansLines f number d (map (dependency_text (map (spelling (naming_in f)) d.names)) deps ++ [] ∷ [])
+    (with_dependencies d deps (line_numbers number deps))
+dependencies_mean f number d [] are within room = (
+  d,
+  inl (inl (record { tokens = blank_line f [] (nothing_left (mode.plain (naming_in f)) 1); same = refl })),
+  λ i. record d { deps = append-nil d.deps i; lines = append-nil d.lines i },
+)
+dependencies_mean f number d (dep ∷ deps) are within room =
+    let printed = map (spelling (naming_in f)) d.names in
+    let line = printed_line f d.names dep are
+    (All-head (IsWithin (below (length d.names))) dep deps within) in
+    let size : length (d.deps ++ dep ∷ []) ≡ length d.deps + 1 = length-append d.deps (dep ∷ []) in
+    let more = dependencies_mean f (number + 1) (add_dependency d dep number) deps are
+    (All-tail (IsWithin (below (length d.names))) dep deps within) (omega arith) in
+    let of : Declarations → Type 0 = λ w. MeansLines f (number + 1) (add_dependency d dep number) (map (dependency_text printed) deps ++ [] ∷ []) w in
+    let same : with_dependencies (add_dependency d dep number) deps (line_numbers (number + 1) deps) ≡ with_dependencies d (dep ∷ deps) (number ∷ line_numbers (number + 1) deps) =
+    (λ i. record d { deps = append_assoc d.deps (dep ∷ []) deps i; lines = append_assoc d.lines (number ∷ []) (line_numbers (number + 1) deps) i }) in (
+      add_dependency d dep number,
+      inr (inr (record { head = line.head; others = line.others; dep = dep; tokens = line.tokens; stating = line.stating; dependency = line.dependency; room = omega arith; adds = refl })),
+      subst of same more,
+    )

@@ -1,5 +1,5 @@
 -- How names, blanks and signs of a printed line are lexed.
-use Rattle.std.proofs.Common.{◌≡◌, ◌+◌, ℕ, suc, true, false, ◌==◌, ◌&&◌, List, [], ◌∷◌, ◌++◌, length, refl, sym, ◌∙◌, ap, arith, append_assoc}
+use Rattle.std.proofs.Common.{◌≡◌, ◌+◌, ℕ, suc, true, false, ◌==◌, ◌&&◌, List, [], ◌∷◌, ◌++◌, length, refl, sym, ◌∙◌, ap, arith}
 use Rattle.std.proofs.Math.Seq.{take-append_seam, drop-append_seam}
 use Rattle.std.specs.Prelude.{nat_lt, nat_le}
 use Rattle.std.specs.List.{list_all}
@@ -12,8 +12,7 @@ use Rattle.lexer.specs.declared.mode.Mode.{Mode}
 use Rattle.lexer.specs.declared.token.TokenKind.TheVariants as token
 use Rattle.lexer.specs.Bytes.{is_gap, run_length}
 use Rattle.lexer.specs.Pieces.{front_piece, run_piece}
-use Rattle.lexer.specs.Tokens.{Mark, Lexed, tokens_after, led_by_mark}
-use Rattle.schema_printer.specs.Printing.{words_text, side_text}
+use Rattle.lexer.specs.Tokens.{tokens_after, led_by_mark}
 use Rattle.lexer.proofs.Steps.{at_token, after_gap}
 
 -- what is left of a line begins with a byte of no name, or is nothing
@@ -64,20 +63,6 @@ name_lexed m column (first ∷ others) rest e apart =
     let whole = at_token m column ((first ∷ others) ++ rest) token.Identifier (length (first ∷ others)) (omega arith) (sym (front_name m (first ∷ others) rest e apart)) in
     whole ∙ (rw (take-append_seam (first ∷ others) rest, drop-append_seam (first ∷ others) rest) refl)
 
--- the tokens of words, each after a blank
-abbrev pub word_marks : ℕ → List (List ℕ) → List Mark
-word_marks column [] = []
-word_marks column (word ∷ words) = record { kind = token.Identifier; column = column + 1; length = length word; word = word } ∷ word_marks (column + 1 + length word) words
-
--- where they end
-abbrev pub words_end : ℕ → List (List ℕ) → ℕ
-words_end column [] = column
-words_end column (word ∷ words) = words_end (column + 1 + length word) words
-
-abbrev pub led_by_marks : List Mark → Lexed → Lexed
-led_by_marks [] l = l
-led_by_marks (m ∷ ms) l = led_by_mark m (led_by_marks ms l)
-
 abbrev pub AllNames : List (List ℕ) → Type 0
 AllNames [] = Unit {0}
 AllNames (word ∷ words) = (is_bare_name word ≡ true) × AllNames words
@@ -85,37 +70,6 @@ AllNames (word ∷ words) = (is_bare_name word ≡ true) × AllNames words
 pub blank_lexed : (m : Mode) (column : ℕ) (text : List ℕ) → tokens_after m 0 column (32 ∷ text) ≡ tokens_after m 0 (column + 1) text
 unfolding front_piece
 blank_lexed m column text = after_gap m column (32 ∷ text) (omega arith) refl
-
-apart_words : (words : List (List ℕ)) (rest : List ℕ) → Apart rest → Apart (words_text words ++ rest)
-apart_words [] rest apart = apart
-apart_words (word ∷ words) rest apart = refl
-
-pub words_lexed : (m : Mode) (column : ℕ) (words : List (List ℕ)) (rest : List ℕ) → AllNames words → Apart rest
-    → tokens_after m 0 column (words_text words ++ rest) ≡ led_by_marks (word_marks column words) (tokens_after m 0 (words_end column words) rest)
-words_lexed m column [] rest names apart = refl
-words_lexed m column (word ∷ words) rest names apart =
-    let cut : words_text (word ∷ words) ++ rest ≡ 32 ∷ (word ++ (words_text words ++ rest)) = ap (λ t. 32 ∷ t) (append_assoc word (words_text words) rest) in
-    ap (tokens_after m 0 column) cut ∙ blank_lexed m column (word ++ (words_text words ++ rest))
-    ∙ name_lexed m (column + 1) word (words_text words ++ rest) names.0 (apart_words words rest apart)
-    ∙ ap (led_by_mark (record { kind = token.Identifier; column = column + 1; length = length word; word = word })) (words_lexed m (column + 1 + length word) words rest names.1 apart)
-
--- a side
-abbrev pub side_marks : ℕ → List (List ℕ) → List Mark
-side_marks column [] = record { kind = token.Empty; column = column; length = 2; word = 40 ∷ 41 ∷ [] } ∷ []
-side_marks column (word ∷ words) = record { kind = token.Identifier; column = column; length = length word; word = word } ∷ word_marks (column + length word) words
-
-abbrev pub side_end : ℕ → List (List ℕ) → ℕ
-side_end column [] = column + 2
-side_end column (word ∷ words) = words_end (column + length word) words
-
-pub side_lexed : (m : Mode) (column : ℕ) (words : List (List ℕ)) (rest : List ℕ) → AllNames words → Apart rest
-    → tokens_after m 0 column (side_text words ++ rest) ≡ led_by_marks (side_marks column words) (tokens_after m 0 (side_end column words) rest)
-unfolding front_piece
-side_lexed m column [] rest names apart = at_token m column (40 ∷ 41 ∷ rest) token.Empty 2 (omega arith) refl
-side_lexed m column (word ∷ words) rest names apart =
-    ap (tokens_after m 0 column) (append_assoc word (words_text words) rest)
-    ∙ name_lexed m column word (words_text words ++ rest) names.0 (apart_words words rest apart)
-    ∙ ap (led_by_mark (record { kind = token.Identifier; column = column; length = length word; word = word })) (words_lexed m (column + length word) words rest names.1 apart)
 
 pub arrow_lexed : (m : Mode) (column : ℕ) (rest : List ℕ) → tokens_after m 0 column (32 ∷ 45 ∷ 62 ∷ 32 ∷ rest)
     ≡ led_by_mark (record { kind = token.Arrow; column = column + 1; length = 2; word = 45 ∷ 62 ∷ [] }) (tokens_after m 0 (column + 1 + 2 + 1) rest)

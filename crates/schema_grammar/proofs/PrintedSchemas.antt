@@ -1,379 +1,351 @@
 -- What is printed of a schema means it.
-use Rattle.std.proofs.Common.{◌≡◌, ◌<◌, ◌≤◌, ◌+◌, inl, inr, ℕ, suc, Bool, true, false, IsTrue, All, cond, List, [], ◌∷◌, ◌++◌, length, get_or, Some, refl, sym, ◌∙◌, ap, subst, arith, append_assoc, length-append}
+use Rattle.std.proofs.Common.{◌≡◌, ◌<◌, ◌≤◌, ◌+◌, inl, inr, ℕ, Bool, true, false, IsTrue, All, List, [], ◌∷◌, ◌++◌, length, get_or, Some, refl, sym, ◌∙◌, ap, subst, arith, append_assoc}
+use mathlib.Core.Path.{fun_ext}
 use Rattle.std.specs.Prelude.{codes, map}
-use Rattle.std.specs.List.{list_any, flat_map, Contains}
-use Rattle.std.proofs.lemmas.Bool.{cases_Bool, false≢true}
+use Rattle.std.specs.List.{list_any, Contains}
+use Rattle.std.proofs.lemmas.Bool.{false≢true}
 use Rattle.std.proofs.lemmas.List.{append-nil, length-map}
-use Rattle.std.proofs.lemmas.List.Elements.{All-nil, All-head, All-tail}
+use Rattle.std.proofs.lemmas.List.Elements.{All-nil, All-tail}
 use Rattle.std.proofs.lemmas.List.Folds.{Any-from_list_any}
+use Rattle.attr_sets.specs.Attributes.{Attributes, none, below, IsSubset}
 use Rattle.attr_sets.specs.declared.set.TheConstants.{MOST_ATTRIBUTES}
 use Rattle.dep_model.specs.declared.column_type.ColumnType.{ColumnType}
 use Rattle.dep_model.specs.declared.column_type.ColumnType.TheVariants.{Text, Integer}
-use Rattle.dep_model.specs.declared.naming.Naming.TheVariants.{Bare}
+use Rattle.dep_model.specs.declared.naming.Naming.{Naming}
+use Rattle.dep_model.specs.declared.naming.Naming.TheVariants.{Bare, Any}
 use Rattle.dep_model.specs.declared.schema.Schema.{Schema}
 use Rattle.dep_model.specs.Dependencies.{Dependency, IsWithin}
 use Rattle.dep_model.specs.Deps.{dependency_of}
-use Rattle.dep_model.specs.Schemas.{naming_of, names_of, types_of, deps_of, theory_of, universe_of}
+use Rattle.dep_model.specs.Schemas.{naming_of, names_of, types_of, nullable_of, deps_of, theory_of, universe_of}
 use Rattle.dep_model.proofs.DepLemmas.{dependencies_all-from}
 use Rattle.dep_model.specs.Columns.{is_plain_type}
-use Rattle.dep_model.specs.Names.{is_bare_name}
+use Rattle.dep_model.specs.Names.{is_type_name}
+use Rattle.dep_model.specs.Validity.{AreBare}
 use Rattle.lexer.specs.Modes as mode
+use Rattle.lexer.specs.declared.piece.Piece.TheVariants as piece
 use Rattle.lexer.specs.declared.token.TokenKind.TheVariants as token
 use Rattle.lexer.specs.Bytes.{is_number}
 use Rattle.lexer.specs.Lines.{line_texts, without_mark}
 use Rattle.lexer.specs.Pieces.{front_piece, run_piece}
-use Rattle.lexer.specs.Tokens.{lex, led_by_mark}
+use Rattle.lexer.specs.Tokens.{Mark, lex, led_by_mark}
 use Rattle.lexer.proofs.Steps.{at_token}
 use Rattle.schema_grammar.specs.declared.format.TheConstants.{MOST_DEPENDENCY_LINES}
 use Rattle.schema_grammar.specs.declared.format.Format.{Format}
 use Rattle.schema_grammar.specs.declared.format.Format.TheVariants as format
-use Rattle.schema_grammar.specs.Declarations.{Declarations, no_declaration, add_name}
+use Rattle.schema_grammar.specs.Declarations.{Declarations, no_declaration}
+use Rattle.schema_grammar.specs.LineTokens.{naming_in}
 use Rattle.schema_grammar.specs.Meanings.{HasTokens}
-use Rattle.schema_printer.proofs.PrintLemmas.{same_column-is, integer_is}
-use Rattle.schema_printer.specs.Printing.{words_text, dependency_text, Run, run_line, runs_of, in_front, same_column, type_word, is_integer, declaring_lines, declared_text}
-use Rattle.schema_grammar.specs.Schemas.{DeclareNames, MeansTextLine, MeansLines, IsVersionLine, IsPlainText, IsTypedText, MeansSchema, has_version_line}
-use Rattle.schema_grammar.specs.Texts.{is_version}
-use Rattle.schema_grammar.specs.Words.{is_reserved, column_type_of_token, column_type_of_word}
-use Rattle.schema_grammar.specs.Printed.{AreNames, IsPrintable}
-use Rattle.schema_grammar.proofs.PrintedLexing.{AllNames, Apart, word_marks, name_lexed, blank_lexed}
-use Rattle.schema_grammar.proofs.PrintedDependencies.{last_side, nothing_left}
-use Rattle.schema_grammar.proofs.PrintedSides.{known_at, differ_before, IsCutAt, cut_more}
-use Rattle.schema_grammar.proofs.PrintedTexts.{Bytes, bytes_both, words_bytes, EachBytes, lines_cut, line_numbers, dependencies_mean, each_dependency, none_found}
+use Rattle.schema_grammar.specs.Printed.{IsReadBack, AreReadBack}
+use Rattle.schema_grammar.specs.Schemas.{MeansLines, MeansAll, IsVersionLine, IsPlainText, IsVersionedText, MeansSchema, has_version_line}
+use Rattle.schema_grammar.specs.Texts.{is_version, format_of_version}
+use Rattle.schema_grammar.specs.Words.{is_reserved, line_kind}
+use Rattle.schema_printer.specs.Printing.{words_text, dependency_text, members_from, run_line, runs_of, is_integer, declaring_lines, nullable_lines, schema_lines, lines_text, schema_text}
+use Rattle.schema_printer.specs.Spelling.{spelling, printed_names_of}
+use Rattle.schema_printer.proofs.PrintLemmas.{integer_is}
+use Rattle.schema_grammar.proofs.PrintedColumns.{IsPrinted, word_run}
+use Rattle.schema_grammar.proofs.PrintedDeclarations.{with_names, declaring_mean, are_runs, runs_spelled, run_names, run_columns, run_lines, with_runs, runs_mean, runs_bytes, with_nullable, nullable_mean, nullable_bytes}
+use Rattle.schema_grammar.proofs.PrintedDependencies.{line_numbers, dependencies_mean, each_dependency}
+use Rattle.schema_grammar.proofs.PrintedLexing.{Apart, name_lexed, blank_lexed}
+use Rattle.schema_grammar.proofs.PrintedTexts.{Bytes, bytes_both, EachBytes, lines_cut}
+use Rattle.schema_grammar.proofs.SpelledWords.{names_bytes, nothing_left}
 
--- a word, and words each after a blank
-pub word_line : (word : List ℕ) (words : List (List ℕ)) → is_bare_name word ≡ true → AllNames words
-    → HasTokens (lex mode.plain (word ++ words_text words)) (record { kind = token.Identifier; column = 1; length = length word; word = word } ∷ word_marks (1 + length word) words)
-word_line word words proper names = last_side mode.plain 1 (word ∷ words) (proper, names)
+-- the lines of dependencies, and the empty line after the last line feed
+abbrev last_lines : Naming → List (List ℕ) → List Dependency → List (List ℕ)
+last_lines naming names deps = map (dependency_text (map (spelling naming) names)) deps ++ [] ∷ []
 
-front_proper : (f : Format) (names before words rest : List (List ℕ)) (position : ℕ) → AreNames f names
-    → IsCutAt names before (words ++ rest) position → AllNames words
-front_proper f names before [] rest position are cut = tt
-front_proper f names before (word ∷ words) rest position are cut = (
-  (known_at f names before word (words ++ rest) position are cut).proper,
-  front_proper f names (before ++ word ∷ []) words rest (position + 1) are
-      (cut_more names before word (words ++ rest) position cut),
-)
-
-all_names : (f : Format) (names : List (List ℕ)) → AreNames f names → AllNames names
-all_names f names are =
-    front_proper f names [] names [] 0 are (record { whole = sym (append-nil names); size = refl })
-
-abbrev with_names : Declarations → List (List ℕ) → ColumnType → Declarations
-with_names d words column = record { names = d.names ++ words; columns = d.columns ++ map (λ w. column) words; deps = d.deps; lines = d.lines }
-
--- words in front of others are declared one by one
-declare_front : (f : Format) (column : ColumnType) (d : Declarations) (names words rest : List (List ℕ))
-    (at position : ℕ) → AreNames f names → IsCutAt names d.names (words ++ rest) position
-    → length names ≤ MOST_ATTRIBUTES → DeclareNames f column d (word_marks at words) (with_names d words column)
-declare_front f column d names [] rest at position are cut within_limit =
-    λ i. record { names = append-nil d.names i; columns = append-nil d.columns i; deps = d.deps; lines = d.lines }
-declare_front f column d names (word ∷ words) rest at position are cut within_limit =
-    let known = known_at f names d.names word (words ++ rest) position are cut in
-    let size : length names ≡ length d.names + suc (length (words ++ rest)) = ap length cut.whole ∙ length-append d.names (word ∷ words ++ rest) in
-    let more = declare_front f column (add_name d word column) names words rest (at + 1 + length word)
-    (position + 1) are (cut_more names d.names word (words ++ rest) position cut) within_limit in
-    let same : with_names (add_name d word column) words column ≡ with_names d (word ∷ words) column =
-    (λ i. record { names = append_assoc d.names (word ∷ []) words i; columns = append_assoc d.columns (column ∷ []) (map (λ w. column) words) i; deps = d.deps; lines = d.lines }) in
-    let of : Declarations → Type 0 = λ w. DeclareNames f column (add_name d word column) (word_marks (at + 1 + length word) words) w in
-    let new = none_found d.names word (differ_before f names d.names word (words ++ rest) are cut.whole) in
-    (record { word = refl; not_reserved = known.not_reserved; new = new; room = omega arith }, subst of same more)
-
--- a declaring line as it is printed
-declaring_mean : (f : Format) (column : ColumnType) (number : ℕ) (d : Declarations) (key : List ℕ)
-    (names words rest : List (List ℕ)) (position : ℕ) → AreNames f names
-    → IsCutAt names d.names (words ++ rest) position → length names ≤ MOST_ATTRIBUTES → 0 < length words
-    → is_bare_name key ≡ true → column_type_of_token f token.Identifier key ≡ Some column
-    → MeansTextLine f number d (key ++ words_text words) (with_names d words column)
-declaring_mean f column number d key names words rest position are cut within_limit not_empty proper is =
-    inl (inr (record {
-      head = record { kind = token.Identifier; column = 1; length = length key; word = key };
-      words = word_marks (1 + length key) words;
-      column = column;
-      tokens = word_line key words proper (front_proper f names d.names words rest position are cut);
-      declaring = is;
-      not_empty = (elim words as
-          (λ ws. 0 < length ws → 0 < length (word_marks (1 + length key) ws)) [
-            | [] ↦ λ h. h
-            | w ∷ ws ↦
-                λ h. omega arith
-          ]) not_empty;
-      names = declare_front f column d names words rest (1 + length key) position are cut within_limit;
-    }))
-
--- text and integer columns
-abbrev IsPlain : ColumnType → Type 0
-IsPlain column = IsTrue (is_plain_type column)
-
-abbrev AllPlain : List ColumnType → Type 0
-AllPlain columns = All IsPlain columns
-
--- a text of text columns
-all_text : (columns : List ColumnType) (names : List (List ℕ)) → length columns ≡ length names → AllPlain columns → list_any is_integer columns ≡ false → map (λ (w : List ℕ). Text) names ≡ columns
-all_text [] [] e plain none = refl
-all_text [] (name ∷ names) e plain none = absurd (omega arith)
-all_text (column ∷ columns) [] e plain none = absurd (omega arith)
-all_text (Text ∷ columns) (name ∷ names) e plain none = ap (λ t. Text ∷ t) (all_text columns names (omega arith) (All-tail IsPlain Text columns plain) none)
-all_text (Integer ∷ columns) (name ∷ names) e plain none = cc
-all_text (column ∷ columns) (name ∷ names) e plain none = absurd (false≢true (plain 0 Text (omega arith)))
-
--- the declarations that a printed text means
-abbrev printed_declarations : List ColumnType → List (List ℕ) → List Dependency → ℕ → Declarations
-printed_declarations columns names deps number = record { names = names; columns = columns; deps = deps; lines = line_numbers number deps }
-
--- runs of attributes
-abbrev run_names : List Run → List (List ℕ)
-run_names runs = flat_map (λ r. r.names) runs
-
-abbrev run_columns : List Run → List ColumnType
-run_columns runs = flat_map (λ r. map (λ (w : List ℕ). r.column) r.names) runs
-
-abbrev EachSome : List Run → Type 0
-EachSome [] = Unit {0}
-EachSome (r ∷ rs) = (0 < length r.names) × IsPlain r.column × EachSome rs
-
--- the names and columns of attributes, in runs none of which is empty
-record AreRuns (runs : List Run) (columns : List ColumnType) (names : List (List ℕ)) : Type 0 where
-  names_are : run_names runs ≡ names
-  columns_are : run_columns runs ≡ columns
-  not_empty : EachSome runs
-
-front_runs : (c : ColumnType) (name : List ℕ) (runs : List Run) (columns : List ColumnType) (names : List (List ℕ))
-    → IsPlain c → AreRuns runs columns names
-    → AreRuns (in_front c name runs) (c ∷ columns) (name ∷ names)
-front_runs c name [] columns names plain are =
-    record {
-      names_are = ap (λ t. name ∷ t) are.names_are;
-      columns_are = ap (λ t. c ∷ t) are.columns_are;
-      not_empty = (omega arith, plain, tt);
-    }
-front_runs c name (r ∷ rs) columns names plain are = by_cases (same_column c r.column) refl
-  where
-    by_cases : (b : Bool) → same_column c r.column ≡ b
-        → AreRuns (cond b (record { column = c; names = name ∷ r.names } ∷ rs)
-        (record { column = c; names = name ∷ [] } ∷ r ∷ rs)) (c ∷ columns) (name ∷ names)
-    by_cases true e = record {
-      names_are = ap (λ t. name ∷ t) are.names_are;
-      columns_are = ap (λ k. (c ∷ map (λ (w : List ℕ). k) r.names) ++ run_columns rs) (same_column-is c r.column e)
-          ∙ ap (λ t. c ∷ t) are.columns_are;
-      not_empty = (omega arith, plain, are.not_empty.2);
-    }
-    by_cases false e =
-        record {
-          names_are = ap (λ t. name ∷ t) are.names_are;
-          columns_are = ap
-              (λ t. c ∷ t) are.columns_are;
-          not_empty = (omega arith, plain, are.not_empty);
-        }
-
-are_runs : (columns : List ColumnType) (names : List (List ℕ)) → length columns ≡ length names → AllPlain columns
-    → AreRuns (runs_of columns names) columns names
-are_runs [] [] e plain = record { names_are = refl; columns_are = refl; not_empty = tt }
-are_runs [] (name ∷ names) e plain = absurd (omega arith)
-are_runs (column ∷ columns) [] e plain = absurd (omega arith)
-are_runs (column ∷ columns) (name ∷ names) e plain =
-    front_runs column name (runs_of columns names) columns names (All-head IsPlain column columns plain)
-    (are_runs columns names (omega arith) (All-tail IsPlain column columns plain))
-
--- after runs that are printed line by line
-abbrev with_runs : Declarations → List Run → Declarations
-with_runs d runs = record { names = d.names ++ run_names runs; columns = d.columns ++ run_columns runs; deps = d.deps; lines = d.lines }
-
--- the words of text and integer columns
-plain_word : (c : ColumnType) → IsPlain c → is_bare_name (type_word c) ≡ true
-plain_word Text plain = refl
-plain_word Integer plain = refl
-plain_word c plain = absurd (false≢true plain)
-
-plain_declares : (c : ColumnType) → IsPlain c → column_type_of_token format.Typed token.Identifier (type_word c) ≡ Some c
-unfolding column_type_of_token column_type_of_word
-plain_declares Text plain = refl
-plain_declares Integer plain = refl
-plain_declares c plain = absurd (false≢true plain)
-
-plain_bytes : (c : ColumnType) → IsPlain c → Bytes (type_word c)
-plain_bytes Text plain = refl
-plain_bytes Integer plain = refl
-plain_bytes c plain = absurd (false≢true plain)
-
-runs_mean : (number : ℕ) (d : Declarations) (names : List (List ℕ)) (runs : List Run) (lines : List (List ℕ)) (whole : Declarations) (position : ℕ) → AreNames format.Typed names
-    → IsCutAt names d.names (run_names runs) position → length names ≤ MOST_ATTRIBUTES → EachSome runs → MeansLines format.Typed (number + length runs) (with_runs d runs) lines whole
-    → MeansLines format.Typed number d (map run_line runs ++ lines) whole
-unfolding column_type_of_token column_type_of_word
-runs_mean number d names [] lines whole position are cut within_limit not_empty rest =
-    let same : with_runs d [] ≡ d = (λ i. record { names = append-nil d.names i; columns = append-nil d.columns i; deps = d.deps; lines = d.lines }) in
-    let back : number + 0 ≡ number = omega arith in
-    let of : Declarations → Type 0 = λ e. MeansLines format.Typed number e lines whole in
-    let of_n : ℕ → Type 0 = λ n. MeansLines format.Typed n (with_runs d []) lines whole in
-    subst of same (subst of_n back rest)
-runs_mean number d names (r ∷ runs) lines whole position are cut within_limit (here, plain, not_empty) rest =
-    let next = with_names d r.names r.column in
-    let same : with_runs d (r ∷ runs) ≡ with_runs next runs =
-    (λ i. record { names = sym (append_assoc d.names r.names (run_names runs)) i; columns = sym (append_assoc d.columns (map (λ w. r.column) r.names) (run_columns runs)) i; deps = d.deps; lines = d.lines }) in
-    let later : number + suc (length runs) ≡ (number + 1) + length runs = omega arith in
-    let of : Declarations → Type 0 = λ e. MeansLines format.Typed (number + suc (length runs)) e lines whole in
-    let of_n : ℕ → Type 0 = λ n. MeansLines format.Typed n (with_runs next runs) lines whole in
-    let proper = plain_word r.column plain in
-    let declares_it = plain_declares r.column plain in (
-      next,
-      declaring_mean format.Typed r.column number d (type_word r.column) names r.names
-          (run_names runs) position are cut within_limit here proper declares_it,
-      runs_mean (number + 1) next names runs lines whole (position + length r.names) are
-          (record {
-            whole = cut.whole ∙ sym (append_assoc d.names r.names (run_names runs));
-            size = length-append d.names r.names ∙ ap (λ k. k + length r.names) cut.size;
-          })
-          within_limit not_empty (subst of_n later (subst of same rest)),
-    )
-
--- names of a text with an integer column
-typed_names : (columns : List ColumnType) (names : List (List ℕ)) (deps : List Dependency) → IsPrintable columns names deps → list_any is_integer columns ≡ true → AreNames format.Typed names
-unfolding is_reserved
-typed_names columns names deps is not_empty = record {
-  each = is.are_names.each;
-  not_reserved = λ k d h. rw (is.are_names.not_reserved k d h, is.are_columns.no_type_name has k d h) refl;
-  differ = is.are_names.differ;
-}
-  where
-    has : Contains columns Integer
-    has =
-        let any = Any-from_list_any is_integer columns not_empty in
-        let is_one : any.1 ≡ Integer = integer_is any.1 any.4 in
-        (any.0, any.2, ap (get_or columns any.0) (sym is_one) ∙ any.3 ∙ is_one)
-
-version_line : IsVersionLine (codes "version 2")
-unfolding front_piece run_piece is_number is_version
-version_line = record {
-  head = record { kind = token.Identifier; column = 1; length = length (codes "version"); word = codes "version" };
-  number = record { kind = token.Number 2; column = 9; length = 1; word = 50 ∷ [] };
-  tokens =
-      name_lexed mode.numbered 1 (codes "version") (32 ∷ 50 ∷ []) refl refl
-      ∙ ap (led_by_mark (record { kind = token.Identifier; column = 1; length = length (codes "version"); word = codes "version" }))
-      (blank_lexed mode.numbered 8 (50 ∷ []) ∙ at_token mode.numbered 9 (50 ∷ []) (token.Number 2) 1
-      (omega arith) refl
-      ∙ ap (led_by_mark (record { kind = token.Number 2; column = 9; length = 1; word = 50 ∷ [] }))
-      (nothing_left mode.numbered 10));
-  is_word = refl;
-  is_number = refl;
-}
+-- what a text with these lines means
+abbrev MeansText : List (List ℕ) → Declarations → Type 0
+MeansText lines whole = MeansSchema (lines_text lines) whole
 
 each_append : (xs ys : List (List ℕ)) → EachBytes xs → EachBytes ys → EachBytes (xs ++ ys)
 each_append [] ys h g = g
 each_append (x ∷ xs) ys (here, rest) g = (here, each_append xs ys rest g)
 
-split_names : (xs ys : List (List ℕ)) → AllNames (xs ++ ys) → AllNames xs × AllNames ys
-split_names [] ys h = (tt, h)
-split_names (x ∷ xs) ys (here, rest) = let more = split_names xs ys rest in ((here, more.0), more.1)
-
-runs_bytes : (runs : List Run) → EachSome runs → AllNames (run_names runs) → EachBytes (map run_line runs)
-runs_bytes [] not_empty names = tt
-runs_bytes (r ∷ rs) (here, plain, not_empty) names =
-    let parts = split_names r.names (run_names rs) names in
-    let word = plain_bytes r.column plain in (
-      bytes_both (type_word r.column) (words_text r.names) word
-          (words_bytes r.names parts.0),
-      runs_bytes rs not_empty parts.1,
-    )
-
 -- a printed text is cut into its lines and an empty one
-text_cut : (columns : List ColumnType) (names : List (List ℕ)) (deps : List Dependency) → EachBytes (declaring_lines columns names) → AreNames format.Plain names
-    → line_texts (declared_text columns names deps) ≡ declaring_lines columns names ++ (map (dependency_text names) deps ++ [] ∷ [])
-unfolding declared_text
-text_cut columns names deps each are =
-    lines_cut (declaring_lines columns names ++ map (dependency_text names) deps) (each_append (declaring_lines columns names) (map (dependency_text names) deps) each (each_dependency format.Plain names deps are))
-    ∙ append_assoc (declaring_lines columns names) (map (dependency_text names) deps) ([] ∷ [])
+text_cut : (f : Format) (naming : Naming) (lines names : List (List ℕ)) (deps : List Dependency) → EachBytes lines
+    → AreReadBack f naming names
+    → line_texts (lines_text (lines ++ map (dependency_text (map (spelling naming) names)) deps))
+    ≡ lines ++ last_lines naming names deps
+text_cut f naming lines names deps each are =
+    let more = map (dependency_text (map (spelling naming) names)) deps in
+    lines_cut (lines ++ more) (each_append lines more each (each_dependency f naming names deps are))
+    ∙ append_assoc lines more ([] ∷ [])
 
-abbrev Means : List ColumnType → List (List ℕ) → List Dependency → Type 0
-Means columns names deps =
-    (lines : List ℕ) × MeansSchema (declared_text columns names deps)
-    (record { names = names; columns = columns; deps = deps; lines = lines })
+-- ---- a text without a version line
+abbrev declared : Naming → List (List ℕ) → List ColumnType → Attributes → List Dependency → ℕ → Declarations
+declared naming names columns nullable deps number = record {
+  names = names;
+  columns = columns;
+  deps = deps;
+  lines = line_numbers number deps;
+  naming = naming;
+  nullable = nullable;
+}
 
-plain_means : (columns : List ColumnType) (names : List (List ℕ)) (deps : List Dependency)
-    → IsPrintable columns names deps
-    → list_any is_integer columns ≡ false → Means columns names deps
-unfolding declaring_lines declared_text column_type_of_token column_type_of_word has_version_line is_version
-plain_means columns names deps is none =
-    let line = codes "attributes" ++ words_text names in
-    let rest = map (dependency_text names) deps ++ [] ∷ [] in
-    let first : declaring_lines columns names ≡ line ∷ [] = rw none refl in
-    let bytes = bytes_both (codes "attributes") (words_text names) refl
-    (words_bytes names (all_names format.Plain names is.are_names)) in
-    let each : EachBytes (declaring_lines columns names) = subst EachBytes (sym first) (bytes, tt) in
-    let unmarked : without_mark (declared_text columns names deps) ≡ declared_text columns names deps = rw none refl in
-    let cut : line_texts (without_mark (declared_text columns names deps)) ≡ line ∷ rest =
-    ap line_texts unmarked ∙ text_cut columns names deps each is.are_names ∙ ap (λ ls. ls ++ rest) first in
-    let apart = elim names as (λ ws. Apart (words_text ws)) [ [] ↦ tt | w ∷ ws ↦ refl ] in
+plain_means : (names : List (List ℕ)) (deps : List Dependency) → AreReadBack format.Plain Bare names → 0 < length names
+    → length names ≤ MOST_ATTRIBUTES → All (IsWithin (below (length names))) deps → length deps ≤ MOST_DEPENDENCY_LINES
+    → MeansText ((codes "attributes" ++ words_text (map (spelling Bare) names))
+    ∷ map (dependency_text (map (spelling Bare) names)) deps)
+    (declared Bare names (map (λ (w : List ℕ). Text) names) none deps 2)
+unfolding line_kind has_version_line is_version
+plain_means names deps are some within_limit within deps_within_limit =
+    let words = words_text (map (spelling Bare) names) in
+    let line = codes "attributes" ++ words in
+    let rest = last_lines Bare names deps in
+    let bytes = bytes_both (codes "attributes") words refl (names_bytes format.Plain Bare names are.each) in
+    let cut = text_cut format.Plain Bare (line ∷ []) names deps (bytes, tt) are in
+    let apart = elim names as (λ ws. Apart (words_text (map (spelling Bare) ws))) [ [] ↦ tt | w ∷ ws ↦ refl ] in
     let no_version : has_version_line (line ∷ rest) ≡ false =
-    rw (name_lexed mode.numbered 1 (codes "attributes") (words_text names) refl apart) refl in
-    let after_names = with_names no_declaration names Text in
-    let here = declaring_mean format.Plain Text 1 no_declaration
-    (codes "attributes") names names [] 0 is.are_names
-    (record { whole = sym (append-nil names); size = refl }) is.within_limit is.not_empty refl refl in
-    let within_limit = is.deps_within_limit in
-    let more = dependencies_mean format.Plain 2 after_names deps is.are_names is.within (omega arith) in
-    let of_columns : List ColumnType → Type 0 =
-    λ cs. MeansLines format.Plain 2 after_names rest (printed_declarations cs names deps 2) in
-    let means = subst of_columns (all_text columns names is.are_columns.one_each is.are_columns.plain none) more in
-    let of : List (List ℕ) → Type 0 = λ ls. IsPlainText ls (printed_declarations columns names deps 2) in (
-      line_numbers 2 deps,
-      record {
-        not_empty = is.not_empty;
-        lines = inl
-            (subst of (sym cut) (record { no_version = no_version; declared = (after_names, here, means) }));
-      },
-    )
+    rw (name_lexed (mode.numbered Bare) 1 (codes "attributes") words refl apart) refl in
+    let after_names = with_names (no_declaration Bare) names Text in
+    let here = declaring_mean format.Plain Text 1 (no_declaration Bare) (codes "attributes") names names [] 0 are
+    (record { whole = sym (append-nil names); size = refl }) within_limit some
+    (word_run format.Plain (codes "attributes") Text names refl refl are.each) in
+    let more = dependencies_mean format.Plain 2 after_names deps are within (omega arith) in
+    let of : List (List ℕ) → Type 0 =
+    λ ls. IsPlainText ls (declared Bare names (map (λ (w : List ℕ). Text) names) none deps 2) in
+    record {
+      not_empty = some;
+      lines = inl (subst of (sym cut) (record { no_version = no_version; declared = (after_names, here, more) }));
+    }
 
-typed_means : (columns : List ColumnType) (names : List (List ℕ)) (deps : List Dependency) → IsPrintable columns names deps → list_any is_integer columns ≡ true → Means columns names deps
-unfolding declaring_lines declared_text
-typed_means columns names deps is not_empty =
-    let are = typed_names columns names deps is not_empty in
+-- ---- a text with a version line
+version_line : (digit version : ℕ) (f : Format)
+    → front_piece (mode.numbered Bare) (digit ∷ []) ≡ piece.Token (token.Number version) 1
+    → format_of_version version ≡ Some f → IsVersionLine (codes "version " ++ digit ∷ []) f
+unfolding is_version
+version_line digit version f front read =
+    let head : Mark = record { kind = token.Identifier; column = 1; length = length (codes "version"); word = codes "version" } in
+    let number : Mark = record { kind = token.Number version; column = 9; length = 1; word = digit ∷ [] } in
+    record {
+      head = head;
+      number = number;
+      version = version;
+      tokens =
+          name_lexed (mode.numbered Bare) 1 (codes "version") (32 ∷ digit ∷ []) refl refl
+          ∙ ap (led_by_mark head) (blank_lexed (mode.numbered Bare) 8 (digit ∷ [])
+          ∙ at_token (mode.numbered Bare) 9 (digit ∷ []) (token.Number version) 1 (omega arith) (sym front)
+          ∙ ap (led_by_mark number) (nothing_left (mode.numbered Bare) 10));
+      is_word = refl;
+      is_number = refl;
+      is_read = read;
+    }
+
+typed_line : IsVersionLine (codes "version 2") format.Typed
+unfolding front_piece run_piece is_number
+typed_line = version_line 50 2 format.Typed refl refl
+
+full_line : IsVersionLine (codes "version 3") format.Full
+unfolding front_piece run_piece is_number
+full_line = version_line 51 3 format.Full refl refl
+
+-- a version line, and then lines that mean the schema
+versioned_means : (f : Format) (version : List ℕ) (names : List (List ℕ)) (lines : List (List ℕ)) (deps : List Dependency) (whole : Declarations)
+    → IsVersionLine version f → Bytes version → EachBytes lines → AreReadBack f (naming_in f) names
+    → without_mark (lines_text ((version ∷ lines) ++ map (dependency_text (map (spelling (naming_in f)) names)) deps))
+    ≡ lines_text ((version ∷ lines) ++ map (dependency_text (map (spelling (naming_in f)) names)) deps)
+    → 0 < length whole.names → MeansAll f 2 (lines ++ last_lines (naming_in f) names deps) whole
+    → MeansText ((version ∷ lines) ++ map (dependency_text (map (spelling (naming_in f)) names)) deps) whole
+versioned_means f version names lines deps whole is bytes each are unmarked some means =
+    let naming = naming_in f in
+    let cut = ap line_texts unmarked ∙ text_cut f naming (version ∷ lines) names deps (bytes, each) are in
+    let of : List (List ℕ) → Type 0 = λ ls. IsVersionedText ls whole in
+    record {
+      not_empty = some;
+      lines = inr (subst of (sym cut) (record {
+        format = f;
+        before = [];
+        version = version;
+        later = lines ++ last_lines naming names deps;
+        cut = refl;
+        blank = All-nil (λ line. HasTokens (lex (mode.numbered Bare) line) []);
+        versioned = is;
+        declared = means;
+      }));
+    }
+
+-- the parts of a schema that are printed with a version line
+record IsPrintedWith (f : Format) (columns : List ColumnType) (names : List (List ℕ)) (deps : List Dependency) : Type 0 where
+  some : 0 < length names
+  within_limit : length names ≤ MOST_ATTRIBUTES
+  are : AreReadBack f (naming_in f) names
+  one_each : length columns ≡ length names
+  printed : All (IsPrinted f) columns
+  within : All (IsWithin (below (length names))) deps
+  deps_within_limit : length deps ≤ MOST_DEPENDENCY_LINES
+
+-- after the names and columns
+abbrev named : Naming → List (List ℕ) → List ColumnType → Declarations
+named naming names columns =
+    record { names = names; columns = columns; deps = []; lines = []; naming = naming; nullable = none }
+
+-- lines that declare the names, and then others
+named_mean : (f : Format) (columns : List ColumnType) (names : List (List ℕ)) (deps : List Dependency)
+    → IsPrintedWith f columns names deps → (rest : List (List ℕ)) (whole : Declarations)
+    → MeansLines f (2 + length (runs_of columns names)) (named (naming_in f) names columns) rest whole
+    → MeansAll f 2 (run_lines (naming_in f) (runs_of columns names) ++ rest) whole
+named_mean f columns names deps is rest whole later =
     let runs = runs_of columns names in
-    let first : declaring_lines columns names ≡ codes "version 2" ∷ map run_line runs = rw not_empty refl in
-    let cut_up = are_runs columns names is.are_columns.one_each is.are_columns.plain in
+    let cut_up = are_runs f columns names is.one_each is.printed in
     let back : run_names runs ≡ names = cut_up.names_are in
     let types : run_columns runs ≡ columns = cut_up.columns_are in
-    let proper : AllNames (run_names runs) = subst AllNames (sym back) (all_names format.Typed names are) in
-    let each : EachBytes (declaring_lines columns names) = subst EachBytes (sym first) (refl, runs_bytes runs cut_up.not_empty proper) in
-    let unmarked : without_mark (declared_text columns names deps) ≡ declared_text columns names deps = rw not_empty refl in
-    let rest = map (dependency_text names) deps ++ [] ∷ [] in
-    let cut : line_texts (without_mark (declared_text columns names deps)) ≡ codes "version 2" ∷ (map run_line runs ++ rest) =
-    ap line_texts unmarked ∙ text_cut columns names deps each is.are_names ∙ ap (λ ls. ls ++ rest) first in
-    let whole = printed_declarations columns names deps (2 + length runs) in
-    let filled : with_runs no_declaration runs ≡ record { names = names; columns = columns; deps = []; lines = [] } = (λ i. record { names = back i; columns = types i; deps = []; lines = [] }) in
-    let last = dependencies_mean format.Typed (2 + length runs)
-    (record { names = names; columns = columns; deps = []; lines = [] }) deps are is.within (omega (arith, is.deps_within_limit)) in
-    let of_d : Declarations → Type 0 = λ d. MeansLines format.Typed (2 + length runs) d rest whole in
-    let lines_mean = runs_mean 2 no_declaration names runs rest whole 0 are
-    (record { whole = sym back; size = refl }) is.within_limit cut_up.not_empty (subst of_d (sym filled) last) in
-    let of : List (List ℕ) → Type 0 = λ ls. IsTypedText ls whole in (
-      line_numbers (2 + length runs) deps,
-      record {
-        not_empty = is.not_empty;
-        lines = inr (subst of (sym cut) (record {
-          before = [];
-          version = codes "version 2";
-          later = map run_line runs ++ rest;
-          cut = refl;
-          blank = All-nil (λ line. HasTokens (lex mode.numbered line) []);
-          versioned = version_line;
-          declared = lines_mean;
-        }));
-      },
+    let filled : with_runs (no_declaration (naming_in f)) runs ≡ named (naming_in f) names columns =
+    (λ i. record { names = back i; columns = types i; deps = []; lines = []; naming = naming_in f; nullable = none }) in
+    let of : Declarations → Type 0 = λ d. MeansLines f (2 + length runs) d rest whole in
+    runs_mean f 2 (no_declaration (naming_in f)) names runs rest whole 0 is.are
+    (record { whole = sym back; size = refl }) is.within_limit cut_up.not_empty (subst of (sym filled) later)
+
+named_bytes : (f : Format) (columns : List ColumnType) (names : List (List ℕ)) (deps : List Dependency)
+    → IsPrintedWith f columns names deps → EachBytes (run_lines (naming_in f) (runs_of columns names))
+named_bytes f columns names deps is =
+    let cut_up = are_runs f columns names is.one_each is.printed in
+    runs_bytes f (runs_of columns names) cut_up.not_empty
+    (subst (All (IsReadBack f (naming_in f))) (sym cut_up.names_are) is.are.each)
+
+typed_means : (columns : List ColumnType) (names : List (List ℕ)) (deps : List Dependency)
+    → IsPrintedWith format.Typed columns names deps
+    → MeansText ((codes "version 2" ∷ run_lines Bare (runs_of columns names)) ++ map (dependency_text (map (spelling Bare) names)) deps)
+    (declared Bare names columns none deps (2 + length (runs_of columns names)))
+typed_means columns names deps is =
+    versioned_means format.Typed (codes "version 2") names (run_lines Bare (runs_of columns names)) deps _ typed_line refl
+    (named_bytes format.Typed columns names deps is) is.are refl is.some
+    (named_mean format.Typed columns names deps is (last_lines Bare names deps) _
+    (dependencies_mean format.Typed (2 + length (runs_of columns names)) (named Bare names columns) deps is.are is.within
+    (omega (arith, is.deps_within_limit))))
+
+full_means : (columns : List ColumnType) (names : List (List ℕ)) (nullable : Attributes) (deps : List Dependency)
+    → IsPrintedWith format.Full columns names deps → IsSubset nullable (below (length names))
+    → (number : ℕ) × MeansText (schema_lines Any columns (map (spelling Any) names) nullable ++ map (dependency_text (map (spelling Any) names)) deps)
+    (declared Any names columns nullable deps number)
+unfolding schema_lines
+full_means columns names nullable deps is within =
+    let runs = run_lines Any (runs_of columns names) in
+    let missing = nullable_lines (members_from nullable 0 (map (spelling Any) names)) in
+    let last = last_lines Any names deps in
+    let number = (2 + length (runs_of columns names)) + length missing in
+    let whole = declared Any names columns nullable deps number in
+    let same : map run_line (runs_of columns (map (spelling Any) names)) ≡ runs = ap (map run_line) (runs_spelled Any columns names) in
+    let stated = dependencies_mean format.Full number (with_nullable (named Any names columns) nullable) deps is.are is.within
+    (omega (arith, is.deps_within_limit)) in
+    let after_names = nullable_mean (2 + length (runs_of columns names)) (named Any names columns) nullable last whole is.are within refl stated in
+    let means = named_mean format.Full columns names deps is (missing ++ last) whole after_names in
+    let bytes = each_append runs missing (named_bytes format.Full columns names deps is) (nullable_bytes nullable names is.are) in
+    let of_lines : List (List ℕ) → Type 0 = λ ls. MeansAll format.Full 2 ls whole in
+    let of : List (List ℕ) → Type 0 = λ ls. MeansText ((codes "version 3" ∷ (ls ++ missing)) ++ map (dependency_text (map (spelling Any) names)) deps) whole in (
+      number,
+      subst of (sym same) (versioned_means format.Full (codes "version 3") names (runs ++ missing) deps whole full_line refl
+          bytes is.are refl is.some (subst of_lines (sym (append_assoc runs missing last)) means)),
     )
 
--- what is printed of a schema, none of whose names is reserved, means it
-pub printed-schema-law : (s : Schema) → naming_of s ≡ Bare → length (deps_of s) ≤ MOST_DEPENDENCY_LINES → AreNames format.Plain (names_of s)
-    → Means (types_of s) (names_of s) (theory_of s)
-printed-schema-law s bare within_limit are = elim (cases_Bool (list_any is_integer (types_of s))) [
-  | inl not_empty ↦ typed_means (types_of s) (names_of s) (theory_of s) printable not_empty
-  | inr none ↦ plain_means (types_of s) (names_of s) (theory_of s) printable none
-]
+-- ---- a schema
+-- text columns alone
+all_text : (columns : List ColumnType) (names : List (List ℕ)) → length columns ≡ length names
+    → All (λ column. IsTrue (is_plain_type column)) columns → list_any is_integer columns ≡ false
+    → map (λ (w : List ℕ). Text) names ≡ columns
+all_text [] [] e plain none = refl
+all_text [] (name ∷ names) e plain none = absurd (omega arith)
+all_text (column ∷ columns) [] e plain none = absurd (omega arith)
+all_text (Text ∷ columns) (name ∷ names) e plain none =
+    ap (λ t. Text ∷ t) (all_text columns names (omega arith) (All-tail (λ c. IsTrue (is_plain_type c)) Text columns plain) none)
+all_text (Integer ∷ columns) (name ∷ names) e plain none = cc
+all_text (column ∷ columns) (name ∷ names) e plain none = absurd (false≢true (plain 0 Text (omega arith)))
+
+-- names of a text with an integer column
+typed_names : (columns : List ColumnType) (names : List (List ℕ)) → AreReadBack format.Plain Bare names
+    → (Contains columns Integer → All (λ name. is_type_name name ≡ false) names) → list_any is_integer columns ≡ true
+    → AreReadBack format.Typed Bare names
+unfolding is_reserved
+typed_names columns names are no_type_name some = record {
+  each = λ k d h. ((are.each k d h).0, rw ((are.each k d h).1, no_type_name has k d h) refl);
+  differ = are.differ;
+}
   where
-    printable : IsPrintable (types_of s) (names_of s) (theory_of s)
-    printable = record {
-      not_empty = s.valid.names_not_empty;
-      within_limit = s.valid.names_within_limit;
-      are_names = are;
-      are_columns = (s.typed.bare bare).are_columns;
-      deps_within_limit = let size = length-map (deps_of s) dependency_of in omega (arith, size, within_limit);
-      within = dependencies_all-from (IsWithin (universe_of s)) (deps_of s) s.valid.deps_within;
-    }
+    has : Contains columns Integer
+    has =
+        let any = Any-from_list_any is_integer columns some in
+        let is_one : any.1 ≡ Integer = integer_is any.1 any.4 in
+        (any.0, any.2, ap (get_or columns any.0) (sym is_one) ∙ any.3 ∙ is_one)
+
+-- what is printed of these parts of a schema means them
+abbrev Means : Naming → List ColumnType → List (List ℕ) → Attributes → List Dependency → Type 0
+Means naming columns names nullable deps =
+    (lines : List ℕ) × MeansText (schema_lines naming columns (map (spelling naming) names) nullable
+    ++ map (dependency_text (map (spelling naming) names)) deps)
+    (record { names = names; columns = columns; deps = deps; lines = lines; naming = naming; nullable = nullable })
+
+bare_means : (s : Schema) → naming_of s ≡ Bare → length (theory_of s) ≤ MOST_DEPENDENCY_LINES
+    → AreReadBack format.Plain Bare (names_of s)
+    → All (IsWithin (universe_of s)) (theory_of s)
+    → Means Bare (types_of s) (names_of s) (nullable_of s) (theory_of s)
+unfolding schema_lines declaring_lines
+bare_means s bare deps_within_limit are within = by_cases (list_any is_integer (types_of s)) refl
+  where
+    parts : AreBare (names_of s) (types_of s) (nullable_of s)
+    parts = s.typed.bare bare
+
+    unset : nullable_of s ≡ none
+    unset = fun_ext (λ k. parts.none_nullable k)
+
+    by_cases : (b : Bool) → list_any is_integer (types_of s) ≡ b
+        → Means Bare (types_of s) (names_of s) (nullable_of s) (theory_of s)
+    by_cases true some =
+        let means = typed_means (types_of s) (names_of s) (theory_of s) (record {
+          some = s.valid.names_not_empty;
+          within_limit = s.valid.names_within_limit;
+          are = typed_names (types_of s) (names_of s) are parts.are_columns.no_type_name some;
+          one_each = parts.are_columns.one_each;
+          printed = parts.are_columns.plain;
+          within = within;
+          deps_within_limit = deps_within_limit;
+        }) in
+        rw (unset, some) (
+          line_numbers (2 + length (runs_of (types_of s) (names_of s))) (theory_of s),
+          rw (runs_spelled Bare (types_of s) (names_of s)) means,
+        )
+    by_cases false none_integer =
+        let means = plain_means (names_of s) (theory_of s) are s.valid.names_not_empty
+        s.valid.names_within_limit within deps_within_limit in
+        let text = all_text (types_of s) (names_of s) parts.are_columns.one_each parts.are_columns.plain none_integer in
+        rw (unset, none_integer) (line_numbers 2 (theory_of s), rw text at means)
+
+-- what is printed of a schema means it, where its names are read again
+pub printed-schema-law : (s : Schema) → length (deps_of s) ≤ MOST_DEPENDENCY_LINES
+    → All (IsReadBack format.Plain (naming_of s)) (names_of s)
+    → (lines : List ℕ) × MeansSchema (schema_text s (theory_of s)) (record {
+      names = names_of s;
+      columns = types_of s;
+      deps = theory_of s;
+      lines = lines;
+      naming = naming_of s;
+      nullable = nullable_of s;
+    })
+unfolding schema_text printed_names_of
+printed-schema-law s within_limit each = by_naming (naming_of s) refl
+  where
+    size : length (theory_of s) ≤ MOST_DEPENDENCY_LINES
+    size = let same = length-map (deps_of s) dependency_of in omega (arith, same, within_limit)
+
+    within : All (IsWithin (universe_of s)) (theory_of s)
+    within = dependencies_all-from (IsWithin (universe_of s)) (deps_of s) s.valid.deps_within
+
+    as_named : (naming : Naming) → naming_of s ≡ naming → Means naming (types_of s) (names_of s) (nullable_of s) (theory_of s)
+        → Means (naming_of s) (types_of s) (names_of s) (nullable_of s) (theory_of s)
+    as_named naming same means =
+        subst (λ (n : Naming). Means n (types_of s) (names_of s) (nullable_of s) (theory_of s)) (sym same) means
+
+    by_naming : (naming : Naming) → naming_of s ≡ naming
+        → Means (naming_of s) (types_of s) (names_of s) (nullable_of s) (theory_of s)
+    by_naming Bare bare =
+        let all = subst (λ (n : Naming). All (IsReadBack format.Plain n) (names_of s)) bare each in
+        as_named Bare bare (bare_means s bare size (record { each = all; differ = s.valid.names_differ }) within)
+    by_naming Any any =
+        let means = full_means (types_of s) (names_of s) (nullable_of s) (theory_of s) (record {
+          some = s.valid.names_not_empty;
+          within_limit = s.valid.names_within_limit;
+          are = record { each = subst (λ (n : Naming). All (IsReadBack format.Plain n) (names_of s)) any each; differ = s.valid.names_differ };
+          one_each = s.typed.one_each;
+          printed = s.typed.each;
+          within = within;
+          deps_within_limit = size;
+        }) s.typed.nullable_within in
+        as_named Any any (line_numbers means.0 (theory_of s), means.1)

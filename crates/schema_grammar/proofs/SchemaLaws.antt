@@ -1,67 +1,74 @@
 -- A schema text is read exactly where it means the schema.
-use Rattle.std.proofs.Common.{◌≡◌, ◌<◌, ◌+◌, ◌⊎◌, inl, inr, ℕ, suc, false, List, [], ◌∷◌, ◌++◌, length, Option, Some, None, Ok, refl, sym, ◌∙◌, ap, arith, ◌==◌}
+use Rattle.std.proofs.Common.{◌≡◌, ◌<◌, ◌+◌, ◌⊎◌, inl, inr, ℕ, suc, false, List, [], ◌∷◌, ◌++◌, length, Option, Some, None, Ok, refl, sym, ◌∙◌, ap, arith}
 use Rattle.std.specs.List.{All}
 use Rattle.std.specs.Prelude.{◌↔◌}
-use Rattle.std.proofs.lemmas.Bool.{cases_Bool, eqb-true}
+use Rattle.std.proofs.lemmas.Bool.{cases_Bool}
 use Rattle.std.proofs.lemmas.List.Elements.{All-cons, All-nil, All-head, All-tail}
+use Rattle.dep_model.specs.declared.naming.Naming.TheVariants.{Bare}
 use Rattle.lexer.specs.Modes as mode
 use Rattle.lexer.specs.declared.token.LexError.{LexError}
 use Rattle.lexer.specs.declared.token.TokenKind.{TokenKind}
 use Rattle.lexer.specs.declared.token.TokenKind.TheVariants as token
 use Rattle.lexer.specs.Lines.{line_texts, without_mark}
 use Rattle.lexer.specs.Tokens.{Mark, lex}
-use Rattle.schema_grammar.specs.declared.format.TheConstants.{VERSION}
+use Rattle.schema_grammar.specs.declared.format.Format.{Format}
 use Rattle.schema_grammar.specs.declared.format.Format.TheVariants as format
 use Rattle.schema_grammar.specs.Declarations.{Declarations, no_declaration}
+use Rattle.schema_grammar.specs.LineTokens.{naming_in}
 use Rattle.schema_grammar.specs.Meanings.{HasTokens}
 use Rattle.schema_grammar.specs.Rests.{number_in, take, refusal_at_end, refusal_at_end_from, unless}
-use Rattle.schema_grammar.specs.Schemas.{MeansLines, has_version_line, begins_version, HasVersionLine, IsPlainText, IsVersionLine, IsTypedText, MeansSchema}
-use Rattle.schema_grammar.specs.Texts.{read_lines, read_version, read_typed, read_opening, read_text, is_version, opening_from, version_number}
-use Rattle.schema_grammar.proofs.BlankLemmas.{lexed_plain}
+use Rattle.schema_grammar.specs.Schemas.{MeansAll, has_version_line, begins_version, HasVersionLine, IsPlainText, IsVersionLine, IsVersionedText, MeansSchema}
+use Rattle.schema_grammar.specs.Texts.{read_lines, read_all, read_version, read_versioned, read_opening, read_text, is_version, opening_from, format_of_version, known_version, version_number}
+use Rattle.schema_grammar.proofs.BlankLemmas.{lexed_plain, blank_line}
 use Rattle.schema_grammar.proofs.DeclaringLaws.{has_tokens, line_back, lines_there, lines_back}
 use Rattle.schema_grammar.proofs.RefusalLemmas.{and_then-ok}
 
 abbrev pub IsBlankLine : List ℕ → Type 0
-IsBlankLine line = HasTokens (lex mode.numbered line) []
+IsBlankLine line = HasTokens (lex (mode.numbered Bare) line) []
 
--- a version line is read where it is the word `version` and the number 2
-pub version_there : (lines : List (List ℕ)) (text : HasVersionLine lines) (line : ℕ) (d : Declarations)
-    → read_version (record { line = line; next_column = text.head.column + text.head.length; marks = text.others; stop = (lex mode.numbered text.version).stop }) ≡ Ok d
-    → IsVersionLine text.version × (d ≡ no_declaration)
+-- a version line is read where it is the word `version` and the number of a version that is read
+pub version_there : (lines : List (List ℕ)) (text : HasVersionLine lines) (line : ℕ) (f : Format)
+    → read_version (record { line = line; next_column = text.head.column + text.head.length; marks = text.others; stop = (lex (mode.numbered Bare) text.version).stop }) ≡ Ok f
+    → IsVersionLine text.version f
 unfolding read_version take refusal_at_end
-version_there lines text line d e = by_cases text.others (lex mode.numbered text.version).stop refl refl e
+version_there lines text line f e = by_cases text.others (lex (mode.numbered Bare) text.version).stop refl refl e
   where
-    ends : (m : Mark) (ms : List Mark) (stop : Option LexError) → text.others ≡ m ∷ ms
-        → (lex mode.numbered text.version).stop ≡ stop
-        → m.kind ≡ token.Number VERSION → unless (refusal_at_end_from line ms stop) no_declaration ≡ Ok d
-        → IsVersionLine text.version × (d ≡ no_declaration)
-    ends m [] None others stop is e = (
-      record {
-        head = text.head;
-        number = m;
-        tokens = has_tokens (lex mode.numbered text.version) _ (text.starts ∙ ap (λ t. text.head ∷ t) others) stop;
-        is_word = text.is_word;
-        is_number = is;
-      },
-      cc,
-    )
-    ends m [] (Some s) others stop is e = cc
-    ends m (k ∷ ks) stop others same is e = cc
+    ends : (n : ℕ) (g : Format) (m : Mark) (ms : List Mark) (stop : Option LexError) → text.others ≡ m ∷ ms
+        → (lex (mode.numbered Bare) text.version).stop ≡ stop
+        → m.kind ≡ token.Number n → format_of_version n ≡ Some g
+        → unless (refusal_at_end_from line ms stop) g ≡ Ok f → IsVersionLine text.version f
+    ends n g m [] None others stop is read e = record {
+      head = text.head;
+      number = m;
+      version = n;
+      tokens = has_tokens (lex (mode.numbered Bare) text.version) _ (text.starts ∙ ap (λ t. text.head ∷ t) others) stop;
+      is_word = text.is_word;
+      is_number = is;
+      is_read = read ∙ ap Some (let same : g ≡ f = cc in same);
+    }
+    ends n g m [] (Some s) others stop is read e = cc
+    ends n g m (k ∷ ks) stop others same is read e = cc
+
+    known : (n : ℕ) (o : Option Format) (m : Mark) (ms : List Mark) (stop : Option LexError) → text.others ≡ m ∷ ms
+        → (lex (mode.numbered Bare) text.version).stop ≡ stop
+        → m.kind ≡ token.Number n → format_of_version n ≡ o
+        → known_version m (record { line = line; next_column = m.column + m.length; marks = ms; stop = stop }) o ≡ Ok f
+        → IsVersionLine text.version f
+    known n None m ms stop others same is read e = cc
+    known n (Some g) m ms stop others same is read e = ends n g m ms stop others same is read e
 
     numbered : (k : TokenKind) (m : Mark) (ms : List Mark) (stop : Option LexError) → m.kind ≡ k
-        → text.others ≡ m ∷ ms → (lex mode.numbered text.version).stop ≡ stop
-        → version_number m (record { line = line; next_column = m.column + m.length; marks = ms; stop = stop }) (number_in k) ≡ Ok d
-        → IsVersionLine text.version × (d ≡ no_declaration)
-    numbered (token.Number n) m ms stop is others same e = elim (cases_Bool (n == VERSION)) [
-      | inl two ↦ ends m ms stop others same (is ∙ ap token.Number (eqb-true n VERSION two)) (rw two at e)
-      | inr other ↦ let wrong = rw other at e in cc
-    ]
+        → text.others ≡ m ∷ ms → (lex (mode.numbered Bare) text.version).stop ≡ stop
+        → version_number m (record { line = line; next_column = m.column + m.length; marks = ms; stop = stop }) (number_in k) ≡ Ok f
+        → IsVersionLine text.version f
+    numbered (token.Number n) m ms stop is others same e =
+        known n (format_of_version n) m ms stop others same is refl e
     numbered k m ms stop is others same e = cc
 
     by_cases : (ms : List Mark) (stop : Option LexError) → text.others ≡ ms
-        → (lex mode.numbered text.version).stop ≡ stop
-        → read_version (record { line = line; next_column = text.head.column + text.head.length; marks = ms; stop = stop }) ≡ Ok d
-        → IsVersionLine text.version × (d ≡ no_declaration)
+        → (lex (mode.numbered Bare) text.version).stop ≡ stop
+        → read_version (record { line = line; next_column = text.head.column + text.head.length; marks = ms; stop = stop }) ≡ Ok f
+        → IsVersionLine text.version f
     by_cases [] None others stop e = cc
     by_cases [] (Some s) others stop e = cc
     by_cases (m ∷ ms) stop others same e = numbered m.kind m ms stop refl others same e
@@ -71,10 +78,10 @@ pub version_line_or_none : (lines : List (List ℕ)) → (has_version_line lines
 unfolding has_version_line
 version_line_or_none [] = inl refl
 version_line_or_none (line ∷ lines) =
-    by_cases (lex mode.numbered line).marks (lex mode.numbered line).stop refl refl (version_line_or_none lines)
+    by_cases (lex (mode.numbered Bare) line).marks (lex (mode.numbered Bare) line).stop refl refl (version_line_or_none lines)
   where
-    by_cases : (ms : List Mark) (stop : Option LexError) → (lex mode.numbered line).marks ≡ ms
-        → (lex mode.numbered line).stop ≡ stop
+    by_cases : (ms : List Mark) (stop : Option LexError) → (lex (mode.numbered Bare) line).marks ≡ ms
+        → (lex (mode.numbered Bare) line).stop ≡ stop
         → (has_version_line lines ≡ false) ⊎ HasVersionLine lines
         → (begins_version ms stop (has_version_line lines) ≡ false) ⊎ HasVersionLine (line ∷ lines)
     by_cases [] None marks stop (inl none) = inl none
@@ -84,7 +91,7 @@ version_line_or_none (line ∷ lines) =
       later = text.later;
       cut = ap (λ t. line ∷ t) text.cut;
       blank = All-cons IsBlankLine line text.before
-          (has_tokens (lex mode.numbered line) [] marks stop) text.blank;
+          (has_tokens (lex (mode.numbered Bare) line) [] marks stop) text.blank;
       head = text.head;
       others = text.others;
       starts = text.starts;
@@ -108,23 +115,24 @@ version_line_or_none (line ∷ lines) =
 
 -- without a version line all lines are read alike
 pub plain_opening : (number : ℕ) (lines : List (List ℕ)) → has_version_line lines ≡ false
-    → read_opening number lines ≡ read_lines format.Plain number no_declaration lines
+    → read_opening number lines ≡ read_all format.Plain number lines
 unfolding read_opening has_version_line read_lines
 plain_opening number [] none = refl
 plain_opening number (line ∷ lines) none =
-    by_cases (lex mode.numbered line).marks (lex mode.numbered line).stop refl refl none
+    by_cases (lex (mode.numbered Bare) line).marks (lex (mode.numbered Bare) line).stop refl refl none
     (plain_opening (number + 1) lines)
   where
-    by_cases : (ms : List Mark) (stop : Option LexError) → (lex mode.numbered line).marks ≡ ms
-        → (lex mode.numbered line).stop ≡ stop
+    by_cases : (ms : List Mark) (stop : Option LexError) → (lex (mode.numbered Bare) line).marks ≡ ms
+        → (lex (mode.numbered Bare) line).stop ≡ stop
         → begins_version ms stop (has_version_line lines) ≡ false
         → (has_version_line lines ≡ false
-        → read_opening (number + 1) lines ≡ read_lines format.Plain (number + 1) no_declaration lines)
+        → read_opening (number + 1) lines ≡ read_all format.Plain (number + 1) lines)
         → opening_from number line lines (read_opening (number + 1) lines) ms stop
-        ≡ read_lines format.Plain number no_declaration (line ∷ lines)
+        ≡ read_all format.Plain number (line ∷ lines)
     by_cases [] None marks stop none later =
-        let blank = lexed_plain 0 1 line (has_tokens (lex mode.numbered line) [] marks stop) in
-        rw (line_back format.Plain number no_declaration line no_declaration
+        let blank = blank_line format.Plain line
+        (lexed_plain 0 1 line (has_tokens (lex (mode.numbered Bare) line) [] marks stop)) in
+        rw (line_back format.Plain number (no_declaration Bare) line (no_declaration Bare)
         (inl (inl (record { tokens = blank; same = refl })))) (later none)
     by_cases [] (Some s) marks stop none later = refl
     by_cases (m ∷ ms) stop marks same none later = rw none refl
@@ -142,31 +150,32 @@ blank_skipped number (line ∷ before) rest blank =
     (λ n. read_opening n rest) same)
 
 -- a text with a version line is read from there on
-pub typed_opening : (number : ℕ) (lines : List (List ℕ)) (text : HasVersionLine lines)
+pub versioned_opening : (number : ℕ) (lines : List (List ℕ)) (text : HasVersionLine lines)
     → read_opening number lines
-    ≡ read_typed text.later
-    (record { line = length text.before + number; next_column = text.head.column + text.head.length; marks = text.others; stop = (lex mode.numbered text.version).stop })
+    ≡ read_versioned text.later
+    (record { line = length text.before + number; next_column = text.head.column + text.head.length; marks = text.others; stop = (lex (mode.numbered Bare) text.version).stop })
 unfolding read_opening
-typed_opening number lines text =
+versioned_opening number lines text =
     ap (read_opening number) text.cut ∙ blank_skipped number text.before
     (text.version ∷ text.later) text.blank
     ∙ rw (text.starts, text.is_word) refl
 
 pub version_opening : (number : ℕ) (lines before : List (List ℕ)) (version : List ℕ) (later : List (List ℕ))
+    (f : Format)
     → lines ≡ before ++ version ∷ later
-    → All IsBlankLine before → IsVersionLine version
-    → read_opening number lines ≡ read_lines format.Typed (length before + number + 1) no_declaration later
+    → All IsBlankLine before → IsVersionLine version f
+    → read_opening number lines ≡ read_all f (length before + number + 1) later
 unfolding read_opening read_version take refusal_at_end
-version_opening number lines before version later cut blank is =
+version_opening number lines before version later f cut blank is =
     ap (read_opening number) cut ∙ blank_skipped number before (version ∷ later) blank ∙ rw
-    (is.tokens, is.is_word, is.is_number) refl
+    (is.tokens, is.is_word, is.is_number) (rw (is.is_read) refl)
 
 -- what the lines from one on mean
 abbrev pub MeansFrom : ℕ → List (List ℕ) → Declarations → Type 0
 MeansFrom number lines whole =
-    ((has_version_line lines ≡ false) × MeansLines format.Plain number no_declaration lines whole)
-    ⊎ ((text : HasVersionLine lines) × IsVersionLine text.version
-    × MeansLines format.Typed (length text.before + number + 1) no_declaration text.later whole)
+    ((has_version_line lines ≡ false) × MeansAll format.Plain number lines whole)
+    ⊎ ((text : HasVersionLine lines) × (f : Format) × IsVersionLine text.version f
+    × MeansAll f (length text.before + number + 1) text.later whole)
 
 pub opening_means : (number : ℕ) (lines : List (List ℕ)) (whole : Declarations)
     → read_opening number lines ≡ Ok whole
@@ -176,16 +185,15 @@ opening_means number lines whole e = by_cases (version_line_or_none lines)
     by_cases : (has_version_line lines ≡ false) ⊎ HasVersionLine lines
         → MeansFrom number lines whole × (0 < length whole.names)
     by_cases (inl none) =
-        let both = lines_there format.Plain number no_declaration whole lines
+        let both = lines_there format.Plain number (no_declaration Bare) whole lines
         (sym (plain_opening number lines none) ∙ e) in (inl (none, both.0), both.1)
     by_cases (inr text) =
-        let two = and_then-ok _ (λ d. read_lines format.Typed (length text.before + number + 1) d text.later) whole
-        (sym (typed_opening number lines text) ∙ e) in
+        let two = and_then-ok _ (λ f. read_all f (length text.before + number + 1) text.later) whole
+        (sym (versioned_opening number lines text) ∙ e) in
         let is = version_there lines text (length text.before + number) two.x two.first in
-        let both = lines_there format.Typed (length text.before + number + 1) no_declaration whole text.later
-        (ap (λ d. read_lines format.Typed (length text.before + number + 1) d text.later) (sym is.1)
-        ∙ two.second) in
-        (inr (text, is.0, both.0), both.1)
+        let both = lines_there two.x (length text.before + number + 1) (no_declaration (naming_in two.x)) whole text.later
+        two.second in
+        (inr (text, two.x, is, both.0), both.1)
 
 pub schema-law : (text : List ℕ) (whole : Declarations) → (read_text text ≡ Ok whole) ↔ MeansSchema text whole
 unfolding read_text
@@ -200,9 +208,10 @@ schema-law text whole = (λ e. there (opening_means 1 lines whole e), λ means. 
     there : MeansFrom 1 lines whole × (0 < length whole.names) → MeansSchema text whole
     there (inl plain, not_empty) =
         record { not_empty = not_empty; lines = inl (record { no_version = plain.0; declared = plain.1 }) }
-    there (inr (has, is, declared), not_empty) = record {
+    there (inr (has, f, is, declared), not_empty) = record {
       not_empty = not_empty;
       lines = inr (record {
+        format = f;
         before = has.before;
         version = has.version;
         later = has.later;
@@ -213,12 +222,12 @@ schema-law text whole = (λ e. there (opening_means 1 lines whole e), λ means. 
       });
     }
 
-    back : 0 < length whole.names → IsPlainText lines whole ⊎ IsTypedText lines whole
+    back : 0 < length whole.names → IsPlainText lines whole ⊎ IsVersionedText lines whole
         → read_opening 1 lines ≡ Ok whole
     back not_empty (inl plain) =
         plain_opening 1 lines plain.no_version
-        ∙ lines_back format.Plain 1 no_declaration whole lines plain.declared not_empty
-    back not_empty (inr typed) =
-        version_opening 1 lines typed.before typed.version typed.later typed.cut typed.blank typed.versioned
-        ∙ lines_back format.Typed (length typed.before + 1 + 1) no_declaration whole typed.later
-        (rw (← two (length typed.before)) at typed.declared) not_empty
+        ∙ lines_back format.Plain 1 (no_declaration Bare) whole lines plain.declared not_empty
+    back not_empty (inr text) =
+        version_opening 1 lines text.before text.version text.later text.format text.cut text.blank text.versioned
+        ∙ lines_back text.format (length text.before + 1 + 1) (no_declaration (naming_in text.format)) whole text.later
+        (rw (← two (length text.before)) at text.declared) not_empty

@@ -5,6 +5,7 @@ use Rattle.std.specs.List.{slice_get}
 use Rattle.std.proofs.lemmas.List.{nil_from_length}
 use Rattle.std.proofs.lemmas.Option.{slice_get_within}
 use Rattle.attr_sets.specs.Attributes.{Attributes, none}
+use Rattle.dep_model.specs.declared.naming.Naming.{Naming}
 use Rattle.dep_model.specs.Dependencies.{Dependency, right_of}
 use Rattle.lexer.specs.Modes as mode
 use Rattle.lexer.specs.declared.token.LexError.{LexError}
@@ -36,24 +37,24 @@ from_arrow = after_sign sign.Functional none
 abbrev set_of : Result Dependency SchemaRefusal → Result Attributes SchemaRefusal
 set_of r = r >>= (λ d. Ok (right_of d))
 
-pub set-law : (declared : List (List ℕ)) (text : List ℕ) (x : Attributes) → (read_set declared text ≡ Ok x) ↔ MeansSet declared text x
-set-law declared text x = (there, back)
+pub set-law : (naming : Naming) (declared : List (List ℕ)) (text : List ℕ) (x : Attributes) → (read_set naming declared text ≡ Ok x) ↔ MeansSet naming declared text x
+set-law naming declared text x = (there, back)
   where
-    there : read_set declared text ≡ Ok x → MeansSet declared text x
+    there : read_set naming declared text ≡ Ok x → MeansSet naming declared text x
     there e =
-        let two = and_then-ok (follow_rest format.Plain declared from_arrow (rest_from 1 1 (lex mode.goal text)))
+        let two = and_then-ok (follow_rest format.Plain declared from_arrow (rest_from 1 1 (lex (mode.goal naming) text)))
         (λ d. Ok (right_of d)) x e in
-        let whole = no_stop format.Plain declared 1 from_arrow 1 (lex mode.goal text) two.x two.first in
+        let whole = no_stop format.Plain declared 1 from_arrow 1 (lex (mode.goal naming) text) two.x two.first in
         let here : follow_rest format.Plain declared from_arrow
-        (rest_from 1 1 (record { marks = (lex mode.goal text).marks; stop = None })) ≡ Ok two.x =
+        (rest_from 1 1 (record { marks = (lex (mode.goal naming) text).marks; stop = None })) ≡ Ok two.x =
         ap (λ l. follow_rest format.Plain declared from_arrow (rest_from 1 1 l)) (sym whole) ∙ two.first in
-        let more : AfterSignRest format.Plain declared sign.Functional none (lex mode.goal text).marks two.x =
+        let more : AfterSignRest format.Plain declared sign.Functional none (lex (mode.goal naming) text).marks two.x =
         marks_make format.Plain declared 1 1 from_arrow _ two.x here in
         let is : right_of two.x ≡ x = (let second = two.second in cc) in
         let same : more.y ≡ x = sym (ap right_of more.states) ∙ is in
-        record { marks = (lex mode.goal text).marks; tokens = whole; side = subst (IsSide format.Plain declared (lex mode.goal text).marks) same more.right_side }
+        record { marks = (lex (mode.goal naming) text).marks; tokens = whole; side = subst (IsSide format.Plain declared (lex (mode.goal naming) text).marks) same more.right_side }
 
-    back : MeansSet declared text x → read_set declared text ≡ Ok x
+    back : MeansSet naming declared text x → read_set naming declared text ≡ Ok x
     back means =
         ap (λ l. set_of (follow_rest format.Plain declared from_arrow (rest_from 1 1 l))) means.tokens
         ∙ ap set_of (side_read format.Plain declared 1 sign.Functional none x 1 means.marks means.side)
@@ -143,26 +144,26 @@ side_judges ms stop = record {
     open_end (suc p) s all none (inr read) unfinished = cc
 
 -- a set is refused by its first diagnostic, and read where there is none
-pub set-diagnostic-law : (declared : List (List ℕ)) (text : List ℕ) → FitsSet declared text (read_set declared text)
-set-diagnostic-law declared text =
-    fits (follow_rest format.Plain declared from_arrow (rest_from 1 1 (lex mode.goal text)))
+pub set-diagnostic-law : (naming : Naming) (declared : List (List ℕ)) (text : List ℕ) → FitsSet naming declared text (read_set naming declared text)
+set-diagnostic-law naming declared text =
+    fits (follow_rest format.Plain declared from_arrow (rest_from 1 1 (lex (mode.goal naming) text)))
     (judge (side_judges marks stop) format.Plain declared 1 1 marks 0 1 from_arrow
     (left_whole 1 1 marks stop) refl (λ p n less. absurd (omega arith)))
   where
     marks : List Mark
-    marks = (lex mode.goal text).marks
+    marks = (lex (mode.goal naming) text).marks
 
     stop : Option LexError
-    stop = (lex mode.goal text).stop
+    stop = (lex (mode.goal naming) text).stop
 
     to : (p : ℕ) (n : DiagnosticKind) → LineDiagnostic (IsAmiss marks stop) format.Plain declared marks stop p n
-        → SetDiagnostic declared text p n
+        → SetDiagnostic naming declared text p n
     to p n (inl (inl (m, is, word))) = inl (inl (m, is, inl word))
     to p n (inl (inr (six, inl (m, is, out)))) = inl (inl (m, is, inr (six, out)))
     to p n (inl (inr (six, inr none))) = inl (inr (six, none.0, none.1, none.2))
     to p n (inr flaw) = inr flaw
 
-    from : (p : ℕ) (n : DiagnosticKind) → SetDiagnostic declared text p n
+    from : (p : ℕ) (n : DiagnosticKind) → SetDiagnostic naming declared text p n
         → LineDiagnostic (IsAmiss marks stop) format.Plain declared marks stop p n
     from p n (inl (inl (m, is, inl word))) = inl (inl (m, is, word))
     from p n (inl (inl (m, is, inr (six, out)))) = inl (inr (six, inl (m, is, out)))
@@ -172,7 +173,7 @@ set-diagnostic-law declared text =
     fits : (res : Result Dependency SchemaRefusal)
         → Judged (LineDiagnostic (IsAmiss marks stop) format.Plain declared marks stop) SetWants
         (span_at 1 1 marks stop) res
-        → FitsSet declared text (set_of res)
+        → FitsSet naming declared text (set_of res)
     fits (Ok d) none = λ p n diagnostic. none p n (from p n diagnostic)
     fits (Err e) first = record {
       position = first.position;
@@ -182,14 +183,14 @@ set-diagnostic-law declared text =
       least = λ p n diagnostic. first.least p n (from p n diagnostic);
     }
 
-pub set_refused : (declared : List (List ℕ)) (text : List ℕ) (e : SchemaRefusal) → read_set declared text ≡ Err e → RefusesSet declared text e
-set_refused declared text e h = subst (FitsSet declared text) h (set-diagnostic-law declared text)
+pub set_refused : (naming : Naming) (declared : List (List ℕ)) (text : List ℕ) (e : SchemaRefusal) → read_set naming declared text ≡ Err e → RefusesSet naming declared text e
+set_refused naming declared text e h = subst (FitsSet naming declared text) h (set-diagnostic-law naming declared text)
 
 -- a set is refused so exactly where the definition refuses it so
-pub set-refusal-law : (declared : List (List ℕ)) (text : List ℕ) (e : SchemaRefusal) → (read_set declared text ≡ Err e) ↔ RefusesSet declared text e
-set-refusal-law declared text e = (
-  set_refused declared text e,
+pub set-refusal-law : (naming : Naming) (declared : List (List ℕ)) (text : List ℕ) (e : SchemaRefusal) → (read_set naming declared text ≡ Err e) ↔ RefusesSet naming declared text e
+set-refusal-law naming declared text e = (
+  set_refused naming declared text e,
   λ first.
-      one_refused (FitsSet declared text) _ _ _ (λ x none. none) (λ g first. first)
-      (AtFirst-one what.Side) _ e (set-diagnostic-law declared text) first,
+      one_refused (FitsSet naming declared text) _ _ _ (λ x none. none) (λ g first. first)
+      (AtFirst-one what.Side) _ e (set-diagnostic-law naming declared text) first,
 )

@@ -42,7 +42,7 @@ side_within : (f : Format) (names : List (List ℕ)) (ms : List Mark) (x : Attri
 side_within f names ms x (inl empty) = rw empty.nothing (λ k e. cc)
 side_within f names ms x (inr words) = rw words.members (named_within names ms)
 
-union_within : (u x y : Attributes) → IsSubset x u → IsSubset y u → IsSubset (union x y) u
+pub union_within : (u x y : Attributes) → IsSubset x u → IsSubset y u → IsSubset (union x y) u
 union_within u x y xs ys k member = ⊎_elim (xs k) (ys k) (or_cases (x k) (y k) member)
 
 stated_within : (u : Attributes) (s : Sign) (x y : Attributes) → IsSubset x u → IsSubset y u → IsWithin u (dependency_of_sign s x y)

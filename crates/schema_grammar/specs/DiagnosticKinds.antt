@@ -6,7 +6,8 @@ use Rattle.lexer.specs.declared.token.Flaw.TheVariants as flaw
 use Rattle.schema_grammar.specs.declared.refusal.SchemaRefusalKind.{SchemaRefusalKind}
 use Rattle.schema_grammar.specs.declared.refusal.SchemaRefusalKind.TheVariants as kind
 
--- the kinds of diagnostics; whatever the grammar expects is of one kind
+-- the kinds of diagnostics; whatever the grammar expects is of one kind, and so is a scale
+-- or a type that is none
 pub data DiagnosticKind : Type 0 where
   strange_byte : DiagnosticKind
   bad_name : DiagnosticKind
@@ -21,6 +22,7 @@ pub data DiagnosticKind : Type 0 where
   not_covered : DiagnosticKind
   too_many_schemes : DiagnosticKind
   unknown_version : DiagnosticKind
+  no_column_type : DiagnosticKind
 
 -- the number by which a kind is printed
 abbrev pub number_of : DiagnosticKind → ℕ
@@ -37,6 +39,7 @@ number_of empty_scheme = 10
 number_of not_covered = 11
 number_of too_many_schemes = 12
 number_of unknown_version = 13
+number_of no_column_type = 14
 
 -- a diagnostic comes no later than another: it stands at an earlier position, or at the same one and
 -- has no greater number
@@ -55,6 +58,8 @@ diagnostic_kind kind.TooManyAttributes = too_many_attributes
 diagnostic_kind kind.TooManyDependencies = too_many_dependencies
 diagnostic_kind kind.NoAttributes = no_attributes
 diagnostic_kind kind.UnknownVersion = unknown_version
+diagnostic_kind kind.NoScale = no_column_type
+diagnostic_kind kind.NoType = no_column_type
 
 -- and that of bytes that are no token
 abbrev pub diagnostic_of_flaw : Flaw → DiagnosticKind

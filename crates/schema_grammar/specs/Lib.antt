@@ -5,6 +5,7 @@ pub mod Diagnostics
 pub mod Declarations
 pub mod Grammar
 pub mod Laws
+pub mod LineTokens
 pub mod Meanings
 pub mod Printed
 pub mod Reading

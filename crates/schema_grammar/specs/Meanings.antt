@@ -3,6 +3,7 @@
 use Rattle.std.specs.Prelude.{◌≡◌, ◌<◌, ◌⊎◌, ℕ, ◌==◌, true, false, List, [], ◌∷◌, ◌++◌, length, Option, Some, None, All}
 use Rattle.std.specs.List.{list_any}
 use Rattle.attr_sets.specs.Attributes.{Attributes, none}
+use Rattle.dep_model.specs.declared.naming.Naming.{Naming}
 use Rattle.dep_model.specs.Dependencies.{Dependency}
 use Rattle.dep_model.specs.Schemas.{attribute_named}
 use Rattle.lexer.specs.Modes as mode
@@ -72,7 +73,7 @@ pub record IsDependency (f : Format) (declared : List (List ℕ)) (ms : List Mar
   pub states : d ≡ dependency_of_sign sign x y
 
 -- a goal over declared names means a dependency
-pub record MeansGoal (declared : List (List ℕ)) (text : List ℕ) (d : Dependency) : Type 0 where
+pub record MeansGoal (naming : Naming) (declared : List (List ℕ)) (text : List ℕ) (d : Dependency) : Type 0 where
   pub marks : List Mark
-  pub tokens : HasTokens (lex mode.goal text) marks
+  pub tokens : HasTokens (lex (mode.goal naming) text) marks
   pub dependency : IsDependency format.Plain declared marks d

@@ -1,13 +1,9 @@
--- Schemas that can be printed and read again: for the laws of printed schemas, plans and
+-- Names that are read again where they are printed: for the laws of printed schemas, plans and
 -- certificates. `Desk` does not cite it.
-use Rattle.std.specs.Prelude.{◌≡◌, ◌<◌, ◌≤◌, ℕ, true, false, List, length, All, AllPairs}
-use Rattle.attr_sets.specs.Attributes.{below}
-use Rattle.attr_sets.specs.declared.set.TheConstants.{MOST_ATTRIBUTES}
-use Rattle.dep_model.specs.declared.column_type.ColumnType.{ColumnType}
-use Rattle.schema_grammar.specs.declared.format.TheConstants.{MOST_DEPENDENCY_LINES}
-use Rattle.dep_model.specs.Dependencies.{Dependency, IsWithin}
-use Rattle.dep_model.specs.Names.{is_bare_name, same_name}
-use Rattle.dep_model.specs.Validity.{AreColumns}
+use Rattle.std.specs.Prelude.{◌≡◌, ℕ, true, false, List, All, AllPairs}
+use Rattle.dep_model.specs.declared.naming.Naming.{Naming}
+use Rattle.dep_model.specs.declared.naming.Naming.TheVariants.{Bare, Any}
+use Rattle.dep_model.specs.Names.{IsName, is_bare_name, same_name}
 use Rattle.schema_grammar.specs.declared.format.Format.{Format}
 use Rattle.schema_grammar.specs.declared.format.Format.TheVariants as format
 use Rattle.schema_grammar.specs.Words.{is_reserved}
@@ -18,11 +14,18 @@ pub record AreNames (f : Format) (names : List (List ℕ)) : Type 0 where
   pub not_reserved : All (λ name. is_reserved f name ≡ false) names
   pub differ : AllPairs (λ a b. same_name a b ≡ false) names
 
--- what a schema holds none of whose names is reserved
-pub record IsPrintable (columns : List ColumnType) (names : List (List ℕ)) (deps : List Dependency) : Type 0 where
-  pub not_empty : 0 < length names
-  pub within_limit : length names ≤ MOST_ATTRIBUTES
-  pub are_names : AreNames format.Plain names
-  pub are_columns : AreColumns names columns
-  pub deps_within_limit : length deps ≤ MOST_DEPENDENCY_LINES
-  pub within : All (IsWithin (below (length names))) deps
+-- names that differ, and, where they are to be bare, are names of a text without a version line
+pub record AreDeclaredNames (naming : Naming) (names : List (List ℕ)) : Type 0 where
+  pub each : All IsName names
+  pub differ : AllPairs (λ a b. same_name a b ≡ false) names
+  pub bare : naming ≡ Bare → AreNames format.Plain names
+
+-- a name is read again: where names are bare, it is a bare name that is not reserved
+abbrev pub IsReadBack : Format → Naming → List ℕ → Type 0
+IsReadBack f Bare name = (is_bare_name name ≡ true) × (is_reserved f name ≡ false)
+IsReadBack f Any name = IsName name
+
+-- names that differ, and are read again
+pub record AreReadBack (f : Format) (naming : Naming) (names : List (List ℕ)) : Type 0 where
+  pub each : All (IsReadBack f naming) names
+  pub differ : AllPairs (λ a b. same_name a b ≡ false) names

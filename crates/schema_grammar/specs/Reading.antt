@@ -1,6 +1,7 @@
 -- A dependency read from left to right: for `read_goal` and the laws of schema_grammar, which tie
 -- it to the meaning. `Desk` does not cite it.
 use Rattle.std.specs.Prelude.{ℕ, ◌+◌, List, [], ◌∷◌, Option, Some, None, Result, Ok, Err}
+use Rattle.dep_model.specs.declared.naming.Naming.{Naming}
 use Rattle.dep_model.specs.Dependencies.{Dependency}
 use Rattle.lexer.specs.Modes as mode
 use Rattle.lexer.specs.declared.token.LexError.{LexError}
@@ -51,5 +52,5 @@ abbrev pub follow_rest : Format → List (List ℕ) → Reached → Rest → Res
 follow_rest f declared reading r = follow f declared r.line reading r.next_column r.marks r.stop
 
 -- the dependency that a goal states over declared names, or its refusal
-abbrev pub read_goal : List (List ℕ) → List ℕ → Result Dependency SchemaRefusal
-read_goal declared text = follow_rest format.Plain declared start (rest_from 1 1 (lex mode.goal text))
+abbrev pub read_goal : Naming → List (List ℕ) → List ℕ → Result Dependency SchemaRefusal
+read_goal naming declared text = follow_rest format.Plain declared start (rest_from 1 1 (lex (mode.goal naming) text))

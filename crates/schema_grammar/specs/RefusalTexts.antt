@@ -20,6 +20,7 @@ what_text what.Colon = codes ":"
 what_text what.Rule = codes "a rule"
 what_text what.With = codes "with"
 what_text what.Scheme = codes "scheme"
+what_text what.Type = codes "a type"
 
 -- the reason of a refusal
 abbrev pub kind_text : SchemaRefusalKind → List ℕ
@@ -33,6 +34,8 @@ kind_text kind.TooManyAttributes = codes "too many attributes"
 kind_text kind.TooManyDependencies = codes "too many dependencies"
 kind_text kind.NoAttributes = codes "no attributes"
 kind_text kind.UnknownVersion = codes "unknown version"
+kind_text kind.NoScale = codes "no scale from 0 to 9"
+kind_text kind.NoType = codes "no type"
 
 -- a place: its line and its column
 abbrev pub span_text : Span → List ℕ

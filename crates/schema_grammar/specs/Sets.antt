@@ -2,6 +2,7 @@
 -- refused and how it is read. For `read_set` and the command `basis` (`desk_inputs/Inputs`).
 use Rattle.std.specs.Prelude.{◌≡◌, ◌⊎◌, ℕ, zero, suc, false, List, [], length, Option, Some, None, Result, Ok, Err, slice_get}
 use Rattle.attr_sets.specs.Attributes.{Attributes, none}
+use Rattle.dep_model.specs.declared.naming.Naming.{Naming}
 use Rattle.dep_model.specs.Dependencies.{right_of}
 use Rattle.lexer.specs.Modes as mode
 use Rattle.lexer.specs.declared.token.LexError.{LexError}
@@ -22,9 +23,9 @@ use Rattle.schema_grammar.specs.Words.{is_word_token}
 use Rattle.schema_grammar.specs.Rests.{◌>>=◌, rest_from}
 
 -- a text over declared names means a set of attributes: it is a side
-pub record MeansSet (declared : List (List ℕ)) (text : List ℕ) (x : Attributes) : Type 0 where
+pub record MeansSet (naming : Naming) (declared : List (List ℕ)) (text : List ℕ) (x : Attributes) : Type 0 where
   pub marks : List Mark
-  pub tokens : HasTokens (lex mode.goal text) marks
+  pub tokens : HasTokens (lex (mode.goal naming) text) marks
   pub side : IsSide format.Plain declared marks x
 
 -- tokens begin with `()`
@@ -49,27 +50,28 @@ SideDiagnostic declared ms stop position why =
     ⊎ ((s : LexError) × (stop ≡ Some s) × (position ≡ length ms) × (why ≡ diagnostic_of_flaw s.flaw))
 
 -- what is wrong with a set over declared names
-abbrev pub SetDiagnostic : List (List ℕ) → List ℕ → ℕ → DiagnosticKind → Type 0
-SetDiagnostic declared text = SideDiagnostic declared (lex mode.goal text).marks (lex mode.goal text).stop
+abbrev pub SetDiagnostic : Naming → List (List ℕ) → List ℕ → ℕ → DiagnosticKind → Type 0
+SetDiagnostic naming declared text =
+    SideDiagnostic declared (lex (mode.goal naming) text).marks (lex (mode.goal naming) text).stop
 
 -- a side is wanted first, and then the line's end
 abbrev pub SetWants : ℕ → What → Type 0
 SetWants = AtFirst what.Side
 
 -- a set over declared names is refused by its first diagnostic
-abbrev pub RefusesSet : List (List ℕ) → List ℕ → SchemaRefusal → Type 0
-RefusesSet declared text e =
-    IsFirst (SetDiagnostic declared text) SetWants
-    (span_at 1 1 (lex mode.goal text).marks (lex mode.goal text).stop) e
+abbrev pub RefusesSet : Naming → List (List ℕ) → List ℕ → SchemaRefusal → Type 0
+RefusesSet naming declared text e =
+    IsFirst (SetDiagnostic naming declared text) SetWants
+    (span_at 1 1 (lex (mode.goal naming) text).marks (lex (mode.goal naming) text).stop) e
 
 -- a set is refused by the first diagnostic, and read where there is none
-abbrev pub FitsSet : List (List ℕ) → List ℕ → Result Attributes SchemaRefusal → Type 0
-FitsSet declared text (Ok x) =
-    (position : ℕ) (why : DiagnosticKind) → SetDiagnostic declared text position why → ⊥
-FitsSet declared text (Err e) = RefusesSet declared text e
+abbrev pub FitsSet : Naming → List (List ℕ) → List ℕ → Result Attributes SchemaRefusal → Type 0
+FitsSet naming declared text (Ok x) =
+    (position : ℕ) (why : DiagnosticKind) → SetDiagnostic naming declared text position why → ⊥
+FitsSet naming declared text (Err e) = RefusesSet naming declared text e
 
 -- the set that a text states over declared names, or its refusal: it is read as what follows `() ->`
-abbrev pub read_set : List (List ℕ) → List ℕ → Result Attributes SchemaRefusal
-read_set declared text =
-    follow_rest format.Plain declared (after_sign sign.Functional none) (rest_from 1 1 (lex mode.goal text))
+abbrev pub read_set : Naming → List (List ℕ) → List ℕ → Result Attributes SchemaRefusal
+read_set naming declared text =
+    follow_rest format.Plain declared (after_sign sign.Functional none) (rest_from 1 1 (lex (mode.goal naming) text))
     >>= (λ d. Ok (right_of d))

@@ -74,15 +74,15 @@ pub fn positions_rise()
     ensures law { PositionsRise }
 {}
 
-/// What is printed of a schema of bare names, none of which is reserved, with at most
-/// `MOST_DEPENDENCY_LINES` dependencies, means the same names, columns and
-/// dependencies. Only the lines of the dependencies are those of the printed text.
+/// What is printed of a schema with at most `MOST_DEPENDENCY_LINES` dependencies means the same names,
+/// columns, dependencies and attributes of which a value may be missing, where no bare name is reserved.
+/// Only the lines of the dependencies are those of the printed text.
 pub fn printed_schema_means()
     ensures law { PrintedSchemaMeans }
 {}
 
-/// What a schema text declares are names, which differ, and none of which is reserved in a text without a
-/// version line.
+/// What a schema text declares are names, which differ. Where only bare names are declared, each is one,
+/// and none is reserved in a text without a version line.
 pub fn declared_names()
     ensures law { DeclaredNames }
 {}

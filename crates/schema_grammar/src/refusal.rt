@@ -26,6 +26,8 @@ pub enum What {
     Rule,
     With,
     Scheme,
+    /// The text of a type, between quotes.
+    Type,
 }
 
 /// Why a text is refused.
@@ -49,8 +51,12 @@ pub enum SchemaRefusalKind {
     TooManyDependencies,
     /// 9: no attribute is declared.
     NoAttributes,
-    /// 13: a version that isn't 2.
+    /// 13: a version that isn't read.
     UnknownVersion,
+    /// 14: a number that is no scale.
+    NoScale,
+    /// 14: a quoted text that is no type.
+    NoType,
 }
 
 /// A refusal of a text, at its place.
@@ -76,6 +82,8 @@ impl SchemaRefusalKind {
             SchemaRefusalKind::TooManyDependencies => 8,
             SchemaRefusalKind::NoAttributes => 9,
             SchemaRefusalKind::UnknownVersion => 13,
+            SchemaRefusalKind::NoScale => 14,
+            SchemaRefusalKind::NoType => 14,
         }
     }
 }

@@ -19,6 +19,7 @@ impl fmt::Display for What {
             What::Rule => f.write_str("a rule"),
             What::With => f.write_str("with"),
             What::Scheme => f.write_str("scheme"),
+            What::Type => f.write_str("a type"),
         }
     }
 }
@@ -38,6 +39,8 @@ impl fmt::Display for SchemaRefusalKind {
             SchemaRefusalKind::TooManyDependencies => f.write_str("too many dependencies"),
             SchemaRefusalKind::NoAttributes => f.write_str("no attributes"),
             SchemaRefusalKind::UnknownVersion => f.write_str("unknown version"),
+            SchemaRefusalKind::NoScale => f.write_str("no scale from 0 to 9"),
+            SchemaRefusalKind::NoType => f.write_str("no type"),
         }
     }
 }

@@ -301,7 +301,8 @@ fn add_typed(text: &mut Vec<u8>, schema: &Schema, attribute: u8) -> Result<(), O
     add_name(text, schema.naming(), schema.name(attribute))
 }
 
-fn add_type_word(text: &mut Vec<u8>, column: &ColumnType) -> Result<(), OutOfMemory>
+/// Adds the word, or the two words, that declare columns of a type.
+pub fn add_type_word(text: &mut Vec<u8>, column: &ColumnType) -> Result<(), OutOfMemory>
     requires { IsTrue (is_column_type column.now) }
     ensures added { OnOk result (text.new.items ≡ text.old.items ++ type_word column.now) }
 {

@@ -55,9 +55,9 @@ fn add_byte(text: &mut Vec<u8>, byte: u8) -> Result<(), OutOfMemory>
     }
 }
 
-// Whether the bytes are a word of a schema text, ASCII case aside.
+/// Whether the bytes are a word of a schema text, ASCII case aside.
 #[tactic(auto, unfolding(crate::specs::Spelling::is_schema_word))]
-fn is_schema_word(bytes: &[u8]) -> bool
+pub fn is_schema_word(bytes: &[u8]) -> bool
     ensures exact { result ≡ is_schema_word bytes.now }
 {
     bytes.eq_ignore_ascii_case(b"attributes")

@@ -2,6 +2,7 @@
 -- comes next on it.
 use Rattle.std.proofs.Common.{◌≡◌, ◌<◌, ◌≤◌, ◌+◌, ◌^◌, ℕ, true, false, List, [], ◌∷◌, length, Result, ap, sym, refl, arith}
 use Rattle.attr_sets.specs.declared.set.TheConstants.{MOST_ATTRIBUTES}
+use Rattle.dep_model.specs.declared.naming.Naming.TheVariants.{Bare}
 use Rattle.lexer.specs.Modes as mode
 use Rattle.lexer.specs.Lines.{line_texts}
 use Rattle.lexer.specs.Tokens.{Mark, lex}
@@ -11,13 +12,13 @@ use Rattle.schema_grammar.specs.declared.format.Format.TheVariants as format
 use Rattle.schema_grammar.specs.declared.refusal.SchemaRefusal.{SchemaRefusal}
 use Rattle.schema_grammar.specs.Declarations.{Declarations, no_declaration}
 use Rattle.schema_grammar.specs.Rests.{Rest, rest_from}
-use Rattle.schema_grammar.specs.Texts.{finish, is_version, opening_from, read_lines, read_opening, read_typed}
+use Rattle.schema_grammar.specs.Texts.{finish, is_version, opening_from, read_all, read_lines, read_opening, read_versioned}
 use Rattle.schema_reader.specs.declared.text.TheConstants.{MOST_TEXT_BYTES}
 use Rattle.tokens.specs.Views.{HasEnded, IsStopped, IsLed}
 
 -- to read the lines that are left is to read all of them
 pub record Reads (f : Format) (first : ℕ) (text : List ℕ) (d : Declarations) (number : ℕ) (rest : List ℕ) : Type 0 where
-  pub same : read_lines f first no_declaration (line_texts text) ≡ read_lines f number d (line_texts rest)
+  pub same : read_all f first (line_texts text) ≡ read_lines f number d (line_texts rest)
   pub sound : IsSound f d
   pub within_limit : length d.names ≤ MOST_ATTRIBUTES
   pub room : number + length rest < 2 ^ 31
@@ -32,7 +33,7 @@ abbrev pub opening_rest : List ℕ → List (List ℕ) → Rest → Result Decla
 opening_rest line lines r = opening_from r.line line lines (read_opening (r.line + 1) lines) r.marks r.stop
 
 pub opening_whole_line : (number : ℕ) (text line : List ℕ) (lines : List (List ℕ)) (r : Rest) → line_texts text ≡ line ∷ lines
-    → r ≡ rest_from number 1 (lex mode.numbered line) → read_opening number (line_texts text) ≡ opening_rest line lines r
+    → r ≡ rest_from number 1 (lex (mode.numbered Bare) line) → read_opening number (line_texts text) ≡ opening_rest line lines r
 unfolding read_opening
 opening_whole_line number text line lines r cut whole = rw cut (ap (opening_rest line lines) (sym whole))
 
@@ -40,17 +41,17 @@ pub opening_ended : (line : List ℕ) (lines : List (List ℕ)) (r : Rest) → H
 opening_ended line lines r ended = rw (ended.marks, ended.stop) refl
 
 pub opening_stopped : (line : List ℕ) (lines : List (List ℕ)) (r : Rest) (e : SchemaRefusal) → IsStopped r e
-    → opening_rest line lines r ≡ read_lines format.Plain r.line no_declaration (line ∷ lines)
+    → opening_rest line lines r ≡ read_all format.Plain r.line (line ∷ lines)
 opening_stopped line lines r e stopped = rw (stopped.marks, stopped.stop) refl
 
 pub opening_typed : (line : List ℕ) (lines : List (List ℕ)) (r : Rest) (m : Mark) (after : Rest) → IsLed r m after
-    → is_version m.kind m.word ≡ true → opening_rest line lines r ≡ read_typed lines after
+    → is_version m.kind m.word ≡ true → opening_rest line lines r ≡ read_versioned lines after
 opening_typed line lines r m after led version = rw (led.marks, version, led.stop, ← led.line, ← led.column) refl
 
 pub opening_plain : (line : List ℕ) (lines : List (List ℕ)) (r : Rest) (m : Mark) (after : Rest) → IsLed r m after
-    → is_version m.kind m.word ≡ false → opening_rest line lines r ≡ read_lines format.Plain r.line no_declaration (line ∷ lines)
+    → is_version m.kind m.word ≡ false → opening_rest line lines r ≡ read_all format.Plain r.line (line ∷ lines)
 opening_plain line lines r m after led other = rw (led.marks, other) refl
 
-pub opening_last : (last : ℕ) → read_opening (last + 1) [] ≡ finish last no_declaration
+pub opening_last : (last : ℕ) → read_opening (last + 1) [] ≡ finish last (no_declaration Bare)
 unfolding read_opening
-opening_last last = ap (λ n. finish n no_declaration) (omega arith)
+opening_last last = ap (λ n. finish n (no_declaration Bare)) (omega arith)

@@ -13,6 +13,8 @@ use Rattle.schema_reader.specs.declared.stage.Stage.TheVariants as stage
 abbrev pub declarations_of_draft : Draft → Declarations
 declarations_of_draft d =
     record {
+      naming = d.naming;
+      nullable = attributes d.nullable;
       names = d.names.items;
       columns = d.columns.items;
       deps = dependencies_of d.deps.items;

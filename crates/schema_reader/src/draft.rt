@@ -5,36 +5,43 @@ ghost use Rattle.schema_reader.specs.Views.{reached_of};
 ghost use Rattle.lexer.specs.Tokens.{bytes_of};
 ghost use Rattle.schema_grammar.specs.Refusals.{Refuses};
 
+use crate::column::{type_after, wanted_after};
 use crate::goal::{follow, step};
 use crate::stage::Stage;
-use crate::words::column_type_of_token;
-use attr_sets::MOST_ATTRIBUTES;
-use dep_model::{ColumnType, Dep, Failure, Name, OutOfMemory};
-use lexer::{Mode, Token, TokenKind, Word};
-use schema_grammar::{Format, MOST_DEPENDENCY_LINES, SchemaRefusal, SchemaRefusalKind, What};
+use crate::words::{line_kind, line_mode};
+use attr_sets::{AttrSet, MOST_ATTRIBUTES};
+use dep_model::{ColumnType, Dep, Failure, Name, Naming, OutOfMemory};
+use lexer::{Token, TokenKind, Word};
+use schema_grammar::{
+    Format, LineKind, MOST_DEPENDENCY_LINES, Purpose, SchemaRefusal, SchemaRefusalKind, What,
+};
 use std::alloc::Global;
-use tokens::{Cursor, Names, NextToken, is_reserved_token, position_among};
+use tokens::{Cursor, Names, NextToken, is_reserved_token, look_up, position_among};
 
 /// What a schema text declares, as far as it is read.
 #[derive(Drop)]
 pub struct Draft {
+    pub naming: Naming,
     pub names: Vec<Name>,
     pub columns: Vec<ColumnType>,
+    pub nullable: AttrSet,
     pub deps: Vec<Dep>,
     pub lines: Vec<u32>,
 }
 
 impl Draft {
-    ghost use Rattle.schema_grammar.specs.Declarations.{no_declaration, declare, name_step, list_names_rest, add_name, add_dependency, begin, dependency_rest, mark_of, read_line};
+    ghost use Rattle.schema_grammar.specs.Declarations.{no_declaration, declare, allow, take_name, name_step, list_names_rest, list_columns_rest, add_name, add_dependency, begin, dependency_rest, mark_of, read_line};
     ghost use Rattle.schema_reader.specs.Views.{declarations_of_draft};
     ghost use Rattle.tokens.specs.Views.{rest_of};
 
-    pub fn new(alloc: Global) -> Draft
-        ensures empty { declarations_of_draft result ≡ no_declaration }
+    pub fn new(alloc: Global, naming: Naming) -> Draft
+        ensures empty { declarations_of_draft result ≡ no_declaration naming }
     {
         Draft {
+            naming,
             names: Vec::new(alloc),
             columns: Vec::new(alloc),
+            nullable: AttrSet::empty(),
             deps: Vec::new(alloc),
             lines: Vec::new(alloc),
         }
@@ -55,30 +62,57 @@ impl Draft {
             (λ failure. Refuses failure (read_line format line
             (declarations_of_draft self.old) text.now)) }
     {
-        let start = Cursor::start(line, Mode::PLAIN, text);
+        let start = Cursor::start(line, line_mode(format, text), text);
         match start.next() {
             NextToken::End => Ok(()),
             NextToken::Refusal(refusal) => Err(Failure::Refused(refusal)),
             NextToken::Token(token, word, rest) => {
-                match column_type_of_token(format, token.kind, &word) {
-                    Some(column) => self.list_names(format, &column, rest),
-                    None => self.read_dependency(format, token, &word, rest),
+                match line_kind(format, token.kind, &word) {
+                    LineKind::Names(purpose) => self.list_names(format, &purpose, rest),
+                    LineKind::Decimal => self.list_columns(format, LineKind::Decimal, rest),
+                    LineKind::Other => self.list_columns(format, LineKind::Other, rest),
+                    LineKind::Dependency => self.read_dependency(format, token, &word, rest),
                 }
             }
         }
     }
 
-    /// Reads the names after a declaring word.
+    /// Reads a line of columns from after its first token: the scale or the type that they have, and their
+    /// names.
+    fn list_columns(
+        &mut self,
+        format: Format,
+        kind: LineKind,
+        start: Cursor<'_>,
+    ) -> Result<(), Failure<SchemaRefusal>>
+        requires within_limit { length (declarations_of_draft self.old).names ≤ MOST_ATTRIBUTES }
+        ensures ok { OnOk result (list_columns_rest format kind (declarations_of_draft self.old)
+            (rest_of start.entry) ≡ Ok (declarations_of_draft self.new)) }
+        ensures err { IfErr result (λ failure. Refuses failure
+            (list_columns_rest format kind (declarations_of_draft self.old) (rest_of start.entry))) }
+    {
+        match start.next() {
+            NextToken::End => Err(Failure::Refused(start.refusal_of_end(wanted_after(kind)))),
+            NextToken::Refusal(refusal) => Err(Failure::Refused(refusal)),
+            NextToken::Token(token, word, rest) => match type_after(kind, token, &word) {
+                Err(why) => Err(Failure::Refused(start.refusal_of(token, why))),
+                Ok(column) => self.list_names(format, &Purpose::Columns(column), rest),
+            },
+        }
+    }
+
+    /// Reads the names of a line.
     fn list_names(
         &mut self,
         format: Format,
-        column: &ColumnType,
+        purpose: &Purpose,
         start: Cursor<'_>,
     ) -> Result<(), Failure<SchemaRefusal>>
-        ensures ok { OnOk result (list_names_rest format column.now (declarations_of_draft self.old) false
+        requires within_limit { length (declarations_of_draft self.old).names ≤ MOST_ATTRIBUTES }
+        ensures ok { OnOk result (list_names_rest format purpose.now (declarations_of_draft self.old) false
             (rest_of start.entry) ≡ Ok (declarations_of_draft self.new)) }
         ensures err { IfErr result (λ failure. Refuses failure
-            (list_names_rest format column.now (declarations_of_draft self.old) false
+            (list_names_rest format purpose.now (declarations_of_draft self.old) false
             (rest_of start.entry))) }
     {
         let mut any_name = false;
@@ -94,7 +128,7 @@ impl Draft {
                 }
                 NextToken::Refusal(refusal) => return Err(Failure::Refused(refusal)),
                 NextToken::Token(token, word, after) => {
-                    match self.name_step(format, column, any_name, token.kind, &word) {
+                    match self.name_step(format, purpose, any_name, token.kind, &word) {
                         Err(Failure::Refused(kind)) => {
                             return Err(Failure::Refused(rest.refusal_of(token, kind)));
                         }
@@ -109,32 +143,82 @@ impl Draft {
         }
     }
 
-    /// Takes one token after a declaring word; `any_name` is whether a name stood before.
+    /// Takes one token of a line of names; `any_name` is whether a name stood before.
     #[tactic(auto, using(dep_model::proofs::NameLemmas::bare_name_is_name))]
     fn name_step(
         &mut self,
         format: Format,
-        column: &ColumnType,
+        purpose: &Purpose,
         any_name: bool,
         kind: TokenKind,
         word: &Word<'_>,
     ) -> Result<(), Failure<SchemaRefusalKind>>
+        requires within_limit { length (declarations_of_draft self.old).names ≤ MOST_ATTRIBUTES }
         requires bare { kind ≡ TokenKind.Identifier → is_bare_name (bytes_of word.now) ≡ true }
         requires name { kind ≡ TokenKind.Quoted → IsName (bytes_of word.now) }
-        ensures ok { OnOk result (name_step format column.now
+        ensures ok { OnOk result (name_step format purpose.now
             (declarations_of_draft self.old) any_name kind (bytes_of word.now)
             ≡ Ok (declarations_of_draft self.new)) }
+        ensures within_limit { OnOk result (length (declarations_of_draft self.new).names ≤ MOST_ATTRIBUTES) }
         ensures err { IfErr result
-            (λ failure. Refuses failure (name_step format column.now
+            (λ failure. Refuses failure (name_step format purpose.now
             (declarations_of_draft self.old) any_name kind (bytes_of word.now))) }
     {
         match kind {
             TokenKind::Identifier | TokenKind::Quoted => {
-                self.declare(format, column, kind, word.bytes().as_slice())
+                self.take_name(format, purpose, kind, word)
             }
             _ => {
                 let want = if any_name { What::LineEnd } else { What::Name };
                 Err(Failure::Refused(SchemaRefusalKind::Expected(want)))
+            }
+        }
+    }
+
+    /// Takes a word or a quoted name, by what it is for.
+    fn take_name(
+        &mut self,
+        format: Format,
+        purpose: &Purpose,
+        kind: TokenKind,
+        word: &Word<'_>,
+    ) -> Result<(), Failure<SchemaRefusalKind>>
+        requires within_limit { length (declarations_of_draft self.old).names ≤ MOST_ATTRIBUTES }
+        requires name { IsName (bytes_of word.now) }
+        ensures ok { OnOk result (take_name format purpose.now (declarations_of_draft self.old) kind
+            (bytes_of word.now) ≡ Ok (declarations_of_draft self.new)) }
+        ensures within_limit { OnOk result (length (declarations_of_draft self.new).names ≤ MOST_ATTRIBUTES) }
+        ensures err { IfErr result (λ failure. Refuses failure
+            (take_name format purpose.now (declarations_of_draft self.old) kind (bytes_of word.now))) }
+    {
+        match purpose {
+            Purpose::Columns(column) => {
+                self.declare(format, column, kind, word.bytes().as_slice())
+            }
+            Purpose::Nullable => self.allow(format, kind, word),
+        }
+    }
+
+    /// A value may be missing of the attribute that a word or a quoted name names.
+    #[tactic(auto, unfolding(schema_grammar::specs::Declarations::allow))]
+    fn allow(
+        &mut self,
+        format: Format,
+        kind: TokenKind,
+        word: &Word<'_>,
+    ) -> Result<(), Failure<SchemaRefusalKind>>
+        requires { length (declarations_of_draft self.old).names ≤ MOST_ATTRIBUTES }
+        ensures ok { OnOk result (allow format (declarations_of_draft self.old) kind (bytes_of word.now)
+            ≡ Ok (declarations_of_draft self.new)) }
+        ensures within_limit { OnOk result (length (declarations_of_draft self.new).names ≤ MOST_ATTRIBUTES) }
+        ensures err { IfErr result (λ failure. Refuses failure
+            (allow format (declarations_of_draft self.old) kind (bytes_of word.now))) }
+    {
+        match look_up(&Names::Listed(&self.names), format, kind, word) {
+            Err(why) => Err(Failure::Refused(why)),
+            Ok(attribute) => {
+                self.nullable = self.nullable.with(attribute);
+                Ok(())
             }
         }
     }
@@ -151,6 +235,7 @@ impl Draft {
         requires { IsName word.now }
         ensures ok { OnOk result (declare format column.now (declarations_of_draft self.old) kind word.now
             ≡ Ok (declarations_of_draft self.new)) }
+        ensures within_limit { OnOk result (length (declarations_of_draft self.new).names ≤ MOST_ATTRIBUTES) }
         ensures err { IfErr result
             (λ failure. Refuses failure (declare format column.now
             (declarations_of_draft self.old) kind word.now)) }

@@ -1,7 +1,7 @@
 ghost use Rattle.std.specs.Prelude.{◌≡◌, ◌+◌, ◌<◌, ◌≤◌, ◌^◌, length, IfOk, IfErr, Ok, Err};
 ghost use Rattle.attr_sets.specs.Attributes.{below};
 ghost use Rattle.dep_model.specs.Deps.{dependency_of, IsDepWithin};
-ghost use Rattle.dep_model.specs.Schemas.{names_of, universe_of};
+ghost use Rattle.dep_model.specs.Schemas.{naming_of, names_of, universe_of};
 ghost use Rattle.lexer.specs.Tokens.{bytes_of};
 ghost use Rattle.schema_grammar.specs.Grammar.{finish_dependency, IsInRange};
 ghost use Rattle.schema_reader.specs.Views.{reached_of};
@@ -25,11 +25,12 @@ pub const MOST_GOAL_BYTES: usize = 16_384;
 /// line; `#`, line ends and a byte-order mark are strange bytes in it. It takes no memory.
 pub fn read_goal(schema: &Schema, text: &[u8]) -> Result<Dep, SchemaRefusal>
     requires { length text.now ≤ MOST_GOAL_BYTES }
-    ensures ok { IfOk result (λ dep. MeansGoal (names_of schema.now) text.now (dependency_of dep)) }
-    ensures err { IfErr result (RefusesGoal (names_of schema.now) text.now) }
+    ensures ok { IfOk result (λ dep.
+        MeansGoal (naming_of schema.now) (names_of schema.now) text.now (dependency_of dep)) }
+    ensures err { IfErr result (RefusesGoal (naming_of schema.now) (names_of schema.now) text.now) }
     ensures within { IfOk result (IsDepWithin (universe_of schema.now)) }
 {
-    let start = Cursor::start(1, Mode::GOAL, text);
+    let start = Cursor::start(1, Mode::goal(schema.naming()), text);
     follow(&Names::Of(schema), Format::Plain, Stage::Start, start)
 }
 

@@ -4,6 +4,7 @@
 //! position where it goes wrong, and there for the reason of the least number.
 #![tactic(auto)]
 
+mod column;
 mod draft;
 mod goal;
 mod set;

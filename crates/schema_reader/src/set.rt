@@ -1,7 +1,7 @@
 ghost use Rattle.std.specs.Prelude.{◌≡◌, ◌≤◌, length, IfOk, IfErr};
 ghost use Rattle.attr_sets.specs.Attributes.{IsSubset};
 ghost use Rattle.attr_sets.specs.Sets.{attributes};
-ghost use Rattle.dep_model.specs.Schemas.{names_of, universe_of};
+ghost use Rattle.dep_model.specs.Schemas.{naming_of, names_of, universe_of};
 ghost use Rattle.schema_grammar.specs.Sets.{MeansSet, RefusesSet};
 
 use crate::goal::follow;
@@ -19,11 +19,12 @@ pub const MOST_SET_BYTES: usize = 16_384;
 /// the tokens of a goal, and is read as the right side of one. It takes no memory.
 pub fn read_set(schema: &Schema, text: &[u8]) -> Result<AttrSet, SchemaRefusal>
     requires { length text.now ≤ MOST_SET_BYTES }
-    ensures ok { IfOk result (λ set. MeansSet (names_of schema.now) text.now (attributes set)) }
-    ensures err { IfErr result (RefusesSet (names_of schema.now) text.now) }
+    ensures ok { IfOk result (λ set.
+        MeansSet (naming_of schema.now) (names_of schema.now) text.now (attributes set)) }
+    ensures err { IfErr result (RefusesSet (naming_of schema.now) (names_of schema.now) text.now) }
     ensures within { IfOk result (λ set. IsSubset (attributes set) (universe_of schema.now)) }
 {
-    let start = Cursor::start(1, Mode::GOAL, text);
+    let start = Cursor::start(1, Mode::goal(schema.naming()), text);
     match follow(&Names::Of(schema), Format::Plain, after_arrow(), start) {
         Ok(dep) => {
             let (_, set) = sides(dep);

@@ -6,17 +6,16 @@ ghost use Rattle.schema_grammar.specs.declared.format.TheConstants.{MOST_DEPENDE
 ghost use Rattle.schema_grammar.specs.Words.{is_reserved};
 ghost use Rattle.lexer.specs.Lines.{line_texts, lines_after};
 ghost use Rattle.tokens.specs.Views.{rest_of};
-ghost use Rattle.schema_grammar.specs.Declarations.{no_declaration};
 ghost use Rattle.schema_reader.specs.Views.{declarations_of_draft, AreAtMostAll};
 ghost use Rattle.schema_grammar.specs.Refusals.{Refuses};
 ghost use Rattle.schema_grammar.specs.Schemas.{MeansSchema, RefusesSchema};
-ghost use Rattle.schema_grammar.specs.Texts.{finish, is_version, read_lines, read_version, read_typed, read_opening, declarations_of};
+ghost use Rattle.schema_grammar.specs.Texts.{finish, format_of_version, is_version, read_all, read_version, read_versioned, read_opening, declarations_of};
 
 use crate::draft::Draft;
-use attr_sets::AttrSet;
+use crate::words::naming_in;
 use dep_model::{Failure, Naming, Schema};
 use lexer::{Mode, TokenKind, Word, cut_line, without_mark};
-use schema_grammar::{Format, SchemaRefusal, SchemaRefusalKind, VERSION, What};
+use schema_grammar::{FULL_VERSION, Format, SchemaRefusal, SchemaRefusalKind, TYPED_VERSION, What};
 use std::alloc::Global;
 use tokens::{Cursor, NextToken, number_in};
 
@@ -29,23 +28,24 @@ pub fn read_schema(alloc: Global, text: &[u8]) -> Result<Schema, Failure<SchemaR
     requires { length text.now ≤ MOST_TEXT_BYTES }
     ensures ok { IfOk result (λ schema. MeansSchema text.now (declarations_of schema)) }
     ensures err { IfErr result (RefusesAs (RefusesSchema text.now)) }
-    ensures bare { IfOk result (λ schema. naming_of schema ≡ Naming.Bare) }
     ensures deps { IfOk result (λ schema. length (deps_of schema) ≤ MOST_DEPENDENCY_LINES) }
     ensures not_reserved { IfOk result
-        (λ schema. All (λ name. is_reserved Format.Plain name ≡ false) (names_of schema)) }
+        (λ schema. naming_of schema ≡ Naming.Bare
+        → All (λ name. is_reserved Format.Plain name ≡ false) (names_of schema)) }
 {
     let draft = match read_opening(alloc, without_mark(text)) {
         Ok(draft) => draft,
         Err(failure) => return Err(failure),
     };
     let Draft {
+        naming,
         names,
         columns,
+        nullable,
         deps,
         lines,
     } = draft;
-    let nullable = AttrSet::empty();
-    Ok(Schema::with_columns(Naming::Bare, names, columns, nullable, deps, lines))
+    Ok(Schema::with_columns(naming, names, columns, nullable, deps, lines))
 }
 
 /// Reads a text from its beginning: lines without tokens, and then a version line or any other.
@@ -59,18 +59,18 @@ fn read_opening(alloc: Global, text: &[u8]) -> Result<Draft, Failure<SchemaRefus
     let mut rest = text;
     'lines: loop {
         let (line, after) = cut_line(rest);
-        let start = Cursor::start(number, Mode::NUMBERED, line);
+        let start = Cursor::start(number, Mode::numbered(Naming::Bare), line);
         match start.next() {
             NextToken::Refusal(_) => return read_lines(alloc, Format::Plain, number, rest),
             NextToken::Token(token, word, others) => {
                 return if is_version(token.kind, &word) {
-                    read_typed(alloc, others, after)
+                    read_versioned(alloc, others, after)
                 } else {
                     read_lines(alloc, Format::Plain, number, rest)
                 };
             }
             NextToken::End => match after {
-                None => return finish(number, Draft::new(alloc)),
+                None => return finish(number, Draft::new(alloc, Naming::Bare)),
                 Some(lines) => {
                     rest = lines;
                     number += 1;
@@ -81,45 +81,58 @@ fn read_opening(alloc: Global, text: &[u8]) -> Result<Draft, Failure<SchemaRefus
 }
 
 /// Reads a text from after the word `version`, after whose line others may stand.
-fn read_typed(
+fn read_versioned(
     alloc: Global,
     version: Cursor<'_>,
     after: Option<&[u8]>,
 ) -> Result<Draft, Failure<SchemaRefusal>>
     requires lines { AreAtMostAll (rest_of version).line after }
-    ensures ok { IfOk result (λ draft. read_typed (lines_after after.entry) (rest_of version.entry)
+    ensures ok { IfOk result (λ draft. read_versioned (lines_after after.entry) (rest_of version.entry)
         ≡ Ok (declarations_of_draft draft)) }
     ensures err { IfErr result (λ failure. Refuses failure
-        (read_typed (lines_after after.entry) (rest_of version.entry))) }
+        (read_versioned (lines_after after.entry) (rest_of version.entry))) }
 {
     let number = version.line();
     match read_version(version) {
         Err(refusal) => Err(Failure::Refused(refusal)),
-        Ok(()) => match after {
-            None => finish(number, Draft::new(alloc)),
-            Some(lines) => read_lines(alloc, Format::Typed, number + 1, lines),
+        Ok(format) => match after {
+            None => finish(number, Draft::new(alloc, naming_in(format))),
+            Some(lines) => read_lines(alloc, format, number + 1, lines),
         },
     }
 }
 
-/// Reads a line from after the word `version`: the number 2, and nothing more.
+/// Reads a line from after the word `version`: the number of a version, and nothing more.
 #[tactic(auto, unfolding(schema_grammar::specs::Texts::read_version))]
-fn read_version(start: Cursor<'_>) -> Result<(), SchemaRefusal>
-    ensures ok { OnOk result (read_version (rest_of start.entry) ≡ Ok no_declaration) }
+fn read_version(start: Cursor<'_>) -> Result<Format, SchemaRefusal>
+    ensures ok { IfOk result (λ format. read_version (rest_of start.entry) ≡ Ok format) }
     ensures err { IfErr result (λ refusal. read_version (rest_of start.entry) ≡ Err refusal) }
 {
     match start.take(What::Number) {
         Err(refusal) => Err(refusal),
         Ok((token, _, rest)) => match number_in(token.kind) {
             None => Err(rest.refusal_of_token(token, What::Number)),
-            Some(version) => {
-                if version == VERSION {
-                    rest.end()
-                } else {
-                    Err(rest.refusal_of(token, SchemaRefusalKind::UnknownVersion))
-                }
-            }
+            Some(version) => match format_of_version(version) {
+                None => Err(rest.refusal_of(token, SchemaRefusalKind::UnknownVersion)),
+                Some(format) => match rest.end() {
+                    Ok(()) => Ok(format),
+                    Err(refusal) => Err(refusal),
+                },
+            },
         },
+    }
+}
+
+/// The format of the texts of a version, where they are read.
+fn format_of_version(version: u32) -> Option<Format>
+    ensures exact { result ≡ format_of_version version }
+{
+    if version == TYPED_VERSION {
+        Some(Format::Typed)
+    } else if version == FULL_VERSION {
+        Some(Format::Full)
+    } else {
+        None
     }
 }
 
@@ -143,12 +156,12 @@ fn read_lines(
 ) -> Result<Draft, Failure<SchemaRefusal>>
     requires { number + length text.now < 2 ^ 31 }
     ensures ok { IfOk result
-        (λ draft. read_lines format number no_declaration (line_texts text.now)
+        (λ draft. read_all format number (line_texts text.now)
         ≡ Ok (declarations_of_draft draft)) }
     ensures err { IfErr result
-        (λ failure. Refuses failure (read_lines format number no_declaration (line_texts text.now))) }
+        (λ failure. Refuses failure (read_all format number (line_texts text.now))) }
 {
-    let mut draft = Draft::new(alloc);
+    let mut draft = Draft::new(alloc, naming_in(format));
     let mut number = number;
     let mut rest = text;
     'lines: loop {

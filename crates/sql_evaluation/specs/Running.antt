@@ -63,11 +63,14 @@ abbrev pub all_zeros : List (List Cell) → Bool
 all_zeros rows = list_all (list_all is_zero) rows
 
 -- more rows, of as many columns; the check of a table holds of them
+abbrev pub both_rows : Rows → Rows → Rows
+both_rows old new = record { names = old.names; rows = old.rows ++ new.rows }
+
 abbrev pub with_rows : Bool → Rows → Rows → Option Held
 with_rows zeros old new =
     if not (length old.names == length new.names) then None
-    else if zeros then (if all_zeros new.rows then Some (table zeros (record { names = old.names; rows = old.rows ++ new.rows })) else None)
-    else Some (table zeros (record { names = old.names; rows = old.rows ++ new.rows }))
+    else if zeros then (if all_zeros new.rows then Some (table zeros (both_rows old new)) else None)
+    else Some (table zeros (both_rows old new))
 
 abbrev pub filled : Option Held → Rows → Option Held
 filled None new = None

@@ -3,6 +3,7 @@ use Rattle.std.specs.Prelude.{ℕ, Bool, true, false, List, [], ◌∷◌, ◌++
 use Rattle.std.specs.List.{flat_map}
 use Rattle.attr_sets.specs.Attributes.{Attributes}
 use Rattle.dep_model.specs.declared.schema.Schema.{Schema}
+use Rattle.dep_model.specs.Names.{quoted}
 use Rattle.dep_model.specs.Schemas.{names_of}
 use Rattle.schema_printer.specs.Printing.{members_from}
 
@@ -20,9 +21,9 @@ abbrev pub is_not_empty : {X : Type 0} → List X → Bool
 is_not_empty [] = false
 is_not_empty (x ∷ xs) = true
 
--- a name between double quotes, for bare names: a double quote in it is not doubled
+-- a name between double quotes, each double quote in it doubled
 abbrev pub quoted_name : List ℕ → List ℕ
-quoted_name name = 34 ∷ (name ++ 34 ∷ [])
+quoted_name name = quoted name
 
 -- the quoted names of a set's attributes, ascending, with a comma and a blank between
 abbrev pub name_list : Schema → Attributes → List ℕ

@@ -53,11 +53,9 @@ pub fn add_listed(text: &mut Vec<u8>, any_written: bool, item: &[u8]) -> Result<
     add(text, item)
 }
 
-/// Adds a name between double quotes, for bare names: a double quote in it is not doubled.
+/// Adds a name between double quotes, each double quote in it doubled. So it is one name in SQL.
 pub fn add_quoted(text: &mut Vec<u8>, name: &Name) -> Result<(), OutOfMemory>
     ensures added { OnOk result (text.new.items ≡ text.old.items ++ quoted_name name.now) }
 {
-    add(text, b"\"")?;
-    add(text, name.bytes())?;
-    add(text, b"\"")
+    schema_printer::add_quoted(text, name.bytes())
 }

@@ -2,3 +2,4 @@ mod PartFiles
 mod MigratedFiles
 mod StatedReferences
 mod QuotedTexts
+mod CellTexts

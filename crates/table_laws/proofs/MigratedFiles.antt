@@ -8,10 +8,10 @@ use Rattle.attr_sets.specs.Attributes.{Attributes, count_below}
 use Rattle.csv_migrate.specs.Migration.{table_of, tables_from}
 use Rattle.csv_rows.specs.Reading.{PartOf}
 use Rattle.csv_rows.specs.declared.reading.TheConstants.{MOST_ROWS}
-use Rattle.dep_model.specs.Integers.{IsIntegerText}
+use Rattle.column_values.specs.Values.{FitsColumn, FitsColumns}
 use Rattle.dep_model.specs.Names.{is_bare_name}
 use Rattle.dep_model.specs.Projections.{project_tuple, projection, ordered_projection}
-use Rattle.dep_model.specs.Schemas.{names_of, width_of, TypedFor}
+use Rattle.dep_model.specs.Schemas.{names_of, nullable_of, width_of}
 use Rattle.dep_model.specs.Tuples.{Tuple, Relation, IsOver, same_tuple, distinct_tuples}
 use Rattle.dep_model.specs.declared.schema.Schema.{Schema}
 use Rattle.dep_model.proofs.SchemeLemmas.{length-project_tuple, value_in-project_tuple}
@@ -34,7 +34,7 @@ length-distinct_tuples-le (t ∷ r) =
 
 -- ---- one table
 table_back : (s : Schema) (rows : Relation) (number : ℕ) (x : Attributes) → All (λ name. IsTrue (is_bare_name name)) (names_of s)
-    → IsOver (width_of s) rows → TypedFor s rows → length rows ≤ MOST_ROWS → 0 < count_below x (width_of s)
+    → IsOver (width_of s) rows → FitsColumns s rows → length rows ≤ MOST_ROWS → 0 < count_below x (width_of s)
     → PartOf s (table_file Csv (table_of s rows number x)).bytes (Ok (ordered_projection x rows))
 table_back s rows number x proper over typed within_limit not_empty =
     let n = width_of s in
@@ -43,7 +43,8 @@ table_back s rows number x proper over typed within_limit not_empty =
     (λ i d l. length-project_tuple x _ ∙ ap (count_below x) (over i d l)) in
     let fits : All (Fits s x) (projection x rows) =
     All-map (Fits s x) (project_tuple x) rows
-    (λ i d l k inside integer. subst IsIntegerText (sym (value_in-project_tuple x _ k inside)) (typed i d l k integer)) in
+    (λ i d l k column inside is. subst (λ (value : List ℕ). FitsColumn column (nullable_of s k) value) (sym (value_in-project_tuple x _ k inside))
+    (typed i d l k column is)) in
     part_back s x (ordered_projection x rows) proper not_empty
     (all_distinct (λ (u : Tuple). length u ≡ count_below x n) (projection x rows) each)
     (all_distinct (Fits s x) (projection x rows) fits)
@@ -51,7 +52,7 @@ table_back s rows number x proper over typed within_limit not_empty =
 
 -- ---- all tables
 pub tables_back : (s : Schema) (rows : Relation) (number : ℕ) (plan : List Attributes)
-    → All (λ name. IsTrue (is_bare_name name)) (names_of s) → IsOver (width_of s) rows → TypedFor s rows
+    → All (λ name. IsTrue (is_bare_name name)) (names_of s) → IsOver (width_of s) rows → FitsColumns s rows
     → length rows ≤ MOST_ROWS → All (λ (x : Attributes). 0 < count_below x (width_of s)) plan
     → All (λ (table : TableValue). PartOf s (table_file Csv table).bytes (Ok table.rows)) (tables_from s rows number plan)
 tables_back s rows number [] proper over typed within_limit not_empty = λ i d l. absurd (omega (arith, l))

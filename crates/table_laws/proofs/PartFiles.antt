@@ -22,13 +22,13 @@ use Rattle.csv_rows.proofs.NumberingLemmas.{same_default}
 use Rattle.csv_rows.proofs.PrintedRows.{own_column, other_name, printed_closed, printed_records}
 use Rattle.csv_rows.proofs.ReadingLemmas.{member_at}
 use Rattle.csv_text.specs.Rows.{rows_text}
-use Rattle.dep_model.specs.Integers.{IsIntegerText}
+use Rattle.column_values.specs.Values.{FitsColumn}
 use Rattle.dep_model.specs.Names.{is_bare_name, same_name}
 use Rattle.dep_model.specs.OnSchemes.{value_in}
 use Rattle.dep_model.specs.Projections.{members_below}
-use Rattle.dep_model.specs.Schemas.{names_of, width_of, attribute_named, types_of as types_of}
+use Rattle.dep_model.specs.Schemas.{names_of, width_of, attribute_named, types_of, nullable_of}
 use Rattle.dep_model.specs.Tuples.{Tuple, Relation, IsOver, value_at}
-use Rattle.dep_model.specs.declared.column_type.ColumnType.TheVariants.{Integer}
+use Rattle.dep_model.specs.declared.column_type.ColumnType.{ColumnType}
 use Rattle.dep_model.specs.declared.schema.Schema.{Schema}
 use Rattle.dep_model.proofs.NameLemmas.{attribute_named-append}
 use Rattle.dep_model.proofs.SchemeLemmas.{length-members_below, members_below-none, members_below-member, members_below-outside, members_below-at, members_below-one_more, members_below-no_more}
@@ -193,9 +193,11 @@ tuple_is n x t size =
     sym (same_default (map (value_of ms t) ms) k [] (value_of ms t 0) inside ∙ get_or-map (value_of ms t) ms k 0 ∙ value_is n x t k small))
     ∙ ap (λ (l : List ℕ). map (value_of ms t) l) (sym (columns_are n x))
 
--- the values of a tuple over a scheme fit the types of its columns
+-- the values of a tuple over a scheme fit their columns
 abbrev pub Fits : Schema → Attributes → Tuple → Type 0
-Fits s x t = (k : ℕ) → x k ≡ true → slice_get (types_of s) k ≡ Some Integer → IsIntegerText (value_in x t k)
+Fits s x t =
+    (k : ℕ) (column : ColumnType) → x k ≡ true → slice_get (types_of s) k ≡ Some column
+    → FitsColumn column (nullable_of s k) (value_in x t k)
 
 row_is : (s : Schema) (x : Attributes) (row : ℕ) (t : Tuple) → length t ≡ count_below x (width_of s) → row ≤ MOST_ROWS
     → Fits s x t → ClosedRowOf s (members_below (width_of s) x) row t (Ok t)
@@ -204,14 +206,15 @@ row_is s x row t size within_limit typed =
     let ms = members_below n x in (
       (size ∙ sym (length-members_below n x), within_limit),
       tuple_is n x t size,
-      λ a has.
-          let both = and_parts (nat_lt a n) (x a) (sym (named_members x n a) ∙ has.0) in
+      λ a has column is.
+          let both = and_parts (nat_lt a n) (x a) (sym (named_members x n a) ∙ has) in
           let is_low : nat_lt a n ≡ true = both.0 in
           let low : a < n = grind (arith, nat_tests, is_low) in
           let c = count_below x a in
           let small : c < length ms = omega (arith, length-members_below n x, count_below-before_member n a x low both.1) in
           let at : get_or ms c 0 ≡ a = members_below-at n x a 0 low both.1 in
-          subst IsIntegerText (sym (ap (value_of ms t) (sym at) ∙ value_is n x t c small)) (typed a both.1 has.1),
+          subst (λ (value : List ℕ). FitsColumn column (nullable_of s a) value) (sym (ap (value_of ms t) (sym at) ∙ value_is n x t c small))
+          (typed a column both.1 is),
     )
 
 members_all : (P : List ℕ → Type 0) (x : Attributes) (k : ℕ) (names : List (List ℕ)) → All P names

@@ -11,12 +11,14 @@ use Rattle.attr_sets.specs.Sets.{attributes}
 use Rattle.attr_sets.specs.declared.set.AttrSet.{AttrSet}
 use Rattle.dep_model.specs.Dependencies.{Dependency, fd}
 use Rattle.dep_model.specs.Implication.{Implies}
-use Rattle.dep_model.specs.Keys.{InClosure, IsGreedyKey}
+use Rattle.dep_model.specs.Keys.{InClosure}
 use Rattle.dep_model.specs.Plans.{IsPlan, schemes_of}
-use Rattle.dep_model.specs.Schemas.{width_of, theory_of}
+use Rattle.dep_model.specs.Schemas.{width_of, theory_of, nullable_of}
 use Rattle.dep_model.specs.declared.schema.Schema.{Schema}
-use Rattle.dep_model.proofs.KeyLemmas.{fd_on-to, greedy_is_key}
+use Rattle.dep_model.proofs.KeyLemmas.{fd_on-to}
 use Rattle.dep_model.proofs.RuleLemmas.{transitivity_obeyed, fd_weaker_obeyed}
+use Rattle.primary_keys.specs.PrimaryKeys.{IsPrimaryKey}
+use Rattle.primary_keys.proofs.PrimaryLemmas.{primary_is_key}
 use Rattle.ddl_text.specs.Designs.{IsDesign, IsTableOf, RefersTo}
 use Rattle.ddl_text.specs.declared.table.TableDesign.{TableDesign}
 use Rattle.design_order.specs.Order.{DetermineTheSame, IsInDesignOrder}
@@ -47,11 +49,11 @@ scheme_at s schemes tables k table d design at =
     ∙ ap (λ (x : AttrSet). attributes x) (sym (table_at s schemes tables k table d design at).columns)
 
 -- what a key determines is determined by each scheme that holds it
-key_determines : (n : ℕ) (ds : List Dependency) (scheme other key : Attributes) → IsSubset other (below n)
-    → IsGreedyKey n ds other key → IsSubset key scheme → (a : ℕ) → InClosure n ds other a → InClosure n ds scheme a
-key_determines n ds scheme other key inside greedy held a has =
+key_determines : (n : ℕ) (ds : List Dependency) (nullable scheme other key : Attributes) → IsSubset other (below n)
+    → IsPrimaryKey n ds nullable other key → IsSubset key scheme → (a : ℕ) → InClosure n ds other a → InClosure n ds scheme a
+key_determines n ds nullable scheme other key inside primary held a has =
     let whole : Implies n ds (fd key other) =
-    fd_on-to n ds other key other (greedy_is_key n ds other key inside greedy).superkey in (
+    fd_on-to n ds other key other (primary_is_key n ds nullable other key inside primary).superkey in (
       has.0,
       λ r legal. transitivity_obeyed scheme other (only a) r
           (fd_weaker_obeyed key other scheme other r held (λ (k : ℕ) m. m) (whole r legal)) (has.1 r legal),
@@ -83,14 +85,15 @@ later_same s plan schemes tables i j table other valid order design at other_at 
     let first = scheme_at s schemes tables i table table.scheme design at in
     let second = scheme_at s schemes tables j other table.scheme design other_at in
     let is = table_at s schemes tables j other table.scheme design other_at in
-    let greedy : IsGreedyKey n ds (attributes other.scheme) (attributes other.key) =
-    subst (λ (x : AttrSet). IsGreedyKey n ds (attributes x) (attributes other.key)) (sym is.columns) is.key in
+    let primary : IsPrimaryKey n ds (nullable_of s) (attributes other.scheme) (attributes other.key) =
+    subst (λ (x : AttrSet). IsPrimaryKey n ds (nullable_of s) (attributes x) (attributes other.key)) (sym is.columns)
+    is.key in
     let inside : IsSubset (attributes other.scheme) (below n) =
     subst (λ (x : Attributes). IsSubset x (below n)) second
     (All-contains (λ (x : Attributes). IsSubset x (below n)) ordered (get_or ordered j d)
     (order-plan n ds plan ordered order valid).within (Contains-get_or ordered j d short)) in
-    let all = key_determines n ds (attributes table.scheme) (attributes other.scheme) (attributes other.key) inside greedy
-    refers.within in
+    let all = key_determines n ds (nullable_of s) (attributes table.scheme) (attributes other.scheme)
+    (attributes other.key) inside primary refers.within in
     let same = later_the_same n ds plan ordered order i j d before short
     (subst (λ (y : Attributes). (a : ℕ) → InClosure n ds y a → InClosure n ds (get_or ordered i d) a) (sym second)
     (subst (λ (x : Attributes). (a : ℕ) → InClosure n ds (attributes other.scheme) a → InClosure n ds x a) (sym first)

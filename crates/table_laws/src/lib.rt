@@ -1,28 +1,29 @@
 //! Laws of tables. What a destination over a folder writes of a table as CSV is read back as the table's
-//! rows, and what stands between quotes in its SQL tells the value. A design in its order states each
+//! rows, and what stands for a value in its SQL tells the value, also that it is missing. A design in its order states each
 //! reference that it can.
 #![tactic(auto)]
 
-ghost use Rattle.std.specs.Prelude.{◌≡◌, ◌<◌, ◌≤◌, ℕ, true, List, length, slice_get, Some, All, IsTrue, Ok};
+ghost use Rattle.std.specs.Prelude.{◌≡◌, ◌<◌, ◌≤◌, ℕ, Bool, true, List, length, slice_get, Some, All, IsTrue, Ok};
 ghost use Rattle.attr_sets.specs.Attributes.{Attributes, count_below};
 ghost use Rattle.attr_sets.specs.declared.set.AttrSet.{AttrSet};
 ghost use Rattle.csv_migrate.specs.Migration.{column_names, tables_of_migration};
 ghost use Rattle.csv_rows.specs.Reading.{RowsOf, PartOf};
 ghost use Rattle.csv_rows.specs.declared.reading.TheConstants.{MOST_ROWS};
-ghost use Rattle.dep_model.specs.Integers.{IsIntegerText};
 ghost use Rattle.dep_model.specs.Names.{is_bare_name};
 ghost use Rattle.dep_model.specs.OnSchemes.{value_in};
 ghost use Rattle.dep_model.specs.Plans.{IsPlan, schemes_of};
-ghost use Rattle.dep_model.specs.Schemas.{names_of, width_of, types_of, theory_of, TypedFor};
+ghost use Rattle.column_values.specs.Values.{FitsColumn, FitsColumns};
+ghost use Rattle.dep_model.specs.Schemas.{names_of, nullable_of, width_of, types_of, theory_of};
 ghost use Rattle.dep_model.specs.Tuples.{Relation, IsOver};
-ghost use Rattle.dep_model.specs.declared.column_type.ColumnType.TheVariants.{Integer};
+ghost use Rattle.dep_model.specs.declared.column_type.ColumnType.{ColumnType};
 ghost use Rattle.dep_model.specs.declared.schema.Schema.{Schema};
 ghost use Rattle.ddl_text.specs.Designs.{IsDesign};
 ghost use Rattle.ddl_text.specs.declared.table.TableDesign.{TableDesign};
 ghost use Rattle.design_order.specs.Order.{IsInDesignOrder};
+ghost use Rattle.hex.specs.Hex.{IsBytes};
 ghost use Rattle.named_tables.specs.Tables.{TableValue};
 ghost use Rattle.destinations.specs.Formats.{table_file};
-ghost use Rattle.destinations.specs.Sql.{quoted_text};
+ghost use Rattle.destinations.specs.Sql.{quoted_text, sql_value, sql_cell};
 ghost use Rattle.destinations.specs.declared.format.TableFormat.TheVariants.{Csv};
 ghost use Rattle.table_laws.specs.References.{ReferencesAreStated};
 
@@ -30,13 +31,13 @@ ghost use Rattle.table_laws.specs.References.{ReferencesAreStated};
 /// file may have: of a table with all attributes of a schema, and of one with some of them, at least one.
 pub fn files_of_tables_are_read_back()
     ensures whole { (s : Schema) (table : TableValue) → All (λ name. IsTrue (is_bare_name name)) (names_of s)
-        → table.columns ≡ names_of s → IsOver (width_of s) table.rows → TypedFor s table.rows
+        → table.columns ≡ names_of s → IsOver (width_of s) table.rows → FitsColumns s table.rows
         → length table.rows ≤ MOST_ROWS → RowsOf s (table_file Csv table).bytes (Ok table.rows) }
     ensures part { (s : Schema) (x : Attributes) (table : TableValue)
         → All (λ name. IsTrue (is_bare_name name)) (names_of s) → 0 < count_below x (width_of s)
         → table.columns ≡ column_names s x → IsOver (count_below x (width_of s)) table.rows
-        → All (λ t. (k : ℕ) → x k ≡ true → slice_get (types_of s) k ≡ Some Integer
-        → IsIntegerText (value_in x t k)) table.rows
+        → All (λ t. (k : ℕ) (column : ColumnType) → x k ≡ true → slice_get (types_of s) k ≡ Some column
+        → FitsColumn column (nullable_of s k) (value_in x t k)) table.rows
         → length table.rows ≤ MOST_ROWS → PartOf s (table_file Csv table).bytes (Ok table.rows) }
 {}
 
@@ -44,7 +45,7 @@ pub fn files_of_tables_are_read_back()
 /// fit the types of the columns and are no more than a file may have, and no scheme of the plan is empty.
 pub fn migrated_tables_are_read_back()
     ensures law { (s : Schema) (plan : List Attributes) (rows : Relation)
-        → All (λ name. IsTrue (is_bare_name name)) (names_of s) → IsOver (width_of s) rows → TypedFor s rows
+        → All (λ name. IsTrue (is_bare_name name)) (names_of s) → IsOver (width_of s) rows → FitsColumns s rows
         → length rows ≤ MOST_ROWS → All (λ scheme. 0 < count_below scheme (width_of s)) plan
         → All (λ table. PartOf s (table_file Csv table).bytes (Ok table.rows))
         (tables_of_migration s plan rows) }
@@ -54,6 +55,15 @@ pub fn migrated_tables_are_read_back()
 /// in an INSERT line.
 pub fn texts_of_values_differ()
     ensures law { (one other : List ℕ) → quoted_text one ≡ quoted_text other → one ≡ other }
+{}
+
+/// What stands for a value in an INSERT line tells the value, also that it is missing: in one column two values
+/// with the same text are the same.
+pub fn cells_of_values_differ()
+    ensures values { (one other : List ℕ) → IsBytes one → IsBytes other
+        → sql_value one ≡ sql_value other → one ≡ other }
+    ensures cells { (nullable : Bool) (one other : List ℕ) → IsBytes one
+        → IsBytes other → sql_cell nullable one ≡ sql_cell nullable other → one ≡ other }
 {}
 
 /// In the design of a plan in its order each table refers to every other one whose key, not empty, lies

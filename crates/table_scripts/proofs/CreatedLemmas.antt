@@ -1,13 +1,15 @@
 -- The tables of a design as statements print what the design prints as SQL.
-use Rattle.std.proofs.Common.{◌≡◌, ◌<◌, ℕ, Bool, true, false, List, [], ◌∷◌, ◌++◌, length, get_or, map, Some, None, refl, sym, ap, ◌∙◌, inl, inr, append-nil, append_assoc, arith}
+use Rattle.std.proofs.Common.{◌≡◌, ◌<◌, ℕ, Bool, true, false, List, [], ◌∷◌, ◌++◌, length, get_or, map, None, Some, Vec, refl, sym, ap, ◌∙◌, inl, inr, append-nil, append_assoc, arith}
 use Rattle.std.proofs.lemmas.Bool.{cases_Bool}
 use Rattle.std.proofs.lemmas.Grind.{flat_map-append}
 use Rattle.std.proofs.lemmas.List.{map-append}
 use Rattle.std.proofs.lemmas.Option.{slice_get-get_or}
-use Rattle.std.specs.Prelude.{All, Contains, Option, if◌then◌else◌, codes, is_some, option_map, slice_get, unwrap_or}
+use Rattle.std.specs.Prelude.{if◌then◌else◌, All, Contains, Option, codes, is_some, option_map, slice_get, unwrap_or}
 use Rattle.std.specs.List.{flat_map}
+use Rattle.std.specs.declared.alloc.Global.{Global}
 use Rattle.attr_sets.specs.Attributes.{Attributes}
 use Rattle.attr_sets.specs.Sets.{attributes}
+use Rattle.attr_sets.specs.declared.set.AttrSet.{AttrSet}
 use Rattle.dep_model.specs.declared.schema.Schema.{Schema}
 use Rattle.dep_model.specs.Projections.{members_below}
 use Rattle.dep_model.specs.Schemas.{names_of, width_of}
@@ -16,13 +18,13 @@ use Rattle.schema_printer.specs.Printing.{members_from}
 use Rattle.ddl_text.specs.declared.table.TableDesign.{TableDesign}
 use Rattle.ddl_text.specs.Designs.{known_keys, ReferToEarlier}
 use Rattle.ddl_text.specs.Ddl as ddl
-use Rattle.sql_names.specs.Names.{name_list}
+use Rattle.sql_names.specs.Names.{name_list, quoted_name}
 use Rattle.sql_syntax.specs.Syntax.{attribute}
 use Rattle.sql_syntax.specs.Printing.{name_text, names_text}
-use Rattle.sql_syntax.specs.Statements.{Element, Statement, element_text, element_lines, statement_text, script_text, primary_key}
+use Rattle.sql_syntax.specs.Statements.{Element, Statement, element_text, element_lines, statement_text, script_text}
 use Rattle.check_laws.proofs.EachLemmas.{map-known, map-map}
 use Rattle.migrate_queries.specs.Moving.{attribute_names}
-use Rattle.migrate_queries.specs.Created.{column_made, columns_made, key_made, keys_made, reference_made, references_made, elements_made, remarks_made, table_made, tables_made}
+use Rattle.migrate_queries.specs.Created.{column_made, columns_made, stated_keys, left_out_keys, key_made, keys_made, reference_made, references_made, elements_made, left_out_words, said_of, table_made, tables_made}
 use Rattle.table_scripts.proofs.ListingLemmas.{comma_list-map}
 
 -- ---- names
@@ -76,42 +78,65 @@ elements_same : (s : Schema) (tables : List TableDesign) (table : TableDesign) �
 elements_same s tables table earlier =
     let columns = columns_made s (attributes table.scheme) in
     let refs = references_made s tables table in
+    let stated = stated_keys s (known_keys table.other_keys) in
     map-append element_text (columns ++ keys_made s table) refs
     ∙ ap (λ (front : List (List ℕ)). front ++ map element_text refs)
     (map-append element_text columns (keys_made s table)
     ∙ ap (λ (front : List (List ℕ)). front ++ map element_text (keys_made s table)) (columns_same s (attributes table.scheme))
     ∙ ap (λ (keys : List (List ℕ)). ddl.column_elements s (attributes table.scheme) ++ keys)
-    (map-append element_text (key_made s (attributes table.key)) (map (λ key. Element.unique_key (attribute_names s key)) (known_keys table.other_keys))
-    ∙ ap (λ (key : List (List ℕ)). key ++ map element_text (map (λ k. Element.unique_key (attribute_names s k)) (known_keys table.other_keys))) (key_same s (attributes table.key))
-    ∙ ap (λ (more : List (List ℕ)). ddl.key_elements s (attributes table.key) ++ more) (unique_same s (known_keys table.other_keys))))
+    (map-append element_text (key_made s (attributes table.key)) (map (λ key. Element.unique_key (attribute_names s key)) stated)
+    ∙ ap (λ (key : List (List ℕ)). key ++ map element_text (map (λ k. Element.unique_key (attribute_names s k)) stated)) (key_same s (attributes table.key))
+    ∙ ap (λ (more : List (List ℕ)). ddl.key_elements s (attributes table.key) ++ more) (unique_same s stated)))
     ∙ ap (λ (more : List (List ℕ)). ddl.column_elements s (attributes table.scheme) ++ ddl.keys_elements s table ++ more) (references_same s tables table earlier)
 
 -- ---- tables
+-- a remark on its line
+abbrev remark_line : List ℕ → List ℕ
+remark_line words = codes "-- " ++ words ++ codes "\n"
+
 -- remarks and then one statement
-remarked : (key : Attributes) (known : Bool) (x : Statement)
-    → script_text (remarks_made key known ++ x ∷ []) ≡ ddl.comment key known ++ statement_text x
-unfolding statement_text ddl.comment
-remarked key known x = elim (cases_Bool (ddl.is_empty key)) [
-  | inl empty ↦ rw empty (ap (λ (t : List ℕ). codes "-- at most one row\n" ++ t) (append-nil (statement_text x)))
-  | inr other ↦ elim (cases_Bool known) [
-    | inl is ↦ rw (other, is) (append-nil (statement_text x))
-    | inr beyond ↦ rw (other, beyond) (ap (λ (t : List ℕ). codes "-- further keys are not looked for\n" ++ t) (append-nil (statement_text x)))
-  ]
+remarked : (words : List (List ℕ)) (x : Statement)
+    → script_text (map Statement.remark words ++ x ∷ []) ≡ flat_map remark_line words ++ statement_text x
+unfolding statement_text
+remarked [] x = append-nil (statement_text x)
+remarked (first ∷ words) x =
+    ap (λ (t : List ℕ). remark_line first ++ t) (remarked words x)
+    ∙ sym (append_assoc (remark_line first) (flat_map remark_line words) (statement_text x))
+
+-- what is said of keys that are left out
+left_out_said : (s : Schema) (keys : List Attributes)
+    → flat_map remark_line (map (left_out_words s) keys) ≡ flat_map (ddl.left_out_line s) keys
+unfolding ddl.left_out_line
+left_out_said s [] = refl
+left_out_said s (key ∷ keys) =
+    ap (λ (t : List ℕ). codes "-- UNIQUE (" ++ t ++ flat_map remark_line (map (left_out_words s) keys))
+    (append_assoc (name_list s key) (codes ") is left out: missing values are not compared") (codes "\n"))
+    ∙ ap (λ (rest : List ℕ). ddl.left_out_line s key ++ rest) (left_out_said s keys)
+
+keys_said : (s : Schema) (others : Option (Vec AttrSet Global))
+    → flat_map remark_line (if is_some others then map (left_out_words s) (left_out_keys s (known_keys others)) else codes "further keys are not looked for" ∷ [])
+    ≡ ddl.key_comment s others
+keys_said s None = refl
+keys_said s (Some keys) = left_out_said s (left_out_keys s (known_keys (Some keys)))
+
+table_said : (s : Schema) (table : TableDesign) → flat_map remark_line (said_of s table) ≡ ddl.comment s table
+table_said s table = elim (cases_Bool (ddl.is_empty (attributes table.key))) [
+  | inl empty ↦ rw empty refl
+  | inr other ↦ rw other (keys_said s table.other_keys)
 ]
 
 table_same : (s : Schema) (tables : List TableDesign) (table : TableDesign) → All (λ j. j < length tables) table.refs.items
     → script_text (table_made s tables table) ≡ ddl.table_text s tables table
 unfolding statement_text ddl.table_text
 table_same s tables table earlier =
-    let front = ddl.comment (attributes table.key) (is_some table.other_keys) in
-    remarked (attributes table.key) (is_some table.other_keys) (Statement.create_table (quoted table) (elements_made s tables table))
-    ∙ ap (λ (lines : List ℕ). front ++ (codes "CREATE TABLE " ++ quoted table ++ codes " (\n" ++ lines ++ codes "\n);\n"))
+    let front = ddl.comment s table in
+    let create = Statement.create_table (quoted_name table.name) (elements_made s tables table) in
+    remarked (said_of s table) create
+    ∙ ap (λ (t : List ℕ). t ++ statement_text create) (table_said s table)
+    ∙ ap (λ (lines : List ℕ). front ++ (codes "CREATE TABLE " ++ quoted_name table.name ++ codes " (\n" ++ lines ++ codes "\n);\n"))
     (lines_same false (elements_made s tables table) ∙ ap (ddl.element_lines false) (elements_same s tables table earlier))
-    ∙ assoc front (quoted table) (ddl.element_lines false (ddl.elements s tables table))
+    ∙ assoc front (quoted_name table.name) (ddl.element_lines false (ddl.elements s tables table))
   where
-    quoted : TableDesign → List ℕ
-    quoted t = 34 ∷ (t.name ++ 34 ∷ [])
-
     assoc : (front name lines : List ℕ) → front ++ (codes "CREATE TABLE " ++ name ++ codes " (\n" ++ lines ++ codes "\n);\n")
         ≡ front ++ codes "CREATE TABLE " ++ name ++ codes " (\n" ++ lines ++ codes "\n);\n"
     assoc front name lines = simp (append_assoc)

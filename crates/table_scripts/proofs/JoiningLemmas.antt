@@ -8,10 +8,9 @@ use Rattle.attr_sets.specs.Sets.{attributes}
 use Rattle.attr_sets.specs.declared.set.AttrSet.{AttrSet}
 use Rattle.dep_model.specs.declared.schema.Schema.{Schema}
 use Rattle.dep_model.specs.Schemas.{universe_of}
-use Rattle.ddl_text.specs.Ddl.{is_empty}
 use Rattle.ddl_text.proofs.TextLemmas.{empty_passes, empty_fails}
 use Rattle.sql_names.specs.Names.{quoted_name}
-use Rattle.sql_syntax.specs.Syntax.{Link, by_columns, crosswise}
+use Rattle.sql_syntax.specs.Syntax.{by_columns, crosswise}
 use Rattle.sql_syntax.specs.Printing.{link_text, names_text, joined_text, query_text}
 use Rattle.migrate_queries.specs.declared.joining.JoinedTable.{JoinedTable}
 use Rattle.migrate_queries.specs.Moving.{attribute_names}

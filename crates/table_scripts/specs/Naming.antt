@@ -3,7 +3,6 @@ use Rattle.std.specs.Prelude.{ℕ, Bool, ◌&&◌, ◌||◌, ◌==◌, ◌-◌, 
 use Rattle.std.specs.Char.{is_ascii_alphabetic, is_ascii_digit}
 use Rattle.std.specs.List.{flat_map, list_all}
 use Rattle.dep_model.specs.Names.{is_name_byte, same_name}
-use Rattle.sql_names.specs.Names.{quoted_name}
 use Rattle.table_scripts.specs.declared.naming.TheConstants.{MOST_PARTS, MOST_PART_BYTES}
 
 -- a byte in front of the first part
@@ -43,10 +42,14 @@ are_parts most parts = nat_le (length parts) most && list_all is_part parts && n
 unfoldable pub is_table_name : List ℕ → Bool
 is_table_name bytes = are_parts MOST_PARTS (dotted_parts bytes)
 
+-- a part in double quotes, of which it has none itself
+abbrev pub in_quotes : List ℕ → List ℕ
+in_quotes part = 34 ∷ (part ++ 34 ∷ [])
+
 -- parts in double quotes, with a dot between two
 abbrev pub dotted_name : List (List ℕ) → List ℕ
 dotted_name [] = []
-dotted_name (part ∷ parts) = quoted_name part ++ flat_map (λ other. 46 ∷ quoted_name other) parts
+dotted_name (part ∷ parts) = in_quotes part ++ flat_map (λ other. 46 ∷ in_quotes other) parts
 
 -- a byte of a name in double quotes: a dot ends one part and begins the next
 abbrev pub byte_between_quotes : ℕ → List ℕ

@@ -9,6 +9,7 @@ ghost use Rattle.sql_evaluation.specs.Running.{State, Cast, Fails, engine_at, en
 ghost use Rattle.check_laws.specs.Holding.{Holds};
 ghost use Rattle.migrate_queries.specs.Script.{copy_query, fill_query, view_name, view_query, copied_rows, viewed_rows, migration};
 ghost use Rattle.migrate_laws.specs.Moved.{HasMoved};
+ghost use Rattle.ending_laws.specs.Ending.{IsSoundRun};
 ghost use Rattle.table_scripts.specs.Naming.{is_table_name, quoted_table};
 ghost use Rattle.table_scripts.specs.Migrating.{opening_text, fill_text, lacked_text, gained_text, test_opening, count_text, test_end, testing_text, migrate_text, FillsTables, ViewIsTable};
 
@@ -27,7 +28,8 @@ use std::alloc::Global;
 /// A script that makes the tables of a design and fills them from a table, makes a view on their join, and
 /// undoes all of this where the view is not the table. In an engine that holds a relation as this table, a run
 /// without an error has moved it into the tables, and any other run has changed nothing. Over a legal relation
-/// what fills each table is its ordered projection, and where the plan loses nothing the join is the relation.
+/// what fills each table is its ordered projection, and where the plan loses nothing the join is the relation; then
+/// a run ends without an error, where the engine refuses nothing but what breaks a rule of a table.
 pub fn migrate_script(
     alloc: Global,
     schema: &Schema,
@@ -46,6 +48,10 @@ pub fn migrate_script(
     ensures undoes { (fails : Fails) (cast : Cast) (start kept : State)
         → outcome fails cast (migration schema.now (quoted_table table.now) design.now) start ≡ stopped kept
         → kept ≡ start }
+    ensures ends { (fails : Fails) (cast : Cast) (cell : ℕ → List ℕ → Cell) (r : Relation) (start : State)
+        → IsSoundRun fails cast schema.now (quoted_table table.now) cell r design.now start
+        → (last : State)
+        × (outcome fails cast (migration schema.now (quoted_table table.now) design.now) start ≡ ended last) }
 {
     migrate_text(alloc, schema, design, table)
 }

@@ -107,7 +107,7 @@ fn write_table<T: Destination>(
     ensures closed { T.width destination.new ≡ None }
     ensures cause { HasOutsideCause (T.faults destination.old) (T.faults destination.new) result }
 {
-    destination.begin_table(&table.name, &table.columns)?;
+    destination.begin_table(&table.name, &table.columns, &table.nullable)?;
     for row in &table.chosen {
         destination.put_row(rows, *row as usize, table.scheme)?;
     }

@@ -7,6 +7,8 @@ mod feeding;
 #[cfg(test)]
 mod outside;
 #[cfg(test)]
+mod own_folders;
+#[cfg(test)]
 mod storing;
 #[cfg(test)]
 mod three_tables;

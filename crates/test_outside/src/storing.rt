@@ -32,6 +32,20 @@ fn pair(alloc: Global, first: &[u8], second: &[u8]) -> Result<Rows, OutOfMemory>
     Ok(rows)
 }
 
+// One row of four values.
+fn four(alloc: Global, cells: [&[u8]; 4]) -> Result<Rows, OutOfMemory>
+    ensures row { IfOk result (λ rows. (0 < length rows) × (length (row_at rows 0) ≡ 4)) }
+{
+    let mut values = FlatValues::new(alloc);
+    values.push(cells[0])?;
+    values.push(cells[1])?;
+    values.push(cells[2])?;
+    values.push(cells[3])?;
+    let mut rows = Rows::new(alloc);
+    rows.push(&values)?;
+    Ok(rows)
+}
+
 fn name(bytes: &[u8]) -> Result<Name, OutsideFault> {
     match Name::new(bytes) {
         Some(name) => Ok(name),
@@ -62,7 +76,7 @@ fn put_table<T: Destination>(
     value: &[u8],
 ) -> Result<(), OutsideFault> {
     let row = single(alloc, value)?;
-    destination.begin_table(&name(table)?, &[name(b"A")?])?;
+    destination.begin_table(&name(table)?, &[name(b"A")?], &[false])?;
     put_first(destination, &row, 1)?;
     destination.end_table()
 }
@@ -71,9 +85,24 @@ fn put_table<T: Destination>(
 fn put_pairs<T: Destination>(alloc: Global, destination: &mut T) -> Result<(), OutsideFault> {
     let first = pair(alloc, b"1", b"a,\"b\"")?;
     let second = pair(alloc, b"O'Hara", b"\0")?;
-    destination.begin_table(&name(b"t1")?, &[name(b"NAME")?, name(b"Note")?])?;
+    let columns = [name(b"NAME")?, name(b"Note")?];
+    destination.begin_table(&name(b"t1")?, &columns, &[false, false])?;
     put_first(destination, &first, 2)?;
     put_first(destination, &second, 2)?;
+    destination.end_table()
+}
+
+// A table of one row, of which the last two values are missing.
+fn put_missing<T: Destination>(alloc: Global, destination: &mut T) -> Result<(), OutsideFault> {
+    let row = four(alloc, [b"1", b"2", b"", b""])?;
+    let columns = [
+        name(b"ID")?,
+        name(b"Unit price")?,
+        name(b"NAME")?,
+        name(b"DAY")?,
+    ];
+    destination.begin_table(&name(b"t1")?, &columns, &[false, false, true, true])?;
+    put_first(destination, &row, 4)?;
     destination.end_table()
 }
 
@@ -126,7 +155,7 @@ fn a_table_begun_anew_is_given_up(rt: HostRuntime) -> Result<(), Fail> {
     let Ok(first) = name(b"t1") else {
         return Err(Fail::from(OutOfMemory));
     };
-    assert!(rt; destination.begin_table(&first, &[]) == Ok(()));
+    assert!(rt; destination.begin_table(&first, &[], &[]) == Ok(()));
     assert!(rt; put_table(alloc, &mut destination, b"t2", b"x") == Ok(()));
     assert_eq!(rt; destination.tables().len(), 1);
     Ok(())
@@ -160,6 +189,24 @@ fn tables_as_sql_files(rt: HostRuntime) -> Result<(), Fail> {
 INSERT INTO \"t1\" (\"NAME\", \"Note\") VALUES ('O''Hara', X'00');
 ";
     assert!(rt; is_file(boxed.held_files(), 0, b"t1.sql", pairs));
+    Ok(())
+}
+
+// The empty text in a column of which a value may be missing is NULL, and in a CSV file the empty text.
+#[test]
+fn missing_values_are_null(rt: HostRuntime) -> Result<(), Fail> {
+    let alloc = rt.alloc();
+    let folder = MemoryFolder::new(alloc, Vec::new(alloc));
+    let mut destination = FileDestination::new(alloc, TableFormat::Sql, folder)?;
+    assert!(rt; put_missing(alloc, &mut destination) == Ok(()));
+    let line =
+        b"INSERT INTO \"t1\" (\"ID\", \"Unit price\", \"NAME\", \"DAY\") VALUES ('1', '2', NULL, NULL);\n";
+    assert!(rt; is_file(destination.held_files(), 0, b"t1.sql", line));
+    let folder = MemoryFolder::new(alloc, Vec::new(alloc));
+    let mut destination = FileDestination::new(alloc, TableFormat::Csv, folder)?;
+    assert!(rt; put_missing(alloc, &mut destination) == Ok(()));
+    let text = b"ID,Unit price,NAME,DAY\n1,2,,\n";
+    assert!(rt; is_file(destination.held_files(), 0, b"t1.csv", text));
     Ok(())
 }
 
@@ -217,7 +264,7 @@ fn put_long<T: Destination>(
     value: &[u8],
 ) -> Result<(), OutsideFault> {
     let row = single(alloc, value)?;
-    destination.begin_table(&name(b"t1")?, &[name(b"A")?])?;
+    destination.begin_table(&name(b"t1")?, &[name(b"A")?], &[false])?;
     put_first(destination, &row, 1)?;
     put_first(destination, &row, 1)?;
     put_first(destination, &row, 1)?;

@@ -42,6 +42,7 @@ fn table(
     Ok(ChosenTable {
         name,
         columns,
+        nullable: Vec::from_slice(alloc, &[false])?,
         scheme,
         chosen: there,
     })

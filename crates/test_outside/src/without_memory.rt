@@ -37,7 +37,12 @@ impl Destination for WithoutMemory {
 
     ghost faults = { λ _. 0 };
 
-    fn begin_table(&mut self, _name: &Name, _columns: &[Name]) -> Result<(), OutsideFault>
+    fn begin_table(
+        &mut self,
+        _name: &Name,
+        _columns: &[Name],
+        _nullable: &[bool],
+    ) -> Result<(), OutsideFault>
         ensures memory { result ≡ Err OutOfMemory }
         ensures closed { self.new.columns ≡ None }
     {

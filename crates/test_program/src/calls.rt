@@ -1,8 +1,9 @@
 use dep_model::OutOfMemory;
 use desk_cli::desk;
-use desk_outside::{Argument, HeldFile, MemoryFiles, MemorySink};
+use desk_outside::{Argument, HeldFile, MemoryFiles, MemoryFolder, MemorySink};
 use desk_responses::Status;
 use destinations::{Destination, MemoryDestination};
+use own_folder::{MemoryFolders, OwnFolderWriter};
 use row_store::Hashing;
 use std::alloc::Global;
 
@@ -42,7 +43,30 @@ pub(crate) fn call(
     destinations: &mut Vec<Box<dyn Destination>>,
 ) -> Result<Status, OutOfMemory> {
     let words = words_of(alloc, words)?;
-    desk(alloc, Hashing::Fixed, &words, source, sink, destinations)
+    let mut own = folder_in_memory(alloc, &[], &[])?;
+    desk(
+        alloc,
+        Hashing::Fixed,
+        &words,
+        source,
+        sink,
+        destinations,
+        &mut own,
+    )
+}
+
+// A folder of its own in memory, beside files of these names, whose making fails at these calls.
+pub(crate) fn folder_in_memory(
+    alloc: Global,
+    files: &[&[u8]],
+    fails: &[u64],
+) -> Result<OwnFolderWriter<MemoryFolders, MemoryFolder>, OutOfMemory> {
+    let place = MemoryFolders::new(
+        alloc,
+        words_of(alloc, files)?,
+        Vec::from_slice(alloc, fails)?,
+    );
+    OwnFolderWriter::new(alloc, place, MemoryFolder::new(alloc, Vec::new(alloc)))
 }
 
 // A sink that takes a byte at a time, so many in all.

@@ -1,5 +1,12 @@
+ghost use Rattle.std.specs.Prelude.{◌≡◌, IsTrue, IfOk};
+ghost use Rattle.attr_sets.specs.Attributes.{IsSubset, below};
+ghost use Rattle.attr_sets.specs.Sets.{attributes};
+ghost use Rattle.dep_model.specs.Columns.{is_column_type};
+ghost use Rattle.dep_model.specs.Schemas.{width_of};
+
+use attr_sets::AttrSet;
 use csv_rows::{RowRefusal, print_rows, read_part, read_rows};
-use dep_model::Failure;
+use dep_model::{ColumnType, Failure, Name, Naming, OutOfMemory, Schema};
 use schema_reader::{MOST_TEXT_BYTES, read_schema};
 use std::alloc::Global;
 use std::process::Abort;
@@ -89,23 +96,30 @@ fn integers_in_integer_columns(rt: HostRuntime) -> Result<(), Fail> {
         ("NAME,ID,AGE\nAnn,7,0\nBo,-9223372036854775808,1\n", None),
         (
             "NAME,ID,AGE\nAnn,07,0\n",
-            Some(RowRefusal::NotInteger {
+            Some(RowRefusal::NotOfType {
                 row: 1,
                 attribute: 0,
             }),
         ),
         (
             "NAME,ID,AGE\nAnn,7,0\nBo,-0,x\n",
-            Some(RowRefusal::NotInteger {
+            Some(RowRefusal::NotOfType {
                 row: 2,
                 attribute: 0,
             }),
         ),
         (
             "NAME,ID,AGE\nAnn,7,\n",
-            Some(RowRefusal::NotInteger {
+            Some(RowRefusal::NotOfType {
                 row: 1,
                 attribute: 2,
+            }),
+        ),
+        (
+            "NAME,ID,AGE\nAnn,9223372036854775808,1\n",
+            Some(RowRefusal::NotOfType {
+                row: 1,
+                attribute: 0,
             }),
         ),
         (
@@ -116,6 +130,103 @@ fn integers_in_integer_columns(rt: HostRuntime) -> Result<(), Fail> {
     for case in cases {
         check(&rt, schema, case)?;
     }
+    Ok(())
+}
+
+// A schema of one column.
+fn one_column(
+    alloc: Global,
+    name: Name,
+    column: ColumnType,
+    nullable: AttrSet,
+) -> Result<Schema, OutOfMemory>
+    requires column { IsTrue (is_column_type column) }
+    requires nullable { IsSubset (attributes nullable) (below 1) }
+    ensures { IfOk result (λ s. width_of s ≡ 1) }
+{
+    let names = Vec::from_slice(alloc, &[name])?;
+    let columns = Vec::from_slice(alloc, &[column])?;
+    let none = Vec::new(alloc);
+    Ok(Schema::with_columns(Naming::Any, names, columns, nullable, none, Vec::new(alloc)))
+}
+
+// Whether a value of a column of this type is read.
+fn is_read(
+    rt: &(impl Alloc<A = Global> + Abort),
+    column: ColumnType,
+    nullable: AttrSet,
+    value: &str,
+) -> Result<bool, Fail>
+    requires column { IsTrue (is_column_type column) }
+    requires nullable { IsSubset (attributes nullable) (below 1) }
+{
+    let alloc = rt.alloc();
+    let name = Name::new(b"A").expect(rt, "a name");
+    let schema = one_column(alloc, name, column, nullable)?;
+    let text = format!(in alloc; "A\n\"{value}\"\n")?;
+    match read_rows(alloc, &schema, text.as_bytes()) {
+        Ok(rows) => {
+            let printed = print_rows(alloc, &schema, &rows)?;
+            assert!(rt; rows.len() == 1 && printed.len() >= value.len());
+            Ok(true)
+        }
+        Err(failure) => {
+            let want = RowRefusal::NotOfType {
+                row: 1,
+                attribute: 0,
+            };
+            assert_eq!(rt; failure, Failure::Refused(want));
+            Ok(false)
+        }
+    }
+}
+
+#[test]
+fn values_that_fit_their_column(rt: HostRuntime) -> Result<(), Fail> {
+    let none = AttrSet::empty();
+    assert!(rt; is_read(&rt, ColumnType::Text, none, "")?);
+    assert!(rt; is_read(&rt, ColumnType::Integer, none, "-9223372036854775808")?);
+    assert!(rt; is_read(&rt, ColumnType::Date, none, "2024-02-29")?);
+    assert!(rt; is_read(&rt, ColumnType::Timestamp, none, "9999-12-31 23:59:59.5")?);
+    assert!(rt; is_read(&rt, ColumnType::Decimal(2), none, "-0.01")?);
+    assert!(rt; is_read(&rt, ColumnType::Decimal(0), none, "999999999999999")?);
+    assert!(rt;
+        is_read(
+            &rt,
+            ColumnType::Uuid,
+            none,
+            "00000000-0000-0000-0000-00000000000a"
+        )?
+    );
+    Ok(())
+}
+
+#[test]
+fn values_that_fit_no_column(rt: HostRuntime) -> Result<(), Fail> {
+    let none = AttrSet::empty();
+    assert!(rt; !is_read(&rt, ColumnType::Integer, none, "")?);
+    assert!(rt; !is_read(&rt, ColumnType::Date, none, "2023-02-29")?);
+    assert!(rt; !is_read(&rt, ColumnType::Timestamp, none, "2024-02-29 24:00:00")?);
+    assert!(rt; !is_read(&rt, ColumnType::Decimal(2), none, "-0.00")?);
+    assert!(rt; !is_read(&rt, ColumnType::Decimal(2), none, "1.0")?);
+    assert!(rt;
+        !is_read(
+            &rt,
+            ColumnType::Uuid,
+            none,
+            "00000000-0000-0000-0000-00000000000A"
+        )?
+    );
+    Ok(())
+}
+
+#[test]
+fn missing_values_in_nullable_columns(rt: HostRuntime) -> Result<(), Fail> {
+    let nullable = AttrSet::single(0);
+    assert!(rt; is_read(&rt, ColumnType::Integer, nullable, "")?);
+    assert!(rt; is_read(&rt, ColumnType::Date, nullable, "")?);
+    assert!(rt; is_read(&rt, ColumnType::Uuid, nullable, "")?);
+    assert!(rt; !is_read(&rt, ColumnType::Date, nullable, " ")?);
     Ok(())
 }
 

@@ -7,6 +7,8 @@ mod certificates;
 #[cfg(test)]
 mod examples;
 #[cfg(test)]
+mod full_schemas;
+#[cfg(test)]
 mod goals;
 #[cfg(test)]
 mod lines;

@@ -1,3 +1,4 @@
+use dep_model::Naming;
 use lexer::{Mode, TokenKind};
 use std::process::Abort;
 use std::test::Fail;
@@ -27,13 +28,13 @@ fn check(rt: &impl Abort, line: &[u8], mode: Mode, want: u32) {
 #[test]
 fn a_line_has_its_tokens(rt: HostRuntime) -> Result<(), Fail> {
     let table: [(&[u8], Mode, u32); 7] = [
-        (b"A->>B () x_1", Mode::PLAIN, 5),
-        (b"12: A -> B : given 007", Mode::NUMBERED, 8),
-        (b"\t, # 12", Mode::PLAIN, 0),
-        (b"12", Mode::PLAIN, 101),
-        (b"A : B", Mode::PLAIN, 301),
-        (b"A -> 1234567890", Mode::NUMBERED, 601),
-        (b"A-B", Mode::PLAIN, 201),
+        (b"A->>B () x_1", Mode::plain(Naming::Bare), 5),
+        (b"12: A -> B : given 007", Mode::numbered(Naming::Bare), 8),
+        (b"\t, # 12", Mode::plain(Naming::Bare), 0),
+        (b"12", Mode::plain(Naming::Bare), 101),
+        (b"A : B", Mode::plain(Naming::Bare), 301),
+        (b"A -> 1234567890", Mode::numbered(Naming::Bare), 601),
+        (b"A-B", Mode::plain(Naming::Bare), 201),
     ];
     for (line, mode, want) in table {
         check(&rt, line, mode, want);
@@ -62,7 +63,7 @@ fn taken<'a>(
 
 #[test]
 fn tokens_stand_in_their_columns(rt: HostRuntime) -> Result<(), Fail> {
-    let rest = Cursor::start(1, Mode::NUMBERED, b"12: A");
+    let rest = Cursor::start(1, Mode::numbered(Naming::Bare), b"12: A");
     let rest = taken(&rt, rest, TokenKind::Number(12), 1, 2);
     let rest = taken(&rt, rest, TokenKind::Colon, 3, 1);
     let rest = taken(&rt, rest, TokenKind::Identifier, 5, 1);

@@ -1,3 +1,4 @@
+use dep_model::Naming;
 use lexer::{Flaw, Mode, Next, TokenKind, next_token};
 use std::alloc::Global;
 use std::process::Abort;
@@ -56,7 +57,7 @@ fn a_name_stands_between_quotes(rt: HostRuntime) -> Result<(), Fail> {
     for (line, name, length) in table {
         check(&rt, line, name, length);
     }
-    match next_token(Mode::PLAIN, 3, b"\"a\"") {
+    match next_token(Mode::plain(Naming::Bare), 3, b"\"a\"") {
         Next::Error(stop) => {
             assert!(rt; stop.flaw == Flaw::StrangeByte && stop.column == 3 && stop.length == 1);
         }

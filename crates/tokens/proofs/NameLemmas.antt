@@ -14,6 +14,7 @@ use Rattle.dep_model.specs.Schemas.{attribute_named}
 use Rattle.schema_grammar.specs.declared.format.Format.{Format}
 use Rattle.schema_grammar.specs.declared.format.Format.TheVariants as format
 use Rattle.schema_grammar.specs.Words.{is_reserved}
+use Rattle.schema_printer.specs.Spelling.{is_schema_word}
 
 pub named_here : (names : List (List ℕ)) (name word : List ℕ) (k : ℕ)
     → AllPairs (λ a b. same_name a b ≡ false) names
@@ -48,7 +49,7 @@ longer_is_other word text short long =
 
 -- a word of fewer bytes than any reserved one
 pub short_not_reserved : (f : Format) (word : List ℕ) → length word < 4 → is_reserved f word ≡ false
-unfolding is_reserved
+unfolding is_reserved is_schema_word
 short_not_reserved format.Plain word short =
     let other = λ (text : List ℕ) (long : 4 ≤ length text). longer_is_other word text short long in
     rw (other (codes "attributes") (omega arith), other (codes "scheme") (omega arith))
@@ -62,3 +63,20 @@ short_not_reserved format.Typed word short =
       other (codes "integer") (omega arith),
       other (codes "text") (omega arith),
     ) refl
+short_not_reserved format.Full word short =
+    let other = λ (text : List ℕ) (long : 4 ≤ length text). longer_is_other word text short long in
+    rw (
+      other (codes "attributes") (omega arith),
+      other (codes "scheme") (omega arith),
+      other (codes "version") (omega arith),
+      other (codes "integer") (omega arith),
+      other (codes "text") (omega arith),
+      other (codes "date") (omega arith),
+    )
+    (rw (
+      other (codes "timestamp") (omega arith),
+      other (codes "decimal") (omega arith),
+      other (codes "uuid") (omega arith),
+      other (codes "other") (omega arith),
+      other (codes "nullable") (omega arith),
+    ) refl)

@@ -1,6 +1,7 @@
-ghost use Rattle.std.specs.Prelude.{◌≡◌, ◌+◌, ◌<◌, ◌≤◌, ◌^◌, length, OnOk, IfOk, IfErr, Ok, Err, Some, None};
+ghost use Rattle.std.specs.Prelude.{◌≡◌, ◌+◌, ◌<◌, ◌≤◌, ◌^◌, length, IsTrue, OnOk, IfOk, IfErr, Ok, Err, Some, None};
 ghost use Rattle.attr_sets.specs.Attributes.{below, IsSubset};
 ghost use Rattle.attr_sets.specs.Sets.{attributes};
+ghost use Rattle.dep_model.specs.Names.{IsName, is_bare_name};
 ghost use Rattle.lexer.specs.Tokens.{lex, bytes_of};
 ghost use Rattle.schema_grammar.specs.Declarations.{mark_of};
 ghost use Rattle.schema_grammar.specs.Refusals.{refusal};
@@ -84,6 +85,8 @@ impl<'a> Cursor<'a> {
     pub fn take(self, want: What) -> Result<(Token, Word<'a>, Cursor<'a>), SchemaRefusal>
         ensures ok { IfOk result (λ x.
             take want (rest_of self.entry) ≡ Ok (mark_of x.0 (bytes_of x.1), rest_of x.2)) }
+        ensures word { IfOk result (λ x. x.0.kind ≡ TokenKind.Identifier → IsTrue (is_bare_name (bytes_of x.1))) }
+        ensures name { IfOk result (λ x. x.0.kind ≡ TokenKind.Quoted → IsName (bytes_of x.1)) }
         ensures err { IfErr result (λ e. take want (rest_of self.entry) ≡ Err e) }
     {
         match self.next() {

@@ -13,6 +13,7 @@ use attr_sets::MOST_ATTRIBUTES;
 use dep_model::{Name, Schema};
 use lexer::{QuotedName, Token, TokenKind, Word};
 use schema_grammar::{Format, SchemaRefusal, SchemaRefusalKind};
+use schema_printer::is_schema_word;
 
 /// The names among which a word is looked up.
 #[derive(Clone, Copy)]
@@ -176,5 +177,6 @@ pub fn is_reserved(format: Format, word: &[u8]) -> bool
         Format::Typed => {
             is_common || word.eq_ignore_ascii_case(b"integer") || word.eq_ignore_ascii_case(b"text")
         }
+        Format::Full => is_schema_word(word),
     }
 }

@@ -1,10 +1,13 @@
--- What the loop of `numbered_pairs` keeps: `numbered`.
-use Rattle.std.proofs.Common.{ℕ, map}
-use Rattle.csv_rows.specs.Numberings.{AreNumbered, number_at}
+-- What the loop of `numbered_pairs` keeps: what is kept of the pairs so far, and their numbers.
+use Rattle.std.proofs.Common.{◌≡◌, ◌≤◌, length}
+use Rattle.csv_rows.specs.Numberings.{AreInOrder}
+use Rattle.csv_rows.proofs.PairLemmas.{Numbers}
 use Rattle.csv_rows.proofs.groups.numbered_pairs.Given as goal
 
--- the pairs so far have these numbers
 abbrev pub invariant-loop-i : goal.invariant-loop-i
 invariant-loop-i l = record {
-  numbered : AreNumbered (λ i. (number_at l.first i, number_at l.second i)) l.i (map (λ (p : ℕ × ℕ). p) l.pairs.keys) l.numbers.items;
+  even : length l.other_numbers.items ≡ length l.others.keys;
+  few : l.count ≤ l.i;
+  one_each : length l.numbers.items ≡ l.i;
+  so_far : AreInOrder l.first → Numbers l.first l.second l.i l.leads.items l.others.keys l.other_numbers.items l.count l.numbers.items;
 }

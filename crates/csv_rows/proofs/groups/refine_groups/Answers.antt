@@ -12,7 +12,7 @@ returns-then-are_zeros-clause-groups c = λ rows x k g codes.
     (single_group rows x k _ _ g (λ i l. c.are_zeros.ensures.zeros c.if-are_zeros.true i (omega (arith, l, g.one_each))) codes)
 
 pub returns-clause-groups : goal.returns-clause-groups
-returns-clause-groups c = λ rows x k g codes. pair_groups rows x k _ _ _ g codes c.in_ok-numbers.ensures.numbered
+returns-clause-groups c = λ rows x k g codes. pair_groups rows x k _ _ _ g codes (c.in_ok-numbers.ensures.numbered g.in_order)
 
 pub returns-clause-count : goal.returns-clause-count
-returns-clause-count c = c.in_ok-numbers.ensures.numbered.1.one_each
+returns-clause-count c = c.in_ok-numbers.ensures.count

@@ -1,9 +1,9 @@
--- What is left to prove of `read_rows`: its clauses `err`, `ok`, `over` and `typed` and what
+-- What is left to prove of `read_rows`: its clauses `err`, `ok`, `over` and `fits` and what
 -- `read_body` requires, by `ReadingLemmas`.
 use Rattle.std.proofs.Common.{refl}
 use Rattle.attr_sets.specs.Sets.{attributes}
 use Rattle.dep_model.proofs.FailureLemmas.{refuses_also}
-use Rattle.csv_rows.proofs.ReadingLemmas.{rows_of_text, refused_whole, refused_missing, whole_rows, on_ok, on_err, without_column-same, rows_over, rows_typed}
+use Rattle.csv_rows.proofs.ReadingLemmas.{rows_of_text, refused_whole, refused_missing, whole_rows, on_ok, on_err, without_column-same, rows_over, rows_fit}
 use Rattle.csv_rows.proofs.reading.read_rows.Goals as goal
 
 pub returns-in-Err-clause-err : goal.returns-in-Err-clause-err
@@ -34,5 +34,5 @@ returns-clause-err c =
 pub returns-clause-over : goal.returns-clause-over
 returns-clause-over c = on_ok _ _ c.read_body.result (λ v rows. rows_over c.args.schema.now c.args.text.now v rows) (returns-clause-ok c)
 
-pub returns-clause-typed : goal.returns-clause-typed
-returns-clause-typed c = on_ok _ _ c.read_body.result (λ v rows. rows_typed c.args.schema.now c.args.text.now v rows) (returns-clause-ok c)
+pub returns-clause-fits : goal.returns-clause-fits
+returns-clause-fits c = on_ok _ _ c.read_body.result (λ v rows. rows_fit c.args.schema.now c.args.text.now v rows) (returns-clause-ok c)

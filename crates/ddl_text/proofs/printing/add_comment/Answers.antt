@@ -1,33 +1,39 @@
--- What is left to prove of `add_comment`: its clause `added`, by `comment-empty_key`, `comment-known` and
--- `comment-unknown`.
-use Rattle.std.proofs.Common.{sym, ◌∙◌, append-nil}
+-- What is left to prove of `add_comment`: its clause `added`, by `comment-empty_key` and `comment-other_keys`.
+use Rattle.std.proofs.Common.{List, sym, subst, ◌∙◌, ◌≡◌, ◌++◌}
+use Rattle.std.specs.Prelude.{OnOk}
 use Rattle.std.proofs.lemmas.Bool.{true≢false}
 use Rattle.attr_sets.specs.Attributes.{IsEmpty}
 use Rattle.attr_sets.specs.Sets.{attributes}
-use Rattle.ddl_text.proofs.TextLemmas.{comment-empty_key, comment-known, comment-unknown}
+use Rattle.attr_sets.specs.declared.set.AttrSet.{AttrSet}
+use Rattle.dep_model.specs.Plans.{schemes_of}
+use Rattle.ddl_text.specs.Ddl.{left_out_lines}
+use Rattle.ddl_text.proofs.TextLemmas.{comment-empty_key, comment-other_keys}
 use Rattle.ddl_text.proofs.printing.add_comment.Goals as goal
 
 pub returns-then-is_empty : goal.returns-then-is_empty
 returns-then-is_empty c = record {
-  added = rw (comment-empty_key (attributes c.args.key) c.args.are_known
+  added = rw (comment-empty_key c.args.schema.now c.args.table.now
       (c.is_empty.ensures.empty.0 c.if-is_empty.true)) c.add.ensures.added;
 }
 
-pub returns-then-are_known : goal.returns-then-are_known
-returns-then-are_known c = record {
+pub returns-in-Some : goal.returns-in-Some
+returns-in-Some c = record {
   added = rw (
-    c.if-are_known.true,
-    comment-known c.args.key (λ (empty : IsEmpty (attributes c.args.key)). true≢false
+    comment-other_keys c.args.schema.now c.args.table.now
+        (λ (empty : IsEmpty (attributes c.args.table.now.key)). true≢false
         (sym (c.is_empty.ensures.empty.1 empty) ∙ c.if-is_empty.false)),
-  )
-      (sym (append-nil c.args.text.now.items));
+    c.in-Some.is,
+  ) (subst (λ (keys : List AttrSet). OnOk c.add_left_out_keys.result
+      (c.add_left_out_keys.new.text.items ≡ c.args.text.now.items ++ left_out_lines c.args.schema.now (schemes_of keys)))
+      c.deref.ensures.value c.add_left_out_keys.ensures.added);
 }
 
-pub returns : goal.returns
-returns c = record {
+pub returns-in-None : goal.returns-in-None
+returns-in-None c = record {
   added = rw (
-    c.if-are_known.false,
-    comment-unknown c.args.key (λ (empty : IsEmpty (attributes c.args.key)). true≢false
+    comment-other_keys c.args.schema.now c.args.table.now
+        (λ (empty : IsEmpty (attributes c.args.table.now.key)). true≢false
         (sym (c.is_empty.ensures.empty.1 empty) ∙ c.if-is_empty.false)),
-  ) c.add-2.ensures.added;
+    c.in-None.is,
+  ) c.add-in-None.ensures.added;
 }

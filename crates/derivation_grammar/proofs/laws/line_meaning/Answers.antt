@@ -3,4 +3,7 @@ use Rattle.derivation_grammar.proofs.LineLaws.{line_there, line_back}
 use Rattle.derivation_grammar.proofs.laws.line_meaning.Goals as goal
 
 pub returns : goal.returns
-returns c = record { law = λ names number text l. (line_there names number text l, line_back names number text l) }
+returns c = record {
+  law = λ naming names number text l.
+      (line_there naming names number text l, line_back naming names number text l);
+}

@@ -12,7 +12,7 @@ use Rattle.desk_cli.proofs.tasks.over_schema.Goals as goal
 
 pub returns-clause-response : goal.returns-clause-response
 returns-clause-response g c = λ r shows.
-    With-found (FileStops schema_file r c.args.file.now) (IsFile schema_file r c.args.file.now) (λ schema. Does r schema (task_form c.args.task)) c.in-Ok.schema c.perform_task.result
+    With-found (FileStops schema_file r c.args.file.now) (IsFile schema_file r c.args.file.now) (λ schema. Does (g.M.FolderMaker.may_be_free c.args.place.now) r schema (task_form c.args.task)) c.in-Ok.schema c.perform_task.result
     (c.in-Ok.ensures.ok r shows.same)
     (c.perform_task.ensures.response r (Shows-later g.F.FileSource.files g.F.FileSource.faults g.F.FileSource.taken g.F.FileSource.begun c.args.source.now c.open_schema.new.source c.perform_task.new.source r (c.args.file.now ∷ []) shows c.in-Ok.ensures.files c.in-Ok.ensures.later c.in-Ok.ensures.begins))
 

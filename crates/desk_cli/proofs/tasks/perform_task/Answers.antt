@@ -12,32 +12,32 @@ use Rattle.desk_cli.proofs.tasks.perform_task.Goals as goal
 pub returns-in-OfPlan-clause-response : goal.returns-in-OfPlan-clause-response
 unfolding Does
 returns-in-OfPlan-clause-response g c = λ r shows.
-    subst (λ (task : Task). RespondsAs (Does r c.args.schema.now (task_form task)) c.of_plan.result) (sym c.in-OfPlan.is) (c.of_plan.ensures.response r shows)
+    subst (λ (task : Task). RespondsAs (Does (g.M.FolderMaker.may_be_free c.args.place.now) r c.args.schema.now (task_form task)) c.of_plan.result) (sym c.in-OfPlan.is) (c.of_plan.ensures.response r shows)
 
 pub returns-in-OfRows-clause-response : goal.returns-in-OfRows-clause-response
 unfolding Does
 returns-in-OfRows-clause-response g c = λ r shows.
-    subst (λ (task : Task). RespondsAs (Does r c.args.schema.now (task_form task)) c.of_rows.result) (sym c.in-OfRows.is) (c.of_rows.ensures.response r shows)
+    subst (λ (task : Task). RespondsAs (Does (g.M.FolderMaker.may_be_free c.args.place.now) r c.args.schema.now (task_form task)) c.of_rows.result) (sym c.in-OfRows.is) (c.of_rows.ensures.response r shows)
 
 pub returns-in-MigratePlan-clause-response : goal.returns-in-MigratePlan-clause-response
 unfolding Does
 returns-in-MigratePlan-clause-response g c = λ r shows.
-    subst (λ (task : Task). RespondsAs (Does r c.args.schema.now (task_form task)) c.of_plan_and_rows.result) (sym c.in-MigratePlan.is) (c.of_plan_and_rows.ensures.response r shows)
+    subst (λ (task : Task). RespondsAs (Does (g.M.FolderMaker.may_be_free c.args.place.now) r c.args.schema.now (task_form task)) c.of_plan_and_rows.result) (sym c.in-MigratePlan.is) (c.of_plan_and_rows.ensures.response r shows)
 
 pub returns-in-CheckProof-clause-response : goal.returns-in-CheckProof-clause-response
 unfolding Does
 returns-in-CheckProof-clause-response g c = λ r shows.
-    subst (λ (task : Task). RespondsAs (Does r c.args.schema.now (task_form task)) c.of_proof.result) (sym c.in-CheckProof.is) (c.of_proof.ensures.response r shows)
+    subst (λ (task : Task). RespondsAs (Does (g.M.FolderMaker.may_be_free c.args.place.now) r c.args.schema.now (task_form task)) c.of_proof.result) (sym c.in-CheckProof.is) (c.of_proof.ensures.response r shows)
 
 pub returns-in-CheckSame-clause-response : goal.returns-in-CheckSame-clause-response
 unfolding Does
 returns-in-CheckSame-clause-response g c = λ r shows.
-    subst (λ (task : Task). RespondsAs (Does r c.args.schema.now (task_form task)) c.of_schemas.result) (sym c.in-CheckSame.is) (c.of_schemas.ensures.response r shows)
+    subst (λ (task : Task). RespondsAs (Does (g.M.FolderMaker.may_be_free c.args.place.now) r c.args.schema.now (task_form task)) c.of_schemas.result) (sym c.in-CheckSame.is) (c.of_schemas.ensures.response r shows)
 
 pub returns-in-CheckCover-clause-response : goal.returns-in-CheckCover-clause-response
 unfolding Does
 returns-in-CheckCover-clause-response g c = λ r shows.
-    subst (λ (task : Task). RespondsAs (Does r c.args.schema.now (task_form task)) c.of_cover.result) (sym c.in-CheckCover.is) (c.of_cover.ensures.response r shows)
+    subst (λ (task : Task). RespondsAs (Does (g.M.FolderMaker.may_be_free c.args.place.now) r c.args.schema.now (task_form task)) c.of_cover.result) (sym c.in-CheckCover.is) (c.of_cover.ensures.response r shows)
 
 pub returns-in-OfSchema-clause-reads : goal.returns-in-OfSchema-clause-reads
 returns-in-OfSchema-clause-reads g c = front_none (files_of_task (task_form c.args.task)) (g.F.FileSource.begun c.args.source.now)
@@ -69,7 +69,7 @@ returns-in-Rejoin-clause-reads g c =
 pub returns-in-Measure-clause-response : goal.returns-in-Measure-clause-response
 unfolding Does
 returns-in-Measure-clause-response g c = λ r shows.
-    subst (λ (task : Task). RespondsAs (Does r c.args.schema.now (task_form task)) c.of_values.result) (sym c.in-Measure.is) (c.of_values.ensures.response r shows)
+    subst (λ (task : Task). RespondsAs (Does (g.M.FolderMaker.may_be_free c.args.place.now) r c.args.schema.now (task_form task)) c.of_values.result) (sym c.in-Measure.is) (c.of_values.ensures.response r shows)
 
 pub returns-in-Measure-clause-reads : goal.returns-in-Measure-clause-reads
 returns-in-Measure-clause-reads g c =
@@ -78,7 +78,7 @@ returns-in-Measure-clause-reads g c =
 pub returns-in-CheckDerivation-clause-response : goal.returns-in-CheckDerivation-clause-response
 unfolding Does
 returns-in-CheckDerivation-clause-response g c = λ r shows.
-    subst (λ (task : Task). RespondsAs (Does r c.args.schema.now (task_form task)) c.of_derivation.result) (sym c.in-CheckDerivation.is) (c.of_derivation.ensures.response r shows)
+    subst (λ (task : Task). RespondsAs (Does (g.M.FolderMaker.may_be_free c.args.place.now) r c.args.schema.now (task_form task)) c.of_derivation.result) (sym c.in-CheckDerivation.is) (c.of_derivation.ensures.response r shows)
 
 pub returns-in-CheckDerivation-clause-reads : goal.returns-in-CheckDerivation-clause-reads
 returns-in-CheckDerivation-clause-reads g c =
@@ -87,8 +87,26 @@ returns-in-CheckDerivation-clause-reads g c =
 pub returns-in-Migrate-clause-response : goal.returns-in-Migrate-clause-response
 unfolding Does
 returns-in-Migrate-clause-response g c = λ r shows.
-    subst (λ (task : Task). RespondsAs (Does r c.args.schema.now (task_form task)) c.of_rows_in_form.result) (sym c.in-Migrate.is) (c.of_rows_in_form.ensures.response r shows)
+    subst (λ (task : Task). RespondsAs (Does (g.M.FolderMaker.may_be_free c.args.place.now) r c.args.schema.now (task_form task)) c.of_rows_in_form.result) (sym c.in-Migrate.is) (c.of_rows_in_form.ensures.response r shows)
 
 pub returns-in-Migrate-clause-reads : goal.returns-in-Migrate-clause-reads
 returns-in-Migrate-clause-reads g c =
     subst (λ (task : Task). BeginsFront (files_of_task (task_form task)) (g.F.FileSource.begun c.args.source.now) (g.F.FileSource.begun c.of_rows_in_form.new.source)) (sym c.in-Migrate.is) c.of_rows_in_form.ensures.reads
+
+pub returns-in-MigrateInto-clause-response : goal.returns-in-MigrateInto-clause-response
+unfolding Does
+returns-in-MigrateInto-clause-response g c = λ r shows.
+    subst (λ (task : Task). RespondsAs (Does (g.M.FolderMaker.may_be_free c.args.place.now) r c.args.schema.now (task_form task)) c.of_rows_into.result) (sym c.in-MigrateInto.is) (c.of_rows_into.ensures.response r shows)
+
+pub returns-in-MigrateInto-clause-reads : goal.returns-in-MigrateInto-clause-reads
+returns-in-MigrateInto-clause-reads g c =
+    subst (λ (task : Task). BeginsFront (files_of_task (task_form task)) (g.F.FileSource.begun c.args.source.now) (g.F.FileSource.begun c.of_rows_into.new.source)) (sym c.in-MigrateInto.is) c.of_rows_into.ensures.reads
+
+pub returns-in-MigratePlanInto-clause-response : goal.returns-in-MigratePlanInto-clause-response
+unfolding Does
+returns-in-MigratePlanInto-clause-response g c = λ r shows.
+    subst (λ (task : Task). RespondsAs (Does (g.M.FolderMaker.may_be_free c.args.place.now) r c.args.schema.now (task_form task)) c.of_plan_and_rows_into.result) (sym c.in-MigratePlanInto.is) (c.of_plan_and_rows_into.ensures.response r shows)
+
+pub returns-in-MigratePlanInto-clause-reads : goal.returns-in-MigratePlanInto-clause-reads
+returns-in-MigratePlanInto-clause-reads g c =
+    subst (λ (task : Task). BeginsFront (files_of_task (task_form task)) (g.F.FileSource.begun c.args.source.now) (g.F.FileSource.begun c.of_plan_and_rows_into.new.source)) (sym c.in-MigratePlanInto.is) c.of_plan_and_rows_into.ensures.reads

@@ -12,7 +12,7 @@ use Rattle.desk_cli.proofs.top.perform.Goals as goal
 pub returns-in-OverSchema-clause-response : goal.returns-in-OverSchema-clause-response
 unfolding Performs
 returns-in-OverSchema-clause-response g c = λ r shows.
-    subst (λ (command : Command). RespondsAs (Performs r (command_form command)) c.over_schema.result) (sym c.in-OverSchema.is) (c.over_schema.ensures.response r shows)
+    subst (λ (command : Command). RespondsAs (Performs (g.M.FolderMaker.may_be_free c.args.place.now) r (command_form command)) c.over_schema.result) (sym c.in-OverSchema.is) (c.over_schema.ensures.response r shows)
 
 pub returns-in-OverSchema-clause-reads : goal.returns-in-OverSchema-clause-reads
 returns-in-OverSchema-clause-reads g c =

@@ -1,9 +1,10 @@
 -- What is left to prove of `statements_response`: its clause `response`, by what `migrate_script` does.
 use Rattle.std.proofs.Common.{◌≡◌, ℕ, List, subst, ap, ◌∙◌}
 use Rattle.check_laws.specs.Holding.{Holds}
-use Rattle.sql_evaluation.specs.Running.{engine_at, ended, stopped, outcome}
+use Rattle.sql_evaluation.specs.Running.{State, engine_at, ended, stopped, outcome}
 use Rattle.migrate_queries.specs.Script.{migration}
 use Rattle.migrate_laws.specs.Moved.{HasMoved}
+use Rattle.ending_laws.specs.Ending.{IsSoundRun}
 use Rattle.table_scripts.specs.Migrating.{migrate_text}
 use Rattle.table_scripts.specs.Naming.{quoted_table}
 use Rattle.desk_responses.specs.ResponseValues.{Says}
@@ -15,12 +16,10 @@ pub returns : goal.returns
 returns c =
     let s = c.args.schema.now in
     let same = c.bytes.ensures.bytes in
-    let tables = c.in_ok-tables.tables in
+    let tables = c.args.tables.now in
     let script = c.in_ok-script.ensures in
     record {
       response = (
-        tables,
-        c.in_ok-tables.ensures.sound,
         record {
           fills = script.fills;
           view = script.view;
@@ -31,6 +30,10 @@ returns c =
           undoes = λ fails cast start kept.
               subst (λ (t : List ℕ). outcome fails cast (migration s (quoted_table t) tables) start ≡ stopped kept → kept ≡ start) same
               (script.undoes fails cast start kept);
+          ends = λ fails cast cell r start.
+              subst (λ (t : List ℕ). IsSoundRun fails cast s (quoted_table t) cell r tables start
+              → (last : State) × (outcome fails cast (migration s (quoted_table t) tables) start ≡ ended last)) same
+              (script.ends fails cast cell r start);
         },
         subst (λ (text : List ℕ). Says Yes text (response_value c.with_text.result))
             (script.text ∙ ap (λ (t : List ℕ). migrate_text s (quoted_table t) tables) same) c.with_text.ensures.says,

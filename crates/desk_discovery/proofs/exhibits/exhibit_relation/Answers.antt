@@ -1,13 +1,16 @@
 -- What is left to prove of `exhibit_relation`: what it answers in the cases `Ok`, `TooWide`,
 -- `TooManyRows` and `NotFunctional`.
-use Rattle.std.proofs.Common.{◌≡◌, inl, inr, subst, ap, ◌∙◌}
+use Rattle.std.proofs.Common.{◌≡◌, inl, inr, subst, sym, ap, ◌∙◌}
 use Rattle.armstrong_rel.specs.declared.refusal.ExhibitRefusal.{ExhibitRefusal}
 use Rattle.armstrong_rel.specs.Refusals.{IsRefusedExhibit}
 use Rattle.attr_sets.specs.Attributes.{Attributes, below}
 use Rattle.attr_sets.specs.Sets.{attributes}
 use Rattle.csv_text.specs.Rows.{rows_text}
 use Rattle.dep_model.proofs.FailureLemmas.{refused_is}
-use Rattle.dep_model.specs.Schemas.{names_of, universe_of}
+use Rattle.dep_model.specs.Schemas.{names_of, theory_of, universe_of, width_of}
+use Rattle.desk_discovery.proofs.ExhibitLemmas.{exhibit_numerals, shown_example}
+use Rattle.shown_rows.specs.Shown.{shown_relation}
+use Rattle.typed_rows.specs.Typed.{HoldsNumerals}
 use Rattle.dep_model.specs.Tuples.{Relation}
 use Rattle.schema_printer.specs.Spelling.{printed_names_of}
 use Rattle.desk_responses.specs.ResponseValues.{Says}
@@ -16,14 +19,24 @@ use Rattle.desk_responses.specs.Responses.{response_value}
 use Rattle.desk_responses.specs.declared.status.Status.TheVariants.{Yes, Refused}
 use Rattle.desk_discovery.proofs.exhibits.exhibit_relation.Goals as goal
 
+pub response_of-requires-clause-numerals : goal.response_of-requires-clause-numerals
+response_of-requires-clause-numerals c =
+    subst HoldsNumerals (sym c.deref.ensures.value)
+    (exhibit_numerals (width_of c.args.schema.now) (theory_of c.args.schema.now) c.in-Ok.rows.items c.in-Ok.ensures.rows c.in-Ok.ensures.within_limit)
+
 pub returns-in_ok-response_of-in-Ok : goal.returns-in_ok-response_of-in-Ok
-returns-in_ok-response_of-in-Ok c = record {
-  response = inl (
-    c.in-Ok.rows.items,
-    record { functional = c.in-Ok.ensures.functional; narrow = c.in-Ok.ensures.not_too_wide; within_limit = c.in-Ok.ensures.within_limit; exhibit = c.in-Ok.ensures.rows; exact = c.in-Ok.ensures.exact },
-    subst (λ (rows : Relation). Says Yes (rows_text (names_of c.args.schema.now) rows) (response_value c.in_ok-response_of-in-Ok.field-0)) c.deref.ensures.value c.in_ok-response_of-in-Ok.ensures.says,
-  );
-}
+returns-in_ok-response_of-in-Ok c =
+    let s = c.args.schema.now in
+    let rows = c.in-Ok.rows.items in
+    record {
+      response = inl (
+        shown_relation s rows,
+        shown_example s rows c.in-Ok.ensures.functional c.in-Ok.ensures.not_too_wide c.in-Ok.ensures.within_limit c.in-Ok.ensures.rows c.in-Ok.ensures.legal
+            c.in-Ok.ensures.exact,
+        subst (λ (rows : Relation). Says Yes (rows_text (names_of s) (shown_relation s rows)) (response_value c.in_ok-response_of-in-Ok.field-0)) c.deref.ensures.value
+            c.in_ok-response_of-in-Ok.ensures.says,
+      );
+    }
 
 pub returns-in-TooWide : goal.returns-in-TooWide
 returns-in-TooWide c =

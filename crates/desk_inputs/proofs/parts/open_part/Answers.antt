@@ -2,7 +2,6 @@
 use Rattle.std.proofs.Common.{ℕ, List, Ok, Err, subst}
 use Rattle.csv_rows.specs.Reading.{PartOf, HasScheme}
 use Rattle.dep_model.proofs.FailureLemmas.{refused_is}
-use Rattle.dep_model.specs.Schemas.{names_of}
 use Rattle.table_join.proofs.PartLemmas.{part_is_table}
 use Rattle.desk_responses.specs.Responses.{ExitsAs}
 use Rattle.desk_responses.specs.ResponseValues.{Says}
@@ -32,5 +31,5 @@ returns-in-Err-Refused-clause-exit g c = λ r shows.
     let refusal = c.in-Err-Refused.refusal in
     let refuses = refused_is _ _ _ c.in-Err-Refused.field-0-is c.in-Err-Refused.ensures.err in
     let refused = subst (λ (bytes : List ℕ). PartOf s bytes (Err refusal)) c.deref.ensures.value refuses in
-    let exits_as = subst (λ (name : List ℕ). ExitsAs (Says Refused (row_refusal_text (names_of s) name refusal)) c.rows_refusal_exit.result) c.bytes.ensures.bytes c.rows_refusal_exit.ensures.says in
+    let exits_as = subst (λ (name : List ℕ). ExitsAs (Says Refused (row_refusal_text s name refusal)) c.rows_refusal_exit.result) c.bytes.ensures.bytes c.rows_refusal_exit.ensures.says in
     refusal_stops (part_file s) r c.args.name.now c.in-Ok.bytes.items refusal c.rows_refusal_exit.result (c.in-Ok.ensures.ok r shows.same) refused exits_as

@@ -3,7 +3,8 @@
 use Rattle.std.proofs.Common.{ℕ, List, subst}
 use Rattle.plans.specs.Plans.{plan_of}
 use Rattle.dep_model.proofs.FailureLemmas.{refused_is}
-use Rattle.dep_model.specs.Schemas.{names_of}
+use Rattle.dep_model.specs.Schemas.{naming_of, names_of}
+use Rattle.schema_printer.specs.Spelling.{printed_names_of}
 use Rattle.plan_grammar.specs.Diagnostics.{RefusesPlan}
 use Rattle.plan_grammar.specs.Meanings.{MeansPlan}
 use Rattle.desk_responses.specs.ResponseValues.{Says}
@@ -17,7 +18,7 @@ pub returns-in-Ok-read_plan-clause-ok : goal.returns-in-Ok-read_plan-clause-ok
 returns-in-Ok-read_plan-clause-ok g c = λ r same. record {
   bytes = c.in-Ok.bytes.items;
   content = c.in-Ok.ensures.ok r same;
-  means = subst (λ (bytes : List ℕ). MeansPlan (names_of c.args.schema.now) bytes (plan_of c.in-Ok-read_plan.plan)) c.deref.ensures.value c.in-Ok-read_plan.ensures.ok;
+  means = subst (λ (bytes : List ℕ). MeansPlan (naming_of c.args.schema.now) (names_of c.args.schema.now) bytes (plan_of c.in-Ok-read_plan.plan)) c.deref.ensures.value c.in-Ok-read_plan.ensures.ok;
 }
 
 pub returns-in-Ok-read_plan-clause-within_limit : goal.returns-in-Ok-read_plan-clause-within_limit
@@ -31,6 +32,6 @@ returns-in-Err-Refused-clause-exit g c = λ r shows.
     let s = c.args.schema.now in
     let refusal = c.in-Err-Refused.refusal in
     let refuses = refused_is _ _ _ c.in-Err-Refused.field-0-is c.in-Err-Refused.ensures.err in
-    let refused = subst (λ (bytes : List ℕ). RefusesPlan (names_of s) bytes refusal) c.deref.ensures.value refuses in
-    let exits_as = subst (λ (name : List ℕ). ExitsAs (Says Refused (plan_refusal_text (names_of s) name refusal)) c.plan_refusal_exit.result) c.bytes.ensures.bytes c.plan_refusal_exit.ensures.says in
+    let refused = subst (λ (bytes : List ℕ). RefusesPlan (naming_of s) (names_of s) bytes refusal) c.deref.ensures.value refuses in
+    let exits_as = subst (λ (name : List ℕ). ExitsAs (Says Refused (plan_refusal_text (printed_names_of s) name refusal)) c.plan_refusal_exit.result) c.bytes.ensures.bytes c.plan_refusal_exit.ensures.says in
     refusal_stops (plan_file s) r c.args.name.now c.in-Ok.bytes.items refusal c.plan_refusal_exit.result (c.in-Ok.ensures.ok r shows.same) refused exits_as

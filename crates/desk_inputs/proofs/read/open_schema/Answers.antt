@@ -16,10 +16,8 @@ pub returns-in-Ok-read_schema-clause-ok : goal.returns-in-Ok-read_schema-clause-
 returns-in-Ok-read_schema-clause-ok g c = λ r same. record {
   bytes = c.in-Ok.bytes.items;
   content = c.in-Ok.ensures.ok r same;
-  means = record {
-    declares = subst (λ (bytes : List ℕ). MeansSchema bytes (declarations_of c.in-Ok-read_schema.schema)) c.deref.ensures.value c.in-Ok-read_schema.ensures.ok;
-    bare = c.in-Ok-read_schema.ensures.bare;
-  };
+  means = subst (λ (bytes : List ℕ). MeansSchema bytes (declarations_of c.in-Ok-read_schema.schema))
+      c.deref.ensures.value c.in-Ok-read_schema.ensures.ok;
 }
 
 pub returns-in-Err-Refused-clause-exit : goal.returns-in-Err-Refused-clause-exit

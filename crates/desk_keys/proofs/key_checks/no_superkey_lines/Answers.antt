@@ -1,17 +1,19 @@
--- What is left to prove of `no_superkey_lines`: what `print_no_superkey` requires, and the clause `text`.
+-- What is left to prove of `no_superkey_lines`: its clause `text`, and what `print_no_superkey` requires.
 use Rattle.std.proofs.Common.{◌≡◌, List, ap, subst, sym, ◌∙◌}
 use Rattle.attr_sets.specs.Attributes.{Attributes, below, difference}
 use Rattle.attr_sets.specs.Sets.{attributes}
 use Rattle.dep_model.specs.Schemas.{width_of, universe_of, theory_of}
-use Rattle.dep_model.specs.Tuples.{Relation, IsOver}
 use Rattle.dep_model.specs.TwoTuples.{two_tuples}
 use Rattle.dep_model.proofs.KeyLemmas.{fd_on-to}
-use Rattle.dep_model.proofs.TwoTupleLemmas.{two_tuples-over}
+use Rattle.shown_rows.specs.Shown.{shown_tuples}
+use Rattle.shown_rows.proofs.ShownLemmas.{broken_within}
 use Rattle.desk_keys.specs.KeyChecks.{no_superkey_text}
 use Rattle.desk_keys.proofs.key_checks.no_superkey_lines.Goals as goal
 
 pub print_no_superkey-requires : goal.print_no_superkey-requires
-print_no_superkey-requires c = record { over = rw (c.in_ok-rows.ensures.rows, c.in_ok-pair.ensures.rows) (two_tuples-over (width_of c.args.schema.now) (attributes c.args.agreement)) }
+print_no_superkey-requires c =
+    let s = c.args.schema.now in
+    record { agreement = broken_within (width_of s) (theory_of s) _ (attributes c.args.agreement) c.requires.broken }
 
 pub returns : goal.returns
 returns c =
@@ -22,7 +24,6 @@ returns c =
     let agreement = attributes c.args.agreement in
     let missing : attributes c.difference-missing.result ≡ difference (universe_of s) closed =
     c.difference-missing.ensures.members ∙ ap (λ (y : Attributes). difference y closed) (c.full.ensures.members ∙ ap below c.width.ensures.count) in
-    let rows : c.in_ok-rows.rows ≡ two_tuples n agreement = c.in_ok-rows.ensures.rows ∙ c.in_ok-pair.ensures.rows in
     record {
       text = record {
         no_superkey = λ superkey. c.requires.broken.breaks (fd_on-to n (theory_of s) (universe_of s) x (universe_of s) superkey (two_tuples n agreement) c.requires.broken.legal);
@@ -31,7 +32,6 @@ returns c =
         agreement = agreement;
         broken = c.requires.broken;
         reads = c.in_ok-text.ensures.text
-            ∙ ap (λ (y : Attributes). no_superkey_text s x y c.in_ok-rows.rows) missing
-            ∙ ap (λ (r : Relation). no_superkey_text s x (difference (universe_of s) closed) r) rows;
+            ∙ ap (λ (y : Attributes). no_superkey_text s x y (shown_tuples s agreement)) missing;
       };
     }

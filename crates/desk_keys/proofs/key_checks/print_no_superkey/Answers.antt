@@ -30,5 +30,5 @@ returns c =
     record {
       text = all
           ∙ ap (λ (t : List ℕ). t ++ rows) (append_assoc first shown feed)
-          ∙ ap (λ (t : List ℕ). (first ++ (shown ++ feed)) ++ t) (c.deref.ensures.value ∙ c.in_ok-print_rows.ensures.text);
+          ∙ ap (λ (t : List ℕ). (first ++ (shown ++ feed)) ++ t) (c.deref.ensures.value ∙ c.in_ok-print_two_rows.ensures.text);
     }

@@ -1,5 +1,5 @@
 -- What is left to prove of `first_set`: its clause `first`, by `position_or_len_is`.
-use Rattle.std.proofs.Common.{◌<◌, ℕ, Bool, false, length, sym, arith}
+use Rattle.std.proofs.Common.{Bool, false, length, sym, arith}
 use Rattle.std.proofs.lemmas.List.Sums.{position_or_len_is}
 use Rattle.desk_measures.proofs.columns.first_set.Goals as goal
 

@@ -1,6 +1,5 @@
 -- What is left to prove of `push_names`: that a round of its loop keeps the invariant.
 use Rattle.std.proofs.Common.{List, ℕ, ◌++◌, ◌∷◌, [], take, ap, sym, ◌∙◌}
-use Rattle.std.specs.Prelude.{Some}
 use Rattle.std.proofs.lemmas.List.{append_assoc}
 use Rattle.csv_rows.proofs.RowLemmas.{take_next}
 use Rattle.dep_model.specs.Schemas.{names_of}

@@ -1,11 +1,10 @@
 -- What is left to prove of `put_details`: what `put_attributes_where` requires, and what it answers of a functional
 -- dependency.
-use Rattle.std.proofs.Common.{List, ℕ, Bool, subst}
+use Rattle.std.proofs.Common.{Bool, subst}
 use Rattle.std.specs.Prelude.{◌&&◌, nat_lt, OnOk}
-use Rattle.attr_sets.specs.Attributes.{Attributes, IsSubset, count_below}
+use Rattle.attr_sets.specs.Attributes.{Attributes, count_below}
 use Rattle.attr_sets.specs.Sets.{attributes}
 use Rattle.attr_sets.specs.declared.set.TheConstants.{MOST_ATTRIBUTES}
-use Rattle.dep_model.specs.Schemas.{universe_of}
 use Rattle.desk_measures.specs.Findings.{Adds}
 use Rattle.desk_measures.specs.Measures.{AreAttributes, FindsWhere}
 use Rattle.desk_measures.proofs.measures.put_details.Goals as goal

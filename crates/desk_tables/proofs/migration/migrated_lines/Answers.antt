@@ -11,6 +11,6 @@ use Rattle.desk_tables.proofs.migration.migrated_lines.Goals as goal
 
 pub returns : goal.returns
 returns c = record {
-  text = c.in_ok-put_tables.ensures.added ∙ ap (λ (l : List ℕ). c.in_ok-text.text.items ++ l) (lines_of c.args.tables.now.rows c.args.tables.now.tables.items) ∙ ap (λ (l : List ℕ). l ++ flat_map table_line (table_values c.args.tables.now))
+  text = c.in_ok-put_tables.ensures.added ∙ ap (λ (l : List ℕ). c.in_ok-text.text.items ++ l) (lines_of c.args.naming c.args.tables.now.rows c.args.tables.now.tables.items) ∙ ap (λ (l : List ℕ). l ++ flat_map (table_line c.args.naming) (table_values c.args.tables.now))
       (subst (λ (n : ℕ). c.in_ok-text.text.items ≡ line (codes "read " ++ decimal n ++ codes " rows")) c.len.ensures.count c.in_ok-text.ensures.line);
 }

@@ -1,6 +1,8 @@
 -- What is left to prove of `tables_response`: the text speaks of the rows that go along with the tables.
 use Rattle.std.proofs.Common.{List, ℕ, ap, ◌∙◌}
+use Rattle.dep_model.specs.Schemas.{naming_of}
 use Rattle.dep_model.specs.Tuples.{Relation}
+use Rattle.dep_model.specs.declared.naming.Naming.{Naming}
 use Rattle.named_tables.specs.Tables.{table_values}
 use Rattle.desk_responses.specs.ResponseValues.{yes_with_tables}
 use Rattle.desk_tables.specs.Migrations.{migrated_text}
@@ -15,6 +17,8 @@ returns c =
         c.in_ok-tables.ensures.tables,
         c.with_tables.ensures.gives
             ∙ ap (λ (text : List ℕ). yes_with_tables text tables)
-            (c.in_ok-text.ensures.text ∙ ap (λ (rows : Relation). migrated_text rows tables) c.in_ok-tables.ensures.rows),
+            (c.in_ok-text.ensures.text
+            ∙ ap (λ (naming : Naming). migrated_text naming c.in_ok-tables.tables.rows tables) c.naming.ensures.naming
+            ∙ ap (λ (rows : Relation). migrated_text (naming_of c.args.schema.now) rows tables) c.in_ok-tables.ensures.rows),
       );
     }

@@ -18,14 +18,14 @@ loop-row-preserved g c =
       is_open = search rules;
       format = search rules;
       taken = subst (λ (format : TableFormat). contents c.put_row.new.folder ≡ option_map
-          (with_bytes (flat_map (λ (i : ℕ). row_line format c.args.front.now (chosen_row c.args.rows.now c.args.table.now i)) (take (index + 1) chosen)))
+          (with_bytes (flat_map (λ (i : ℕ). row_line format c.args.front.now c.args.table.now.nullable.items (chosen_row c.args.rows.now c.args.table.now i)) (take (index + 1) chosen)))
           (contents c.args.folder.now))
           c.loop-row.invariant.format
-          (text_next (λ (i : ℕ). row_line c.loop-row.lines.format c.args.front.now (chosen_row c.args.rows.now c.args.table.now i)) chosen index _ _ _ _ _
+          (text_next (λ (i : ℕ). row_line c.loop-row.lines.format c.args.front.now c.args.table.now.nullable.items (chosen_row c.args.rows.now c.args.table.now i)) chosen index _ _ _ _ _
           (within_lent _ chosen _ c.deref-row-items.ensures.value c.loop-row-test.true)
           (is_lent _ chosen _ _ _ c.deref-row-items.ensures.value refl)
           (subst (λ (format : TableFormat). contents c.loop-row.folder ≡ option_map
-          (with_bytes (flat_map (λ (i : ℕ). row_line format c.args.front.now (chosen_row c.args.rows.now c.args.table.now i)) (take index chosen)))
+          (with_bytes (flat_map (λ (i : ℕ). row_line format c.args.front.now c.args.table.now.nullable.items (chosen_row c.args.rows.now c.args.table.now i)) (take index chosen)))
           (contents c.args.folder.now))
           (sym c.loop-row.invariant.format) c.loop-row.invariant.taken)
           c.in_ok-put_row.ensures.ok);
@@ -37,5 +37,5 @@ pub returns-clause-ok : goal.returns-clause-ok
 returns-clause-ok g c =
     let chosen = c.args.table.now.chosen.items in
     let same : length c.deref-row-items.result.now ≡ length chosen = ap (λ (list : List ℕ). length list) c.deref-row-items.ensures.value in
-    texts_whole (row_line c.args.lines.now.format c.args.front.now) (chosen_row c.args.rows.now c.args.table.now) chosen c.loop-row.row-index _ _
+    texts_whole (row_line c.args.lines.now.format c.args.front.now c.args.table.now.nullable.items) (chosen_row c.args.rows.now c.args.table.now) chosen c.loop-row.row-index _ _
     (omega (arith, same, c.loop-row-test.false)) c.loop-row.invariant.taken

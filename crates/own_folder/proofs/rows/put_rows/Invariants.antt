@@ -13,7 +13,7 @@ invariant-loop-row g l =
       is_open : IsTrue (folder.is_open l.folder);
       format : l.lines.format ≡ l.fn.lines.format;
       taken : folder.contents l.folder ≡ option_map
-          (with_bytes (flat_map (λ i. row_line l.fn.lines.format l.front (chosen_row l.rows l.table i)) (take l.row-index l.table.chosen.items)))
+          (with_bytes (flat_map (λ i. row_line l.fn.lines.format l.front l.table.nullable.items (chosen_row l.rows l.table i)) (take l.row-index l.table.chosen.items)))
           (folder.contents l.fn.folder);
       same : folder.begun l.folder ≡ folder.begun l.fn.folder;
       fine : folder.faults l.folder ≡ folder.faults l.fn.folder;

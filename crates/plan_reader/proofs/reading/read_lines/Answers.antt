@@ -12,10 +12,10 @@ lines-init c = record { same = rw c.new-schemes.ensures.items refl; room = omega
 pub returns-in-Err-clause-err : goal.returns-in-Err-clause-err
 returns-in-Err-clause-err c =
     refuses_also _ _ c.in-Err.failure
-    (λ refusal refused. c.lines.invariant.same ∙ line_refused _ _ _ _ _ _ _ (CutsAt-any _ _ _ c.cut_line.ensures.cut) refused) c.in-Err.ensures.err
+    (λ refusal refused. c.lines.invariant.same ∙ line_refused _ _ _ _ _ _ _ _ (CutsAt-any _ _ _ c.cut_line.ensures.cut) refused) c.in-Err.ensures.err
 
 pub returns-in-None-clause-ok : goal.returns-in-None-clause-ok
-returns-in-None-clause-ok c = c.lines.invariant.same ∙ last_read _ _ _ _ _ _ (cut_last _ _ _ c.in-None.is c.cut_line.ensures.cut).lines c.in-Ok.ensures.ok
+returns-in-None-clause-ok c = c.lines.invariant.same ∙ last_read _ _ _ _ _ _ _ (cut_last _ _ _ c.in-None.is c.cut_line.ensures.cut).lines c.in-Ok.ensures.ok
 
 pub lines-preserved : goal.lines-preserved
-lines-preserved c = reads_more _ _ _ _ _ _ _ _ c.lines.invariant (cut_more _ _ _ _ c.in-Some.is c.cut_line.ensures.cut) c.in-Ok.ensures.ok
+lines-preserved c = reads_more _ _ _ _ _ _ _ _ _ c.lines.invariant (cut_more _ _ _ _ c.in-Some.is c.cut_line.ensures.cut) c.in-Ok.ensures.ok

@@ -3,10 +3,11 @@
 use Rattle.std.proofs.Common.{◌≡◌, ◌<◌, ℕ, List, length, map, sym, ap, subst, ◌∙◌, arith}
 use Rattle.std.proofs.lemmas.List.{length-map}
 use Rattle.std.specs.Prelude.{All}
-use Rattle.attr_sets.specs.Attributes.{Attributes, union}
+use Rattle.attr_sets.specs.Attributes.{Attributes, IsSubset, below, union}
 use Rattle.attr_sets.specs.Sets.{attributes}
-use Rattle.csv_rows.specs.Interning.{firsts_of, groups_of}
+use Rattle.csv_rows.specs.Interning.{firsts_of, groups_of, width_of_rows}
 use Rattle.csv_rows.specs.Numberings.{AreFirsts, AreGroups, number_at}
+use Rattle.csv_rows.proofs.NumberingLemmas.{difference_within, same_groups, union-difference}
 use Rattle.legality.specs.Parts.{AreBelow}
 use Rattle.row_measures.specs.ByClass.{AreLargestBelow, AreOutside}
 use Rattle.row_measures.proofs.ChosenLemmas.{are_chosen, leaders_first, two_classes}
@@ -23,11 +24,21 @@ group_rows c = c.in_ok-groups.ensures.firsts c.args.width c.args.rows.now c.requ
 
 by_both : (c : In_ok-classes) → AreGroups c.args.rows.now (union (attributes c.args.lhs) (attributes c.args.rhs)) (groups_of c.in_ok-classes.classes)
 by_both c =
-    subst (λ (s : Attributes). AreGroups c.args.rows.now s (groups_of c.in_ok-classes.classes)) c.union-sides.ensures.members
-    (c.in_ok-classes.ensures.groups c.args.width c.args.rows.now c.requires.codes)
+    same_groups c.args.rows.now (union (attributes c.args.lhs) (attributes c.difference-own.result)) (union (attributes c.args.lhs) (attributes c.args.rhs)) _
+    (ap (union (attributes c.args.lhs)) c.difference-own.ensures.members ∙ union-difference (attributes c.args.lhs) (attributes c.args.rhs))
+    (c.in_ok-classes.ensures.groups c.args.width c.args.rows.now (attributes c.args.lhs) c.requires.codes (by_left c))
 
 class_rows : (c : In_ok-classes) → AreFirsts (groups_of c.in_ok-classes.classes) (firsts_of c.in_ok-classes.classes)
-class_rows c = c.in_ok-classes.ensures.firsts c.args.width c.args.rows.now c.requires.codes
+class_rows c = c.in_ok-classes.ensures.firsts c.args.width c.args.rows.now (attributes c.args.lhs) c.requires.codes (by_left c)
+
+pub refined-requires-clause-within : goal.refined-requires-clause-within
+refined-requires-clause-within c =
+    subst (λ (s : Attributes). IsSubset s (below (width_of_rows c.args.codes.now))) (sym c.difference-own.ensures.members)
+    (difference_within (width_of_rows c.args.codes.now) (attributes c.args.lhs) (attributes c.args.rhs) (subst (λ (m : ℕ). IsSubset (attributes c.args.rhs) (below m)) (sym c.requires.codes.width) c.requires.rhs))
+
+pub refined-requires-clause-same_length : goal.refined-requires-clause-same_length
+refined-requires-clause-same_length c =
+    (c.in_ok-groups.ensures.groups c.args.width c.args.rows.now c.requires.codes).one_each ∙ sym c.requires.codes.count
 
 one_each : (c : In_ok-classes) → length (groups_of c.in_ok-groups.groups) ≡ length (groups_of c.in_ok-classes.classes)
 one_each c = (by_left c).one_each ∙ sym (by_both c).one_each
@@ -41,6 +52,27 @@ chosen_are c = mapped _ _ _ _ _ c.in_ok-chosen.ensures.numbers c.numbers-3.ensur
 
 chosen_count : (c : In_ok-chosen) → length c.in_ok-chosen.chosen.items ≡ length (firsts_of c.in_ok-groups.groups)
 chosen_count c = ap length (chosen_are c) ∙ length-map (firsts_of c.in_ok-groups.groups) (number_at (groups_of c.in_ok-classes.classes))
+
+pub row_counts-requires-clause-numbers : goal.row_counts-requires-clause-numbers
+row_counts-requires-clause-numbers c =
+    let low = (goal.at.row_counts-requires-clause-numbers c).In_ok-classes in
+    λ i within.
+    let inside : i < length (groups_of c.in_ok-classes.classes) = omega (arith, within, ap length c.numbers.ensures.numbers) in
+    omega (arith, ap (λ (l : List ℕ). number_at l i) c.numbers.ensures.numbers, (class_rows low).each i inside, ap length c.firsts.ensures.firsts)
+
+pub row_counts-requires-clause-fits_u32 : goal.row_counts-requires-clause-fits_u32
+row_counts-requires-clause-fits_u32 c =
+    let low = (goal.at.row_counts-requires-clause-fits_u32 c).In_ok-classes in
+    omega (arith, ap length c.numbers.ensures.numbers, (by_both low).one_each, c.requires.codes.count, c.args.codes.now.fits_u32)
+
+pub numbers_of-requires : goal.numbers_of-requires
+numbers_of-requires c =
+    let at = (goal.at.numbers_of-requires c).In_ok-classes in
+    record {
+      rows = subst (λ (numbers : List ℕ). All (λ row. row < length numbers) c.firsts-2.result.now) (sym c.numbers-2.ensures.numbers)
+          (subst (λ (firsts : List ℕ). All (λ row. row < length (groups_of c.in_ok-groups.groups)) firsts) (sym c.firsts-2.ensures.firsts)
+          (firsts_in (groups_of c.in_ok-groups.groups) (groups_of c.in_ok-classes.classes) (firsts_of c.in_ok-classes.classes) (class_rows at) (one_each at)));
+    }
 
 pub numbers_of-requires-2 : goal.numbers_of-requires-2
 numbers_of-requires-2 c =
@@ -80,6 +112,11 @@ choose_largest-requires-clause-least c =
     subst (λ (l : List ℕ). AreLargestBelow 0 l c.deref-2.result.now c.in_ok-chosen.chosen.items) (sym (c.deref.ensures.value ∙ owners_are at))
     (subst (λ (l : List ℕ). AreLargestBelow 0 (map (number_at (groups_of c.in_ok-groups.groups)) (firsts_of c.in_ok-classes.classes)) c.deref-2.result.now l) (sym (chosen_are at))
     (leaders_first (attributes c.args.lhs) (attributes c.args.rhs) c.args.rows.now _ _ _ _ (by_left low) (group_rows low) (by_both low) (class_rows low) c.deref-2.result.now))
+
+pub broken_groups-requires-clause-same_length : goal.broken_groups-requires-clause-same_length
+broken_groups-requires-clause-same_length c =
+    ap length c.numbers-5.ensures.numbers ∙ sym (one_each (goal.at.broken_groups-requires-clause-same_length c).In_ok-classes)
+    ∙ sym (ap length c.numbers-4.ensures.numbers)
 
 pub broken_groups-requires-clause-groups : goal.broken_groups-requires-clause-groups
 broken_groups-requires-clause-groups c =

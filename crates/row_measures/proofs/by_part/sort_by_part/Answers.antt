@@ -3,9 +3,12 @@
 use Rattle.std.proofs.Common.{◌≡◌, ◌<◌, ◌≤◌, ℕ, List, length, map, refl, sym, ap, subst, ◌∙◌, arith}
 use Rattle.std.proofs.lemmas.List.{length-map}
 use Rattle.std.specs.Prelude.{All}
+use Rattle.attr_sets.specs.Attributes.{Attributes, IsSubset, below, difference, union}
 use Rattle.attr_sets.specs.Sets.{attributes}
-use Rattle.csv_rows.specs.Interning.{firsts_of, groups_of}
-use Rattle.csv_rows.specs.Numberings.{number_at}
+use Rattle.attr_sets.proofs.AttributesLemmas.{IsSubset-same, union_within}
+use Rattle.csv_rows.proofs.NumberingLemmas.{difference_within, same_groups, union-difference, union-rest}
+use Rattle.csv_rows.specs.Interning.{firsts_of, groups_of, width_of_rows}
+use Rattle.csv_rows.specs.Numberings.{AreGroups, number_at}
 use Rattle.legality.specs.Parts.{AreBelow}
 use Rattle.dep_model.specs.Tuples.{Relation}
 use Rattle.legality.proofs.PartLemmas.{Grouping, grouping}
@@ -13,22 +16,87 @@ use Rattle.row_measures.specs.ByPart.{AreShort, shortage}
 use Rattle.row_measures.proofs.MissingLemmas.{enough, lacking_groups, missing_known}
 use Rattle.row_measures.proofs.OrderLemmas.{few_firsts, firsts_in, mapped, owners_below}
 use Rattle.row_measures.proofs.by_part.sort_by_part.Goals as goal
-use Rattle.row_measures.proofs.by_part.sort_by_part.Goals.{In_ok-all, In_ok-left_groups, In_ok-present}
+use Rattle.row_measures.proofs.by_part.sort_by_part.Goals.{In_ok-all, In_ok-groups, In_ok-left_groups, In_ok-lefts}
 
--- the rows by what they have on the left side, on both sides, on it and the rest, and on all attributes
+-- the rows by what they have on the left side, and on both sides
+by_left : (c : In_ok-groups) → AreGroups c.args.rows.now (attributes c.args.lhs) (groups_of c.in_ok-groups.groups)
+by_left c = c.in_ok-groups.ensures.groups c.args.width c.args.rows.now c.requires.codes
+
+-- the groups of a set that is made of a left side and what a right side adds
+both_of : (r : Relation) (x y own sides : Attributes) (numbers : List ℕ) → own ≡ difference y x → sides ≡ union x y
+    → AreGroups r (union x own) numbers → AreGroups r sides numbers
+both_of r x y own sides numbers is_own is_sides groups =
+    same_groups r (union x own) sides numbers (ap (union x) is_own ∙ union-difference x y ∙ sym is_sides) groups
+
+by_both : (c : In_ok-lefts) → AreGroups c.args.rows.now (attributes c.union-sides.result) (groups_of c.in_ok-lefts.lefts)
+by_both c =
+    both_of c.args.rows.now (attributes c.args.lhs) (attributes c.args.rhs) (attributes c.difference-own.result) (attributes c.union-sides.result)
+    (groups_of c.in_ok-lefts.lefts) c.difference-own.ensures.members c.union-sides.ensures.members
+    (c.in_ok-lefts.ensures.groups c.args.width c.args.rows.now (attributes c.args.lhs) c.requires.codes
+    (c.in_ok-groups.ensures.groups c.args.width c.args.rows.now c.requires.codes))
+
+-- both sides and what is outside are all attributes
+all_sides : (c : In_ok-all) → union (attributes c.union-sides.result) (attributes c.difference-outside.result) ≡ attributes c.full-universe.result
+all_sides c =
+    let both : Attributes = attributes c.union-sides.result in
+    ap (union both) (c.difference-outside.ensures.members ∙ ap (λ (all : Attributes). difference all both) c.full-universe.ensures.members)
+    ∙ union-rest c.args.width both
+    (subst (λ (s : Attributes). IsSubset s (below c.args.width)) (sym c.union-sides.ensures.members)
+    (union_within c.args.width (attributes c.args.lhs) (attributes c.args.rhs) c.requires.lhs c.requires.rhs))
+    ∙ sym c.full-universe.ensures.members
+
+-- and on the left side and the rest, and on all attributes
 grouped : (c : In_ok-all) → Grouping c.args.width c.args.rows.now (attributes c.args.lhs) (attributes c.args.rhs)
     (groups_of c.in_ok-groups.groups) (firsts_of c.in_ok-groups.groups) (groups_of c.in_ok-lefts.lefts) (firsts_of c.in_ok-lefts.lefts)
     (groups_of c.in_ok-rests.rests) (firsts_of c.in_ok-rests.rests) (groups_of c.in_ok-all.all) (firsts_of c.in_ok-all.all)
 grouped c =
     let n : ℕ = c.args.width in
     let r : Relation = c.args.rows.now in
-    grouping n r (attributes c.args.lhs) (attributes c.args.rhs) (attributes c.full-universe.result) (attributes c.union-sides.result) (attributes c.difference-outside.result) (attributes c.union-others.result)
+    let x : Attributes = attributes c.args.lhs in
+    let sides : Attributes = attributes c.union-sides.result in
+    let outside : Attributes = attributes c.difference-outside.result in
+    let left = c.in_ok-groups.ensures.groups n r c.requires.codes in
+    let both = both_of r x (attributes c.args.rhs) (attributes c.difference-own.result) sides (groups_of c.in_ok-lefts.lefts)
+    c.difference-own.ensures.members c.union-sides.ensures.members (c.in_ok-lefts.ensures.groups n r x c.requires.codes left) in
+    grouping n r x (attributes c.args.rhs) (attributes c.full-universe.result) sides outside (union x outside)
     _ _ _ _ _ _ _ _
-    c.full-universe.ensures.members c.union-sides.ensures.members c.difference-outside.ensures.members c.union-others.ensures.members c.requires.lhs c.requires.rhs
-    (c.in_ok-groups.ensures.groups n r c.requires.codes) (c.in_ok-groups.ensures.firsts n r c.requires.codes)
-    (c.in_ok-lefts.ensures.groups n r c.requires.codes) (c.in_ok-lefts.ensures.firsts n r c.requires.codes)
-    (c.in_ok-rests.ensures.groups n r c.requires.codes) (c.in_ok-rests.ensures.firsts n r c.requires.codes)
-    (c.in_ok-all.ensures.groups n r c.requires.codes) (c.in_ok-all.ensures.firsts n r c.requires.codes)
+    c.full-universe.ensures.members c.union-sides.ensures.members c.difference-outside.ensures.members refl c.requires.lhs c.requires.rhs
+    left (c.in_ok-groups.ensures.firsts n r c.requires.codes)
+    both (c.in_ok-lefts.ensures.firsts n r x c.requires.codes left)
+    (c.in_ok-rests.ensures.groups n r x c.requires.codes left) (c.in_ok-rests.ensures.firsts n r x c.requires.codes left)
+    (same_groups r (union sides outside) (attributes c.full-universe.result) _ (all_sides c) (c.in_ok-all.ensures.groups n r sides c.requires.codes both))
+    (c.in_ok-all.ensures.firsts n r sides c.requires.codes both)
+
+-- sets within the attributes of the rows
+own_within : (c : In_ok-groups) → IsSubset (attributes c.difference-own.result) (below (width_of_rows c.args.codes.now))
+own_within c =
+    subst (λ (m : ℕ). IsSubset (attributes c.difference-own.result) (below m)) (sym c.requires.codes.width)
+    (subst (λ (s : Attributes). IsSubset s (below c.args.width)) (sym c.difference-own.ensures.members)
+    (difference_within c.args.width (attributes c.args.lhs) (attributes c.args.rhs) c.requires.rhs))
+
+outside_within : (c : In_ok-groups) → IsSubset (attributes c.difference-outside.result) (below (width_of_rows c.args.codes.now))
+outside_within c =
+    subst (λ (m : ℕ). IsSubset (attributes c.difference-outside.result) (below m)) (sym c.requires.codes.width)
+    (subst (λ (s : Attributes). IsSubset s (below c.args.width)) (sym c.difference-outside.ensures.members)
+    (difference_within c.args.width (attributes c.union-sides.result) (attributes c.full-universe.result) (IsSubset-same _ _ c.full-universe.ensures.members)))
+
+pub refined-requires-clause-within : goal.refined-requires-clause-within
+refined-requires-clause-within c = own_within (goal.at.refined-requires-clause-within c).In_ok-groups
+
+pub refined-requires-clause-same_length : goal.refined-requires-clause-same_length
+refined-requires-clause-same_length c = (by_left (goal.at.refined-requires-clause-same_length c).In_ok-groups).one_each ∙ sym c.requires.codes.count
+
+pub refined-requires-2-clause-within : goal.refined-requires-2-clause-within
+refined-requires-2-clause-within c = outside_within (goal.at.refined-requires-2-clause-within c).In_ok-groups
+
+pub refined-requires-2-clause-same_length : goal.refined-requires-2-clause-same_length
+refined-requires-2-clause-same_length c = (by_left (goal.at.refined-requires-2-clause-same_length c).In_ok-groups).one_each ∙ sym c.requires.codes.count
+
+pub refined-requires-3-clause-within : goal.refined-requires-3-clause-within
+refined-requires-3-clause-within c = outside_within (goal.at.refined-requires-3-clause-within c).In_ok-groups
+
+pub refined-requires-3-clause-same_length : goal.refined-requires-3-clause-same_length
+refined-requires-3-clause-same_length c = (by_both (goal.at.refined-requires-3-clause-same_length c).In_ok-lefts).one_each ∙ sym c.requires.codes.count
 
 -- the group of each left part
 left_groups_are : (c : In_ok-left_groups) → c.in_ok-left_groups.left_groups.items ≡ map (number_at (groups_of c.in_ok-groups.groups)) (firsts_of c.in_ok-lefts.lefts)
@@ -38,6 +106,15 @@ pub part_counts-requires-clause-same_length : goal.part_counts-requires-clause-s
 part_counts-requires-clause-same_length c =
     let k = grouped (goal.at.part_counts-requires-clause-same_length c).In_ok-all in
     k.left.one_each ∙ sym k.rest.one_each
+
+pub part_counts-requires-clause-parts : goal.part_counts-requires-clause-parts
+part_counts-requires-clause-parts c = (grouped (goal.at.part_counts-requires-clause-parts c).In_ok-all).rest_firsts
+
+pub part_counts-requires-2-clause-groups : goal.part_counts-requires-2-clause-groups
+part_counts-requires-2-clause-groups c = (grouped (goal.at.part_counts-requires-2-clause-groups c).In_ok-all).both_firsts
+
+pub part_counts-requires-2-clause-parts : goal.part_counts-requires-2-clause-parts
+part_counts-requires-2-clause-parts c = (grouped (goal.at.part_counts-requires-2-clause-parts c).In_ok-all).all_firsts
 
 pub part_counts-requires-clause-fits_u32 : goal.part_counts-requires-clause-fits_u32
 part_counts-requires-clause-fits_u32 c =

@@ -1,11 +1,24 @@
 -- What is left to prove of `read_lines`: its clauses `err` and `ok` and that a round of its loop
 -- keeps the invariant.
-use Rattle.std.proofs.Common.{◌≡◌, ◌+◌, ◌-◌, refl, arith}
+use Rattle.std.proofs.Common.{◌≡◌, ◌≤◌, ◌+◌, ◌-◌, ◌∙◌, length, refl, sym, ap, subst, arith}
+use Rattle.attr_sets.specs.declared.set.TheConstants.{MOST_ATTRIBUTES}
+use Rattle.lexer.specs.Lines.{line_texts}
+use Rattle.schema_grammar.specs.Declarations.{Declarations, no_declaration}
 use Rattle.schema_grammar.specs.Texts.{read_lines}
 use Rattle.schema_grammar.proofs.RefusalLemmas.{ok_at, refuses_whole, Refuses-whole}
-use Rattle.schema_grammar.proofs.SoundLemmas.{IsSound, line_sound}
+use Rattle.schema_grammar.proofs.SoundLemmas.{IsSound, nothing_sound, line_sound}
 use Rattle.lexer.proofs.LineEnds.{CutsAt-any, cut_last, cut_more}
 use Rattle.schema_reader.proofs.text.read_lines.Goals as goal
+
+pub lines-init : goal.lines-init
+lines-init c =
+    let empty = c.new-draft.ensures.empty ∙ ap no_declaration c.naming_in.ensures.exact in
+    record {
+      same = ap (λ (d : Declarations). read_lines c.args.format c.args.number d (line_texts c.args.text.now)) (sym empty);
+      sound = subst (λ (d : Declarations). IsSound c.args.format d) (sym empty) (nothing_sound c.args.format);
+      within_limit = subst (λ (d : Declarations). length d.names ≤ MOST_ATTRIBUTES) (sym empty) (omega arith);
+      room = c.requires;
+    }
 
 pub returns-in-Err-clause-err : goal.returns-in-Err-clause-err
 unfolding read_lines

@@ -3,7 +3,9 @@
 use Rattle.std.proofs.Common.{◌+◌, ◌∙◌, [], sym, ap, refl, arith}
 use Rattle.schema_reader.specs.Views.{declarations_of_draft}
 use Rattle.schema_grammar.specs.Texts.{finish, read_opening}
-use Rattle.schema_grammar.specs.Rests.{Rest}
+use Rattle.lexer.specs.declared.mode.Mode.{Mode}
+use Rattle.lexer.specs.Tokens.{lex}
+use Rattle.schema_grammar.specs.Rests.{Rest, rest_from}
 use Rattle.schema_grammar.proofs.RefusalLemmas.{ok_whole, refuses_whole}
 use Rattle.lexer.specs.Lines.{line_texts}
 use Rattle.lexer.proofs.LineEnds.{CutsAt-any, cut_last, cut_more}
@@ -13,8 +15,9 @@ use Rattle.schema_reader.proofs.text.read_opening.Goals as goal
 pub returns-in-Refusal : goal.returns-in-Refusal
 returns-in-Refusal c =
     let cut = CutsAt-any _ _ _ c.cut_line.ensures.cut in
-    let line = ap (λ (r : Rest). r.line) c.start-start.ensures.whole in
-    let here = c.lines.invariant.same ∙ opening_whole_line _ _ _ _ _ cut c.start-start.ensures.whole
+    let whole = c.start-start.ensures.whole ∙ ap (λ (m : Mode). rest_from c.lines.number 1 (lex m c.cut_line.result.0.now)) c.numbered.ensures.mode in
+    let line = ap (λ (r : Rest). r.line) whole in
+    let here = c.lines.invariant.same ∙ opening_whole_line _ _ _ _ _ cut whole
     ∙ opening_stopped _ _ _ _ c.in-Refusal.ensures.exact
     ∙ rw (line, ← cut) refl in
     record { ok = ok_whole declarations_of_draft _ _ _ here c.read_lines.ensures.ok; err = refuses_whole _ _ _ here c.read_lines.ensures.err }
@@ -22,15 +25,17 @@ returns-in-Refusal c =
 pub returns-then-is_version : goal.returns-then-is_version
 returns-then-is_version c =
     let cut = CutsAt-any _ _ _ c.cut_line.ensures.cut in
-    let here = c.lines.invariant.same ∙ opening_whole_line _ _ _ _ _ cut c.start-start.ensures.whole
+    let whole = c.start-start.ensures.whole ∙ ap (λ (m : Mode). rest_from c.lines.number 1 (lex m c.cut_line.result.0.now)) c.numbered.ensures.mode in
+    let here = c.lines.invariant.same ∙ opening_whole_line _ _ _ _ _ cut whole
     ∙ opening_typed _ _ _ _ _ c.in-Token.ensures.exact.led (sym c.if-is_version.ensures.exact) in
-    record { ok = ok_whole declarations_of_draft _ _ _ here c.read_typed.ensures.ok; err = refuses_whole _ _ _ here c.read_typed.ensures.err }
+    record { ok = ok_whole declarations_of_draft _ _ _ here c.read_versioned.ensures.ok; err = refuses_whole _ _ _ here c.read_versioned.ensures.err }
 
 pub returns-else-is_version : goal.returns-else-is_version
 returns-else-is_version c =
     let cut = CutsAt-any _ _ _ c.cut_line.ensures.cut in
-    let line = ap (λ (r : Rest). r.line) c.start-start.ensures.whole in
-    let here = c.lines.invariant.same ∙ opening_whole_line _ _ _ _ _ cut c.start-start.ensures.whole
+    let whole = c.start-start.ensures.whole ∙ ap (λ (m : Mode). rest_from c.lines.number 1 (lex m c.cut_line.result.0.now)) c.numbered.ensures.mode in
+    let line = ap (λ (r : Rest). r.line) whole in
+    let here = c.lines.invariant.same ∙ opening_whole_line _ _ _ _ _ cut whole
     ∙ opening_plain _ _ _ _ _ c.in-Token.ensures.exact.led (sym c.if-is_version.ensures.exact)
     ∙ rw (line, ← cut) refl in
     record {
@@ -41,8 +46,9 @@ returns-else-is_version c =
 pub returns-in-None : goal.returns-in-None
 returns-in-None c =
     let cut = cut_last _ _ _ c.in-None.is c.cut_line.ensures.cut in
-    let line = ap (λ (r : Rest). r.line) c.start-start.ensures.whole in
-    let here = c.lines.invariant.same ∙ opening_whole_line _ _ _ _ _ cut.lines c.start-start.ensures.whole
+    let whole = c.start-start.ensures.whole ∙ ap (λ (m : Mode). rest_from c.lines.number 1 (lex m c.cut_line.result.0.now)) c.numbered.ensures.mode in
+    let line = ap (λ (r : Rest). r.line) whole in
+    let here = c.lines.invariant.same ∙ opening_whole_line _ _ _ _ _ cut.lines whole
     ∙ opening_ended _ _ _ c.in-End.ensures.exact
     ∙ ap (λ n. read_opening (n + 1) []) line ∙ opening_last c.lines.number
     ∙ ap (finish c.lines.number) (sym c.new.ensures.empty) in
@@ -51,9 +57,10 @@ returns-in-None c =
 pub lines-preserved : goal.lines-preserved
 lines-preserved c =
     let cut = cut_more _ _ _ _ c.in-Some.is c.cut_line.ensures.cut in
-    let line = ap (λ (r : Rest). r.line) c.start-start.ensures.whole in
+    let whole = c.start-start.ensures.whole ∙ ap (λ (m : Mode). rest_from c.lines.number 1 (lex m c.cut_line.result.0.now)) c.numbered.ensures.mode in
+    let line = ap (λ (r : Rest). r.line) whole in
     record {
-      same = c.lines.invariant.same ∙ opening_whole_line _ _ _ _ _ cut.lines c.start-start.ensures.whole
+      same = c.lines.invariant.same ∙ opening_whole_line _ _ _ _ _ cut.lines whole
           ∙ opening_ended _ _ _ c.in-End.ensures.exact
           ∙ ap (λ n. read_opening (n + 1) (line_texts c.in-Some.lines.now)) line;
       room = omega (arith, c.lines.invariant.room, cut.shorter);

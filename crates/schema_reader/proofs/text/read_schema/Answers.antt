@@ -5,9 +5,7 @@ use Rattle.schema_grammar.specs.Words.{is_reserved}
 use Rattle.schema_grammar.specs.declared.format.Format.TheVariants as format
 use Rattle.std.proofs.Common.{◌≡◌, ◌∙◌, ℕ, List, subst, false, sym, ap, refl, Ok, length, arith}
 use Rattle.std.proofs.lemmas.List.{length-map}
-use Rattle.attr_sets.proofs.AttributesLemmas.{same_at}
 use Rattle.dep_model.specs.Deps.{dependency_of, dependencies_of}
-use Rattle.dep_model.proofs.ColumnLemmas.{AreDeclared-bare}
 use Rattle.dep_model.proofs.FailureLemmas.{refuses_also}
 use Rattle.lexer.specs.Lines.{line_texts}
 use Rattle.schema_reader.specs.Views.{declarations_of_draft}
@@ -31,7 +29,7 @@ with_columns-requires-clause-schema c =
 pub with_columns-requires-clause-columns : goal.with_columns-requires-clause-columns
 with_columns-requires-clause-columns c =
     let whole = ok_at IsWhole _ _ c.in-Ok.ensures.ok (opening_is_whole _ _) in
-    AreDeclared-bare _ _ _ whole.sound.proper (forms_columns (declarations_of_draft c.in-Ok.draft) whole) (same_at c.empty-nullable.ensures.members)
+    forms_columns (declarations_of_draft c.in-Ok.draft) whole
 
 pub returns-clause-deps : goal.returns-clause-deps
 returns-clause-deps c =
@@ -49,10 +47,12 @@ returns-clause-ok c =
       columns = of.columns i;
       deps = theory i;
       lines = of.lines i;
+      naming = of.naming i;
+      nullable = of.nullable i;
     } in
     (schema-law c.args.text.now (declarations_of c.with_columns.result)).0 (here ∙ c.in-Ok.ensures.ok ∙ ap Ok (sym made))
 
 pub returns-clause-not_reserved : goal.returns-clause-not_reserved
-returns-clause-not_reserved c =
+returns-clause-not_reserved c bare =
     let of : List (List ℕ) → Type 0 = λ names. All (λ name. is_reserved format.Plain name ≡ false) names in
-    subst of (sym c.with_columns.ensures.names) (whole_not_reserved (declarations_of_draft c.in-Ok.draft) (ok_at IsWhole _ _ c.in-Ok.ensures.ok (opening_is_whole _ _)))
+    subst of (sym c.with_columns.ensures.names) (whole_not_reserved (declarations_of_draft c.in-Ok.draft) (ok_at IsWhole _ _ c.in-Ok.ensures.ok (opening_is_whole _ _)) (sym c.with_columns.ensures.naming ∙ bare))

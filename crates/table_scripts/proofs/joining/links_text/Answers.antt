@@ -1,6 +1,6 @@
 -- What is left to prove of `links_text`: that a round of its loop keeps the invariant, by `seen_more` and
 -- `links_more`.
-use Rattle.std.proofs.Common.{◌∙◌, ap}
+use Rattle.std.proofs.Common.{◌∙◌}
 use Rattle.attr_sets.specs.Sets.{attributes}
 use Rattle.table_scripts.proofs.JoiningLemmas.{seen_more, links_more}
 use Rattle.table_scripts.proofs.joining.links_text.Goals as goal

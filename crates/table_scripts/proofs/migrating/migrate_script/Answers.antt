@@ -1,5 +1,6 @@
--- What is left to prove of `migrate_script`: its clauses, by `fills_tables`, `view_is_table`, `all_moved` and
--- `nothing_kept`.
+-- What is left to prove of `migrate_script`: its clauses, by `fills_tables`, `view_is_table`, `all_moved`,
+-- `nothing_kept` and `run_ends`.
+use Rattle.ending_laws.proofs.EndLemmas.{run_ends}
 use Rattle.migrate_laws.proofs.MovedLemmas.{all_moved}
 use Rattle.migrate_laws.proofs.RunLemmas.{nothing_kept}
 use Rattle.table_scripts.specs.Naming.{quoted_table}
@@ -19,3 +20,7 @@ returns-clause-moves c fails cast cell r start last holds e =
 pub returns-clause-undoes : goal.returns-clause-undoes
 returns-clause-undoes c fails cast start kept e =
     nothing_kept fails cast c.args.schema.now (quoted_table c.args.table.now) c.args.design.now start kept e
+
+pub returns-clause-ends : goal.returns-clause-ends
+returns-clause-ends c fails cast cell r start sound =
+    run_ends fails cast c.args.schema.now (quoted_table c.args.table.now) cell r c.args.design.now start sound

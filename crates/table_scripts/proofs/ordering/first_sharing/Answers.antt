@@ -1,5 +1,5 @@
 -- What is left to prove of `first_sharing`: what it answers, and that its invariant stays, by `OrderLemmas`.
-use Rattle.std.proofs.Common.{◌≡◌, ◌<◌, ◌∙◌, Bool, true, false, length, get_or, sym, ap, arith}
+use Rattle.std.proofs.Common.{◌≡◌, ◌<◌, ◌∙◌, true, false, length, get_or, sym, ap, arith}
 use Rattle.attr_sets.specs.Sets.{attributes}
 use Rattle.migrate_queries.specs.declared.joining.JoinedTable.{JoinedTable}
 use Rattle.migrate_queries.specs.ViewOrder.{share}

@@ -14,7 +14,12 @@ invariant-loop-row g l =
       gives_up : GivesUp l.table.name (destination.finished l.fn.destination) (destination.finished l.destination);
       begins : Begins l.table.name (destination.begun l.fn.destination) (destination.begun l.destination);
       opened : destination.opened l.destination
-          (record { name = l.table.name; columns = l.table.columns.items; rows = map (chosen_row l.rows l.table) (take l.row-index l.table.chosen.items) });
+          (record {
+            name = l.table.name;
+            columns = l.table.columns.items;
+            nullable = l.table.nullable.items;
+            rows = map (chosen_row l.rows l.table) (take l.row-index l.table.chosen.items);
+          });
       width : destination.width l.destination ≡ Some (length l.table.columns.items);
       fine : destination.faults l.destination ≡ destination.faults l.fn.destination;
     }

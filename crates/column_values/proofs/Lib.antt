@@ -1,0 +1,5 @@
+pub mod DigitLemmas
+pub mod UuidLemmas
+pub mod CalendarLemmas
+pub mod DecimalLemmas
+pub mod MadeUpLemmas

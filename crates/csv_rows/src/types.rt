@@ -1,0 +1,17 @@
+ghost use Rattle.std.specs.Prelude.{◌≡◌, IsTrue};
+ghost use Rattle.csv_rows.specs.RefusalTexts.{type_of};
+ghost use Rattle.dep_model.specs.Columns.{is_column_type};
+
+use dep_model::{ColumnType, Schema};
+
+/// The type of the column of an attribute; text where there is none.
+pub fn type_of(schema: &Schema, attribute: u8) -> ColumnType
+    ensures column { result ≡ type_of schema.now attribute }
+    ensures valid { IsTrue (is_column_type result) }
+{
+    if attribute < schema.width() {
+        schema.column(attribute)
+    } else {
+        ColumnType::Text
+    }
+}

@@ -1,0 +1,62 @@
+//! Whether values that may be missing keep a plan from being tables.
+
+ghost use Rattle.std.specs.Prelude.{length, IfOk, IfErr};
+ghost use Rattle.dep_model.specs.Schemas.{nullable_of, width_of};
+ghost use Rattle.plans.specs.Plans.{IsPlanOver, plan_of, scheme_sets};
+ghost use Rattle.desk_designs.specs.Designs.{AreNeverMissing, IsSoundDesign, MissingStops};
+ghost use Rattle.desk_responses.specs.ResponseValues.{Says};
+ghost use Rattle.desk_responses.specs.Responses.{ExitsAs};
+ghost use Rattle.desk_responses.specs.declared.status.Status.TheVariants.{Refused};
+ghost use Rattle.missing_values.specs.Missing.{NeverMissing};
+ghost use Rattle.missing_values.specs.Refusals.{IsWithin, refusal_text};
+
+use crate::designs::design_of_plan;
+use ddl_text::DesignList;
+use dep_model::Schema;
+use desk_responses::{EarlyExit, Status};
+use missing_values::{MissingRefusal, missing_refusal, print_refusal};
+use plans::Plan;
+use std::alloc::Global;
+
+/// Tests that no value of a key of the tables of a plan may be missing, and none of an attribute of two.
+pub fn test_missing(alloc: Global, schema: &Schema, plan: &Plan) -> Result<(), EarlyExit>
+    requires universe { IsPlanOver schema.now plan.now }
+    ensures ok { IfOk result (λ _. AreNeverMissing schema.now (plan_of plan.now)) }
+    ensures exit { IfErr result (ExitsAs (MissingStops schema.now (plan_of plan.now))) }
+{
+    match required_design(alloc, schema, plan) {
+        Ok(_) => Ok(()),
+        Err(exit) => Err(exit),
+    }
+}
+
+/// The design of a plan in its order, where no value of a key may be missing and none of an attribute of two
+/// tables.
+pub fn required_design(alloc: Global, schema: &Schema, plan: &Plan) -> Result<DesignList, EarlyExit>
+    requires universe { IsPlanOver schema.now plan.now }
+    ensures sound { IfOk result (λ tables. IsSoundDesign schema.now (scheme_sets plan.now) tables) }
+    ensures never_missing { IfOk result (λ tables. NeverMissing (nullable_of schema.now) tables) }
+    ensures exit { IfErr result (ExitsAs (MissingStops schema.now (plan_of plan.now))) }
+{
+    let tables = design_of_plan(alloc, schema, plan)?;
+    match missing_refusal(schema, tables.tables()) {
+        None => Ok(tables),
+        Some(refusal) => Err(missing_exit(alloc, schema, &tables, refusal)),
+    }
+}
+
+// A value may be missing where it must not be.
+fn missing_exit(
+    alloc: Global,
+    schema: &Schema,
+    tables: &DesignList,
+    refusal: MissingRefusal,
+) -> EarlyExit
+    requires within { IsWithin (width_of schema.now) (length tables.now) refusal }
+    ensures says { ExitsAs (Says Refused (refusal_text schema.now tables.now refusal)) result }
+{
+    EarlyExit::with_text(
+        Status::Refused,
+        print_refusal(alloc, schema, tables.tables(), refusal),
+    )
+}

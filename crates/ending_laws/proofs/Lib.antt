@@ -1,0 +1,10 @@
+pub mod OrderLemmas
+pub mod NameLemmas
+pub mod EnteredLemmas
+pub mod BesideLemmas
+pub mod JoinedLemmas
+pub mod ViewLemmas
+pub mod FullLemmas
+pub mod StageLemmas
+pub mod MakingLemmas
+pub mod EndLemmas

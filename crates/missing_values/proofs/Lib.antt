@@ -1,0 +1,3 @@
+pub mod FindingLemmas
+pub mod OneMissing
+pub mod PrintingLemmas

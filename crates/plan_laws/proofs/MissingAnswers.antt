@@ -1,0 +1,143 @@
+-- A plan is refused in one way for what may be missing: its designs are the same, and one thing is found first.
+use Rattle.std.proofs.Common.{◌≡◌, ℕ, true, List, Option, Some, None, sym, subst, ap, ◌∙◌, inl, inr}
+use Rattle.std.specs.Prelude.{unwrap_or}
+use Rattle.attr_sets.specs.Attributes.{Attributes}
+use Rattle.attr_sets.specs.Sets.{attributes}
+use Rattle.attr_sets.specs.declared.set.AttrSet.{AttrSet}
+use Rattle.dep_model.specs.Plans.{schemes_of}
+use Rattle.dep_model.specs.Schemas.{nullable_of}
+use Rattle.dep_model.specs.declared.schema.Schema.{Schema}
+use Rattle.ddl_text.specs.declared.table.TableDesign.{TableDesign}
+use Rattle.missing_values.proofs.OneMissing.{one_missing}
+use Rattle.missing_values.specs.Missing.{FindsMissing, HasAt, IsFineAt, IsInKeyAt, IsSharedAt, KeyHasAt}
+use Rattle.missing_values.specs.Refusals.{in_key_text, in_two_text, name_at, refusal_text}
+use Rattle.missing_values.specs.declared.refusal.MissingRefusal.{MissingRefusal}
+use Rattle.missing_values.specs.declared.refusal.MissingRefusal.TheVariants.{InKey, InTwo}
+use Rattle.implication_laws.specs.OneAnswer.{AllowsOne}
+use Rattle.implication_laws.proofs.StepLaws.{same_says, Unless-one}
+use Rattle.desk_responses.specs.ResponseValues.{Allowed, ResponseValue}
+use Rattle.desk_responses.specs.declared.status.Status.TheVariants.{Refused}
+use Rattle.desk_designs.specs.Designs.{AreNeverMissing, IsDesignOf, MissingStops, WithoutMissing}
+use Rattle.plan_laws.proofs.DesignTexts.{found_same}
+use Rattle.plan_laws.proofs.OneDesign.{one_sound_design, some_there, tables_back}
+use Rattle.plan_laws.specs.SameDesigns.{AreSameTables}
+
+-- ---- designs that are the same
+-- what a table has, the table at the same position of the other design has
+module _ (nullable : Attributes) (one other : List TableDesign) (same : AreSameTables one other) where
+  has_there : (k a : ℕ) → HasAt one k a → HasAt other k a
+  has_there k a =
+      some_there (λ t. attributes t.scheme a ≡ true) (λ t. attributes t.scheme a ≡ true)
+      (λ t u alike member. subst (λ (x : Attributes). x a ≡ true) alike.columns member) one other same k
+
+  key_has_there : (k a : ℕ) → KeyHasAt one k a → KeyHasAt other k a
+  key_has_there k a =
+      some_there (λ t. attributes t.key a ≡ true) (λ t. attributes t.key a ≡ true)
+      (λ t u alike member. subst (λ (x : Attributes). x a ≡ true) alike.key member) one other same k
+
+  in_key_there : (k a : ℕ) → IsInKeyAt nullable one k a → IsInKeyAt nullable other k a
+  in_key_there k a is = record { missing = is.missing; in_key = key_has_there k a is.in_key }
+
+  shared_there : (j k a : ℕ) → IsSharedAt nullable one j k a → IsSharedAt nullable other j k a
+  shared_there j k a is = record {
+    missing = is.missing;
+    before = is.before;
+    in_earlier = has_there j a is.in_earlier;
+    in_later = has_there k a is.in_later;
+  }
+
+-- so the same is found in both
+module _ (nullable : Attributes) (one other : List TableDesign) (same : AreSameTables one other) where
+  in_key_back : (k a : ℕ) → IsInKeyAt nullable other k a → IsInKeyAt nullable one k a
+  in_key_back = in_key_there nullable other one (tables_back one other same)
+
+  shared_back : (j k a : ℕ) → IsSharedAt nullable other j k a → IsSharedAt nullable one j k a
+  shared_back = shared_there nullable other one (tables_back one other same)
+
+  fine_there : (k : ℕ) → IsFineAt nullable one k → IsFineAt nullable other k
+  fine_there k fine = record {
+    key = λ a is. fine.key a (in_key_back k a is);
+    shared = λ a j is. fine.shared a j (shared_back j k a is);
+  }
+
+  finds_there : (found : Option MissingRefusal) → FindsMissing nullable one found → FindsMissing nullable other found
+  finds_there None never = λ k. fine_there k (never k)
+  finds_there (Some (InKey a k)) (before, is) = (
+    λ i less. fine_there i (before i less),
+    record {
+      here = in_key_there nullable one other same k a is.here;
+      least = λ b less has. is.least b less (in_key_back k b has);
+    },
+  )
+  finds_there (Some (InTwo a j k)) (before, is) = (
+    λ i less. fine_there i (before i less),
+    record {
+      key = λ b has. is.key b (in_key_back k b has);
+      here = shared_there nullable one other same j k a is.here;
+      least = λ b i less has. is.least b i less (shared_back i k b has);
+      first = λ i less has. is.first i less (shared_back i k a has);
+    },
+  )
+
+  name_same : (k : ℕ) → name_at one k ≡ name_at other k
+  name_same =
+      found_same (λ (t : TableDesign). t.name) (λ (t : TableDesign). t.name) (λ t u alike. alike.name) one other same
+
+  refusal_same : (s : Schema) (refusal : MissingRefusal) → refusal_text s one refusal ≡ refusal_text s other refusal
+  refusal_same s (InKey a k) = ap (in_key_text s a) (name_same k)
+  refusal_same s (InTwo a j k) =
+      ap (λ (earlier : List ℕ). in_two_text s a earlier (name_at one k)) (name_same j)
+      ∙ ap (in_two_text s a (name_at other j)) (name_same k)
+
+-- ---- what stops
+one_design_of : (s : Schema) (schemes : List Attributes) (tables designs : List TableDesign)
+    → IsDesignOf s schemes tables → IsDesignOf s schemes designs → AreSameTables tables designs
+one_design_of s schemes tables designs is also =
+    one_sound_design s is.plan also.plan tables designs (is.same ∙ sym also.same) is.sound also.sound
+
+one_missing_stop : (s : Schema) (schemes : List Attributes) → AllowsOne (MissingStops s schemes)
+one_missing_stop s schemes one other (tables, is, (refusal, finds, says)) (designs, also, (another, found, said)) =
+    let same = one_design_of s schemes tables designs is also in
+    let there = finds_there (nullable_of s) tables designs same (Some refusal) finds in
+    let found_one = one_missing (nullable_of s) designs (Some refusal) (Some another) there found in
+    same_says Refused _ _ one other says said
+    (refusal_same (nullable_of s) tables designs same s refusal
+    ∙ ap (λ (first : Option MissingRefusal). refusal_text s designs (unwrap_or first refusal)) found_one)
+
+found_or_none : (nullable : Attributes) (tables : List TableDesign) (refusal : MissingRefusal)
+    → FindsMissing nullable tables None → FindsMissing nullable tables (Some refusal) → ⊥
+found_or_none nullable tables (InKey a k) never found = (never k).key a found.1.here
+found_or_none nullable tables (InTwo a j k) never found = (never k).shared a j found.1.here
+
+missing_goes : (s : Schema) (schemes : List Attributes) (response : ResponseValue) → AreNeverMissing s schemes
+    → MissingStops s schemes response → ⊥
+missing_goes s schemes response (tables, is, never) (designs, also, (refusal, found, says)) =
+    found_or_none (nullable_of s) designs refusal
+    (finds_there (nullable_of s) tables designs (one_design_of s schemes tables designs is also) None never) found
+
+-- ---- answers
+-- after the test for what may be missing there is one answer
+pub one_without_missing : (s : Schema) (schemes : List Attributes) (rest : Allowed) → AllowsOne rest
+    → AllowsOne (WithoutMissing s schemes rest)
+one_without_missing s schemes rest one_rest =
+    Unless-one (MissingStops s schemes) (AreNeverMissing s schemes) rest (one_missing_stop s schemes)
+    (λ response passed stops. missing_goes s schemes response passed stops) (λ passed. one_rest)
+
+-- the same of plans of the same schemes, where what follows rests on the sets of a plan alone
+pub same_without_missing : (s : Schema) (rest : List AttrSet → Allowed)
+    → ((plan others : List AttrSet) (one other : ResponseValue) → schemes_of plan ≡ schemes_of others
+    → rest plan one → rest others other → one ≡ other)
+    → (plan others : List AttrSet) (one other : ResponseValue) → schemes_of plan ≡ schemes_of others
+    → WithoutMissing s (schemes_of plan) (rest plan) one → WithoutMissing s (schemes_of others) (rest others) other
+    → one ≡ other
+same_without_missing s rest alike plan others one other at (inl stops) (inl stopped) =
+    one_missing_stop s (schemes_of others) one other
+    (subst (λ (schemes : List Attributes). MissingStops s schemes one) at stops) stopped
+same_without_missing s rest alike plan others one other at (inl stops) (inr (passed, answers)) =
+    absurd (missing_goes s (schemes_of others) one passed
+    (subst (λ (schemes : List Attributes). MissingStops s schemes one) at stops))
+same_without_missing s rest alike plan others one other at (inr (passed, answers)) (inl stops) =
+    absurd (missing_goes s (schemes_of others) other
+    (subst (λ (schemes : List Attributes). AreNeverMissing s schemes) at passed) stops)
+same_without_missing s rest alike plan others one other at (inr (passed, answers)) (inr (also, again)) =
+    alike plan others one other at answers again

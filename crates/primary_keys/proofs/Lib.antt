@@ -1,0 +1,3 @@
+pub mod NarrowedLemmas
+pub mod PrimaryLemmas
+mod LoopLemmas

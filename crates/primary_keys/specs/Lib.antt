@@ -1,0 +1,2 @@
+-- The definitions of primary_keys.
+pub mod PrimaryKeys

@@ -1,0 +1,62 @@
+ghost use Rattle.std.specs.Prelude.{◌↔◌, IsTrue};
+ghost use Rattle.attr_sets.specs.Attributes.{IsSubset};
+ghost use Rattle.attr_sets.specs.Sets.{attributes};
+ghost use Rattle.dep_model.specs.Keys.{IsSuperkey};
+ghost use Rattle.dep_model.specs.Schemas.{width_of, universe_of, theory_of, nullable_of};
+ghost use Rattle.primary_keys.specs.PrimaryKeys.{IsNarrowed, IsPrimaryKey};
+
+use attr_sets::{AttrSet, MOST_ATTRIBUTES};
+use dep_basis::{Decision, decide};
+use dep_model::{Dep, Schema};
+
+/// The primary key of a scheme, by all dependencies: what is left of it once each attribute that may be
+/// missing, from the last to the first, and then each other one so, was left out where the rest still
+/// determines the scheme.
+pub fn primary_key(schema: &Schema, scheme: AttrSet) -> AttrSet
+    requires scheme { IsSubset (attributes scheme) (universe_of schema.now) }
+    ensures primary { IsPrimaryKey (width_of schema.now) (theory_of schema.now) (nullable_of schema.now)
+        (attributes scheme) (attributes result) }
+{
+    let nullable = schema.nullable();
+    let never_missing = scheme.difference(nullable);
+    let rest = narrowed(schema, scheme, nullable, scheme);
+    narrowed(schema, scheme, never_missing, rest)
+}
+
+// What is left of a set once each attribute of those to be tried, from the last to the first, was left out
+// where the rest still determines a scheme.
+fn narrowed(schema: &Schema, scheme: AttrSet, tried: AttrSet, start: AttrSet) -> AttrSet
+    requires scheme { IsSubset (attributes scheme) (universe_of schema.now) }
+    requires start { IsSubset (attributes start) (attributes scheme) }
+    ensures narrowed { IsNarrowed (width_of schema.now) (theory_of schema.now) (attributes scheme)
+        (attributes tried) (attributes start) (attributes result) }
+{
+    let mut key = start;
+    for i in (0..MOST_ATTRIBUTES).rev() {
+        if !key.intersection(tried).contains(i) {
+            continue;
+        }
+        let rest = key.without(i);
+        if determines(schema, scheme, rest) {
+            key = rest;
+        }
+    }
+    key
+}
+
+// Whether a part of a scheme determines all of it.
+fn determines(schema: &Schema, scheme: AttrSet, set: AttrSet) -> bool
+    requires scheme { IsSubset (attributes scheme) (universe_of schema.now) }
+    requires set { IsSubset (attributes set) (attributes scheme) }
+    ensures determines { IsTrue result
+        ↔ IsSuperkey (width_of schema.now) (theory_of schema.now) (attributes scheme) (attributes set) }
+{
+    let goal = Dep::Fd {
+        lhs: set,
+        rhs: scheme,
+    };
+    match decide(schema, goal) {
+        Decision::Implied => true,
+        Decision::Broken { .. } => false,
+    }
+}

@@ -1,0 +1,7 @@
+-- What the loop of `number_of` keeps: the number of the digits so far.
+use Rattle.std.proofs.Common.{◌≡◌, take}
+use Rattle.std.specs.Str.Parse.{digits_value}
+use Rattle.typed_rows.proofs.typing.number_of.Given as goal
+
+abbrev pub invariant-loop-b : goal.invariant-loop-b
+invariant-loop-b l = l.number ≡ digits_value 10 (take l.b-index l.digits)
