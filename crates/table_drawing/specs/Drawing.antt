@@ -1,5 +1,5 @@
 -- A design as a Graphviz text: for `draw` (`desk_designs/Drawings`).
-use Rattle.std.specs.Prelude.{ℕ, Bool, if◌then◌else◌, List, [], ◌++◌, codes, slice_get, slice_index_or, unwrap_or, option_map}
+use Rattle.std.specs.Prelude.{ℕ, Bool, ◌==◌, if◌then◌else◌, List, [], ◌∷◌, ◌++◌, codes, slice_get, slice_index_or, unwrap_or, option_map}
 use Rattle.std.specs.List.{flat_map}
 use Rattle.attr_sets.specs.Attributes.{Attributes}
 use Rattle.attr_sets.specs.Sets.{attributes}
@@ -10,9 +10,27 @@ use Rattle.schema_printer.specs.Printing.{set_text}
 use Rattle.schema_printer.specs.Spelling.{printed_names_of}
 use Rattle.ddl_text.specs.declared.table.TableDesign.{TableDesign}
 
+-- a byte in an HTML label: `&`, `<`, `>` and `"` as entities
+abbrev pub html_byte : ℕ → List ℕ
+html_byte b =
+    if b == 38 then codes "&amp;" else if b == 60 then codes "&lt;" else if b == 62 then codes "&gt;"
+    else if b == 34 then codes "&quot;" else b ∷ []
+
+-- a text in an HTML label
+unfoldable pub html_text : List ℕ → List ℕ
+html_text text = flat_map html_byte text
+
+-- a byte in a label between double quotes: `\` before `"` and `\`
+abbrev pub label_byte : ℕ → List ℕ
+label_byte b = if b == 34 then 92 ∷ 34 ∷ [] else if b == 92 then 92 ∷ 92 ∷ [] else b ∷ []
+
+-- a text in a label between double quotes
+unfoldable pub label_text : List ℕ → List ℕ
+label_text text = flat_map label_byte text
+
 -- a name, underlined where it is in the key
 unfoldable pub marked_text : Bool → List ℕ → List ℕ
-marked_text in_key name = if in_key then codes "<U>" ++ name ++ codes "</U>" else name
+marked_text in_key name = if in_key then codes "<U>" ++ html_text name ++ codes "</U>" else html_text name
 
 -- the row of an attribute
 unfoldable pub row_text : Schema → Attributes → ℕ → List ℕ
@@ -36,7 +54,7 @@ node_text s table =
 unfoldable pub edge_text : Schema → TableDesign → TableDesign → List ℕ
 edge_text s table other =
     codes "  " ++ table.name ++ codes " -> " ++ other.name ++ codes " [label=\""
-    ++ set_text (printed_names_of s) (attributes other.key) ++ codes "\"];\n"
+    ++ label_text (set_text (printed_names_of s) (attributes other.key)) ++ codes "\"];\n"
 
 -- the edges from a table to those at these positions, in order
 abbrev pub edges_to : Schema → List TableDesign → TableDesign → List ℕ → List ℕ

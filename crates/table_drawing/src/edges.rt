@@ -3,6 +3,7 @@ ghost use Rattle.std.specs.List.{flat_map};
 ghost use Rattle.ddl_text.specs.Designs.{ReferToEarlier};
 ghost use Rattle.table_drawing.specs.Drawing.{edge_text, edges_to, edges_text};
 
+use crate::escapes::add_label;
 use ddl_text::TableDesign;
 use dep_model::{OutOfMemory, Schema};
 use schema_printer::{add, add_set};
@@ -57,13 +58,15 @@ fn edge_text(
 ) -> Result<Vec<u8>, OutOfMemory>
     ensures text { IfOk result (λ text. text.items ≡ edge_text schema.now table.now other.now) }
 {
+    let mut key = Vec::new(alloc);
+    add_set(&mut key, schema, other.key)?;
     let mut text = Vec::new(alloc);
     add(&mut text, b"  ")?;
     add(&mut text, table.name.bytes())?;
     add(&mut text, b" -> ")?;
     add(&mut text, other.name.bytes())?;
     add(&mut text, b" [label=\"")?;
-    add_set(&mut text, schema, other.key)?;
+    add_label(&mut text, &key)?;
     add(&mut text, b"\"];\n")?;
     Ok(text)
 }

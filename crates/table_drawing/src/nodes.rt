@@ -4,6 +4,7 @@ ghost use Rattle.attr_sets.specs.Sets.{attributes};
 ghost use Rattle.dep_model.specs.Schemas.{width_of};
 ghost use Rattle.table_drawing.specs.Drawing.{marked_text, row_text, table_rows_text, node_text};
 
+use crate::escapes::add_html;
 use attr_sets::AttrSet;
 use ddl_text::TableDesign;
 use dep_model::{OutOfMemory, Schema};
@@ -93,9 +94,9 @@ fn add_marked(text: &mut Vec<u8>, name: &[u8], in_key: bool) -> Result<(), OutOf
 {
     if in_key {
         add(text, b"<U>")?;
-        add(text, name)?;
+        add_html(text, name)?;
         add(text, b"</U>")
     } else {
-        add(text, name)
+        add_html(text, name)
     }
 }
