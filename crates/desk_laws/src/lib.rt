@@ -59,6 +59,7 @@ pub fn printed_proof_is_accepted()
         → bytes_of_file after schema ≡ bytes_of_file before schema → bytes_of_file after file
         ≡ Some printed.text
         → length printed.text ≤ MOST_PROOF_BYTES
-        → (response : ResponseValue) → Answers later (known_files after) (codes "check" ∷ codes "proof" ∷ schema ∷ file ∷ goal
-        ∷ []) response → response.status ≡ Yes }
+        → (response : ResponseValue)
+        → Answers later (known_files after) (codes "check" ∷ codes "proof" ∷ schema ∷ file ∷ goal ∷ []) response
+        → response.status ≡ Yes }
 {}

@@ -47,8 +47,9 @@ pub fn tasks_have_one_answer()
         → Does looks (known_files files) other_schema task other → IsOneButForProof schema task one other }
 {}
 
-/// Any two answers that words have over known files, where a look at a name has one answer, are equal, unless the words ask whether a goal is implied
-/// which is: then both answers are yes, and equal where the derivation is fixed.
+/// Any two answers that words have over known files, where a look at a name has one answer, are equal,
+/// unless the words ask whether a goal is implied which is: then both answers are yes, and equal where the
+/// derivation is fixed.
 pub fn words_have_one_answer()
     ensures law { (looks : Looks) (files : Files) (words : List (List ℕ)) (one other : ResponseValue)
         → HasOneLook looks

@@ -82,7 +82,8 @@ fn short_groups(
     requires wanted { AreBelow left_groups.now (length wanted.now) }
     requires present { length present.now ≡ length left_groups.now }
     ensures count { IfOk result (λ v. length v.items ≡ length wanted.now) }
-    ensures short { IfOk result (λ v. AreShort left_groups.now wanted.now present.now (length left_groups.now) v.items) }
+    ensures short { IfOk result (λ v.
+        AreShort left_groups.now wanted.now present.now (length left_groups.now) v.items) }
 {
     let mut short = no_flags(alloc, wanted.len())?;
     for left in 0..left_groups.len() {

@@ -1,6 +1,6 @@
 //! Laws of tables. What a destination over a folder writes of a table as CSV is read back as the table's
-//! rows, and what stands for a value in its SQL tells the value, also that it is missing. A design in its order states each
-//! reference that it can.
+//! rows, and what stands for a value in its SQL tells the value, also that it is missing. A design in its
+//! order states each reference that it can.
 #![tactic(auto)]
 
 ghost use Rattle.std.specs.Prelude.{◌≡◌, ◌<◌, ◌≤◌, ℕ, Bool, true, List, length, slice_get, Some, All, IsTrue, Ok};
