@@ -26,3 +26,5 @@ mod model;
 mod sets;
 #[cfg(test)]
 mod test_schemas;
+#[cfg(test)]
+mod values;
