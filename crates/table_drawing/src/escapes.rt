@@ -7,6 +7,7 @@ use dep_model::OutOfMemory;
 use schema_printer::add;
 
 // Adds a text to an HTML label.
+#[tactic(auto, unfolding(crate::specs::Drawing::html_text))]
 pub fn add_html(text: &mut Vec<u8>, bytes: &[u8]) -> Result<(), OutOfMemory>
     ensures added { OnOk result (text.new.items ≡ text.old.items ++ html_text bytes.now) }
 {
@@ -35,6 +36,7 @@ fn add_html_byte(text: &mut Vec<u8>, byte: u8) -> Result<(), OutOfMemory>
 }
 
 // Adds a text to a label between double quotes.
+#[tactic(auto, unfolding(crate::specs::Drawing::label_text))]
 pub fn add_label(text: &mut Vec<u8>, bytes: &[u8]) -> Result<(), OutOfMemory>
     ensures added { OnOk result (text.new.items ≡ text.old.items ++ label_text bytes.now) }
 {
