@@ -1,5 +1,6 @@
 -- `migrate` into a folder of its own has one answer, where a look at a name has one.
-use Rattle.std.proofs.Common.{◌≡◌, ℕ, true, List, sym, ap, ◌∙◌}
+use Rattle.std.proofs.Common.{◌≡◌, ℕ, true, List, inl, inr, sym, ap, ◌∙◌}
+use Rattle.std.specs.Prelude.{IsTrue}
 use Rattle.attr_sets.specs.Attributes.{Attributes}
 use Rattle.attr_sets.specs.declared.set.AttrSet.{AttrSet}
 use Rattle.dep_model.specs.Plans.{schemes_of}
@@ -45,8 +46,8 @@ one_folder_stop looks name one other (taken, says) (again, said) = says ∙ sym 
 
 same_into : (looks : Looks) (s : Schema) (name : List ℕ) (rows : Relation) → HasOneLook looks → (plan others : List AttrSet)
     (one other : ResponseValue) → schemes_of plan ≡ schemes_of others
-    → Unless (FolderStops looks name) (looks name true) (MigratesRowsInto s plan name rows) one
-    → Unless (FolderStops looks name) (looks name true) (MigratesRowsInto s others name rows) other → one ≡ other
+    → Unless (FolderStops looks name) (IsTrue (looks name true)) (MigratesRowsInto s plan name rows) one
+    → Unless (FolderStops looks name) (IsTrue (looks name true)) (MigratesRowsInto s others name rows) other → one ≡ other
 same_into looks s name rows single plan others one other at (inl stops) (inl stopped) =
     one_folder_stop looks name one other stops stopped
 same_into looks s name rows single plan others one other at (inl stops) (inr (free, answers)) =
@@ -61,9 +62,9 @@ pub one_form_into : (looks : Looks) (s : Schema) (form : Form) (name : List ℕ)
 one_form_into looks s form name rows single =
     one_in_form s form
     (λ plan. WithoutMissing s (schemes_of plan)
-    (Unless (FolderStops looks name) (looks name true) (MigratesRowsInto s plan name rows)))
+    (Unless (FolderStops looks name) (IsTrue (looks name true)) (MigratesRowsInto s plan name rows)))
     (same_without_missing s
-    (λ plan. Unless (FolderStops looks name) (looks name true) (MigratesRowsInto s plan name rows))
+    (λ plan. Unless (FolderStops looks name) (IsTrue (looks name true)) (MigratesRowsInto s plan name rows))
     (same_into looks s name rows single))
 
 one_schemes_into : (s : Schema) (schemes : List Attributes) (name : List ℕ) (rows : Relation)
@@ -75,7 +76,7 @@ pub one_plan_into : (looks : Looks) (s : Schema) (plan : List Attributes) (name 
     → HasOneLook looks → AllowsOne (MigratesPlanInto looks s plan name rows)
 one_plan_into looks s plan name rows single =
     one_without_missing s plan
-    (Unless (FolderStops looks name) (looks name true) (WithoutLoss s plan (MigratesSchemesInto s plan name rows)))
-    (Unless-one (FolderStops looks name) (looks name true) (WithoutLoss s plan (MigratesSchemesInto s plan name rows))
+    (Unless (FolderStops looks name) (IsTrue (looks name true)) (WithoutLoss s plan (MigratesSchemesInto s plan name rows)))
+    (Unless-one (FolderStops looks name) (IsTrue (looks name true)) (WithoutLoss s plan (MigratesSchemesInto s plan name rows))
     (one_folder_stop looks name) (λ response free stops. single name free stops.0)
     (λ free. one_without_loss s plan (MigratesSchemesInto s plan name rows) (one_schemes_into s plan name rows)))
