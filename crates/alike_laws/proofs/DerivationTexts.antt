@@ -4,7 +4,7 @@ use Rattle.std.proofs.Common.{◌≡◌, ◌-◌, ◌==◌, ℕ, List, [], ◌�
 use Rattle.std.specs.Prelude.{◌⊎◌, Result}
 use Rattle.dep_model.specs.Dependencies.{Dependency}
 use Rattle.dep_model.specs.Implication.{Implies}
-use Rattle.dep_model.specs.Schemas.{names_of, width_of}
+use Rattle.dep_model.specs.Schemas.{names_of, naming_of, width_of}
 use Rattle.dep_model.specs.declared.schema.Schema.{Schema}
 use Rattle.derivation.specs.Trees.{given}
 use Rattle.derivation.specs.declared.fault.FaultKind.{FaultKind}
@@ -102,9 +102,9 @@ module _ (s : Schema) (f : Frame s) where
     why = why_moved refused.why;
   })
     where
-      why_moved : IsBadLine (names_of s) refused.here e.line e.diagnostic
+      why_moved : IsBadLine (naming_of s) (names_of s) refused.here e.line e.diagnostic
           ⊎ IsWrongLine s refused.lines refused.here e.diagnostic
-          → IsBadLine (names_of s) refused.here e.line e.diagnostic
+          → IsBadLine (naming_of s) (names_of s) refused.here e.line e.diagnostic
           ⊎ IsWrongLine built refused.lines refused.here e.diagnostic
       why_moved (inl bad) = inl bad
       why_moved (inr wrong) = inr (record {

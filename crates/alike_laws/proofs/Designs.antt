@@ -34,7 +34,7 @@ use Rattle.desk_responses.specs.ResponseValues.{Allowed, ResponseValue, text_onl
 use Rattle.desk_responses.specs.declared.status.Status.TheVariants.{Refused, Yes}
 use Rattle.ending_laws.specs.Ending.{FitsRelations, IsSoundRun}
 use Rattle.missing_values.specs.Missing.{FindsMissing, NeverMissing}
-use Rattle.missing_values.specs.Refusals.{missing_text, refusal_text}
+use Rattle.missing_values.specs.Refusals.{missing_text as refused_text, refusal_text}
 use Rattle.missing_values.specs.declared.refusal.MissingRefusal.{MissingRefusal}
 use Rattle.missing_values.specs.declared.refusal.MissingRefusal.TheVariants.{InKey, InTwo}
 use Rattle.fd_closure.specs.LeftSides.{IsWide}
@@ -211,7 +211,7 @@ module _ (s : Schema) (f : Frame s) where
 
   refusal_text_moved : (tables : List TableDesign) (refusal : MissingRefusal)
       → refusal_text s tables refusal ≡ refusal_text built tables refusal
-  unfolding missing_text
+  unfolding refused_text
   refusal_text_moved tables (InKey a k) = refl
   refusal_text_moved tables (InTwo a j k) = refl
 

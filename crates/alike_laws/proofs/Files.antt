@@ -11,7 +11,7 @@ use Rattle.csv_rows.specs.declared.refusal.RowRefusal.{RowRefusal}
 use Rattle.csv_rows.specs.declared.refusal.RowRefusal.TheVariants as refusal
 use Rattle.column_values.specs.Values.{FitsColumn}
 use Rattle.dep_model.specs.Dependencies.{Dependency}
-use Rattle.dep_model.specs.Schemas.{names_of, width_of}
+use Rattle.dep_model.specs.Schemas.{names_of, naming_of, width_of}
 use Rattle.dep_model.specs.Tuples.{Relation, Tuple}
 use Rattle.dep_model.specs.declared.schema.Schema.{Schema}
 use Rattle.derivation.specs.Trees.{Tree, leaf, given}
@@ -81,7 +81,7 @@ module _ (s : Schema) (f : Frame s) where
   read_as_moved Opening fresh number state text = refl
   read_as_moved Certificate fresh number state text =
       ap (λ (enter : Line → Result CheckerStateValue Diagnostic).
-      in_line (certificate_line (names_of s) (rest_from number 1 (lex mode.numbered text)))
+      in_line (certificate_line (names_of s) (rest_from number 1 (lex (mode.numbered (naming_of s)) text)))
       >>= λ l. enter l
       >>= λ next. Ok (false, next)) (λ i l. entered_moved number state l i)
 
@@ -89,7 +89,7 @@ module _ (s : Schema) (f : Frame s) where
       → read_one s fresh number state text ≡ read_one built fresh number state text
   unfolding read_one
   read_one_moved fresh number state text =
-      read_as_moved (line_kind fresh (lex mode.numbered text)) fresh number state text
+      read_as_moved (line_kind fresh (lex (mode.numbered (naming_of s)) text)) fresh number state text
 
   read_lines_moved : (fresh : Bool) (number : ℕ) (state : CheckerStateValue) (texts : List (List ℕ))
       → read_certificate_lines s fresh number state texts ≡ read_certificate_lines built fresh number state texts

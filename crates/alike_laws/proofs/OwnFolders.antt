@@ -1,5 +1,6 @@
 -- The answers of `migrate` into a folder of its own move to a schema that is built again.
 use Rattle.std.proofs.Common.{ℕ, true, List, inl, inr, ◌∙◌}
+use Rattle.std.specs.Prelude.{IsTrue}
 use Rattle.attr_sets.specs.Attributes.{Attributes}
 use Rattle.attr_sets.specs.declared.set.AttrSet.{AttrSet}
 use Rattle.dep_model.specs.Plans.{schemes_of}
@@ -36,13 +37,13 @@ module _ (s : Schema) (f : Frame s) where
       → MigratesInto looks s form name rows response → MigratesInto looks built form name rows response
   form_into_moved looks form name rows =
       plan_and_missing_moved s f form
-      (λ plan. Unless (FolderStops looks name) (looks name true) (MigratesRowsInto s plan name rows))
-      (λ plan. Unless (FolderStops looks name) (looks name true) (MigratesRowsInto built plan name rows))
+      (λ plan. Unless (FolderStops looks name) (IsTrue (looks name true)) (MigratesRowsInto s plan name rows))
+      (λ plan. Unless (FolderStops looks name) (IsTrue (looks name true)) (MigratesRowsInto built plan name rows))
       (λ plan. unless_moved plan)
     where
       unless_moved : (plan : List AttrSet) (response : ResponseValue)
-          → Unless (FolderStops looks name) (looks name true) (MigratesRowsInto s plan name rows) response
-          → Unless (FolderStops looks name) (looks name true) (MigratesRowsInto built plan name rows) response
+          → Unless (FolderStops looks name) (IsTrue (looks name true)) (MigratesRowsInto s plan name rows) response
+          → Unless (FolderStops looks name) (IsTrue (looks name true)) (MigratesRowsInto built plan name rows) response
       unless_moved plan response (inl stops) = inl stops
       unless_moved plan response (inr (free, answers)) = inr (free, rows_into_moved plan name rows response answers)
 
@@ -52,9 +53,9 @@ module _ (s : Schema) (f : Frame s) where
       (plan, same, rows_into_moved plan name rows response answers)
 
   free_into_moved : (looks : Looks) (plan : List Attributes) (name : List ℕ) (rows : Relation) (response : ResponseValue)
-      → Unless (FolderStops looks name) (looks name true)
+      → Unless (FolderStops looks name) (IsTrue (looks name true))
       (WithoutLoss s plan (MigratesSchemesInto s plan name rows)) response
-      → Unless (FolderStops looks name) (looks name true)
+      → Unless (FolderStops looks name) (IsTrue (looks name true))
       (WithoutLoss built plan (MigratesSchemesInto built plan name rows)) response
   free_into_moved looks plan name rows response (inl stops) = inl stops
   free_into_moved looks plan name rows response (inr (free, answers)) =
@@ -69,7 +70,7 @@ module _ (s : Schema) (f : Frame s) where
       → MigratesPlanInto looks built plan name rows response
   plan_into_moved looks plan name rows =
       missing_moved s f plan
-      (Unless (FolderStops looks name) (looks name true) (WithoutLoss s plan (MigratesSchemesInto s plan name rows)))
-      (Unless (FolderStops looks name) (looks name true)
+      (Unless (FolderStops looks name) (IsTrue (looks name true)) (WithoutLoss s plan (MigratesSchemesInto s plan name rows)))
+      (Unless (FolderStops looks name) (IsTrue (looks name true))
       (WithoutLoss built plan (MigratesSchemesInto built plan name rows)))
       (free_into_moved looks plan name rows)

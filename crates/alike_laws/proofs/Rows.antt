@@ -73,24 +73,24 @@ module _ (s : Schema) (f : Frame s) where
   rows_moved rows = with_legal_moved rows (Says Yes legal_text) (Says Yes legal_text) (λ response says. says)
 
   -- ---- `migrate`
-  tables_same : {rows : Relation} (number : ℕ) (plan : List Attributes)
+  tables_same : (rows : Relation) (number : ℕ) (plan : List Attributes)
       → tables_from s rows number plan ≡ tables_from built rows number plan
-  tables_same {rows} number [] = refl
-  tables_same {rows} number (scheme ∷ plan) =
+  tables_same rows number [] = refl
+  tables_same rows number (scheme ∷ plan) =
       ap₂ (λ (nullable : Attributes) (tables : List TableValue).
       record {
         name = table_name number;
         columns = column_names s scheme;
         nullable = map nullable (members_below (width_of s) scheme);
         rows = ordered_projection scheme rows;
-      } ∷ tables) f.nullable (tables_same (number + 1) plan)
+      } ∷ tables) f.nullable (tables_same rows (number + 1) plan)
 
   tables_moved : (plan : List Attributes) (rows : Relation) (tables : List TableValue)
       → AreTablesOf s plan rows tables → AreTablesOf built plan rows tables
   tables_moved plan rows tables are = record {
     ordered = are.ordered;
     order = said s f (λ ds. IsInDesignOrder (width_of s) ds plan are.ordered) are.order;
-    projections = are.projections ∙ tables_same 1 are.ordered;
+    projections = are.projections ∙ tables_same rows 1 are.ordered;
     joins = are.joins;
   }
 
