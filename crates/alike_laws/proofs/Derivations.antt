@@ -12,7 +12,7 @@ use Rattle.derivation.specs.Chains.{IsFirstOut, IsFunctionalChain, Reaches, Stag
 use Rattle.derivation.specs.Conclusions.{Proves, conclusion_after, at_node, ◌>>=◌}
 use Rattle.derivation.specs.Direct.{IsDirect}
 use Rattle.derivation.specs.Table.{leaf_conclusion, step_conclusion, pair_conclusion}
-use Rattle.derivation.specs.Trees.{Tree, leaf, step, pair, nodes, Leaf, given}
+use Rattle.derivation.specs.Trees.{Tree, leaf, step, pair, nodes, Leaf}
 use Rattle.derivation.specs.declared.fault.Fault.{Fault}
 use Rattle.proof_grammar.specs.Lines.{Line, by_step, by_pair}
 use Rattle.proof_grammar.specs.Printing.{canonical_certificate, certificate_lines_text, leaf_body, node_line, node_lines_after}

@@ -10,7 +10,6 @@ use Rattle.implication_laws.specs.OneAnswer.{AllowsOne}
 use Rattle.implication_laws.proofs.StepLaws.{Unless-one}
 use Rattle.normal_forms.specs.declared.forms.Form.{Form}
 use Rattle.desk_responses.specs.ResponseValues.{OwnFolder, ResponseValue, Unless, in_own_folder}
-use Rattle.desk_tables.specs.Migrations.{MigratesRows}
 use Rattle.desk_tables.specs.OwnFolders.{FolderStops, HasOneLook, IsFolderOf, Looks, MigratesInto, MigratesPlanInto, MigratesRowsInto, MigratesSchemesInto}
 use Rattle.desk_designs.specs.Designs.{WithoutMissing}
 use Rattle.desk_designs.specs.Joins.{WithoutLoss}
