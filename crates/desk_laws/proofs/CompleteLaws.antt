@@ -1,5 +1,5 @@
 -- Where the inputs of a command have their meaning, it answers yes or no.
-use Rattle.std.proofs.Common.{true, Bool, Option, ◌≡◌, ◌<◌, ◌+◌, ℕ, false, List, [], ◌∷◌, length, Some, Result, Ok, Err, inl, inr, sym, ap, ◌∙◌, subst, arith}
+use Rattle.std.proofs.Common.{true, Bool, Option, ◌≡◌, ◌+◌, ℕ, false, List, [], ◌∷◌, length, Some, Result, Ok, Err, inl, inr, sym, ap, ◌∙◌, subst, arith}
 use Rattle.std.specs.Prelude.{codes, slice_get, Any}
 use Rattle.attr_sets.specs.Attributes.{Attributes, below}
 use Rattle.attr_sets.specs.declared.set.AttrSet.{AttrSet}

@@ -1,6 +1,6 @@
 -- Where the schema file means a schema, the derivation file derives something and the goal is one, it is said
 -- whether that is derived.
-use Rattle.std.proofs.Common.{◌≡◌, ℕ, List, [], ◌∷◌, inl, inr, ap, subst}
+use Rattle.std.proofs.Common.{ℕ, List, [], ◌∷◌, inl, inr, ap, subst}
 use Rattle.std.specs.Prelude.{codes}
 use Rattle.alike_laws.proofs.DerivationTexts.{derives_moved, refused_moved}
 use Rattle.alike_laws.proofs.Rebuilt.{carried, own_frame, rebuilt}
@@ -80,6 +80,8 @@ derivation_answered files name file goal schema derived dep held_schema held_der
           columns = same.types i;
           deps = same.theory i;
           lines = same.lines i;
+          naming = same.naming i;
+          nullable = same.nullable i;
         }) in
         after_derivation files schema r file derived (λ d. WithGoal r goal (DerivationChecked r d)) response same
         held_derivation

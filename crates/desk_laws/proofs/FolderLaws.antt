@@ -1,5 +1,5 @@
 -- Where the inputs of `migrate .. into` have their meaning and its folder is free, it answers yes or no.
-use Rattle.std.proofs.Common.{◌≡◌, ℕ, false, true, List, [], ◌∷◌, inl, inr, ap, sym, subst, ◌∙◌}
+use Rattle.std.proofs.Common.{ℕ, false, true, List, [], ◌∷◌, inl, inr, ap, sym, subst}
 use Rattle.std.specs.Prelude.{codes, IsTrue}
 use Rattle.attr_sets.specs.Attributes.{Attributes}
 use Rattle.attr_sets.specs.declared.set.AttrSet.{AttrSet}
@@ -19,7 +19,6 @@ use Rattle.desk_inputs.specs.Readings.{known_files}
 use Rattle.desk_inputs.specs.Rows.{rows_file}
 use Rattle.desk_outside.specs.Files.{Files}
 use Rattle.desk_responses.specs.ResponseValues.{ResponseValue, Unless}
-use Rattle.desk_responses.specs.declared.status.Status.{Status}
 use Rattle.desk_tables.specs.OwnFolders.{FolderStops, Looks, MigratesInto, MigratesPlanInto, MigratesRowsInto, MigratesSchemesInto}
 use Rattle.desk_words.specs.Forms.{form_of, form_over_rows, form_over_schema, after_migrate, after_migrate_form, after_migrate_plan, normal_form}
 use Rattle.desk_laws.specs.Completeness.{IsYesOrNo, IsAnsweredBy, HasPlanInForm, RequiresAll}

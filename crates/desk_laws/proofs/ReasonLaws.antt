@@ -1,5 +1,5 @@
 -- Where the schema file means a schema, and the command itself is answered, it is explained.
-use Rattle.std.proofs.Common.{◌≡◌, ℕ, List, [], ◌∷◌, inl, inr, ap, sym, subst, ◌∙◌}
+use Rattle.std.proofs.Common.{ℕ, List, [], ◌∷◌, inl, inr, ap, sym, subst, ◌∙◌}
 use Rattle.std.specs.Prelude.{codes}
 use Rattle.dep_model.specs.declared.schema.Schema.{Schema}
 use Rattle.key_listing.specs.Refusals.{IsTooWide}

@@ -190,14 +190,18 @@ few_migrate_plan [] = tt
 few_migrate_plan (a ∷ []) = tt
 few_migrate_plan (a ∷ b ∷ []) = tt
 few_migrate_plan (a ∷ b ∷ d ∷ []) = tt
-few_migrate_plan (a ∷ b ∷ d ∷ e ∷ words) = tt
+few_migrate_plan (a ∷ b ∷ d ∷ e ∷ []) = tt
+few_migrate_plan (a ∷ b ∷ d ∷ e ∷ g ∷ []) = few_if (bytes_eq e (codes "into")) _ _ tt tt
+few_migrate_plan (a ∷ b ∷ d ∷ e ∷ g ∷ h ∷ words) = tt
 
 few_migrate_form : (normal : Form) (words : List (List ℕ)) → AreFew (after_migrate_form normal words)
 unfolding after_migrate_form
 few_migrate_form normal [] = tt
 few_migrate_form normal (a ∷ []) = tt
 few_migrate_form normal (a ∷ b ∷ []) = tt
-few_migrate_form normal (a ∷ b ∷ d ∷ words) = tt
+few_migrate_form normal (a ∷ b ∷ d ∷ []) = tt
+few_migrate_form normal (a ∷ b ∷ d ∷ e ∷ []) = few_if (bytes_eq d (codes "into")) _ _ tt tt
+few_migrate_form normal (a ∷ b ∷ d ∷ e ∷ g ∷ words) = tt
 
 few_migrate : (words : List (List ℕ)) → AreFew (after_migrate words)
 unfolding after_migrate

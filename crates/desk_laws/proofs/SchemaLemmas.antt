@@ -25,8 +25,8 @@ pub spells_alike : (s r : Schema) (text : List ℕ) (t : Tree) → AreAlike s r 
 spells_alike s r text t alike w = (
   record {
     lines = w.lines;
-    mean = subst (λ (names : List (List ℕ)). MeanLines (naming_of r) names (certificate_lines text) w.lines) alike.names
-        (subst (λ (naming : Naming). MeanLines naming (names_of s) (certificate_lines text) w.lines) alike.naming w.mean);
+    mean = subst (λ (names : List (List ℕ)). MeanLines (naming_of r) names (certificate_lines (naming_of r) text) w.lines) alike.names
+        (subst (λ (naming : Naming). MeanLines naming (names_of s) (certificate_lines naming text) w.lines) alike.naming w.mean);
     nodes = record {
       before = w.nodes.before;
       nodes = nodes_alike s r [] w.lines (w.nodes.before ++ t ∷ []) alike w.nodes.nodes;

@@ -34,7 +34,7 @@ after_name table rest response is go (inl exit) = absurd (exit.0 is)
 after_name table rest response is go (inr (named, more)) = go more
 
 MakesTables-yes_or_no : (r : Schema) (table : List ℕ) (plan : List AttrSet) (response : ResponseValue) → MakesTables r table plan response → IsYesOrNo response.status
-MakesTables-yes_or_no r table plan response found = inl (ap (λ (a : ResponseValue). a.status) found.3)
+MakesTables-yes_or_no r table plan response found = inl (ap (λ (a : ResponseValue). a.status) found.2.1)
 
 DrawsTables-yes_or_no : (r : Schema) (plan : List AttrSet) (response : ResponseValue) → DrawsTables r plan response → IsYesOrNo response.status
 DrawsTables-yes_or_no r plan response found = inl (ap (λ (a : ResponseValue). a.status) found.2)

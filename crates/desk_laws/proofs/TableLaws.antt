@@ -30,7 +30,7 @@ use Rattle.desk_responses.specs.ResponseValues.{ResponseValue, Allowed}
 use Rattle.desk_designs.specs.Decompositions.{SplitStops, WithPlanInForm, ShowsPlan, SplitsWide}
 use Rattle.desk_designs.specs.Designs.{WithoutMissing, WritesPlan, WritesSchemes, WritesTables}
 use Rattle.desk_discovery.specs.Exhibits.{Exhibits}
-use Rattle.desk_words.specs.Forms.{form_of, form_over_rows, form_over_schema, after_check, after_check_form, after_split, after_ddl, after_migrate, after_migrate_form, after_migrate_plan, normal_form, schema_alone, schema_and_two, persons_alone, schema_and_plan, schema_and_rows}
+use Rattle.desk_words.specs.Forms.{form_of, form_over_rows, form_over_schema, after_check, after_check_form, after_split, after_ddl, after_migrate, after_migrate_form, after_migrate_plan, normal_form, schema_alone, persons_alone, schema_and_plan}
 use Rattle.desk_inputs.specs.FileKinds.{IsFile, WithFile}
 use Rattle.desk_inputs.specs.Inputs.{schema_file}
 use Rattle.desk_designs.specs.Joins.{WithoutLoss, IsTooLarge}
@@ -42,7 +42,7 @@ use Rattle.desk_words.specs.Numbers.{is_count}
 use Rattle.lexer.specs.Bytes.{number_of}
 use Rattle.sample_rows.specs.Sample.{sample_relation}
 use Rattle.desk_designs.specs.NormalForms.{JudgesForm, form_word}
-use Rattle.desk_cli.specs.Performs.{Answers, Performs, Does, AnswersSchema, AnswersPlan, AnswersRows}
+use Rattle.desk_cli.specs.Performs.{Answers, Performs, Does, AnswersSchema, AnswersPlan}
 use Rattle.desk_inputs.specs.Plans.{plan_file}
 use Rattle.desk_inputs.specs.Readings.{known_files}
 use Rattle.desk_inputs.specs.Rows.{rows_file}

@@ -30,7 +30,7 @@ IsAnsweredBy looks files words =
     (response : ResponseValue) → Answers looks (known_files files) words response → IsYesOrNo response.status
 
 -- the same whatever looks at names are answered
-abbrev pub IsAnswered : Files → List (List ℕ) → Type 1
+abbrev pub IsAnswered : Files → List (List ℕ) → Type 0
 IsAnswered files words = (looks : Looks) → IsAnsweredBy looks files words
 
 -- it is known that the file source holds these files, and no error count increased
