@@ -1,0 +1,28 @@
+-- What is left to prove of `asked_of_size`: that the invariant of its loop stays, and its clause `all`, by
+-- `AskLemmas`.
+use Rattle.std.proofs.Common.{◌≡◌, ℕ, get_or, sym, subst, arith}
+use Rattle.std.proofs.lemmas.List.{take_all}
+use Rattle.std.proofs.lemmas.List.Elements.{All-more, All-same}
+use Rattle.candidate_search.specs.Asking.{AsksAll}
+use Rattle.candidate_search.specs.Sides.{HasCandidates}
+use Rattle.candidate_search.specs.declared.side.Side.{Side}
+use Rattle.candidate_search.proofs.AskLemmas.{asks_all_more}
+use Rattle.candidate_search.proofs.asking.asked_of_size.Goals as goal
+
+pub loop-side-preserved : goal.loop-side-preserved
+loop-side-preserved c =
+    let i : ℕ = c.loop-side.side-index in
+    let side : Side = c.side-item.result in
+    let is : side ≡ get_or c.args.sides.now i side = c.side-item.is in
+    let more = c.in_ok-ask.ensures.kept in
+    record {
+      all = λ k d l. All-more (AsksAll c.ask.new.asked.items c.args.size) c.args.sides.now i side c.loop-side-test.true
+          (asks_all_more c.loop-side.asked.items more.0 c.ask.new.asked.items c.args.size _ more.1 c.loop-side.invariant.all)
+          (subst (AsksAll c.ask.new.asked.items c.args.size) is c.in_ok-ask.ensures.all) k d l;
+      within = λ n most has. c.in_ok-ask.ensures.within n most (subst (HasCandidates n most) (sym is) (has i side c.loop-side-test.true))
+          (c.loop-side.invariant.within n most has);
+    }
+
+pub returns-clause-all : goal.returns-clause-all
+returns-clause-all c = All-same (AsksAll c.loop-side.asked.items c.args.size) c.args.sides.now _
+    (sym (take_all c.loop-side.side-index c.args.sides.now (omega (arith, c.loop-side-test.false)))) c.loop-side.invariant.all
