@@ -1,7 +1,7 @@
 -- What is asked about, one left side and one side more.
-use Rattle.std.proofs.Common.{◌≡◌, ◌+◌, ◌++◌, ◌<◌, ℕ, List, get_or, length, take, sym, subst}
+use Rattle.std.proofs.Common.{◌≡◌, ◌+◌, ◌<◌, ℕ, List, get_or, length, take}
 use Rattle.std.specs.Prelude.{All, Contains}
-use Rattle.std.proofs.lemmas.List.Elements.{All-contains, All-more, All-weaker, Contains-append_left, Contains-get_or}
+use Rattle.std.proofs.lemmas.List.Elements.{All-contains, All-more, All-weaker, Contains-get_or}
 use Rattle.attr_sets.specs.Attributes.{count_below}
 use Rattle.attr_sets.specs.Sets.{attributes}
 use Rattle.attr_sets.specs.declared.set.AttrSet.{AttrSet}
@@ -25,12 +25,11 @@ asks_more size right lefts i d asked more l are held is = All-more (IsAskedFor m
     (All-weaker (IsAskedFor asked size right) (IsAskedFor more size right) (λ s asks count. held _ (asks count)) (take i lefts) are) is
 
 -- what was asked stays asked
-pub asks_all_more : (asked more all : List Asked) (size : ℕ) (sides : List Side) → all ≡ asked ++ more
-    → All (AsksAll asked size) sides → All (AsksAll all size) sides
-asks_all_more asked more all size sides is are = All-weaker (AsksAll asked size) (AsksAll all size)
-    (λ side asks. All-weaker (IsAskedFor asked size side.right) (IsAskedFor all size side.right)
-    (λ s one count. subst (λ (xs : List Asked). Contains xs (record { left = s; right = side.right })) (sym is)
-    (Contains-append_left asked more _ (one count))) side.lefts.items asks) sides are
+pub asks_all_more : (asked more : List Asked) (size : ℕ) (sides : List Side)
+    → ((a : Asked) → Contains asked a → Contains more a) → All (AsksAll asked size) sides → All (AsksAll more size) sides
+asks_all_more asked more size sides held are = All-weaker (AsksAll asked size) (AsksAll more size)
+    (λ side asks. All-weaker (IsAskedFor asked size side.right) (IsAskedFor more size side.right)
+    (λ s one count. held (record { left = s; right = side.right }) (one count)) side.lefts.items asks) sides are
 
 -- a listed candidate is a question within the columns
 pub asked_within : (n most : ℕ) (side : Side) (i : ℕ) (d : AttrSet) → HasCandidates n most side → i < length side.lefts.items

@@ -18,7 +18,7 @@ use Rattle.candidate_laws.specs.Standing.{IsCandidate}
 use Rattle.candidate_laws.proofs.EvidenceLemmas.{agreement-from, agreement-to, agreement_exact}
 use Rattle.candidate_search.specs.Pairs.{IsBroken}
 use Rattle.candidate_search.specs.Sides.{IsAnswered, IsAnsweredAt, HasCandidates, lefts_of}
-use Rattle.candidate_search.specs.Asking.{AsksAll, IsAskedWithin, IsSettled}
+use Rattle.candidate_search.specs.Asking.{AsksAll, IsAskedWithin, IsRefutation, IsSettled}
 use Rattle.candidate_search.specs.declared.asking.Asked.{Asked}
 use Rattle.candidate_search.specs.declared.side.Side.{Side}
 
@@ -59,18 +59,26 @@ pub all_settled_push : (r : Relation) (found : List AttrSet) (s : AttrSet) (aske
 all_settled_push r found s asked are = All-weaker (IsSettled r (schemes_of found)) (IsSettled r (schemes_of (found ++ s ∷ [])))
     (settled_more r (schemes_of found) (schemes_of (found ++ s ∷ [])) (push_among found s)) asked are
 
--- what a broken pair agrees on refutes
-pub broken_refutes : (n : ℕ) (r : Relation) (found : List AttrSet) (s : AttrSet) (asked : Asked) (i j : ℕ) → IsAskedWithin n asked
-    → IsBroken r (attributes asked.left) asked.right i j → attributes s ≡ agreement n (row_at r i) (row_at r j)
-    → IsSettled r (schemes_of (found ++ s ∷ [])) asked
-broken_refutes n r found s asked i j low broken is = inr (
+-- one more set that refutes what is asked
+pub refutation_settles : (r : Relation) (found : List AttrSet) (s : AttrSet) (asked : Asked)
+    → IsRefutation (attributes s) asked → IsSettled r (schemes_of (found ++ s ∷ [])) asked
+refutation_settles r found s asked is = inr (
   attributes s,
   subst (λ (es : List Attributes). Contains es (attributes s)) (sym (map_push attributes found s))
       (Contains-push (schemes_of found) (attributes s)),
-  ap (λ (e : Attributes). e asked.right) is ∙ lacks,
-  λ k m. ap (λ (e : Attributes). e k) is
-      ∙ agreement-from n (row_at r i) (row_at r j) k (ltb-true k n (low.left k m)) (broken.agree k m),
+  is.lacks,
+  is.holds,
 )
+
+-- what a broken pair agrees on refutes
+pub broken_refutes : (n : ℕ) (r : Relation) (s : AttrSet) (asked : Asked) (i j : ℕ) → IsAskedWithin n asked
+    → IsBroken r (attributes asked.left) asked.right i j → attributes s ≡ agreement n (row_at r i) (row_at r j)
+    → IsRefutation (attributes s) asked
+broken_refutes n r s asked i j low broken is = record {
+  lacks = ap (λ (e : Attributes). e asked.right) is ∙ lacks;
+  holds = λ k m. ap (λ (e : Attributes). e k) is
+      ∙ agreement-from n (row_at r i) (row_at r j) k (ltb-true k n (low.left k m)) (broken.agree k m);
+}
   where
     lacks : agreement n (row_at r i) (row_at r j) asked.right ≡ false
     lacks = elim (cases_Bool (agreement n (row_at r i) (row_at r j) asked.right)) [

@@ -15,7 +15,7 @@ pub struct Asked {
     pub right: u8,
 }
 
-// All candidates of so many members.
+// All candidates of so many members, in the order of sets.
 pub fn asked_of_size(alloc: Global, sides: &[Side], size: u8) -> Result<Vec<Asked>, OutOfMemory>
     ensures all { IfOk result (λ asked. All (AsksAll asked.items size) sides.now) }
     ensures within { (n most : ℕ) → All (HasCandidates n most) sides.now
@@ -25,6 +25,7 @@ pub fn asked_of_size(alloc: Global, sides: &[Side], size: u8) -> Result<Vec<Aske
     for side in sides {
         ask(side, size, &mut asked)?;
     }
+    asked.sort_by_key(|one| one.left)?;
     Ok(asked)
 }
 

@@ -7,6 +7,7 @@
 
 mod asking;
 mod learning;
+mod levels;
 mod pairs;
 mod searching;
 mod side;
