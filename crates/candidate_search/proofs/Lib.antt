@@ -1,1 +1,4 @@
 pub mod PairLemmas
+pub mod SideLemmas
+pub mod TestLemmas
+pub mod AskLemmas

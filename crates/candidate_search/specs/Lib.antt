@@ -1,2 +1,6 @@
--- The definitions of candidate_search: two rows that do not obey a dependency.
+-- The definitions of candidate_search: two rows that do not obey a dependency, rows in groups by a set, the
+-- left sides of each right side, and what is asked of rows.
 pub mod Pairs
+pub mod Levels
+pub mod Sides
+pub mod Asking

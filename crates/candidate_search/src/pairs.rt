@@ -6,8 +6,10 @@ ghost use Rattle.csv_rows.specs.Interning.{IsInterned, count_of, width_of_rows};
 ghost use Rattle.dep_model.specs.Tuples.{Relation};
 ghost use Rattle.row_store.specs.Rows.{row_at};
 ghost use Rattle.candidate_laws.specs.Evidence.{agreement};
+ghost use Rattle.candidate_search.specs.Levels.{IsLevel};
 ghost use Rattle.candidate_search.specs.Pairs.{Tells};
 
+use crate::levels::Level;
 use attr_sets::{AttrSet, MOST_ATTRIBUTES};
 use csv_rows::{Groups, Interned};
 use dep_model::OutOfMemory;
@@ -46,13 +48,25 @@ pub fn broken_pair(
         → IfOk result (Tells r (attributes set) right) }
 {
     let groups = Groups::by_agreement(alloc, codes, set)?;
+    let level = Level { set, groups };
+    Ok(broken_in(codes, width, &level, right))
+}
+
+// The same by the groups of the set.
+pub fn broken_in(codes: &Interned, width: u8, level: &Level, right: u8) -> Option<(usize, usize)>
+    requires rows { (r : Relation) × IsInterned width r codes.now × IsLevel r level.now }
+    requires right { right < width }
+    ensures pair { (r : Relation) → IsInterned width r codes.now → IsLevel r level.now
+        → Tells r (attributes level.now.set) right result }
+{
+    let groups = &level.groups;
     let column = codes.column(right);
     for second in 0..codes.count() {
         let group = groups.numbers()[second] as usize;
         let first = groups.firsts()[group] as usize;
         if column[first] != column[second] {
-            return Ok(Some((first, second)));
+            return Some((first, second));
         }
     }
-    Ok(None)
+    None
 }

@@ -1,0 +1,62 @@
+-- What is left to prove of `refuting_evidence`: that the invariant of its loop stays, and its clause
+-- `settled`, by `TestLemmas`.
+use Rattle.std.proofs.Common.{◌≡◌, ◌+◌, ◌++◌, ◌∷◌, [], ℕ, List, Vec, Global, get_or, take, sym, ap, subst, ◌∙◌, arith}
+use Rattle.std.specs.Prelude.{All}
+use Rattle.std.proofs.lemmas.List.{take_all}
+use Rattle.std.proofs.lemmas.List.Elements.{All-more, All-same}
+use Rattle.attr_sets.specs.declared.set.AttrSet.{AttrSet}
+use Rattle.dep_model.specs.Plans.{schemes_of}
+use Rattle.dep_model.specs.Tuples.{Relation}
+use Rattle.candidate_laws.specs.Evidence.{AreEvidence}
+use Rattle.candidate_search.specs.Asking.{IsSettled, Settles}
+use Rattle.candidate_search.specs.Sides.{AreCoded}
+use Rattle.candidate_search.specs.declared.asking.Asked.{Asked}
+use Rattle.candidate_search.proofs.TestLemmas.{all_settled_push, evidence_push, refutation_settles}
+use Rattle.candidate_search.proofs.testing.refuting_evidence.Goals as goal
+use Rattle.candidate_search.proofs.testing.refuting_evidence.Goals.{in-Some+in_ok-push-in-Some, in-None}
+
+pub loop-one-preserved : goal.loop-one-preserved
+loop-one-preserved c =
+    let d : Asked = record { left = record { 0 = 0 }; right = 0 } in
+    let i : ℕ = c.loop-one.one-index in
+    let one : Asked = get_or c.args.asked.now i d in
+    let old : List AttrSet = c.loop-one.found.items in
+    let new : List AttrSet = c.match-branch-2.found.items in
+    let told : (r : Relation) → AreCoded c.args.width r c.args.codes.now
+    → Settles c.args.width r (schemes_of old) one c.in_ok-evidence.field-0 =
+    λ r coded. subst (λ (sets : List AttrSet). Settles c.args.width r (schemes_of sets) one c.in_ok-evidence.field-0)
+    c.deref.ensures.value (c.in_ok-evidence.ensures.settles r coded (c.loop-one.invariant.levels r coded)) in
+    elim c.match-branch-2.branch [
+      | in-Some+in_ok-push-in-Some w ↦
+          let s : AttrSet = w.in-Some.evidence in
+          let is : new ≡ old ++ s ∷ [] = ap (λ (v : Vec AttrSet Global). v.items) w.found-is ∙ w.in_ok-push-in-Some.ensures.items in
+          record {
+            levels = λ r coded. c.in_ok-evidence.ensures.levels r coded (c.loop-one.invariant.levels r coded);
+            evidence = λ r coded. subst (λ (sets : List AttrSet). AreEvidence c.args.width r (schemes_of sets)) (sym is)
+                (evidence_push c.args.width r old s (c.loop-one.invariant.evidence r coded)
+                (subst (Settles c.args.width r (schemes_of old) one) w.in-Some.is (told r coded)).0);
+            settled = λ r coded.
+                subst (λ (sets : List AttrSet). All (IsSettled r (schemes_of sets)) (take (i + 1) c.args.asked.now)) (sym is)
+                (All-more (IsSettled r (schemes_of (old ++ s ∷ []))) c.args.asked.now i d c.loop-one-test.true
+                (all_settled_push r old s (take i c.args.asked.now) (c.loop-one.invariant.settled r coded))
+                (refutation_settles r old s one
+                (subst (Settles c.args.width r (schemes_of old) one) w.in-Some.is (told r coded)).1));
+          }
+      | in-None w ↦
+          let is : new ≡ old = ap (λ (v : Vec AttrSet Global). v.items) w.found-is in
+          record {
+            levels = λ r coded. c.in_ok-evidence.ensures.levels r coded (c.loop-one.invariant.levels r coded);
+            evidence = λ r coded. subst (λ (sets : List AttrSet). AreEvidence c.args.width r (schemes_of sets)) (sym is)
+                (c.loop-one.invariant.evidence r coded);
+            settled = λ r coded.
+                subst (λ (sets : List AttrSet). All (IsSettled r (schemes_of sets)) (take (i + 1) c.args.asked.now)) (sym is)
+                (All-more (IsSettled r (schemes_of old)) c.args.asked.now i d c.loop-one-test.true
+                (c.loop-one.invariant.settled r coded)
+                (subst (Settles c.args.width r (schemes_of old) one) w.in-None.is (told r coded)));
+          }
+    ]
+
+pub returns-clause-settled : goal.returns-clause-settled
+returns-clause-settled c = λ r coded. All-same (IsSettled r (schemes_of c.loop-one.found.items)) c.args.asked.now _
+    (sym (take_all c.loop-one.one-index c.args.asked.now (omega (arith, c.loop-one-test.false))))
+    (c.loop-one.invariant.settled r coded)

@@ -1,0 +1,50 @@
+ghost use Rattle.std.specs.Prelude.{◌≡◌, ◌<◌, ◌≤◌, All, Contains, IfOk, IfErr};
+ghost use Rattle.attr_sets.specs.declared.set.TheConstants.{MOST_ATTRIBUTES};
+ghost use Rattle.candidate_laws.specs.Evidence.{AreEvidence};
+ghost use Rattle.candidate_search.specs.Sides.{AreCoded, HasMinimal, IsExceeded, rights_of};
+ghost use Rattle.dep_model.specs.Failures.{RefusesAs};
+ghost use Rattle.dep_model.specs.Plans.{schemes_of};
+ghost use Rattle.dep_model.specs.Tuples.{Relation};
+
+use crate::asking::asked_of_size;
+use crate::learning::sides_after;
+use crate::side::{Side, TooManyLeftSides, first_sides};
+use crate::testing::refuting_evidence;
+use attr_sets::{AttrSet, MOST_ATTRIBUTES};
+use csv_rows::Interned;
+use dep_model::Failure;
+use std::alloc::Global;
+
+/// The left sides of the minimal dependencies on each of some attributes, of at most `most` columns;
+/// or, where evidence of the rows has too many candidates for one of them, a refusal that names it.
+///
+/// The candidates are tested by their sizes. Those that the rows do not obey give evidence, so larger
+/// sets take their place. `seen` is evidence to begin with.
+pub fn minimal_left_sides(
+    alloc: Global,
+    codes: &Interned,
+    width: u8,
+    most: u8,
+    rights: &[u8],
+    seen: &[AttrSet],
+) -> Result<Vec<Side>, Failure<TooManyLeftSides>>
+    requires width { width ≤ MOST_ATTRIBUTES }
+    requires most { most ≤ MOST_ATTRIBUTES }
+    requires rights { All (λ right. right < width) rights.now }
+    requires rows { (r : Relation) × AreCoded width r codes.now × AreEvidence width r (schemes_of seen.now) }
+    ensures rights { IfOk result (λ sides. rights_of sides.items ≡ rights.now) }
+    ensures minimal { (r : Relation) → AreCoded width r codes.now → AreEvidence width r (schemes_of seen.now)
+        → IfOk result (λ sides. All (HasMinimal width most r) sides.items) }
+    ensures refusal { (r : Relation) → AreCoded width r codes.now → AreEvidence width r (schemes_of seen.now)
+        → IfErr result (RefusesAs (IsExceeded width most r)) }
+    ensures named { IfErr result (RefusesAs (λ refusal. Contains rights.now refusal.right)) }
+{
+    let first = first_sides(alloc, rights)?;
+    let mut sides = sides_after(alloc, width, most, &first, seen)?;
+    for size in 0..most + 1 {
+        let asked = asked_of_size(alloc, &sides, size)?;
+        let found = refuting_evidence(alloc, codes, width, &asked)?;
+        sides = sides_after(alloc, width, most, &sides, &found)?;
+    }
+    Ok(sides)
+}

@@ -1,0 +1,104 @@
+ghost use Rattle.std.specs.Prelude.{◌≡◌, ◌<◌, ◌≤◌, true, All, IfOk};
+ghost use Rattle.attr_sets.specs.Sets.{attributes};
+ghost use Rattle.attr_sets.specs.declared.set.TheConstants.{MOST_ATTRIBUTES};
+ghost use Rattle.candidate_laws.specs.Evidence.{AreEvidence};
+ghost use Rattle.candidate_search.specs.Asking.{IsAskedWithin, IsSettled, Settles};
+ghost use Rattle.candidate_search.specs.Levels.{IsLevel};
+ghost use Rattle.candidate_search.specs.Pairs.{Tells};
+ghost use Rattle.candidate_search.specs.Sides.{AreCoded, IsRefutedBy};
+ghost use Rattle.dep_model.specs.Plans.{schemes_of};
+ghost use Rattle.dep_model.specs.Tuples.{Relation};
+
+use crate::asking::Asked;
+use crate::levels::{Level, ends_at, lead_to};
+use crate::pairs::{broken_in, broken_pair, row_agreement};
+use attr_sets::{AttrSet, MOST_ATTRIBUTES};
+use csv_rows::Interned;
+use dep_model::OutOfMemory;
+use std::alloc::Global;
+
+// Evidence that refutes each of the dependencies that the rows do not obey.
+pub fn refuting_evidence(
+    alloc: Global,
+    codes: &Interned,
+    width: u8,
+    asked: &[Asked],
+) -> Result<Vec<AttrSet>, OutOfMemory>
+    requires width { width ≤ MOST_ATTRIBUTES }
+    requires rows { (r : Relation) × AreCoded width r codes.now }
+    requires within { All (IsAskedWithin width) asked.now }
+    ensures evidence { (r : Relation) → AreCoded width r codes.now
+        → IfOk result (λ found. AreEvidence width r (schemes_of found.items)) }
+    ensures settled { (r : Relation) → AreCoded width r codes.now
+        → IfOk result (λ found. All (IsSettled r (schemes_of found.items)) asked.now) }
+{
+    let mut found = Vec::new(alloc);
+    let mut levels = Vec::new(alloc);
+    for one in asked {
+        match refutation(alloc, codes, width, *one, &found, &mut levels)? {
+            Some(evidence) => found.push(evidence)?,
+            None => {}
+        }
+    }
+    Ok(found)
+}
+
+// Evidence that refutes what is asked, where none that is found does and the rows do not obey it.
+fn refutation(
+    alloc: Global,
+    codes: &Interned,
+    width: u8,
+    asked: Asked,
+    found: &[AttrSet],
+    levels: &mut Vec<Level>,
+) -> Result<Option<AttrSet>, OutOfMemory>
+    requires width { width ≤ MOST_ATTRIBUTES }
+    requires rows { (r : Relation) × AreCoded width r codes.now × All (IsLevel r) levels.old.items }
+    requires within { IsAskedWithin width asked }
+    ensures levels { (r : Relation) → AreCoded width r codes.now → All (IsLevel r) levels.old.items
+        → IfOk result (λ _. All (IsLevel r) levels.new.items) }
+    ensures settles { (r : Relation) → AreCoded width r codes.now → All (IsLevel r) levels.old.items
+        → IfOk result (Settles width r (schemes_of found.now) asked) }
+{
+    if is_refuted(found, asked) {
+        return Ok(None);
+    }
+    lead_to(alloc, codes, width, asked.left, levels)?;
+    match broken_at(alloc, codes, width, asked, levels)? {
+        Some((first, second)) => Ok(Some(row_agreement(codes, width, first, second))),
+        None => Ok(None),
+    }
+}
+
+// Whether evidence that is found refutes what is asked.
+fn is_refuted(found: &[AttrSet], asked: Asked) -> bool
+    requires right { asked.right < MOST_ATTRIBUTES }
+    ensures refuted { result ≡ true
+        → IsRefutedBy (schemes_of found.now) (attributes asked.left) asked.right }
+{
+    for evidence in found {
+        if !evidence.contains(asked.right) && asked.left.is_subset(*evidence) {
+            return true;
+        }
+    }
+    false
+}
+
+// Two rows that do not obey what is asked: by the last level, where it is that of the left side.
+fn broken_at(
+    alloc: Global,
+    codes: &Interned,
+    width: u8,
+    asked: Asked,
+    levels: &[Level],
+) -> Result<Option<(usize, usize)>, OutOfMemory>
+    requires rows { (r : Relation) × AreCoded width r codes.now × All (IsLevel r) levels.now }
+    requires within { IsAskedWithin width asked }
+    ensures pair { (r : Relation) → AreCoded width r codes.now → All (IsLevel r) levels.now
+        → IfOk result (Tells r (attributes asked.left) asked.right) }
+{
+    if ends_at(levels, asked.left) {
+        return Ok(broken_in(codes, width, &levels[levels.len() - 1], asked.right));
+    }
+    broken_pair(alloc, codes, width, asked.left, asked.right)
+}
