@@ -1,16 +1,17 @@
-ghost use Rattle.std.specs.Prelude.{◌≡◌, ◌≤◌, ◌<◌, length, All, IfOk};
+ghost use Rattle.std.specs.Prelude.{◌≡◌, ◌≤◌, ◌<◌, length, replicate, All, IfOk};
 ghost use Rattle.attr_sets.specs.Attributes.{below};
 ghost use Rattle.dep_model.specs.Deps.{dependencies_of, IsDepWithin};
 ghost use Rattle.dep_model.specs.Tuples.{IsOver};
 ghost use Rattle.fd_discovery.specs.Headers.{IsColumnHeader};
 ghost use Rattle.fd_discovery.specs.Headings.{names_under, rows_under};
 ghost use Rattle.fd_discovery.specs.declared.headed_rows.TheConstants.{MOST_HEADED_ROWS};
-ghost use Rattle.desk_discovery.specs.Discoveries.{FindsRules, found_text};
+ghost use Rattle.desk_discovery.specs.Discoveries.{FindsRules, HasTextColumns, found_text};
 ghost use Rattle.desk_responses.specs.Responses.{response_value, RespondsAs};
 
-use dep_model::{Dep, Name, OutOfMemory, Schema};
+use attr_sets::AttrSet;
+use dep_model::{ColumnType, Dep, Name, OutOfMemory, Schema};
 use desk_responses::{EarlyExit, Response, Status};
-use fd_discovery::{Headed, discover};
+use fd_discovery::{Headed, discover, naming_under};
 use row_store::Hashing;
 use schema_printer::print_deps;
 use std::alloc::Global;
@@ -49,6 +50,29 @@ fn rule_lines(alloc: Global, names: Vec<Name>, deps: &[Dep]) -> Result<Vec<u8>, 
     requires any_name { 0 < length names.items }
     ensures text { IfOk result (λ text. text.items ≡ found_text names.items (dependencies_of deps.now)) }
 {
-    let schema = Schema::new(names, Vec::new(alloc), Vec::new(alloc));
+    let schema = schema_of_columns(alloc, names)?;
     print_deps(alloc, &schema, deps)
+}
+
+// Text columns of these names as a schema without dependencies.
+fn schema_of_columns(alloc: Global, names: Vec<Name>) -> Result<Schema, OutOfMemory>
+    requires header { IsColumnHeader names.items }
+    requires any_name { 0 < length names.items }
+    ensures columns { IfOk result (HasTextColumns names.items) }
+{
+    let naming = naming_under(&names);
+    let columns = text_columns(alloc, names.len())?;
+    let nullable = AttrSet::empty();
+    let deps = Vec::new(alloc);
+    let lines = Vec::new(alloc);
+    Ok(Schema::with_columns(naming, names, columns, nullable, deps, lines))
+}
+
+// This many text columns.
+fn text_columns(alloc: Global, count: usize) -> Result<Vec<ColumnType>, OutOfMemory>
+    ensures columns { IfOk result (λ columns. columns.items ≡ replicate count ColumnType.Text) }
+{
+    let mut columns = Vec::new(alloc);
+    columns.resize(count, ColumnType::Text)?;
+    Ok(columns)
 }

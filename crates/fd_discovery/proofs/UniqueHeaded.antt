@@ -3,7 +3,8 @@ use Rattle.std.proofs.Common.{inl, inr, ◌≡◌, ◌≢◌, ◌+◌, ◌<◌, 
 use Rattle.std.proofs.lemmas.Bool.{cases_lt, true≢false}
 use Rattle.dep_model.specs.Schemas.{attribute_named}
 use Rattle.dep_model.specs.Tuples.{Relation, IsOver}
-use Rattle.fd_discovery.specs.Headers.{is_column_name, NamesColumn, RefusesColumn, field_at, IsColumnHeader, RefusesField, RefusesColumnHeader}
+use Rattle.dep_model.specs.Names.{IsName}
+use Rattle.fd_discovery.specs.Headers.{NamesColumn, RefusesColumn, field_at, IsColumnHeader, RefusesField, RefusesColumnHeader}
 use Rattle.csv_rows.specs.Quotes.{open_record, is_open}
 use Rattle.csv_rows.specs.Records.{records_of}
 use Rattle.row_store.specs.Rows.{row_at}
@@ -20,8 +21,8 @@ at_most_not_beyond n most within beyond = omega (arith, within, beyond)
 -- the refusal of a field is that of a bad name, or of a name that stands before it
 abbrev SeenColumn : List (List ℕ) → List ℕ → ℕ → DiscoverRefusal → Type 0
 SeenColumn before field column e =
-    ((e ≡ refusal.BadColumn column) × (is_column_name field ≡ false))
-    ⊎ ((e ≡ refusal.DoubleColumn column) × (is_column_name field ≡ true) × (attribute_named before field ≢ None))
+    ((e ≡ refusal.BadColumn column) × (IsName field → ⊥))
+    ⊎ ((e ≡ refusal.DoubleColumn column) × IsName field × (attribute_named before field ≢ None))
 
 seen_column : (before : List (List ℕ)) (field : List ℕ) (column : ℕ) (e : DiscoverRefusal)
     → RefusesColumn before field column e → SeenColumn before field column e
@@ -39,7 +40,7 @@ named_not_refused : (before : List (List ℕ)) (field : List ℕ) (column : ℕ)
 named_not_refused before field column e named p = by (seen_column before field column e p)
   where
     by : SeenColumn before field column e → ⊥
-    by (inl (is, bad)) = true≢false (sym named.0 ∙ bad)
+    by (inl (is, bad)) = bad named.0
     by (inr (is, good, double)) = double named.1
 
 column_same : (before : List (List ℕ)) (field : List ℕ) (column : ℕ) (e f : DiscoverRefusal)
@@ -49,8 +50,8 @@ column_same before field column e f p q =
   where
     by : SeenColumn before field column e → SeenColumn before field column f → e ≡ f
     by (inl (is, bad)) (inl (also, worse)) = is ∙ sym also
-    by (inl (is, bad)) (inr (also, good, double)) = absurd (true≢false (sym good ∙ bad))
-    by (inr (is, good, double)) (inl (also, bad)) = absurd (true≢false (sym good ∙ bad))
+    by (inl (is, bad)) (inr (also, good, double)) = absurd (bad good)
+    by (inr (is, good, double)) (inl (also, bad)) = absurd (bad good)
     by (inr (is, good, double)) (inr (also, fine, twice)) = is ∙ sym also
 
 field_same : (header : List (List ℕ)) (e f : DiscoverRefusal) → RefusesField header e → RefusesField header f → e ≡ f

@@ -1,27 +1,26 @@
--- When the header of a file names its columns, or why it does not: for `read_headed`, by
--- `Headings`.
-use Rattle.std.specs.Prelude.{◌≡◌, ◌≢◌, ◌+◌, ◌<◌, ◌≤◌, ◌⊎◌, ℕ, Bool, true, false, ◌&&◌, not, List, [], length, take, slice_index_or, None}
-use Rattle.dep_model.specs.Names.{is_bare_name}
+-- When the header of a file names its columns, or why it does not, and how a schema text names them:
+-- for `read_headed`, by `Headings`, and for what `discover` prints.
+use Rattle.std.specs.Prelude.{◌≡◌, ◌≢◌, ◌+◌, ◌<◌, ◌≤◌, ◌⊎◌, ℕ, Bool, ◌&&◌, not, if◌then◌else◌, List, [], length, take, slice_index_or, None}
+use Rattle.std.specs.List.{list_all}
+use Rattle.dep_model.specs.Names.{IsName, is_bare_name}
 use Rattle.dep_model.specs.Schemas.{attribute_named}
+use Rattle.dep_model.specs.declared.naming.Naming.{Naming}
+use Rattle.dep_model.specs.declared.naming.Naming.TheVariants.{Bare, Any}
 use Rattle.schema_grammar.specs.Words.{is_reserved}
 use Rattle.schema_grammar.specs.declared.format.Format.TheVariants as format
 use Rattle.fd_discovery.specs.declared.headed_rows.TheConstants.{WIDEST_HEADED}
 use Rattle.fd_discovery.specs.declared.refusal.DiscoverRefusal.{DiscoverRefusal}
 use Rattle.fd_discovery.specs.declared.refusal.DiscoverRefusal.TheVariants as refusal
 
--- whether a field can name a column: it is a name, and no reserved word
-abbrev pub is_column_name : List ℕ → Bool
-is_column_name field = is_bare_name field && not (is_reserved format.Plain field)
-
--- a field names a column, and no column before it has this name, ASCII case aside
+-- a field names a column: it is a name, and no column before it has this name, ASCII case aside
 abbrev pub NamesColumn : List (List ℕ) → List ℕ → Type 0
-NamesColumn before field = (is_column_name field ≡ true) × (attribute_named before field ≡ None)
+NamesColumn before field = IsName field × (attribute_named before field ≡ None)
 
 -- why a field does not name the column of this number
 abbrev pub RefusesColumn : List (List ℕ) → List ℕ → ℕ → DiscoverRefusal → Type 0
-RefusesColumn before field column (refusal.BadColumn c) = (c ≡ column) × (is_column_name field ≡ false)
+RefusesColumn before field column (refusal.BadColumn c) = (c ≡ column) × (IsName field → ⊥)
 RefusesColumn before field column (refusal.DoubleColumn c) =
-    (c ≡ column) × (is_column_name field ≡ true) × (attribute_named before field ≢ None)
+    (c ≡ column) × IsName field × (attribute_named before field ≢ None)
 RefusesColumn before field column refusal.NoHeader = ⊥
 RefusesColumn before field column refusal.TooManyColumns = ⊥
 RefusesColumn before field column (refusal.UnevenRow r) = ⊥
@@ -54,3 +53,12 @@ pub record RefusesField (header : List (List ℕ)) (e : DiscoverRefusal) : Type 
 abbrev pub RefusesColumnHeader : List (List ℕ) → DiscoverRefusal → Type 0
 RefusesColumnHeader header e =
     ((e ≡ refusal.TooManyColumns) × (WIDEST_HEADED < length header)) ⊎ RefusesField header e
+
+-- ---- schema texts of these columns
+-- a name stands as it is in a text without a version line: it is a bare name, and no reserved word
+abbrev pub is_plain_name : List ℕ → Bool
+is_plain_name name = is_bare_name name && not (is_reserved format.Plain name)
+
+-- the names are bare where each of them is such a name
+abbrev pub naming_under : List (List ℕ) → Naming
+naming_under names = if list_all is_plain_name names then Bare else Any

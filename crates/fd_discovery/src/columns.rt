@@ -1,13 +1,14 @@
 ghost use Rattle.std.specs.Prelude.{◌≡◌, ◌<◌, ◌≤◌, ◌^◌, ℕ, List, length, map, IfOk, IfErr};
+ghost use Rattle.std.specs.List.{list_all};
 ghost use Rattle.csv.specs.Records.{fields_of};
 ghost use Rattle.dep_model.specs.Failures.{RefusesAs};
-ghost use Rattle.fd_discovery.specs.Headers.{NamesColumn, RefusesColumn, IsColumnHeader, RefusesColumnHeader};
+ghost use Rattle.fd_discovery.specs.Headers.{NamesColumn, RefusesColumn, IsColumnHeader, RefusesColumnHeader, is_plain_name, naming_under};
 
 use crate::DiscoverRefusal;
 use crate::headed_rows::WIDEST_HEADED;
 use csv::ByteRecord;
 use csv_rows::field;
-use dep_model::{Failure, Name, is_bare_name};
+use dep_model::{Failure, Name, Naming, is_bare_name};
 use schema_grammar::Format;
 use std::alloc::Global;
 use tokens::{is_reserved, position_among};
@@ -41,9 +42,6 @@ fn column_name(before: &[Name], field: &[u8], column: u32) -> Result<Name, Disco
     ensures fits { IfOk result (λ _. NamesColumn before.now field.now) }
     ensures err { IfErr result (RefusesColumn before.now field.now column) }
 {
-    if is_reserved(Format::Plain, field) || !is_bare_name(field) {
-        return Err(DiscoverRefusal::BadColumn { column });
-    }
     match Name::new(field) {
         None => Err(DiscoverRefusal::BadColumn { column }),
         Some(name) => match position_among(before, field) {
@@ -51,4 +49,30 @@ fn column_name(before: &[Name], field: &[u8], column: u32) -> Result<Name, Disco
             None => Ok(name),
         },
     }
+}
+
+/// How a schema text names columns of these names: bare where each of them stands as it is in a text
+/// without a version line, else as any names.
+pub fn naming_under(names: &[Name]) -> Naming
+    ensures naming { result ≡ naming_under names.now }
+{
+    if are_plain_names(names) {
+        Naming::Bare
+    } else {
+        Naming::Any
+    }
+}
+
+// Whether each of the names stands as it is in such a text.
+fn are_plain_names(names: &[Name]) -> bool
+    ensures plain { result ≡ list_all is_plain_name names.now }
+{
+    names.iter().all(|name| is_plain_name(name.bytes()))
+}
+
+// Whether a name stands as it is in a text without a version line.
+fn is_plain_name(name: &[u8]) -> bool
+    ensures plain { result ≡ is_plain_name name.now }
+{
+    is_bare_name(name) && !is_reserved(Format::Plain, name)
 }

@@ -1,9 +1,10 @@
 //! The functional dependencies that given rows obey.
 //!
 //! `read_headed` gives the rows of a CSV text whose header is free, with the names of its columns, or
-//! the text's first refusal. `discover` gives exactly the minimal functional dependencies that rows
-//! obey: `X -> A` where no proper subset of X determines A (Huhtala, Kärkkäinen, Porkka and Toivonen
-//! 1999). The list implies a functional dependency between columns exactly where the rows obey it.
+//! the text's first refusal; `naming_under` says how a schema text names such columns. `discover` gives
+//! exactly the minimal functional dependencies that rows obey: `X -> A` where no proper subset of X
+//! determines A (Huhtala, Kärkkäinen, Porkka and Toivonen 1999). The list implies a functional
+//! dependency between columns exactly where the rows obey it.
 #![tactic(auto)]
 
 mod columns;
@@ -16,6 +17,7 @@ mod refusal;
 mod searching;
 mod table;
 
+pub use columns::naming_under;
 pub use discovering::discover;
 pub use headed_rows::{Headed, MOST_HEADED_ROWS, WIDEST_HEADED, read_headed};
 pub use laws::one_reading;

@@ -11,7 +11,7 @@ pub enum DiscoverRefusal {
     NoHeader,
     /// 2: the header has more columns than are looked at.
     TooManyColumns,
-    /// 3: the header's field in this column, from 1, is no name, or a reserved word.
+    /// 3: the header's field in this column, from 1, is no name.
     BadColumn { column: u32 },
     /// 4: the name of this column, from 1, stands further left.
     DoubleColumn { column: u32 },

@@ -8,7 +8,7 @@ use Rattle.csv_text.specs.Rows.{rows_text}
 use Rattle.dep_model.specs.Dependencies.{Dependency, is_fd, left_of, right_of, Obeys, IsWithin}
 use Rattle.dep_model.specs.Implication.{Implies}
 use Rattle.dep_model.specs.Schemas.{names_of, width_of, theory_of, universe_of, LegalFor, ImpliedBy, naming_of}
-use Rattle.dep_model.specs.Tuples.{Relation, IsOver}
+use Rattle.dep_model.specs.Tuples.{Relation}
 use Rattle.dep_model.specs.declared.schema.Schema.{Schema}
 use Rattle.dep_model.proofs.ImplicationLemmas.{legal_for_implied}
 use Rattle.dep_model.proofs.PreservationLemmas.{fd-obeys, fd-obeyed}

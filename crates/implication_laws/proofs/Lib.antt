@@ -10,6 +10,7 @@ mod AlikeLaws
 mod CounterexampleLaws
 mod CoverLaws
 mod ExhibitLaws
+mod FoundLaws
 pub mod StepLaws
 pub mod OneAnswer
 pub mod OneDerivation

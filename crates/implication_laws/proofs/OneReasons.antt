@@ -1,5 +1,5 @@
 -- An explanation has one text: what a command answers and the reasons above it.
-use Rattle.std.proofs.Common.{◌≡◌, ◌↔◌, ℕ, true, List, ◌++◌, sym, ap, subst, ◌∙◌, inl, inr}
+use Rattle.std.proofs.Common.{◌≡◌, ◌↔◌, ℕ, true, List, ◌++◌, sym, ap, ◌∙◌, inl, inr}
 use Rattle.attr_sets.specs.Attributes.{Attributes}
 use Rattle.attr_sets.proofs.AttributesLemmas.{same_from_within}
 use Rattle.cover_steps.specs.Steps.{Placed, Shortened}
@@ -13,8 +13,6 @@ use Rattle.desk_keys.specs.KeyReasons.{AreKeyReasons, ExplainsKeys}
 use Rattle.desk_keys.specs.Keys.{ListsKeys}
 use Rattle.desk_responses.specs.Reasons.{Explained, below_text}
 use Rattle.desk_responses.specs.ResponseValues.{ResponseValue, Allowed}
-use Rattle.desk_responses.specs.declared.status.Status.{Status}
-use Rattle.desk_responses.specs.declared.status.Status.TheVariants.{Yes}
 use Rattle.desk_texts.specs.Texts.{set_line}
 use Rattle.implication_laws.specs.OneAnswer.{AllowsOne}
 use Rattle.implication_laws.proofs.OneAnswer.{one_cover_answer, one_keys_answer}

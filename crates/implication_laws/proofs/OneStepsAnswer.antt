@@ -2,7 +2,7 @@
 -- answer each.
 use Rattle.std.proofs.Common.{◌≡◌, ◌<◌, ◌↔◌, ◌++◌, ℕ, true, List, [], ◌∷◌, map, refl, sym, subst, ap, ◌∙◌, inl, inr, arith}
 use Rattle.std.specs.List.{flat_map}
-use Rattle.std.specs.Prelude.{All, AllPairs, Any, Contains, codes}
+use Rattle.std.specs.Prelude.{All, Contains, codes}
 use Rattle.std.proofs.lemmas.List.Elements.{All-contains, All-map, Contains-get_or}
 use Rattle.attr_sets.specs.Attributes.{Attributes, only, difference}
 use Rattle.attr_sets.specs.Sets.{attributes}
@@ -16,7 +16,6 @@ use Rattle.cover_check.specs.CoverDiagnostics.{IsCoverDiagnostic, IsBeforePlace,
 use Rattle.dep_model.specs.Dependencies.{Dependency, fd}
 use Rattle.dep_model.specs.Keys.{InClosure}
 use Rattle.dep_model.specs.Schemas.{names_of, width_of, universe_of, theory_of, naming_of}
-use Rattle.dep_model.specs.Tuples.{Relation}
 use Rattle.dep_model.specs.declared.schema.Schema.{Schema}
 use Rattle.dep_model.proofs.ListLemmas.{Contains-map, map-member}
 use Rattle.schema_match.specs.Columns.{SameNames}
@@ -25,9 +24,8 @@ use Rattle.schema_printer.specs.Spelling.{printed_names_of}
 use Rattle.desk_implication.specs.Closures.{IsBesideText, ComesAbout, TellsClosure, GivesClosure, closure_text}
 use Rattle.desk_covers.specs.CoverChecks.{TestsMinimal, TestsCover, ChecksCover, diagnostics_text}
 use Rattle.desk_arguments.specs.Goals.{SetStops, IsSetText}
-use Rattle.desk_keys.specs.KeyChecks.{IsKeyText, IsKeyShown, IsNoSuperkey, HasKeyWithin, TestsKey, ChecksKey, is_key_text, key_within_text, no_superkey_text, without_text}
+use Rattle.desk_keys.specs.KeyChecks.{IsKeyText, IsNoSuperkey, HasKeyWithin, TestsKey, ChecksKey, key_within_text, no_superkey_text, without_text}
 use Rattle.desk_covers.specs.Sameness.{NameStops, different_text}
-use Rattle.desk_responses.specs.ResponseValues.{ResponseValue}
 use Rattle.desk_responses.specs.declared.status.Status.TheVariants.{Yes, No}
 use Rattle.desk_texts.specs.Texts.{line, set_line}
 use Rattle.shown_rows.specs.Shown.{shown_tuples}

@@ -5,6 +5,7 @@
 #![tactic(auto)]
 
 mod answering;
+mod discovering;
 mod exhibiting;
 mod explaining;
 mod implying;
@@ -18,6 +19,7 @@ pub use answering::{
     explanations_have_one_answer, implies_has_one_answer, keys_has_one_answer,
     project_has_one_answer,
 };
+pub use discovering::found_texts_mean_their_schema;
 pub use exhibiting::{
     exhibits_are_legal, exhibits_decide_goals, rules_of_exhibits_are_answered_alike,
 };

@@ -1,5 +1,5 @@
-use dep_model::Failure;
-use fd_discovery::{DiscoverRefusal, read_headed};
+use dep_model::{Failure, Naming};
+use fd_discovery::{DiscoverRefusal, naming_under, read_headed};
 use std::alloc::Global;
 use std::process::Abort;
 use std::test::Fail;
@@ -45,11 +45,36 @@ fn texts_that_are_read(rt: HostRuntime) -> Result<(), Fail> {
         ("a,b,c,d,e,f,g,h,i,j,k,l\n", 12, 0),
         ("integer,text,schemes\n", 3, 0),
         ("aaaaaaaaaabbbbbbbbbbccccccccccd\n", 1, 0),
+        // names that are no words, reserved words, and a name of 32 bytes
+        ("1,Unit price,\"a\"\"b\"\n", 3, 0),
+        ("A,B ,Attributes,scheme,VERSION\n", 5, 0),
+        ("aaaaaaaaaabbbbbbbbbbccccccccccdd\n", 1, 0),
     ];
     for (text, columns, rows) in cases {
         let headed = read_headed(alloc, text.as_bytes()).expect(&rt, "rows");
         assert_eq!(rt; headed.names.len(), columns);
         assert_eq!(rt; headed.rows.len(), rows);
+    }
+    Ok(())
+}
+
+#[test]
+fn names_that_stand_bare(rt: HostRuntime) -> Result<(), Fail> {
+    let alloc = rt.alloc();
+    let cases = [
+        ("A,b_1,date\n", Naming::Bare),
+        ("integer,text,schemes\n", Naming::Bare),
+        ("aaaaaaaaaabbbbbbbbbbccccccccccd\n", Naming::Bare),
+        ("aaaaaaaaaabbbbbbbbbbccccccccccdd\n", Naming::Any),
+        ("A,1\n", Naming::Any),
+        ("A,Unit price,B\n", Naming::Any),
+        ("A,Attributes\n", Naming::Any),
+        ("scheme\n", Naming::Any),
+        ("VERSION,A\n", Naming::Any),
+    ];
+    for (text, want) in cases {
+        let headed = read_headed(alloc, text.as_bytes()).expect(&rt, "rows");
+        assert!(rt; naming_under(&headed.names) == want);
     }
     Ok(())
 }
@@ -68,16 +93,19 @@ fn refusals_in_their_order(rt: HostRuntime) -> Result<(), Fail> {
             DiscoverRefusal::TooManyColumns,
         ),
         ("A,\n", DiscoverRefusal::BadColumn { column: 2 }),
-        ("A,1,A\n", DiscoverRefusal::BadColumn { column: 2 }),
-        ("A,B ,A\n", DiscoverRefusal::BadColumn { column: 2 }),
-        ("A,Attributes\n", DiscoverRefusal::BadColumn { column: 2 }),
-        ("scheme,A\n", DiscoverRefusal::BadColumn { column: 1 }),
-        ("A,B,VERSION\n", DiscoverRefusal::BadColumn { column: 3 }),
+        ("A,,A\n", DiscoverRefusal::BadColumn { column: 2 }),
+        ("A,B\t,A\n", DiscoverRefusal::BadColumn { column: 2 }),
+        ("A,\"B\nC\"\n", DiscoverRefusal::BadColumn { column: 2 }),
+        ("\u{7f},A\n", DiscoverRefusal::BadColumn { column: 1 }),
         (
-            "aaaaaaaaaabbbbbbbbbbccccccccccdd\n",
+            "aaaaaaaaaabbbbbbbbbbccccccccccaaaaaaaaaabbbbbbbbbbccccccccccdddd\n",
             DiscoverRefusal::BadColumn { column: 1 },
         ),
         ("A,a", DiscoverRefusal::DoubleColumn { column: 2 }),
+        (
+            "Unit price,A,unit PRICE\n",
+            DiscoverRefusal::DoubleColumn { column: 3 },
+        ),
         ("A,B,b,?\n1\n", DiscoverRefusal::DoubleColumn { column: 3 }),
         (
             "A,B\n1,2\n1\n1,2,3\n",

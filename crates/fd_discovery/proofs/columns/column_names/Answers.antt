@@ -1,4 +1,5 @@
--- What is left to prove of `column_names`: that a round of its loop keeps the invariant.
+-- What is left to prove of `column_names`: its clause `header`, and that a round of its loop keeps the
+-- invariant.
 use Rattle.std.proofs.Common.{arith, ◌≡◌, ◌<◌, ◌++◌, ◌∷◌, [], ℕ, List, length, take, slice_index_or, below_more, sym, ap, subst, ◌∙◌}
 use Rattle.std.proofs.lemmas.List.{take_more}
 use Rattle.csv.specs.Records.{fields_of}
@@ -20,3 +21,9 @@ loop-i-preserved c =
           ∙ ap (λ (n : List ℕ). take i fields ++ n ∷ []) name ∙ sym (take_more fields i [] within);
       named = below_more (λ (k : ℕ). NamesColumn (take k fields) (field_at fields k)) i c.loop-i.invariant.named here;
     }
+
+pub returns-clause-header : goal.returns-clause-header
+returns-clause-header c = record {
+  within_limit = omega (arith, c.if-len.false, c.len.ensures);
+  named = λ k low. c.loop-i.invariant.named k (omega (arith, low, c.loop-i-test.false, c.len-i-end.ensures));
+}

@@ -5,7 +5,7 @@ use Rattle.std.proofs.lemmas.List.{length-append}
 use Rattle.csv.specs.Records.{fields_of}
 use Rattle.dep_model.specs.Tuples.{Relation}
 use Rattle.fd_discovery.specs.Headings.{FitsRow, AreRows}
-use Rattle.fd_discovery.proofs.HeadingLemmas.{takes_row, takes_all_rows, row_refused, fit_more, none_fit, fit_over, fit_within}
+use Rattle.fd_discovery.proofs.HeadingLemmas.{takes_row, takes_all_rows, row_refused, fit_more, fit_over}
 use Rattle.fd_discovery.proofs.headed_rows.read_body.Goals as goal
 
 pub returns-in-Ok-false-clause-records : goal.returns-in-Ok-false-clause-records

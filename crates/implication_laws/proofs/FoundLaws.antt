@@ -1,0 +1,71 @@
+-- What `discover` prints is the text of a schema, and means it.
+use Rattle.std.proofs.Common.{◌≡◌, ◌≤◌, ◌<◌, ℕ, Bool, true, false, if◌then◌else◌, List, [], length, get_or, replicate, refl, sym, subst, arith}
+use Rattle.std.specs.List.{list_all}
+use Rattle.std.specs.Prelude.{All, not}
+use Rattle.std.proofs.lemmas.Bool.{and_parts}
+use Rattle.std.proofs.lemmas.List.{length-map, get_or_default}
+use Rattle.std.proofs.lemmas.List.Sums.{AllPass-from_list_all}
+use Rattle.attr_sets.specs.Attributes.{none}
+use Rattle.dep_model.specs.Dependencies.{Dependency}
+use Rattle.dep_model.specs.Deps.{dependency_of}
+use Rattle.dep_model.specs.Names.{IsName, is_bare_name}
+use Rattle.dep_model.specs.Schemas.{names_of, naming_of, types_of, nullable_of, deps_of, theory_of}
+use Rattle.dep_model.specs.declared.column_type.ColumnType.TheVariants.{Text}
+use Rattle.dep_model.specs.declared.naming.Naming.{Naming}
+use Rattle.dep_model.specs.declared.naming.Naming.TheVariants.{Bare, Any}
+use Rattle.dep_model.specs.declared.schema.Schema.{Schema}
+use Rattle.fd_discovery.specs.Headers.{IsColumnHeader, is_plain_name, naming_under}
+use Rattle.schema_grammar.specs.Declarations.{Declarations}
+use Rattle.schema_grammar.specs.Printed.{IsReadBack}
+use Rattle.schema_grammar.specs.Schemas.{MeansSchema}
+use Rattle.schema_grammar.specs.Words.{is_reserved}
+use Rattle.schema_grammar.specs.declared.format.Format.TheVariants as format
+use Rattle.schema_grammar.specs.declared.format.TheConstants.{MOST_DEPENDENCY_LINES}
+use Rattle.schema_grammar.proofs.PrintedSchemas.{printed-schema-law}
+use Rattle.schema_printer.specs.Printing.{schema_text}
+use Rattle.desk_discovery.specs.Discoveries.{HasTextColumns, found_text}
+use Rattle.desk_discovery.proofs.RuleLemmas.{schema_found}
+
+-- ---- the text
+pub found_printed : (header : List (List ℕ)) (s : Schema) (ds : List Dependency) → HasTextColumns header s
+    → schema_text s ds ≡ found_text header ds
+found_printed header s ds has =
+    let some = s.valid.names_not_empty in
+    schema_found header s ds (subst (λ (names : List (List ℕ)). 0 < length names) has.names some) has
+
+-- ---- names
+not_true : (b : Bool) → not b ≡ true → b ≡ false
+not_true true h = cc
+not_true false h = refl
+
+-- the names of a header are read again
+names_back : (header : List (List ℕ)) → IsColumnHeader header → All (IsReadBack format.Plain (naming_under header)) header
+names_back header is = by (list_all is_plain_name header) refl
+  where
+    by : (plain : Bool) → list_all is_plain_name header ≡ plain
+        → All (IsReadBack format.Plain (if plain then Bare else Any)) header
+    by true all = λ i d within.
+        let name = get_or header i d in
+        let parts = and_parts (is_bare_name name) (not (is_reserved format.Plain name))
+        (AllPass-from_list_all is_plain_name header all i d within) in
+        (parts.0, not_true (is_reserved format.Plain name) parts.1)
+    by false some = λ i d within. subst IsName (get_or_default header i [] d within) (is.named i within).0
+
+-- ---- the meaning
+pub found_means : (header : List (List ℕ)) (s : Schema) → IsColumnHeader header → HasTextColumns header s
+    → length (theory_of s) ≤ MOST_DEPENDENCY_LINES
+    → (lines : List ℕ) × MeansSchema (found_text header (theory_of s))
+    (record { names = header; columns = replicate (length header) Text; deps = theory_of s; lines = lines; naming = naming_under header; nullable = none })
+found_means header s is has few =
+    let size : length (theory_of s) ≡ length (deps_of s) = length-map (deps_of s) dependency_of in
+    let back : All (IsReadBack format.Plain (naming_of s)) (names_of s) =
+    subst (λ (naming : Naming). All (IsReadBack format.Plain naming) (names_of s)) (sym has.naming)
+    (subst (λ (names : List (List ℕ)). All (IsReadBack format.Plain (naming_under header)) names) (sym has.names) (names_back header is)) in
+    let (lines, means) = printed-schema-law s (omega (arith, size, few)) back in
+    let whole : Declarations = record { names = names_of s; columns = types_of s; deps = theory_of s; lines = lines; naming = naming_of s; nullable = nullable_of s } in
+    let stated : Declarations = record { names = header; columns = replicate (length header) Text; deps = theory_of s; lines = lines; naming = naming_under header; nullable = none } in
+    let same : whole ≡ stated = (λ i. record { names = has.names i; columns = has.types i; deps = theory_of s; lines = lines; naming = has.naming i; nullable = has.nullable i }) in (
+      lines,
+      subst (λ (text : List ℕ). MeansSchema text stated) (found_printed header s (theory_of s) has)
+          (subst (λ (d : Declarations). MeansSchema (schema_text s (theory_of s)) d) same means),
+    )

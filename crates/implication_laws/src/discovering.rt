@@ -1,0 +1,32 @@
+//! Laws of the text that `discover` prints.
+
+ghost use Rattle.std.specs.Prelude.{◌≡◌, ◌≤◌, ℕ, List, length, replicate};
+ghost use Rattle.attr_sets.specs.Attributes.{none};
+ghost use Rattle.dep_model.specs.Dependencies.{Dependency};
+ghost use Rattle.dep_model.specs.Schemas.{theory_of};
+ghost use Rattle.dep_model.specs.declared.column_type.ColumnType.TheVariants.{Text};
+ghost use Rattle.dep_model.specs.declared.schema.Schema.{Schema};
+ghost use Rattle.fd_discovery.specs.Headers.{IsColumnHeader, naming_under};
+ghost use Rattle.schema_grammar.specs.Schemas.{MeansSchema};
+ghost use Rattle.schema_grammar.specs.declared.format.TheConstants.{MOST_DEPENDENCY_LINES};
+ghost use Rattle.schema_printer.specs.Printing.{schema_text};
+ghost use Rattle.desk_discovery.specs.Discoveries.{HasTextColumns, found_text};
+
+/// What `discover` prints is the text of a schema of text columns under the header's names, with the
+/// dependencies that were found. Where a text may have so many dependencies, it means these names, bare
+/// ones or any, these columns and these dependencies, and no value may be missing.
+pub fn found_texts_mean_their_schema()
+    ensures printed { (header : List (List ℕ)) (s : Schema) (ds : List Dependency) → HasTextColumns header s
+        → schema_text s ds ≡ found_text header ds }
+    ensures means { (header : List (List ℕ)) (s : Schema) → IsColumnHeader header → HasTextColumns header s
+        → length (theory_of s) ≤ MOST_DEPENDENCY_LINES
+        → (lines : List ℕ) × MeansSchema (found_text header (theory_of s))
+        (record {
+          names = header;
+          columns = replicate (length header) Text;
+          deps = theory_of s;
+          lines = lines;
+          naming = naming_under header;
+          nullable = none;
+        }) }
+{}
