@@ -1,7 +1,8 @@
 -- The explanations of plans move to a schema that is built again.
-use Rattle.std.proofs.Common.{ℕ, List}
+use Rattle.std.proofs.Common.{ℕ, List, subst}
+use Rattle.attr_sets.specs.Attributes.{Attributes}
 use Rattle.dep_model.specs.Plans.{schemes_of}
-use Rattle.dep_model.specs.Schemas.{width_of}
+use Rattle.dep_model.specs.Schemas.{width_of, theory_of, nullable_of}
 use Rattle.dep_model.specs.declared.schema.Schema.{Schema}
 use Rattle.desk_designs.specs.Decompositions.{Splits}
 use Rattle.desk_designs.specs.Synthesis.{Synthesizes}
@@ -27,7 +28,10 @@ module _ (s : Schema) (f : Frame s) where
   synthesis_reasons_moved text are = record {
     cover = are.cover;
     all = are.all;
-    steps = said s f (λ ds. AreSynthesisSteps (width_of s) ds are.cover (schemes_of are.all)) are.steps;
+    steps = subst
+        (λ (nullable : Attributes). AreSynthesisSteps (width_of s) (theory_of built) nullable are.cover (schemes_of are.all))
+        f.nullable
+        (said s f (λ ds. AreSynthesisSteps (width_of s) ds (nullable_of s) are.cover (schemes_of are.all)) are.steps);
     reads = are.reads;
   }
 

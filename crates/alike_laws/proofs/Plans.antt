@@ -1,5 +1,5 @@
 -- The answers on plans move to a schema that is built again.
-use Rattle.std.proofs.Common.{◌≡◌, ℕ, List, ◌∷◌, ◌++◌, All, codes, slice_get, ap, ◌∙◌, inl, inr}
+use Rattle.std.proofs.Common.{◌≡◌, ℕ, List, ◌∷◌, ◌++◌, All, codes, slice_get, ap, subst, ◌∙◌, inl, inr}
 use Rattle.std.specs.List.{flat_map}
 use Rattle.std.proofs.lemmas.List.Elements.{All-weaker}
 use Rattle.attr_sets.specs.Attributes.{Attributes}
@@ -10,7 +10,7 @@ use Rattle.dep_model.specs.Forms.{IsBcnf, IsThird}
 use Rattle.dep_model.specs.Plans.{schemes_of}
 use Rattle.dep_model.specs.Preservation.{KeepsDependencies}
 use Rattle.dep_model.specs.Projections.{IsLossless}
-use Rattle.dep_model.specs.Schemas.{width_of, lines_of}
+use Rattle.dep_model.specs.Schemas.{width_of, theory_of, nullable_of, lines_of}
 use Rattle.dep_model.specs.Tuples.{Relation}
 use Rattle.dep_model.specs.declared.schema.Schema.{Schema}
 use Rattle.desk_designs.specs.Decompositions.{FormStops, IsPlanInForm, IsSplitInForm, ShowsPlan, SplitStops, Splits, SplitsWide, WithPlanInForm}
@@ -57,7 +57,8 @@ module _ (s : Schema) (f : Frame s) where
 
   third_moved : (plan : List AttrSet) → IsThirdFormPlan s plan → IsThirdFormPlan built plan
   third_moved plan is = record {
-    grouped = said s f (λ ds. IsGroupedPlan (width_of s) ds plan) is.grouped;
+    grouped = subst (λ (nullable : Attributes). IsGroupedPlan (width_of s) (theory_of built) nullable plan) f.nullable
+        (said s f (λ ds. IsGroupedPlan (width_of s) ds (nullable_of s) plan) is.grouped);
     lossless = said s f (λ ds. IsLossless (width_of s) ds (schemes_of plan)) is.lossless;
     third = said s f (λ ds. All (IsThird (width_of s) ds) (schemes_of plan)) is.third;
     keeps = said s f (λ ds. KeepsDependencies (width_of s) ds (schemes_of plan)) is.keeps;

@@ -6,7 +6,7 @@ use Rattle.dep_model.specs.Forms.{IsThird}
 use Rattle.dep_model.specs.Plans.{schemes_of}
 use Rattle.dep_model.specs.Preservation.{KeepsDependencies}
 use Rattle.dep_model.specs.Projections.{IsLossless}
-use Rattle.dep_model.specs.Schemas.{width_of, theory_of}
+use Rattle.dep_model.specs.Schemas.{width_of, theory_of, nullable_of}
 use Rattle.dep_model.specs.declared.schema.Schema.{Schema}
 use Rattle.schema_printer.specs.Spelling.{printed_names_of}
 use Rattle.plans.specs.Printing.{plan_text}
@@ -17,7 +17,7 @@ use Rattle.desk_responses.specs.ResponseValues.{Allowed, Says}
 -- the cover's groups: no legal relation loses by it, each scheme is in third normal form for every left
 -- side within it, and it keeps the functional dependencies
 pub record IsThirdFormPlan (schema : Schema) (plan : List AttrSet) : Type 0 where
-  pub grouped : IsGroupedPlan (width_of schema) (theory_of schema) plan
+  pub grouped : IsGroupedPlan (width_of schema) (theory_of schema) (nullable_of schema) plan
   pub lossless : IsLossless (width_of schema) (theory_of schema) (schemes_of plan)
   pub third : All (IsThird (width_of schema) (theory_of schema)) (schemes_of plan)
   pub keeps : KeepsDependencies (width_of schema) (theory_of schema) (schemes_of plan)

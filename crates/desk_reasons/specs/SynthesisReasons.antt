@@ -5,7 +5,7 @@ use Rattle.attr_sets.specs.Attributes.{Attributes}
 use Rattle.attr_sets.specs.declared.set.AttrSet.{AttrSet}
 use Rattle.dep_model.specs.Dependencies.{Dependency}
 use Rattle.dep_model.specs.Plans.{schemes_of}
-use Rattle.dep_model.specs.Schemas.{width_of, theory_of}
+use Rattle.dep_model.specs.Schemas.{width_of, theory_of, nullable_of}
 use Rattle.dep_model.specs.declared.schema.Schema.{Schema}
 use Rattle.schema_printer.specs.Printing.{dependency_text, set_text}
 use Rattle.schema_printer.specs.Spelling.{printed_names_of}
@@ -50,7 +50,7 @@ synthesis_text names cover all =
 pub record AreSynthesisReasons (schema : Schema) (text : List ℕ) : Type 0 where
   pub cover : List Dependency
   pub all : List AttrSet
-  pub steps : AreSynthesisSteps (width_of schema) (theory_of schema) cover (schemes_of all)
+  pub steps : AreSynthesisSteps (width_of schema) (theory_of schema) (nullable_of schema) cover (schemes_of all)
   pub reads : text ≡ synthesis_text (printed_names_of schema) cover all
 
 -- the plan, below how it comes about

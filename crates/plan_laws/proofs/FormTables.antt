@@ -3,7 +3,7 @@ use Rattle.std.proofs.Common.{◌≡◌, ◌∙◌, List, ap, sym, subst}
 use Rattle.attr_sets.specs.Attributes.{Attributes}
 use Rattle.attr_sets.specs.declared.set.AttrSet.{AttrSet}
 use Rattle.dep_model.specs.Plans.{schemes_of}
-use Rattle.dep_model.specs.Schemas.{width_of, theory_of}
+use Rattle.dep_model.specs.Schemas.{width_of, theory_of, nullable_of}
 use Rattle.dep_model.specs.Tuples.{Relation}
 use Rattle.dep_model.specs.declared.schema.Schema.{Schema}
 use Rattle.ddl_text.specs.declared.table.TableDesign.{TableDesign}
@@ -24,7 +24,7 @@ use Rattle.plan_laws.proofs.UniqueLaws.{grouped_same, split_same}
 
 pub same_schemes : (s : Schema) (form : Form) (plan other : List AttrSet) → IsPlanInForm s form plan
     → IsPlanInForm s form other → schemes_of plan ≡ schemes_of other
-same_schemes s Third plan other one two = grouped_same (width_of s) (theory_of s) plan other one.grouped two.grouped
+same_schemes s Third plan other one two = grouped_same (width_of s) (theory_of s) (nullable_of s) plan other one.grouped two.grouped
 same_schemes s Bcnf plan other one two = split_same s Bcnf plan other (λ third. cc) one two
 same_schemes s Fourth plan other one two = split_same s Fourth plan other (λ third. cc) one two
 
@@ -32,7 +32,7 @@ pub one_synthesis : (s : Schema) (one other : ResponseValue) → Synthesizes s o
 one_synthesis s one other (plan, third, says) (also, third', says') =
     says
     ∙ ap (λ (schemes : List Attributes). text_only Yes (plan_text (printed_names_of s) schemes))
-    (grouped_same (width_of s) (theory_of s) plan also third.grouped third'.grouped)
+    (grouped_same (width_of s) (theory_of s) (nullable_of s) plan also third.grouped third'.grouped)
     ∙ sym says'
 
 pub form_designed : (s : Schema) (form : Form) (plan other : List AttrSet)

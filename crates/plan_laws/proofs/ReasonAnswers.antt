@@ -9,7 +9,7 @@ use Rattle.attr_sets.specs.Sets.{attributes, is_subset}
 use Rattle.attr_sets.specs.declared.set.AttrSet.{AttrSet}
 use Rattle.dep_model.specs.Dependencies.{Dependency}
 use Rattle.dep_model.specs.Plans.{schemes_of}
-use Rattle.dep_model.specs.Schemas.{width_of, theory_of}
+use Rattle.dep_model.specs.Schemas.{width_of, theory_of, nullable_of}
 use Rattle.dep_model.specs.declared.schema.Schema.{Schema}
 use Rattle.normal_forms.specs.declared.forms.Form.{Form}
 use Rattle.normal_forms.specs.declared.forms.Form.TheVariants.{Third, Bcnf, Fourth}
@@ -94,7 +94,7 @@ left_out_same names all others same =
 one_synthesis_text : (s : Schema) (text other : List ℕ) → AreSynthesisReasons s text → AreSynthesisReasons s other → text ≡ other
 one_synthesis_text s text other first second =
     let names = printed_names_of s in
-    let same = steps_same (width_of s) (theory_of s) first.cover second.cover (schemes_of first.all) (schemes_of second.all) first.steps second.steps in
+    let same = steps_same (width_of s) (theory_of s) (nullable_of s) first.cover second.cover (schemes_of first.all) (schemes_of second.all) first.steps second.steps in
     first.reads
     ∙ ap (λ (cover : List Dependency). synthesis_text names cover first.all) same.0
     ∙ ap (λ (l : List ℕ). cover_text names second.cover ++ groups_text names second.cover ++ l ++ added_text names second.cover (schemes_of first.all))

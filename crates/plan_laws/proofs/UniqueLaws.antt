@@ -20,6 +20,7 @@ use Rattle.dep_model.specs.declared.schema.Schema.{Schema}
 use Rattle.dep_model.proofs.ListLemmas.{Contains-head}
 use Rattle.normal_forms.specs.declared.forms.Form.{Form}
 use Rattle.normal_forms.specs.declared.forms.Form.TheVariants.{Third}
+use Rattle.primary_keys.proofs.PrimaryLemmas.{one_primary}
 use Rattle.plans.specs.Containing.{is_contained, without_contained_after, without_contained}
 use Rattle.preservation.specs.Keeping.{IsKept, IsLostOn, LossesFrom}
 use Rattle.preservation.specs.declared.losing.Loss.{Loss}
@@ -32,7 +33,6 @@ use Rattle.split_forms.proofs.StepLemmas.{split_at_first-unique}
 use Rattle.split_forms.proofs.SplitLemmas.{one_finished}
 use Rattle.wide_bcnf.proofs.OneSplit.{one_split}
 use Rattle.implication_laws.proofs.OneCover.{one_cover}
-use Rattle.implication_laws.proofs.OneKey.{one_key}
 use Rattle.implication_laws.proofs.StepLaws.{Unless-one}
 use Rattle.desk_responses.specs.declared.status.Status.TheVariants.{Yes, No}
 use Rattle.desk_responses.specs.ResponseValues.{ResponseValue, Says, text_only, IsFirstFailing}
@@ -113,33 +113,35 @@ wide_same s plan other one two =
     one.split.split two.split.split)
 
 -- ---- the plan of third form
-with_key_same : (n : ℕ) (ds : List Dependency) (schemes one other : List Attributes) → IsWithKey n ds schemes one
-    → IsWithKey n ds schemes other → one ≡ other
-with_key_same n ds schemes one other (inl (held, first)) (inl (also, second)) = first ∙ sym second
-with_key_same n ds schemes one other (inl (held, first)) (inr second) = absurd (second.none held)
-with_key_same n ds schemes one other (inr first) (inl (held, second)) = absurd (first.none held)
-with_key_same n ds schemes one other (inr first) (inr second) =
+with_key_same : (n : ℕ) (ds : List Dependency) (nullable : Attributes) (schemes one other : List Attributes)
+    → IsWithKey n ds nullable schemes one → IsWithKey n ds nullable schemes other → one ≡ other
+with_key_same n ds nullable schemes one other (inl (held, first)) (inl (also, second)) = first ∙ sym second
+with_key_same n ds nullable schemes one other (inl (held, first)) (inr second) = absurd (second.none held)
+with_key_same n ds nullable schemes one other (inr first) (inl (held, second)) = absurd (first.none held)
+with_key_same n ds nullable schemes one other (inr first) (inr second) =
     first.last
     ∙ ap (λ (key : Attributes). schemes ++ key ∷ [])
-    (one_key n (functional_part ds) (below n) first.key second.key (λ k member. member) first.greedy second.greedy)
+    (one_primary n (functional_part ds) nullable (below n) first.key second.key (λ k member. member) first.primary
+    second.primary)
     ∙ sym second.last
 
 -- a synthesis comes about in one way
-pub steps_same : (n : ℕ) (ds cover others : List Dependency) (one other : List Attributes)
-    → AreSynthesisSteps n ds cover one → AreSynthesisSteps n ds others other → (cover ≡ others) × (one ≡ other)
-steps_same n ds cover others one other first second =
+pub steps_same : (n : ℕ) (ds : List Dependency) (nullable : Attributes) (cover others : List Dependency)
+    (one other : List Attributes) → AreSynthesisSteps n ds nullable cover one
+    → AreSynthesisSteps n ds nullable others other → (cover ≡ others) × (one ≡ other)
+steps_same n ds nullable cover others one other first second =
     let covers : cover ≡ others = one_cover n ds cover others first.fixed second.fixed in (
       covers,
-      with_key_same n ds (schemes_of_groups others) one other
-          (subst (λ (es : List Dependency). IsWithKey n ds (schemes_of_groups es) one) covers first.completed)
+      with_key_same n ds nullable (schemes_of_groups others) one other
+          (subst (λ (es : List Dependency). IsWithKey n ds nullable (schemes_of_groups es) one) covers first.completed)
           second.completed,
     )
 
-pub grouped_same : (n : ℕ) (ds : List Dependency) (plan other : List AttrSet) → IsGroupedPlan n ds plan
-    → IsGroupedPlan n ds other → schemes_of plan ≡ schemes_of other
-grouped_same n ds plan other one two =
+pub grouped_same : (n : ℕ) (ds : List Dependency) (nullable : Attributes) (plan other : List AttrSet)
+    → IsGroupedPlan n ds nullable plan → IsGroupedPlan n ds nullable other → schemes_of plan ≡ schemes_of other
+grouped_same n ds nullable plan other one two =
     kept_same one.all two.all plan other one.kept two.kept
-    (steps_same n ds one.cover two.cover (schemes_of one.all) (schemes_of two.all) one.steps two.steps).1
+    (steps_same n ds nullable one.cover two.cover (schemes_of one.all) (schemes_of two.all) one.steps two.steps).1
 
 -- ---- `check join`
 pub one_loss_stop : (s : Schema) (plan : List Attributes) (one other : ResponseValue) → LossStops s plan one

@@ -1,8 +1,17 @@
--- The primary key of a scheme: for `primary_key` and the tables of a design (`ddl_text/Designs`).
+-- The primary key of a scheme: for `primary_key` and the tables of a design (`ddl_text/Designs`), and by the
+-- functional dependencies alone for `functional_primary_key` and the key that a synthesis adds
+-- (`synthesis_3nf/GroupedPlans`).
 use Rattle.std.specs.Prelude.{◌≡◌, ◌↔◌, ℕ, true, false, List}
 use Rattle.attr_sets.specs.Attributes.{Attributes, difference, IsSubset}
-use Rattle.dep_model.specs.Dependencies.{Dependency}
+use Rattle.dep_model.specs.Dependencies.{Dependency, functional_part}
 use Rattle.dep_model.specs.Keys.{IsSuperkey, left_without}
+use Rattle.primary_keys.specs.declared.narrowing.Rules.{Rules}
+use Rattle.primary_keys.specs.declared.narrowing.Rules.TheVariants.{All, Functional}
+
+-- the dependencies of a list by which a set is to be a key: all of them, or the functional ones alone
+abbrev pub told_by : Rules → List Dependency → List Dependency
+told_by All ds = ds
+told_by Functional ds = functional_part ds
 
 -- what is left of a set once each attribute of those to be tried, from the last to the first, was left out
 -- exactly where what stands beside it is still a superkey

@@ -2,12 +2,13 @@
 //! key has none that may be.
 //!
 //! `primary_key` leaves out of a scheme first each attribute that may be missing and then each other, from
-//! the last to the first, where the rest still determines the scheme by all dependencies. `laws` says that
-//! this is a key, that there is one such, that it has an attribute that may be missing exactly where each
-//! key of the scheme has one, and that it is the greedy key where no attribute may be missing.
+//! the last to the first, where the rest still determines the scheme by all dependencies;
+//! `functional_primary_key` does so by the functional ones alone. `laws` says of each list of dependencies
+//! that this is a key, that there is one such, that it has an attribute that may be missing exactly where
+//! each key of the scheme has one, and that it is the greedy key where no attribute may be missing.
 #![tactic(auto)]
 
 pub mod laws;
 mod narrowing;
 
-pub use narrowing::primary_key;
+pub use narrowing::{functional_primary_key, primary_key};

@@ -1,6 +1,6 @@
 -- The grouped schemes with a key: a lossless plan of schemes in third form that keeps the dependencies, also without contained ones.
-use Rattle.std.proofs.Common.{◌≡◌, ℕ, ◌≤◌, ◌<◌, true, false, List, [], ◌∷◌, ◌++◌, map, refl, sym, subst, ◌∙◌, ◌⊎◌, ⊎_elim}
-use Rattle.std.specs.Prelude.{All, Any, Contains}
+use Rattle.std.proofs.Common.{◌≡◌, ℕ, ◌≤◌, ◌<◌, true, List, [], ◌∷◌, ◌++◌, refl, sym, subst, ◌∙◌, ⊎_elim}
+use Rattle.std.specs.Prelude.{All, Contains}
 use Rattle.std.specs.List.{list_any}
 use Rattle.std.proofs.lemmas.Bool.{cases_Bool, true≢false, or_right}
 use Rattle.std.proofs.lemmas.List.Elements.{All-weaker, All-contains, All-contains_itself, All-map, Contains-append_left, Contains-push, Contains-push_cases}
@@ -12,15 +12,16 @@ use Rattle.attr_sets.specs.Sets.{attributes}
 use Rattle.attr_sets.proofs.AttributesLemmas.{attributes_below, is_subset-true}
 use Rattle.dep_model.specs.Dependencies.{Dependency, fd, is_fd, functional_part, left_of, right_of, IsWithin}
 use Rattle.dep_model.specs.Implication.{Implies}
-use Rattle.dep_model.specs.Keys.{IsSuperkey, IsGreedyKey}
+use Rattle.dep_model.specs.Keys.{IsSuperkey, IsKey}
 use Rattle.dep_model.specs.Forms.{IsThird}
 use Rattle.dep_model.specs.Projections.{Covers, IsLossless}
 use Rattle.dep_model.specs.Preservation.{KeepsDependencies}
 use Rattle.dep_model.specs.Plans.{IsPlan, schemes_of}
 use Rattle.dep_model.proofs.ListLemmas.{Any-from, Contains-map, map-member}
-use Rattle.dep_model.proofs.KeyLemmas.{fd_on-to, superkey-from, greedy_is_key}
+use Rattle.dep_model.proofs.KeyLemmas.{fd_on-to, superkey-from}
 use Rattle.fd_closure.proofs.ClosedSets.{lead_from_superkey}
 use Rattle.min_cover.specs.Covers.{IsMinimalCover, IsSingle}
+use Rattle.primary_keys.proofs.PrimaryLemmas.{primary_is_key}
 use Rattle.plans.specs.Containing.{lies_within}
 use Rattle.plans.proofs.ListLemmas.{any_from, any_some}
 use Rattle.synthesis_3nf.specs.Groups.{schemes_of_groups}
@@ -80,14 +81,13 @@ module _ (n : ℕ) (ds cover : List Dependency) (within_limit : n ≤ MOST_ATTRI
     determines = ((holds.0, holds.2, holds.3), fd_on-to n (functional_part ds) (below n) holds.1 (below n) holds.4);
   }
 
-  of_key : (key : Attributes) → IsGreedyKey n (functional_part ds) (below n) key → (HoldSuperkey n ds (schemes_of_groups cover) → ⊥) → IsSynthesized n ds cover (schemes_of_groups cover ++ key ∷ [])
-  of_key key greedy none =
-      let is = greedy_is_key n (functional_part ds) (below n) key (λ (k : ℕ) m. m) greedy in
+  of_key : (key : Attributes) → IsKey n (functional_part ds) (below n) key → (HoldSuperkey n ds (schemes_of_groups cover) → ⊥) → IsSynthesized n ds cover (schemes_of_groups cover ++ key ∷ [])
+  of_key key is none =
       let implied = fd_on-to n (functional_part ds) (below n) key (below n) is.superkey in
       let groups = schemes_of_groups cover in
       record {
-        within = λ scheme has. ⊎_elim (λ old. group_within scheme old) (λ new. subst (λ (s : Attributes). IsSubset s (below n)) new greedy.within) (Contains-push_cases groups key scheme has);
-        not_empty = λ scheme has. ⊎_elim (λ old. group_not_empty scheme old) (λ new. subst (λ (s : Attributes). IsEmpty s → ⊥) new (key_not_empty key greedy.within implied none)) (Contains-push_cases groups key scheme has);
+        within = λ scheme has. ⊎_elim (λ old. group_within scheme old) (λ new. subst (λ (s : Attributes). IsSubset s (below n)) new is.superkey.within.0) (Contains-push_cases groups key scheme has);
+        not_empty = λ scheme has. ⊎_elim (λ old. group_not_empty scheme old) (λ new. subst (λ (s : Attributes). IsEmpty s → ⊥) new (key_not_empty key is.superkey.within.0 implied none)) (Contains-push_cases groups key scheme has);
         third = λ scheme has. ⊎_elim (λ old. groups_third scheme old) (λ new. subst (λ (s : Attributes). IsThird n ds s) new (key_third n ds key is)) (Contains-push_cases groups key scheme has);
         held = λ d has.
             let group = groups_hold n within_limit cover minimal.single within d has in
@@ -96,11 +96,13 @@ module _ (n : ℕ) (ds cover : List Dependency) (within_limit : n ≤ MOST_ATTRI
         determines = (Contains-push groups key, implied);
       }
 
-  pub whole : (all : List Attributes) → IsWithKey n ds (schemes_of_groups cover) all → IsSynthesized n ds cover all
-  whole all completed =
+  pub whole : (nullable : Attributes) (all : List Attributes) → IsWithKey n ds nullable (schemes_of_groups cover) all
+      → IsSynthesized n ds cover all
+  whole nullable all completed =
       ⊎_elim
       (λ holds. subst (λ (plan : List Attributes). IsSynthesized n ds cover plan) (sym holds.1) (of_groups holds.0))
-      (λ added. subst (λ (plan : List Attributes). IsSynthesized n ds cover plan) (sym added.last) (of_key added.key added.greedy added.none))
+      (λ added. subst (λ (plan : List Attributes). IsSynthesized n ds cover plan) (sym added.last) (of_key added.key
+      (primary_is_key n (functional_part ds) nullable (below n) added.key (λ (k : ℕ) m. m) added.primary) added.none))
       completed
 
   -- such schemes have all attributes

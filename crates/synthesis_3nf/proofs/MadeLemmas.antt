@@ -11,7 +11,7 @@ use Rattle.dep_model.specs.declared.schema.Schema.{Schema}
 use Rattle.dep_model.specs.Dependencies.{IsWithin}
 use Rattle.dep_model.specs.Deps.{dependencies_of, IsDepWithin}
 use Rattle.dep_model.specs.Plans.{schemes_of}
-use Rattle.dep_model.specs.Schemas.{width_of, theory_of}
+use Rattle.dep_model.specs.Schemas.{width_of, theory_of, nullable_of}
 use Rattle.dep_model.proofs.DepLemmas.{dependencies_all-from}
 use Rattle.dep_model.proofs.ListLemmas.{Contains-map}
 use Rattle.min_cover.specs.Covers.{IsMinimalCover}
@@ -43,8 +43,8 @@ groups_within s cover groups is are =
     groups (All-contains_itself groups)
 
 pub synthesized : (s : Schema) (cover : List Dep) (all : List AttrSet) → IsCovered s cover
-    → IsWithKey (width_of s) (theory_of s) (schemes_of_groups (dependencies_of cover)) (schemes_of all)
+    → IsWithKey (width_of s) (theory_of s) (nullable_of s) (schemes_of_groups (dependencies_of cover)) (schemes_of all)
     → IsSynthesized (width_of s) (theory_of s) (dependencies_of cover) (schemes_of all)
 synthesized s cover all is completed =
     whole (width_of s) (theory_of s) (dependencies_of cover) (attributes_within_limit s) (attributes_not_empty s) is.minimal (members_within s cover is)
-    (schemes_of all) completed
+    (nullable_of s) (schemes_of all) completed

@@ -1,7 +1,7 @@
 ghost use Rattle.std.specs.Prelude.{◌≡◌, [], IfOk, All};
 ghost use Rattle.dep_model.specs.Deps.{dependencies_of, IsDepWithin};
 ghost use Rattle.dep_model.specs.Plans.{schemes_of};
-ghost use Rattle.dep_model.specs.Schemas.{width_of, theory_of, universe_of};
+ghost use Rattle.dep_model.specs.Schemas.{width_of, theory_of, nullable_of, universe_of};
 ghost use Rattle.min_cover.specs.Covers.{IsMinimalCover};
 ghost use Rattle.synthesis_3nf.specs.GroupedPlans.{AreSynthesisSteps};
 ghost use Rattle.synthesis_3nf.specs.Groups.{left_sides_after};
@@ -14,7 +14,7 @@ use min_cover::minimal_cover;
 use std::alloc::Global;
 
 /// How a synthesis comes about: the cover that is grouped, its left sides, and the schemes of these, with
-/// a key of the universe after them where none of them holds one.
+/// the primary key of the universe after them where none of them holds a key.
 #[derive(Debug, Drop)]
 pub struct SynthesisSteps {
     pub cover: Vec<Dep>,
@@ -24,11 +24,11 @@ pub struct SynthesisSteps {
 
 /// How the plan in third normal form of a schema comes about (Beeri and Bernstein 1979; Biskup, Dayal and
 /// Bernstein 1979). The fixed cover is grouped by left side, in the order of first occurrence; each group
-/// gives the scheme of its left side and right sides. Where no scheme is a superkey of the universe, a key
-/// of it is added last.
+/// gives the scheme of its left side and right sides. Where no scheme is a superkey of the universe, its
+/// primary key by the functional dependencies is added last.
 pub fn synthesis_steps(alloc: Global, schema: &Schema) -> Result<SynthesisSteps, OutOfMemory>
     ensures steps { IfOk result (λ steps. AreSynthesisSteps (width_of schema.now) (theory_of schema.now)
-        (dependencies_of steps.cover.items) (schemes_of steps.schemes.items)) }
+        (nullable_of schema.now) (dependencies_of steps.cover.items) (schemes_of steps.schemes.items)) }
     ensures lefts { IfOk result (λ steps. schemes_of steps.lefts.items
         ≡ left_sides_after [] (dependencies_of steps.cover.items)) }
     ensures minimal { IfOk result (λ steps. IsMinimalCover (width_of schema.now) (theory_of schema.now)

@@ -4,7 +4,7 @@ ghost use Rattle.dep_model.specs.Forms.{IsThird};
 ghost use Rattle.dep_model.specs.Plans.{schemes_of};
 ghost use Rattle.dep_model.specs.Preservation.{KeepsDependencies};
 ghost use Rattle.dep_model.specs.Projections.{IsLossless};
-ghost use Rattle.dep_model.specs.Schemas.{width_of, theory_of, universe_of};
+ghost use Rattle.dep_model.specs.Schemas.{width_of, theory_of, nullable_of, universe_of};
 ghost use Rattle.min_cover.specs.Covers.{IsMinimalCover};
 ghost use Rattle.plans.specs.Containing.{without_contained};
 ghost use Rattle.plans.specs.Plans.{scheme_sets, plan_of, IsPlanOver};
@@ -19,8 +19,8 @@ use std::alloc::Global;
 /// that of `synthesis_steps`.
 pub fn synthesize(alloc: Global, schema: &Schema) -> Result<Plan, OutOfMemory>
     ensures universe { IfOk result (λ plan. IsPlanOver schema.now plan) }
-    ensures grouped { IfOk result (λ plan.
-        IsGroupedPlan (width_of schema.now) (theory_of schema.now) (scheme_sets plan)) }
+    ensures grouped { IfOk result (λ plan. IsGroupedPlan (width_of schema.now) (theory_of schema.now)
+        (nullable_of schema.now) (scheme_sets plan)) }
     ensures lossless { IfOk result (λ plan.
         IsLossless (width_of schema.now) (theory_of schema.now) (plan_of plan)) }
     ensures third { IfOk result (λ plan.
@@ -39,14 +39,14 @@ pub fn plan_of_steps(
     steps: &SynthesisSteps,
 ) -> Result<Plan, OutOfMemory>
     requires steps { AreSynthesisSteps (width_of schema.now) (theory_of schema.now)
-        (dependencies_of steps.now.cover.items) (schemes_of steps.now.schemes.items) }
+        (nullable_of schema.now) (dependencies_of steps.now.cover.items) (schemes_of steps.now.schemes.items) }
     requires minimal { IsMinimalCover (width_of schema.now) (theory_of schema.now)
         (dependencies_of steps.now.cover.items) }
     requires within { All (IsDepWithin (universe_of schema.now)) steps.now.cover.items }
     ensures universe { IfOk result (IsPlanOver schema.now) }
     ensures kept { IfOk result (λ plan. scheme_sets plan ≡ without_contained steps.now.schemes.items) }
-    ensures grouped { IfOk result (λ plan.
-        IsGroupedPlan (width_of schema.now) (theory_of schema.now) (scheme_sets plan)) }
+    ensures grouped { IfOk result (λ plan. IsGroupedPlan (width_of schema.now) (theory_of schema.now)
+        (nullable_of schema.now) (scheme_sets plan)) }
     ensures lossless { IfOk result (λ plan.
         IsLossless (width_of schema.now) (theory_of schema.now) (plan_of plan)) }
     ensures third { IfOk result (λ plan.

@@ -1,6 +1,6 @@
 -- What is left to prove of `hold_superkey`: its clause `superkey` and that the invariant of its
 -- loop holds at first and stays, by `none_more`.
-use Rattle.std.proofs.Common.{true, false, List, take_all, sym, subst, ◌∙◌, arith}
+use Rattle.std.proofs.Common.{List, take_all, sym, subst, ◌∙◌, arith}
 use Rattle.std.proofs.lemmas.Bool.{false≢true}
 use Rattle.attr_sets.specs.declared.set.AttrSet.{AttrSet}
 use Rattle.attr_sets.specs.Attributes.{Attributes, below}

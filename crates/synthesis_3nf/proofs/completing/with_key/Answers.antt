@@ -1,5 +1,5 @@
 -- What is left to prove of `with_key`: its clause `completed`.
-use Rattle.std.proofs.Common.{◌↔◌, true, false, List, [], ◌∷◌, sym, subst, ap, ◌∙◌, inl, inr}
+use Rattle.std.proofs.Common.{◌↔◌, List, [], ◌∷◌, sym, subst, ap, ◌∙◌, inl, inr}
 use Rattle.std.specs.Prelude.{IsTrue}
 use Rattle.std.proofs.lemmas.List.{map-append}
 use Rattle.std.proofs.lemmas.Bool.{false≢true}
@@ -24,7 +24,7 @@ returns c =
         | then-not-hold_superkey+in_ok-push w ↦ inr (record {
           none = λ holds. false≢true (sym w.if-not-hold_superkey.true ∙ fact.1 holds);
           key = attributes w.universe_key.result;
-          greedy = w.universe_key.ensures.greedy;
+          primary = w.universe_key.ensures.primary;
           last = ap (λ v. schemes_of v.items) w.schemes-is ∙ ap (λ (xs : List AttrSet). schemes_of xs) w.in_ok-push.ensures.items ∙ map-append attributes old (w.universe_key.result ∷ []);
         })
         | else-not-hold_superkey w ↦ inl (fact.0 w.if-not-hold_superkey.false, ap (λ v. schemes_of v.items) w.schemes-is)

@@ -1,6 +1,6 @@
 -- What is left to prove of `left_sides`: its clause `lefts` and that the invariant of its loop
 -- holds at first and stays, by `lefts_passed` and `lefts_added`.
-use Rattle.std.proofs.Common.{◌≡◌, ◌+◌, ◌<◌, suc, true, false, List, [], ◌++◌, length, drop, refl, sym, ap, subst, ◌∙◌, arith}
+use Rattle.std.proofs.Common.{◌≡◌, ◌+◌, ◌<◌, suc, List, [], ◌++◌, length, drop, refl, sym, ap, subst, ◌∙◌, arith}
 use Rattle.std.proofs.lemmas.List.{drop_all, append-nil}
 use Rattle.std.specs.List.{list_any}
 use Rattle.attr_sets.specs.declared.set.AttrSet.{AttrSet}

@@ -6,7 +6,7 @@ use Rattle.attr_sets.specs.Attributes.{Attributes}
 use Rattle.dep_model.specs.declared.dep.Dep.{Dep}
 use Rattle.dep_model.specs.Deps.{dependencies_of}
 use Rattle.dep_model.specs.Plans.{schemes_of}
-use Rattle.dep_model.specs.Schemas.{width_of, theory_of}
+use Rattle.dep_model.specs.Schemas.{width_of, theory_of, nullable_of}
 use Rattle.synthesis_3nf.specs.Groups.{group_scheme, left_sides_after, schemes_of_groups}
 use Rattle.synthesis_3nf.specs.GroupedPlans.{IsWithKey}
 use Rattle.synthesis_3nf.proofs.MadeLemmas.{groups_within}
@@ -36,7 +36,7 @@ returns-clause-steps c =
     let s = c.args.schema.now in
     record {
       fixed = c.in_ok-cover.ensures.fixed;
-      completed = subst (λ (xs : List Attributes). IsWithKey (width_of s) (theory_of s) xs (schemes_of c.in_ok-schemes.schemes.items))
+      completed = subst (λ (xs : List Attributes). IsWithKey (width_of s) (theory_of s) (nullable_of s) xs (schemes_of c.in_ok-schemes.schemes.items))
           (grouped (goal.at.returns-clause-steps c).In_ok-groups) c.in_ok-schemes.ensures.completed;
     }
 

@@ -11,7 +11,7 @@ use Rattle.dep_model.specs.Dependencies.{IsWithin}
 use Rattle.dep_model.specs.Deps.{dependencies_of}
 use Rattle.dep_model.specs.Plans.{IsPlan, schemes_of}
 use Rattle.dep_model.specs.Projections.{IsLossless}
-use Rattle.dep_model.specs.Schemas.{width_of, theory_of}
+use Rattle.dep_model.specs.Schemas.{width_of, theory_of, nullable_of}
 use Rattle.plans.specs.Containing.{lies_within, without_contained}
 use Rattle.synthesis_3nf.specs.GroupedPlans.{AreSynthesisSteps}
 use Rattle.synthesis_3nf.proofs.CompleteLemmas.{IsSynthesized, are_plan, are_lossless, kept_third, kept_keeps}
@@ -21,7 +21,7 @@ use Rattle.synthesis_3nf.proofs.synthesis.plan_of_steps.Goals as goal
 -- what is known of the steps
 record AreMade (s : Schema) (cover : List Dep) (all : List AttrSet) : Type 0 where
   covered : IsCovered s cover
-  steps : AreSynthesisSteps (width_of s) (theory_of s) (dependencies_of cover) (schemes_of all)
+  steps : AreSynthesisSteps (width_of s) (theory_of s) (nullable_of s) (dependencies_of cover) (schemes_of all)
 
 module _ (s : Schema) (cover : List Dep) (all : List AttrSet) (made : AreMade s cover all) where
   members : All (IsWithin (below (width_of s))) (dependencies_of cover)

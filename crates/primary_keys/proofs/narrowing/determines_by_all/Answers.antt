@@ -1,4 +1,4 @@
--- What is left to prove of `determines`: what it answers in the cases `Implied` and `Broken` and
+-- What is left to prove of `determines_by_all`: what it answers in the cases `Implied` and `Broken` and
 -- what `decide` requires.
 use Rattle.std.proofs.Common.{Bool, true, false, refl, sym, ◌∙◌, ap}
 use Rattle.std.proofs.lemmas.Bool.{false≢true, true≢false}
@@ -7,7 +7,7 @@ use Rattle.dep_model.specs.Schemas.{width_of, theory_of}
 use Rattle.dep_model.proofs.KeyLemmas.{superkey-from, fd_on-to}
 use Rattle.dep_basis.specs.declared.deciding.Decision.{Decision}
 use Rattle.dep_basis.specs.declared.deciding.Decision.TheVariants.{Implied, Broken}
-use Rattle.primary_keys.proofs.narrowing.determines.Goals as goal
+use Rattle.primary_keys.proofs.narrowing.determines_by_all.Goals as goal
 
 is_yes : Decision → Bool
 is_yes Implied = true
