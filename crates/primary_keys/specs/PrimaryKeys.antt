@@ -9,9 +9,9 @@ use Rattle.primary_keys.specs.declared.narrowing.Rules.{Rules}
 use Rattle.primary_keys.specs.declared.narrowing.Rules.TheVariants.{All, Functional}
 
 -- the dependencies of a list by which a set is to be a key: all of them, or the functional ones alone
-abbrev pub told_by : Rules → List Dependency → List Dependency
-told_by All ds = ds
-told_by Functional ds = functional_part ds
+abbrev pub chosen_rules : Rules → List Dependency → List Dependency
+chosen_rules All ds = ds
+chosen_rules Functional ds = functional_part ds
 
 -- what is left of a set once each attribute of those to be tried, from the last to the first, was left out
 -- exactly where what stands beside it is still a superkey

@@ -4,7 +4,7 @@ ghost use Rattle.attr_sets.specs.Sets.{attributes};
 ghost use Rattle.dep_model.specs.Dependencies.{functional_part};
 ghost use Rattle.dep_model.specs.Keys.{IsSuperkey};
 ghost use Rattle.dep_model.specs.Schemas.{width_of, universe_of, theory_of, nullable_of};
-ghost use Rattle.primary_keys.specs.PrimaryKeys.{told_by, IsNarrowed, IsPrimaryKey};
+ghost use Rattle.primary_keys.specs.PrimaryKeys.{chosen_rules, IsNarrowed, IsPrimaryKey};
 
 use attr_sets::{AttrSet, MOST_ATTRIBUTES};
 use dep_basis::{Decision, decide};
@@ -26,7 +26,7 @@ pub fn primary_key(schema: &Schema, scheme: AttrSet) -> AttrSet
     ensures primary { IsPrimaryKey (width_of schema.now) (theory_of schema.now) (nullable_of schema.now)
         (attributes scheme) (attributes result) }
 {
-    settled_key(schema, Rules::All, scheme)
+    key_by(schema, Rules::All, scheme)
 }
 
 /// The primary key of a scheme, by the functional dependencies alone: what is left of it once each attribute
@@ -37,13 +37,13 @@ pub fn functional_primary_key(schema: &Schema, scheme: AttrSet) -> AttrSet
     ensures primary { IsPrimaryKey (width_of schema.now) (functional_part (theory_of schema.now))
         (nullable_of schema.now) (attributes scheme) (attributes result) }
 {
-    settled_key(schema, Rules::Functional, scheme)
+    key_by(schema, Rules::Functional, scheme)
 }
 
 // The primary key of a scheme by these dependencies.
-fn settled_key(schema: &Schema, rules: Rules, scheme: AttrSet) -> AttrSet
+fn key_by(schema: &Schema, rules: Rules, scheme: AttrSet) -> AttrSet
     requires scheme { IsSubset (attributes scheme) (universe_of schema.now) }
-    ensures primary { IsPrimaryKey (width_of schema.now) (told_by rules (theory_of schema.now))
+    ensures primary { IsPrimaryKey (width_of schema.now) (chosen_rules rules (theory_of schema.now))
         (nullable_of schema.now) (attributes scheme) (attributes result) }
 {
     let nullable = schema.nullable();
@@ -63,7 +63,7 @@ fn narrowed(
 ) -> AttrSet
     requires scheme { IsSubset (attributes scheme) (universe_of schema.now) }
     requires start { IsSubset (attributes start) (attributes scheme) }
-    ensures narrowed { IsNarrowed (width_of schema.now) (told_by rules (theory_of schema.now))
+    ensures narrowed { IsNarrowed (width_of schema.now) (chosen_rules rules (theory_of schema.now))
         (attributes scheme) (attributes tried) (attributes start) (attributes result) }
 {
     let mut key = start;
@@ -84,7 +84,7 @@ fn determines(schema: &Schema, rules: Rules, scheme: AttrSet, set: AttrSet) -> b
     requires scheme { IsSubset (attributes scheme) (universe_of schema.now) }
     requires set { IsSubset (attributes set) (attributes scheme) }
     ensures determines { IsTrue result ↔ IsSuperkey (width_of schema.now)
-        (told_by rules (theory_of schema.now)) (attributes scheme) (attributes set) }
+        (chosen_rules rules (theory_of schema.now)) (attributes scheme) (attributes set) }
 {
     match rules {
         Rules::All => determines_by_all(schema, scheme, set),

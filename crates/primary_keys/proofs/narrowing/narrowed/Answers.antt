@@ -7,13 +7,13 @@ use Rattle.attr_sets.specs.Sets.{attributes}
 use Rattle.attr_sets.specs.declared.set.TheConstants.{MOST_ATTRIBUTES}
 use Rattle.attr_sets.proofs.AttributesLemmas.{attributes_below, same_at}
 use Rattle.dep_model.specs.Schemas.{width_of, theory_of}
-use Rattle.primary_keys.specs.PrimaryKeys.{told_by}
+use Rattle.primary_keys.specs.PrimaryKeys.{chosen_rules}
 use Rattle.primary_keys.proofs.LoopLemmas.{IsNarrowedFrom, narrowed_none, narrowed_out, narrowed_kept, narrowed_passed, narrowed_all}
 use Rattle.primary_keys.proofs.narrowing.narrowed.Goals as goal
 
 pub loop-i-init : goal.loop-i-init
 loop-i-init c =
-    narrowed_none (width_of c.args.schema.now) (told_by c.args.rules (theory_of c.args.schema.now)) (attributes c.args.scheme)
+    narrowed_none (width_of c.args.schema.now) (chosen_rules c.args.rules (theory_of c.args.schema.now)) (attributes c.args.scheme)
     (attributes c.args.tried) (attributes c.args.start) MOST_ATTRIBUTES
     (λ a m. ltb-true a MOST_ATTRIBUTES (attributes_below c.args.start a m))
 
@@ -23,7 +23,7 @@ determines-requires-clause-set c k m =
 
 pub loop-i-preserved-then-not-contains : goal.loop-i-preserved-then-not-contains
 loop-i-preserved-then-not-contains c =
-    narrowed_passed (width_of c.args.schema.now) (told_by c.args.rules (theory_of c.args.schema.now)) (attributes c.args.scheme)
+    narrowed_passed (width_of c.args.schema.now) (chosen_rules c.args.rules (theory_of c.args.schema.now)) (attributes c.args.scheme)
     (attributes c.args.tried) (attributes c.args.start) (c.loop-i.i - 1) c.loop-i.i (attributes c.loop-i.key)
     (omega arith) c.loop-i.invariant (λ member was.
     let here = c.loop-i.i - 1 in
@@ -32,7 +32,7 @@ loop-i-preserved-then-not-contains c =
 
 pub loop-i-preserved-then-determines : goal.loop-i-preserved-then-determines
 loop-i-preserved-then-determines c =
-    narrowed_out (width_of c.args.schema.now) (told_by c.args.rules (theory_of c.args.schema.now)) (attributes c.args.scheme)
+    narrowed_out (width_of c.args.schema.now) (chosen_rules c.args.rules (theory_of c.args.schema.now)) (attributes c.args.scheme)
     (attributes c.args.tried) (attributes c.args.start) (c.loop-i.i - 1) c.loop-i.i (attributes c.loop-i.key)
     (attributes c.without-rest.result) (omega arith) c.loop-i.invariant
     (let here = c.loop-i.i - 1 in
@@ -42,7 +42,7 @@ loop-i-preserved-then-determines c =
 
 pub loop-i-preserved : goal.loop-i-preserved
 loop-i-preserved c =
-    narrowed_kept (width_of c.args.schema.now) (told_by c.args.rules (theory_of c.args.schema.now)) (attributes c.args.scheme)
+    narrowed_kept (width_of c.args.schema.now) (chosen_rules c.args.rules (theory_of c.args.schema.now)) (attributes c.args.scheme)
     (attributes c.args.tried) (attributes c.args.start) (c.loop-i.i - 1) c.loop-i.i (attributes c.loop-i.key)
     (attributes c.without-rest.result) (omega arith) c.loop-i.invariant c.without-rest.ensures.members
     (λ superkey. false≢true (sym c.if-determines.false ∙ c.determines.ensures.determines.1 superkey))
@@ -50,7 +50,7 @@ loop-i-preserved c =
 pub returns : goal.returns
 returns c =
     let n = width_of c.args.schema.now in
-    let ds = told_by c.args.rules (theory_of c.args.schema.now) in
+    let ds = chosen_rules c.args.rules (theory_of c.args.schema.now) in
     let scheme = attributes c.args.scheme in
     let tried = attributes c.args.tried in
     let start = attributes c.args.start in
