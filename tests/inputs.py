@@ -24,6 +24,24 @@ def keys_of_pairs(count):
         " ".join(f"{'AB'[k >> i & 1]}{i + 1}" for i in range(count)) for k in range(1 << count))
 
 
+def rows_of_pairs(count, first, last):
+    """Rows in which just the sets of one column of each pair a1 a2, a3 a4 and so on determine the first column, and
+    nothing determines any of these: of two rows that differ on the first, a pair differs; and each column of the pairs
+    differs in two rows that are else equal. A column `last` is constant."""
+    width = 2 * count
+    base = [0] * (width + 1)
+    end = ",x" if last else ""
+    alone = [base[:i] + [2] + base[i + 1:] for i in range(1, width + 1)]
+    pairs = [[1] + [int(j // 2 == i) for j in range(width)] for i in range(count)]
+    return f"{first},{names(width, between=',')}{last}\n" + lines(",".join(map(str, r)) + end for r in [base] + alone + pairs)
+
+
+def sides_of_pairs(count):
+    """What they obey."""
+    return lines(
+        " ".join(f"a{2 * i + 1 + (k >> i & 1)}" for i in range(count)) + " -> R" for k in range(1 << count))
+
+
 def doubling(count):
     """A schema of pairs a1 b1, a2 b2 and so on, whose splits double the list of schemes at each step."""
     pairs = [f"a{i} b{i}" for i in range(1, count + 1)]

@@ -548,7 +548,7 @@ def f_exhibit(m):
 
 
 def f_discover(m):
-    n = m.r.randint(1, 6)
+    n = m.r.randint(1, 6) if m.r.random() < .8 else m.r.randint(12, 16)
     s = (NAMES[:n], ["text"] * n, [])
     names = list(s[0])
     if m.r.random() < .1:

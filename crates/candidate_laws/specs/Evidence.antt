@@ -1,5 +1,6 @@
 -- Evidence: what two rows agree on and nothing beside it, the agree sets of Mannila and Räihä
--- (1994). For the search for the functional dependencies of rows. `Desk` does not cite it.
+-- (1994). For the search for the functional dependencies of rows, and for the refusal of `discover`
+-- (`desk_discovery/Discoveries`).
 use Rattle.std.specs.Prelude.{ℕ, ◌-◌, ◌^◌, ◌&&◌, List, length, All, Contains, nat_lt, nat_eq}
 use Rattle.std.specs.Cmp.Lexicographic.{pointwise}
 use Rattle.attr_sets.specs.Attributes.{Attributes, below, IsSubset}

@@ -1,5 +1,5 @@
 -- The sets that stand against evidence, and the minimal ones among them: the candidates for the
--- left sides of minimal dependencies. For `candidate_sets`. `Desk` does not cite it.
+-- left sides of minimal dependencies. For `candidate_sets`, and for the refusal of `discover`.
 use Rattle.std.specs.Prelude.{◌≡◌, ◌≢◌, ℕ, ◌<◌, ◌≤◌, false, List, length, All, AllPairs, Contains}
 use Rattle.attr_sets.specs.Attributes.{Attributes, below, IsSubset, IsBefore, count_below}
 use Rattle.dep_model.specs.Tuples.{Relation}

@@ -1,5 +1,5 @@
 -- The left sides of each right side, from the first candidates to the minimal ones. For
--- `minimal_left_sides` and the functions below it. `Desk` does not cite it.
+-- `minimal_left_sides` and the functions below it, and for the refusal of `discover` (`IsExceeded`).
 use Rattle.std.specs.Prelude.{◌≡◌, ℕ, ◌<◌, ◌≤◌, ◌⊎◌, ◌↔◌, false, List, length, map, All, AllPairs, Contains}
 use Rattle.attr_sets.specs.Attributes.{Attributes, only, IsSubset, IsBefore, count_below}
 use Rattle.candidate_laws.specs.Evidence.{AreEvidence}

@@ -128,7 +128,7 @@ Does looks r schema (form.rejoin files) = WithParts r schema files (λ parts. Jo
 -- a command
 unfoldable pub Performs : Looks → Reading → CommandForm → Allowed
 Performs looks r (form.over_schema file task) = WithFile schema_file r file (λ schema. Does looks r schema task)
-Performs looks r (form.discover file) = WithFile headed_file r file FindsRules
+Performs looks r (form.discover file) = WithFile headed_file r file (FindsRules file)
 Performs looks r (form.sample persons) = Samples persons
 Performs looks r form.help = Says Yes help_text
 Performs looks r form.version = Says Yes version_text

@@ -2,6 +2,7 @@
 
 ghost use Rattle.std.specs.Prelude.{◌≡◌};
 ghost use Rattle.attr_sets.specs.declared.set.TheConstants.{MOST_ATTRIBUTES};
+ghost use Rattle.candidate_sets.specs.declared.refusal.TheConstants.{MOST_CANDIDATES};
 ghost use Rattle.armstrong_rel.specs.declared.refusal.TheConstants.{MOST_EXHIBITED_ROWS, WIDEST_EXHIBITED};
 ghost use Rattle.csv_rows.specs.declared.reading.TheConstants.{MOST_ROWS};
 ghost use Rattle.plan_reader.specs.declared.reading.TheConstants.{MOST_PLAN_BYTES};
@@ -11,6 +12,7 @@ ghost use Rattle.schema_grammar.specs.declared.format.TheConstants.{MOST_DEPENDE
 ghost use Rattle.derivation.specs.declared.measures.TheConstants.{MOST_LEVELS, MOST_NODES};
 ghost use Rattle.desk_designs.specs.declared.decomposition.TheConstants.{MOST_SPLIT_SCHEMES};
 ghost use Rattle.desk_designs.specs.declared.join.TheConstants.{MOST_TABLEAU_ROWS};
+ghost use Rattle.desk_discovery.specs.declared.discovering.TheConstants.{WIDEST_TRIED};
 ghost use Rattle.desk_tables.specs.declared.rejoining.TheConstants.{MOST_JOINED_ROWS};
 ghost use Rattle.desk_inputs.specs.declared.rows.TheConstants.{MOST_CSV_BYTES};
 ghost use Rattle.desk_words.specs.declared.command.TheConstants.{MOST_FILES};
@@ -52,13 +54,15 @@ pub fn limits_of_contents()
     ensures schemes { MOST_SCHEMES ≡ 256 }
     ensures rows { MOST_ROWS ≡ 10000000 }
     ensures headed_rows { MOST_HEADED_ROWS ≡ 10000000 }
-    ensures headed_columns { WIDEST_HEADED ≡ 12 }
+    ensures headed_columns { WIDEST_HEADED ≡ 64 }
 {}
 
-/// Where a search gives up.
+/// Where a search gives up, and up to how many columns `discover` tries all sets.
 pub fn limits_of_searches()
     ensures keys { MOST_KEYS ≡ 1024 }
     ensures searched { WIDEST_SEARCHED ≡ 20 }
+    ensures tried { WIDEST_TRIED ≡ 12 }
+    ensures candidates { MOST_CANDIDATES ≡ 1000000 }
     ensures exhibited { WIDEST_EXHIBITED ≡ 16 }
     ensures exhibited_rows { MOST_EXHIBITED_ROWS ≡ 100000 }
     ensures split_schemes { MOST_SPLIT_SCHEMES ≡ 4096 }

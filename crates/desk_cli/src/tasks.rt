@@ -450,11 +450,11 @@ pub fn of_headed<F: FileSource>(
     ensures reads { BeginsFront (file.now ∷ [])
         (F.begun source.old) (F.begun source.new) }
     ensures response { (r : Reading) → Shows F.files F.faults F.taken F.begun source.old source.new r
-        → RespondsAs (WithFile headed_file r file.now FindsRules) result }
+        → RespondsAs (WithFile headed_file r file.now (FindsRules file.now)) result }
 {
     let headed = match open_headed(alloc, source, file) {
         Ok(headed) => headed,
         Err(exit) => return Err(exit),
     };
-    discover_rules(alloc, hashing, headed)
+    discover_rules(alloc, hashing, file, headed)
 }

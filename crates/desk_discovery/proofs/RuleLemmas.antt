@@ -26,7 +26,7 @@ use Rattle.schema_grammar.specs.declared.format.Format.TheVariants as format
 use Rattle.schema_printer.specs.Printing.{Run, schema_text, schema_lines, declaring_lines, nullable_lines, dependency_text, lines_text, words_text, members_from, runs_of, run_line, in_front, is_integer}
 use Rattle.schema_printer.specs.Spelling.{spelling, printed_names_of}
 use Rattle.schema_printer.proofs.PrintLemmas.{members_empty}
-use Rattle.desk_discovery.specs.Discoveries.{HasTextColumns, column_lines, found_text}
+use Rattle.desk_discovery.specs.Discoveries.{HasTextColumns, column_lines, rules_text}
 
 -- ---- the names of a header differ
 attribute_named-absent : (p : List ℕ → Bool) (names : List (List ℕ)) (i : ℕ) (d : List ℕ) → position p names ≡ None → i < length names → p (get_or names i d) ≡ false
@@ -119,7 +119,7 @@ unfolding schema_text printed_names_of text_of
 text_parts s ds = refl
 
 texts_found : (names : List (List ℕ)) (ds : List Dependency) → 0 < length names
-    → text_of (naming_under names) (replicate (length names) Text) names none ds ≡ found_text names ds
+    → text_of (naming_under names) (replicate (length names) Text) names none ds ≡ rules_text names ds
 unfolding text_of
 texts_found names ds some =
     let naming = naming_under names in
@@ -130,7 +130,7 @@ texts_found names ds some =
     ∙ texts_lines naming printed (omega (arith, count, some)))
 
 pub schema_found : (names : List (List ℕ)) (s : Schema) (ds : List Dependency) → 0 < length names → HasTextColumns names s
-    → schema_text s ds ≡ found_text names ds
+    → schema_text s ds ≡ rules_text names ds
 schema_found names s ds some has =
     text_parts s ds
     ∙ ap (λ (naming : Naming). text_of naming (types_of s) (names_of s) (nullable_of s) ds) has.naming

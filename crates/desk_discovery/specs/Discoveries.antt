@@ -1,6 +1,8 @@
 -- The functional dependencies that the rows of a file obey: for `discover`.
-use Rattle.std.specs.Prelude.{◌≡◌, List, [], codes, length, map, replicate, ℕ, ◌++◌, ◌↔◌, ◌∷◌}
+use Rattle.std.specs.Prelude.{◌≡◌, ◌<◌, ◌⊎◌, List, [], codes, length, map, replicate, slice_index_or, ℕ, ◌++◌, ◌↔◌, ◌∷◌}
 use Rattle.attr_sets.specs.Attributes.{Attributes, below, none, IsSubset}
+use Rattle.candidate_search.specs.Sides.{IsExceeded}
+use Rattle.candidate_search.specs.declared.side.TooManyLeftSides.{TooManyLeftSides}
 use Rattle.dep_model.specs.Dependencies.{Dependency, fd, ObeysFd}
 use Rattle.dep_model.specs.Implication.{Implies}
 use Rattle.dep_model.specs.Schemas.{naming_of, names_of, types_of, nullable_of}
@@ -15,8 +17,11 @@ use Rattle.fd_discovery.specs.Headings.{names_under, rows_under}
 use Rattle.fd_discovery.specs.Minimal.{AreAllMinimal}
 use Rattle.schema_printer.specs.Printing.{words_text, dependency_text, lines_text}
 use Rattle.schema_printer.specs.Spelling.{spelling}
-use Rattle.desk_responses.specs.declared.status.Status.TheVariants.{Yes}
+use Rattle.desk_implication.specs.Projections.{overlong_text}
+use Rattle.desk_responses.specs.declared.status.Status.TheVariants.{Yes, Refused}
 use Rattle.desk_responses.specs.ResponseValues.{Allowed, Says}
+use Rattle.desk_texts.specs.Texts.{line}
+use Rattle.desk_discovery.specs.declared.discovering.TheConstants.{WIDEST_TRIED}
 
 -- ---- texts
 -- the lines that declare text columns by their names as they are printed: one where the names are bare, else a
@@ -30,8 +35,21 @@ abbrev pub columns_text : Naming → List (List ℕ) → List Dependency → Lis
 columns_text naming printed ds = lines_text (column_lines naming printed ++ map (dependency_text printed) ds)
 
 -- names, and dependencies over them, as a schema text: of bare names, where none of them needs quotes
+abbrev pub rules_text : List (List ℕ) → List Dependency → List ℕ
+rules_text names ds = columns_text (naming_under names) (map (spelling (naming_under names)) names) ds
+
+-- the same, and a comment before more dependencies than a schema file takes
 abbrev pub found_text : List (List ℕ) → List Dependency → List ℕ
-found_text names ds = columns_text (naming_under names) (map (spelling (naming_under names)) names) ds
+found_text names ds = overlong_text ds ++ rules_text names ds
+
+-- the name of a column as it is printed
+unfoldable pub column_text : List (List ℕ) → ℕ → List ℕ
+column_text names a = spelling (naming_under names) (slice_index_or names a [])
+
+-- the refusal of a file that names the column at a position
+abbrev pub left_sides_text : List ℕ → List (List ℕ) → ℕ → List ℕ
+left_sides_text file names a =
+    line (codes "refused: discover 7 at " ++ file ++ codes ": too many left sides for " ++ column_text names a)
 
 -- ---- schemas
 -- a schema has text columns of these names, and no value in them may be missing
@@ -49,8 +67,24 @@ pub record AreRulesOf (n : ℕ) (rows : Relation) (ds : List Dependency) : Type 
   pub implied : (x y : Attributes) → IsSubset x (below n) → IsSubset y (below n)
       → Implies n ds (fd x y) ↔ ObeysFd x y rows
 
+-- there are more columns than those of which all sets are tried, and some evidence of the rows has too many
+-- candidates for the left sides of a column
+pub record HasTooManyLeftSides (headed : Headed) (refusal : TooManyLeftSides) : Type 0 where
+  pub wide : WIDEST_TRIED < length (names_under headed)
+  pub exceeded : IsExceeded (length (names_under headed)) (length (names_under headed)) (rows_under headed) refusal
+
 -- yes, with these
-abbrev pub FindsRules : Headed → Allowed
-FindsRules headed response =
+abbrev pub GivesRules : Headed → Allowed
+GivesRules headed response =
     (ds : List Dependency) × AreRulesOf (length (names_under headed)) (rows_under headed) ds
     × Says Yes (found_text (names_under headed) ds) response
+
+-- refused, with the name of the file and of such a column
+abbrev pub RefusesRules : List ℕ → Headed → Allowed
+RefusesRules file headed response =
+    (refusal : TooManyLeftSides) × HasTooManyLeftSides headed refusal
+    × Says Refused (left_sides_text file (names_under headed) refusal.right) response
+
+-- the rules of a file of this name, or the refusal of a column that has too many left sides
+abbrev pub FindsRules : List ℕ → Headed → Allowed
+FindsRules file headed response = GivesRules headed response ⊎ RefusesRules file headed response

@@ -7,5 +7,5 @@
 mod discovering;
 mod exhibits;
 
-pub use discovering::discover_rules;
+pub use discovering::{WIDEST_TRIED, discover_rules};
 pub use exhibits::{exhibit_relation, multivalued_exit};

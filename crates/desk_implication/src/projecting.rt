@@ -68,8 +68,8 @@ fn projection_response(
     Ok(Response::with_text(Status::Yes, text))
 }
 
-// A comment where there are more dependencies than a schema file takes.
-fn overlong_comment(alloc: Global, rules: &[Dep]) -> Result<Vec<u8>, OutOfMemory>
+/// A comment where there are more dependencies than a schema file takes.
+pub fn overlong_comment(alloc: Global, rules: &[Dep]) -> Result<Vec<u8>, OutOfMemory>
     ensures comment { IfOk result (λ text. text.items ≡ overlong_text (dependencies_of rules.now)) }
 {
     if rules.len() > MOST_DEPENDENCIES {

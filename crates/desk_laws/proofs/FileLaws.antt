@@ -3,6 +3,8 @@ use Rattle.std.proofs.Common.{◌≡◌, ◌≤◌, ◌<◌, ℕ, true, zero, su
 use Rattle.std.specs.Prelude.{codes, slice_get}
 use Rattle.attr_sets.specs.Attributes.{Attributes}
 use Rattle.attr_sets.specs.Sets.{attributes}
+use Rattle.candidate_search.specs.Sides.{IsExceeded}
+use Rattle.candidate_search.specs.declared.side.TooManyLeftSides.{TooManyLeftSides}
 use Rattle.csv_rows.specs.Columns.{with_columns, columns_of_header}
 use Rattle.csv_rows.specs.Quotes.{open_record}
 use Rattle.csv_rows.specs.Records.{records_of}
@@ -24,7 +26,8 @@ use Rattle.desk_outside.specs.Files.{Files}
 use Rattle.desk_tables.specs.declared.rejoining.TheConstants.{MOST_JOINED_ROWS}
 use Rattle.desk_inputs.specs.declared.rows.TheConstants.{MOST_CSV_BYTES}
 use Rattle.desk_responses.specs.ResponseValues.{ResponseValue, Allowed}
-use Rattle.desk_discovery.specs.Discoveries.{FindsRules}
+use Rattle.desk_discovery.specs.Discoveries.{FindsRules, HasTooManyLeftSides}
+use Rattle.desk_discovery.specs.declared.discovering.TheConstants.{WIDEST_TRIED}
 use Rattle.desk_inputs.specs.FileKinds.{FileStops, IsFile, WithFile}
 use Rattle.desk_inputs.specs.Headed.{headed_file}
 use Rattle.desk_words.specs.Forms.{form_of, form_over_rows, form_over_schema, schema_and_several, word_alone, are_one_to_64}
@@ -35,12 +38,15 @@ use Rattle.desk_inputs.specs.Parts.{ArePartFiles, WithParts, part_file}
 use Rattle.desk_tables.specs.Rejoining.{JoinsTables}
 use Rattle.desk_laws.specs.Completeness.{IsYesOrNo, IsAnswered}
 use Rattle.desk_laws.proofs.CompleteLaws.{AreSame, names_same, table_alike, after_schema}
+use Rattle.desk_laws.proofs.OneFile.{one_view}
+use Rattle.desk_laws.proofs.OneText.{names_and_rows, MeansNamesAndRows, headed_text_once}
 use Rattle.desk_laws.proofs.StopLemmas.{one_content, file_goes}
 use Rattle.desk_tables.specs.OwnFolders.{Looks}
 
 -- ---- rows under a free header
 after_headed : (files : Files) (name : List ℕ) (h : Headed) (rest : Headed → Allowed) (response : ResponseValue)
-    → IsFile headed_file (known_files files) name h → ((k : Headed) → rest k response → IsYesOrNo response.status)
+    → IsFile headed_file (known_files files) name h
+    → ((k : Headed) → names_and_rows k ≡ names_and_rows h → rest k response → IsYesOrNo response.status)
     → WithFile headed_file (known_files files) name rest response → IsYesOrNo response.status
 after_headed files name h rest response file go (inl (inl exit)) =
     absurd (file_goes files name file.bytes MOST_CSV_BYTES response file.content.0 file.content.1 exit)
@@ -49,17 +55,36 @@ after_headed files name h rest response file go (inl (inr (why, is, says))) =
     subst (λ (b : List ℕ). IsRefusedDiscovery b why)
     (one_content files name is.bytes file.bytes is.content.0 file.content.0) is.refused in
     absurd (never_both file.bytes h why file.means here)
-after_headed files name h rest response file go (inr (k, is, more)) = go k more
+after_headed files name h rest response file go (inr (k, is, more)) =
+    go k (one_view files name headed_file names_and_rows MeansNamesAndRows headed_text_once
+    (λ text h means. (h, means, refl)) k h is file) more
 
 discover_asks : (files : Files) (file : List ℕ) (looks : Looks) (response : ResponseValue)
-    → Answers looks (known_files files) (codes "discover" ∷ file ∷ []) response → WithFile headed_file (known_files files) file FindsRules response
+    → Answers looks (known_files files) (codes "discover" ∷ file ∷ []) response → WithFile headed_file (known_files files) file (FindsRules file) response
 unfolding form_of word_alone Performs
 discover_asks files file looks response answered = answered
 
+-- a column has too many left sides by names and rows alone
+many_there : (h k : Headed) (refusal : TooManyLeftSides) → names_and_rows k ≡ names_and_rows h
+    → HasTooManyLeftSides k refusal → HasTooManyLeftSides h refusal
+many_there h k refusal same many =
+    let moved = subst (λ (read : List (List ℕ) × Relation). (WIDEST_TRIED < length read.0)
+    × IsExceeded (length read.0) (length read.0) read.1 refusal) same (many.wide, many.exceeded) in
+    record { wide = moved.0; exceeded = moved.1 }
+
+rules_given : (file : List ℕ) (h k : Headed) (response : ResponseValue)
+    → ((refusal : TooManyLeftSides) → HasTooManyLeftSides h refusal → ⊥) → names_and_rows k ≡ names_and_rows h
+    → FindsRules file k response → IsYesOrNo response.status
+rules_given file h k response not_many same (inl found) = inl (ap (λ (a : ResponseValue). a.status) found.2)
+rules_given file h k response not_many same (inr (refusal, many, says)) =
+    absurd (not_many refusal (many_there h k refusal same many))
+
 pub discover_answered : (files : Files) (file : List ℕ) (headed : Headed) → IsFile headed_file (known_files files) file headed
+    → ((refusal : TooManyLeftSides) → HasTooManyLeftSides headed refusal → ⊥)
     → IsAnswered files (codes "discover" ∷ file ∷ [])
-discover_answered files file headed is looks response answered =
-    after_headed files file headed FindsRules response is (λ k found. inl (ap (λ (a : ResponseValue). a.status) found.2))
+discover_answered files file headed is not_many looks response answered =
+    after_headed files file headed (FindsRules file) response is
+    (λ k same found. rules_given file headed k response not_many same found)
     (discover_asks files file looks response answered)
 
 -- ---- tables of some columns

@@ -3,6 +3,8 @@ pub mod SchemaLemmas
 pub mod StopLemmas
 pub mod CompleteLaws
 pub mod TableLaws
+mod OneText
+mod OneFile
 pub mod FileLaws
 pub mod QuestionLaws
 mod ReasonLaws
@@ -10,8 +12,6 @@ mod MeasureLaws
 mod FolderLaws
 pub mod ScriptLaws
 pub mod BegunLaws
-mod OneText
-mod OneFile
 mod OneInput
 mod OneTask
 mod DerivationLaws

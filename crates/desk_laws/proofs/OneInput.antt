@@ -1,5 +1,5 @@
 -- After each file that words name there is one answer, where what is asked of its value has one.
-use Rattle.std.proofs.Common.{◌≡◌, ℕ, zero, suc, List, [], ◌∷◌, take, Some, Ok, refl, sym, ap, subst, ◌∙◌}
+use Rattle.std.proofs.Common.{◌≡◌, ℕ, zero, suc, List, [], ◌∷◌, take, Some, Ok, inl, inr, refl, sym, ap, subst, ◌∙◌}
 use Rattle.std.specs.Prelude.{slice_get}
 use Rattle.std.specs.List.{AllZip}
 use Rattle.attr_sets.specs.Attributes.{Attributes}
@@ -93,13 +93,27 @@ module _ (files : Files) where
       (λ d others one other is also same first second.
       each d one other first (subst (λ (e : Dependency). rest e other) (sym same) second))
 
-  pub one_after_headed : (name : List ℕ) (rest : Headed → Allowed)
-      → ((h k : Headed) (one other : ResponseValue) → names_and_rows h ≡ names_and_rows k → rest h one
-      → rest k other → one ≡ other)
-      → AllowsOne (WithFile headed_file known name rest)
-  one_after_headed name rest alike =
-      one_after files name headed_file names_and_rows MeansNamesAndRows headed_text_once
-      (λ text h means. (h, means, refl)) rest (λ h k one other is also same. alike h k one other same)
+  -- what is said of any two answers: of equal ones, and of those on values that have the same names and rows
+  pub after_headed : (name : List ℕ) (C : ResponseValue → ResponseValue → Type 0) (rest : Headed → Allowed)
+      → ((one other : ResponseValue) → one ≡ other → C one other)
+      → ((h k : Headed) (one other : ResponseValue) → IsFile headed_file known name k
+      → names_and_rows h ≡ names_and_rows k → rest h one → rest k other → C one other)
+      → (one other : ResponseValue) → WithFile headed_file known name rest one
+      → WithFile headed_file known name rest other → C one other
+  after_headed name C rest by_path alike one other (inl stops) (inl also) =
+      by_path one other
+      (one_stop files name headed_file names_and_rows MeansNamesAndRows headed_text_once
+      (λ text h means. (h, means, refl)) one other stops also)
+  after_headed name C rest by_path alike one other (inl stops) (inr (k, is, remains)) =
+      absurd (goes files name headed_file names_and_rows MeansNamesAndRows headed_text_once
+      (λ text h means. (h, means, refl)) k one is stops)
+  after_headed name C rest by_path alike one other (inr (h, is, rests)) (inl stops) =
+      absurd (goes files name headed_file names_and_rows MeansNamesAndRows headed_text_once
+      (λ text h means. (h, means, refl)) h other is stops)
+  after_headed name C rest by_path alike one other (inr (h, is, rests)) (inr (k, also, remains)) =
+      alike h k one other also
+      (one_view files name headed_file names_and_rows MeansNamesAndRows headed_text_once
+      (λ text h means. (h, means, refl)) h k is also) rests remains
 
   -- ---- several files
   module _ (s : Schema) where

@@ -5,6 +5,7 @@
 ghost use Rattle.std.specs.Prelude.{◌≡◌, ◌<◌, ◌≤◌, ℕ, true, List, [], ◌∷◌, codes, All};
 ghost use Rattle.attr_sets.specs.Attributes.{Attributes};
 ghost use Rattle.armstrong_rel.specs.Refusals.{IsFirstMvd, HasTooManyRows, IsTooWideToExhibit};
+ghost use Rattle.candidate_search.specs.declared.side.TooManyLeftSides.{TooManyLeftSides};
 ghost use Rattle.csv_rows.specs.declared.part.PartialRows.{PartialRows};
 ghost use Rattle.dep_model.specs.Projections.{Covers};
 ghost use Rattle.dep_model.specs.Schemas.{width_of, theory_of};
@@ -17,6 +18,7 @@ ghost use Rattle.normal_forms.specs.declared.forms.Form.TheVariants as forms;
 ghost use Rattle.table_join.specs.Answers.{IsWithinLimit};
 ghost use Rattle.table_join.specs.Tables.{tables_of, plan_of_tables};
 ghost use Rattle.desk_outside.specs.Files.{Files};
+ghost use Rattle.desk_discovery.specs.Discoveries.{HasTooManyLeftSides};
 ghost use Rattle.desk_tables.specs.declared.rejoining.TheConstants.{MOST_JOINED_ROWS};
 ghost use Rattle.desk_inputs.specs.FileKinds.{IsFile};
 ghost use Rattle.desk_inputs.specs.Headed.{headed_file};
@@ -113,9 +115,11 @@ pub fn sample_is_answered()
         → IsAnswered files (codes "sample" ∷ word ∷ []) }
 {}
 
-/// `discover` is answered where the CSV file has a header that names its columns, and rows under it.
+/// `discover` is answered where the CSV file has a header that names its columns, and rows under it, and no
+/// evidence of the rows has too many candidates for any column.
 pub fn discover_is_answered()
     ensures law { (files : Files) (file : List ℕ) (headed : Headed) → IsFile headed_file (known_files files) file headed
+        → ((refusal : TooManyLeftSides) → HasTooManyLeftSides headed refusal → ⊥)
         → IsAnswered files (codes "discover" ∷ file ∷ []) }
 {}
 

@@ -36,7 +36,7 @@ field_at header i = slice_index_or header i []
 abbrev pub NameColumns : List (List ℕ) → ℕ → Type 0
 NameColumns header n = (i : ℕ) → i < n → NamesColumn (take i header) (field_at header i)
 
--- a header: different names of few columns
+-- a header: different names of at most WIDEST_HEADED columns
 pub record IsColumnHeader (header : List (List ℕ)) : Type 0 where
   pub within_limit : length header ≤ WIDEST_HEADED
   pub named : NameColumns header (length header)

@@ -19,7 +19,8 @@ use std::alloc::Global;
 /// ascending, and for one left side by attribute ascending.
 ///
 /// Sets are tried from the empty one on, so that one from which an attribute follows is the first of
-/// those that hold it (Huhtala, Kärkkäinen, Porkka and Toivonen 1999).
+/// those that hold it (Huhtala, Kärkkäinen, Porkka and Toivonen 1999). It is meant for few columns: each
+/// column more may double the sets that are tried.
 pub fn discover(
     alloc: Global,
     hashing: Hashing,

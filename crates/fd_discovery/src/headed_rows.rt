@@ -14,7 +14,7 @@ use row_store::{FlatValues, Rows};
 use std::alloc::Global;
 
 /// The most columns of a text whose dependencies are looked for.
-pub const WIDEST_HEADED: u8 = 12;
+pub const WIDEST_HEADED: u8 = 64;
 
 /// The most rows of such a text.
 pub const MOST_HEADED_ROWS: u32 = 10_000_000;

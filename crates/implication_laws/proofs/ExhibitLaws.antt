@@ -1,6 +1,6 @@
 -- The relation that `exhibit` prints is legal, decides functional goals, and has rules that say what its
 -- schema says.
-use Rattle.std.proofs.Common.{◌≡◌, ℕ, true, List, length, get_or, inl, inr, sym, subst, arith}
+use Rattle.std.proofs.Common.{◌≡◌, ◌⊎◌, ℕ, true, List, length, get_or, inl, inr, sym, subst, arith}
 use Rattle.std.specs.Prelude.{◌↔◌, All}
 use Rattle.std.proofs.lemmas.Bool.Decides.{nat_tests}
 use Rattle.attr_sets.specs.Attributes.{below, only, IsSubset}
@@ -17,7 +17,7 @@ use Rattle.fd_discovery.specs.Headings.{names_under, rows_under}
 use Rattle.fd_discovery.specs.declared.headed_rows.Headed.{Headed}
 use Rattle.min_cover.specs.Covers.{HaveSameLegal}
 use Rattle.schema_match.proofs.MatchLemmas.{theory_within}
-use Rattle.desk_discovery.specs.Discoveries.{AreRulesOf, FindsRules, found_text}
+use Rattle.desk_discovery.specs.Discoveries.{AreRulesOf, FindsRules, RefusesRules, found_text}
 use Rattle.desk_discovery.specs.Exhibits.{IsExample, Exhibits}
 use Rattle.desk_arguments.specs.Goals.{IsGoal}
 use Rattle.desk_implication.specs.Implication.{Decided, DecidesGoal}
@@ -124,10 +124,12 @@ rules_same schema rows ds example rules r = (
   legal_for_implied (width_of schema) (theory_of schema) ds r (rules_implied schema rows ds example rules),
 )
 
-found_alike : (schema : Schema) (rows : Relation) (headed : Headed) (found : ResponseValue) → IsExample schema rows
-    → names_under headed ≡ names_of schema → rows_under headed ≡ rows → FindsRules headed found
-    → (ds : List Dependency) × Says Yes (found_text (names_of schema) ds) found × AnswersAlikeWith schema ds
-found_alike schema rows headed found example names read (ds, rules, says) = (
+found_alike : (schema : Schema) (rows : Relation) (file : List ℕ) (headed : Headed) (found : ResponseValue)
+    → IsExample schema rows → names_under headed ≡ names_of schema → rows_under headed ≡ rows
+    → FindsRules file headed found → RefusesRules file headed found
+    ⊎ ((ds : List Dependency) × Says Yes (found_text (names_of schema) ds) found × AnswersAlikeWith schema ds)
+found_alike schema rows file headed found example names read (inr refused) = inl refused
+found_alike schema rows file headed found example names read (inl (ds, rules, says)) = inr (
   ds,
   subst (λ (declared : List (List ℕ)). Says Yes (found_text declared ds) found) names says,
   alike_with schema ds (rules_same schema rows ds example
@@ -137,9 +139,9 @@ found_alike schema rows headed found example names read (ds, rules, says) = (
 
 pub rules_alike : (schema : Schema) (shown : ResponseValue) → Exhibits schema shown → shown.status ≡ Yes
     → (rows : Relation) × Says Yes (rows_text (names_of schema) rows) shown
-    × ((headed : Headed) (found : ResponseValue) → names_under headed ≡ names_of schema
-    → rows_under headed ≡ rows → FindsRules headed found
-    → (ds : List Dependency) × Says Yes (found_text (names_of schema) ds) found × AnswersAlikeWith schema ds)
+    × ((file : List ℕ) (headed : Headed) (found : ResponseValue) → names_under headed ≡ names_of schema
+    → rows_under headed ≡ rows → FindsRules file headed found → RefusesRules file headed found
+    ⊎ ((ds : List Dependency) × Says Yes (found_text (names_of schema) ds) found × AnswersAlikeWith schema ds))
 rules_alike schema shown exhibits says_yes =
     let (rows, example, says) = shown_example schema shown exhibits says_yes in
-    (rows, says, λ headed found. found_alike schema rows headed found example)
+    (rows, says, λ file headed found. found_alike schema rows file headed found example)

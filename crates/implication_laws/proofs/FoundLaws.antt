@@ -1,5 +1,5 @@
 -- What `discover` prints is the text of a schema, and means it.
-use Rattle.std.proofs.Common.{◌≡◌, ◌≤◌, ◌<◌, ℕ, Bool, true, false, if◌then◌else◌, List, [], length, get_or, replicate, refl, sym, subst, arith}
+use Rattle.std.proofs.Common.{◌≡◌, ◌≤◌, ◌<◌, ℕ, Bool, true, false, if◌then◌else◌, List, [], ◌++◌, length, get_or, replicate, refl, sym, ap, subst, ◌∙◌, arith}
 use Rattle.std.specs.List.{list_all}
 use Rattle.std.specs.Prelude.{All, not}
 use Rattle.std.proofs.lemmas.Bool.{and_parts}
@@ -23,15 +23,28 @@ use Rattle.schema_grammar.specs.declared.format.Format.TheVariants as format
 use Rattle.schema_grammar.specs.declared.format.TheConstants.{MOST_DEPENDENCY_LINES}
 use Rattle.schema_grammar.proofs.PrintedSchemas.{printed-schema-law}
 use Rattle.schema_printer.specs.Printing.{schema_text}
-use Rattle.desk_discovery.specs.Discoveries.{HasTextColumns, found_text}
+use Rattle.desk_discovery.specs.Discoveries.{HasTextColumns, found_text, rules_text}
 use Rattle.desk_discovery.proofs.RuleLemmas.{schema_found}
+use Rattle.desk_implication.specs.Projections.{overlong_text}
+use Rattle.desk_implication.proofs.ProjectionLemmas.{not_overlong}
 
 -- ---- the text
-pub found_printed : (header : List (List ℕ)) (s : Schema) (ds : List Dependency) → HasTextColumns header s
-    → schema_text s ds ≡ found_text header ds
-found_printed header s ds has =
+rules_printed : (header : List (List ℕ)) (s : Schema) (ds : List Dependency) → HasTextColumns header s
+    → schema_text s ds ≡ rules_text header ds
+rules_printed header s ds has =
     let some = s.valid.names_not_empty in
     schema_found header s ds (subst (λ (names : List (List ℕ)). 0 < length names) has.names some) has
+
+pub found_printed : (header : List (List ℕ)) (s : Schema) (ds : List Dependency) → HasTextColumns header s
+    → overlong_text ds ++ schema_text s ds ≡ found_text header ds
+found_printed header s ds has = ap (λ (text : List ℕ). overlong_text ds ++ text) (rules_printed header s ds has)
+
+-- no comment stands before so few
+few_printed : (header : List (List ℕ)) (s : Schema) (ds : List Dependency) → HasTextColumns header s
+    → length ds ≤ MOST_DEPENDENCY_LINES → schema_text s ds ≡ found_text header ds
+few_printed header s ds has few =
+    ap (λ (comment : List ℕ). comment ++ schema_text s ds) (sym (not_overlong ds (omega (arith, few))))
+    ∙ found_printed header s ds has
 
 -- ---- names
 not_true : (b : Bool) → not b ≡ true → b ≡ false
@@ -66,6 +79,6 @@ found_means header s is has few =
     let stated : Declarations = record { names = header; columns = replicate (length header) Text; deps = theory_of s; lines = lines; naming = naming_under header; nullable = none } in
     let same : whole ≡ stated = (λ i. record { names = has.names i; columns = has.types i; deps = theory_of s; lines = lines; naming = has.naming i; nullable = has.nullable i }) in (
       lines,
-      subst (λ (text : List ℕ). MeansSchema text stated) (found_printed header s (theory_of s) has)
+      subst (λ (text : List ℕ). MeansSchema text stated) (few_printed header s (theory_of s) has few)
           (subst (λ (d : Declarations). MeansSchema (schema_text s (theory_of s)) d) same means),
     )

@@ -1,5 +1,5 @@
 -- The commands on implication have one answer each, but for the derivation of a goal.
-use Rattle.std.proofs.Common.{◌≡◌, ◌+◌, ◌<◌, ◌≤◌, ℕ, true, false, List, ◌++◌, length, take, get_or, sym, ap, subst, ◌∙◌, inl, inr, Ok, Err, Result, arith}
+use Rattle.std.proofs.Common.{◌≡◌, ◌+◌, ◌<◌, ◌≤◌, ◌⊎◌, ℕ, true, false, List, ◌++◌, length, take, get_or, sym, ap, subst, ◌∙◌, inl, inr, Ok, Err, Result, arith}
 use Rattle.std.specs.Prelude.{codes, Contains}
 use Rattle.std.proofs.lemmas.Bool.{true≢false, cases_lt}
 use Rattle.std.proofs.lemmas.List.{length-map, length-take-le, get_or-take}
@@ -45,7 +45,8 @@ use Rattle.desk_texts.specs.Texts.{line, set_line, goal_refusal_text, set_refusa
 use Rattle.desk_implication.specs.Bases.{TellsBasis, GivesBasis, blocks_text}
 use Rattle.desk_implication.specs.Certificates.{Checked, ChecksProof}
 use Rattle.desk_covers.specs.Covering.{GivesCover}
-use Rattle.desk_discovery.specs.Discoveries.{FindsRules, found_text}
+use Rattle.desk_discovery.specs.Discoveries.{FindsRules, GivesRules, HasTooManyLeftSides, RefusesRules, found_text}
+use Rattle.desk_discovery.specs.declared.discovering.TheConstants.{WIDEST_TRIED}
 use Rattle.desk_discovery.specs.Exhibits.{Exhibits, IsExample, multivalued_text}
 use Rattle.desk_arguments.specs.Goals.{GoalStops, IsGoal, SetStops, IsSetText, WithGoal}
 use Rattle.desk_keys.specs.Keys.{ListsKeys}
@@ -295,8 +296,24 @@ one_same_answer schema other file other_file =
     (λ names. one_compared schema other file other_file)
 
 -- ---- discovered rules
-pub one_rules_answer : (headed : Headed) → AllowsOne (FindsRules headed)
-one_rules_answer headed one other (ds, rules, says) (es, also, said) =
+one_rules_given : (headed : Headed) → AllowsOne (GivesRules headed)
+one_rules_given headed one other (ds, rules, says) (es, also, said) =
     same_says Yes _ _ one other says said
     (ap (found_text (names_under headed))
     (one_rules (length (names_under headed)) (rows_under headed) ds es rules.minimal also.minimal))
+
+pub one_rules_answer : (file : List ℕ) (headed : Headed) (one other : ResponseValue) → FindsRules file headed one
+    → FindsRules file headed other → (one ≡ other) ⊎ (RefusesRules file headed one ⊎ RefusesRules file headed other)
+one_rules_answer file headed one other (inl first) (inl second) = inl (one_rules_given headed one other first second)
+one_rules_answer file headed one other (inl first) (inr second) = inr (inr second)
+one_rules_answer file headed one other (inr first) second = inr (inl first)
+
+few_not_refused : (file : List ℕ) (headed : Headed) (response : ResponseValue) → length (names_under headed) ≤ WIDEST_TRIED
+    → RefusesRules file headed response → ⊥
+few_not_refused file headed response few (refusal, many, says) = absurd (omega (arith, few, many.wide))
+
+pub few_rules_answer : (file : List ℕ) (headed : Headed) → length (names_under headed) ≤ WIDEST_TRIED
+    → AllowsOne (FindsRules file headed)
+few_rules_answer file headed few one other (inl first) (inl second) = one_rules_given headed one other first second
+few_rules_answer file headed few one other (inl first) (inr second) = absurd (few_not_refused file headed other few second)
+few_rules_answer file headed few one other (inr first) second = absurd (few_not_refused file headed one few first)

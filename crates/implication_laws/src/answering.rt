@@ -1,10 +1,11 @@
 //! Laws that each command on implication has one answer, but for the derivation of a goal.
 
-ghost use Rattle.std.specs.Prelude.{◌≡◌, ℕ, List};
+ghost use Rattle.std.specs.Prelude.{◌≡◌, ◌≤◌, ◌⊎◌, ℕ, List, length};
 ghost use Rattle.attr_sets.specs.Attributes.{Attributes};
 ghost use Rattle.derivation.specs.Trees.{Tree};
 ghost use Rattle.dep_model.specs.Dependencies.{Dependency};
 ghost use Rattle.dep_model.specs.declared.schema.Schema.{Schema};
+ghost use Rattle.fd_discovery.specs.Headings.{names_under};
 ghost use Rattle.fd_discovery.specs.declared.headed_rows.Headed.{Headed};
 ghost use Rattle.desk_implication.specs.Bases.{GivesBasis};
 ghost use Rattle.desk_implication.specs.Certificates.{ChecksProof};
@@ -13,7 +14,8 @@ ghost use Rattle.desk_covers.specs.CoverChecks.{ChecksCover};
 ghost use Rattle.desk_covers.specs.CoverReasons.{ExplainsCover};
 ghost use Rattle.desk_covers.specs.Covering.{GivesCover};
 ghost use Rattle.desk_derivations.specs.Derivations.{ChecksDerivation};
-ghost use Rattle.desk_discovery.specs.Discoveries.{FindsRules};
+ghost use Rattle.desk_discovery.specs.Discoveries.{FindsRules, RefusesRules};
+ghost use Rattle.desk_discovery.specs.declared.discovering.TheConstants.{WIDEST_TRIED};
 ghost use Rattle.desk_discovery.specs.Exhibits.{Exhibits};
 ghost use Rattle.desk_arguments.specs.Goals.{IsGoal};
 ghost use Rattle.desk_implication.specs.Implication.{DecidesGoal};
@@ -99,7 +101,12 @@ pub fn check_same_has_one_answer()
         → AllowsOne (ChecksSame schema other file other_file) }
 {}
 
-/// `discover` has one answer.
+/// Any two answers of `discover` are equal, or one of them is the refusal of a column that has too many left
+/// sides. Rows of few columns are never refused so: there it has one answer.
 pub fn discover_has_one_answer()
-    ensures law { (headed : Headed) → AllowsOne (FindsRules headed) }
+    ensures law { (file : List ℕ) (headed : Headed) (one other : ResponseValue)
+        → FindsRules file headed one → FindsRules file headed other
+        → (one ≡ other) ⊎ (RefusesRules file headed one ⊎ RefusesRules file headed other) }
+    ensures few { (file : List ℕ) (headed : Headed) → length (names_under headed) ≤ WIDEST_TRIED
+        → AllowsOne (FindsRules file headed) }
 {}

@@ -1,6 +1,6 @@
 //! Laws of the text that `discover` prints.
 
-ghost use Rattle.std.specs.Prelude.{◌≡◌, ◌≤◌, ℕ, List, length, replicate};
+ghost use Rattle.std.specs.Prelude.{◌≡◌, ◌≤◌, ◌++◌, ℕ, List, length, replicate};
 ghost use Rattle.attr_sets.specs.Attributes.{none};
 ghost use Rattle.dep_model.specs.Dependencies.{Dependency};
 ghost use Rattle.dep_model.specs.Schemas.{theory_of};
@@ -11,13 +11,15 @@ ghost use Rattle.schema_grammar.specs.Schemas.{MeansSchema};
 ghost use Rattle.schema_grammar.specs.declared.format.TheConstants.{MOST_DEPENDENCY_LINES};
 ghost use Rattle.schema_printer.specs.Printing.{schema_text};
 ghost use Rattle.desk_discovery.specs.Discoveries.{HasTextColumns, found_text};
+ghost use Rattle.desk_implication.specs.Projections.{overlong_text};
 
 /// What `discover` prints is the text of a schema of text columns under the header's names, with the
-/// dependencies that were found. Where a text may have so many dependencies, it means these names, bare
-/// ones or any, these columns and these dependencies, and no value may be missing.
+/// dependencies that were found, after a comment where no schema file takes so many. Where a text may have so
+/// many dependencies, it means these names, bare ones or any, these columns and these dependencies, and no value
+/// may be missing.
 pub fn found_texts_mean_their_schema()
     ensures printed { (header : List (List ℕ)) (s : Schema) (ds : List Dependency) → HasTextColumns header s
-        → schema_text s ds ≡ found_text header ds }
+        → overlong_text ds ++ schema_text s ds ≡ found_text header ds }
     ensures means { (header : List (List ℕ)) (s : Schema) → IsColumnHeader header → HasTextColumns header s
         → length (theory_of s) ≤ MOST_DEPENDENCY_LINES
         → (lines : List ℕ) × MeansSchema (found_text header (theory_of s))

@@ -1,6 +1,6 @@
 //! Laws of the relation that `exhibit` prints.
 
-ghost use Rattle.std.specs.Prelude.{◌≡◌, ◌↔◌, ℕ, true, List};
+ghost use Rattle.std.specs.Prelude.{◌≡◌, ◌⊎◌, ◌↔◌, ℕ, true, List};
 ghost use Rattle.csv_text.specs.Rows.{rows_text};
 ghost use Rattle.dep_model.specs.Dependencies.{Dependency, Obeys, is_fd};
 ghost use Rattle.dep_model.specs.Schemas.{names_of, width_of, LegalFor};
@@ -8,7 +8,7 @@ ghost use Rattle.dep_model.specs.Tuples.{Relation};
 ghost use Rattle.dep_model.specs.declared.schema.Schema.{Schema};
 ghost use Rattle.fd_discovery.specs.Headings.{names_under, rows_under};
 ghost use Rattle.fd_discovery.specs.declared.headed_rows.Headed.{Headed};
-ghost use Rattle.desk_discovery.specs.Discoveries.{FindsRules, found_text};
+ghost use Rattle.desk_discovery.specs.Discoveries.{FindsRules, RefusesRules, found_text};
 ghost use Rattle.desk_discovery.specs.Exhibits.{Exhibits};
 ghost use Rattle.desk_arguments.specs.Goals.{IsGoal};
 ghost use Rattle.desk_implication.specs.Implication.{DecidesGoal};
@@ -33,12 +33,13 @@ pub fn exhibits_decide_goals()
 {}
 
 /// What `discover` finds in the relation that `exhibit` prints are dependencies that, in place of the
-/// schema's own, are answered alike.
+/// schema's own, are answered alike, where a column of it has not too many left sides.
 pub fn rules_of_exhibits_are_answered_alike()
     ensures law { (schema : Schema) (shown : ResponseValue) → Exhibits schema shown → shown.status ≡ Yes
         → (rows : Relation) × Says Yes (rows_text (names_of schema) rows) shown
-        × ((headed : Headed) (found : ResponseValue) → names_under headed ≡ names_of schema
-        → rows_under headed ≡ rows → FindsRules headed found
-        → (ds : List Dependency) × Says Yes (found_text (names_of schema) ds) found
-        × AnswersAlikeWith schema ds) }
+        × ((file : List ℕ) (headed : Headed) (found : ResponseValue) → names_under headed ≡ names_of schema
+        → rows_under headed ≡ rows → FindsRules file headed found
+        → RefusesRules file headed found
+        ⊎ ((ds : List Dependency) × Says Yes (found_text (names_of schema) ds) found
+        × AnswersAlikeWith schema ds)) }
 {}

@@ -85,12 +85,19 @@ fn refusals_in_their_order(rt: HostRuntime) -> Result<(), Fail> {
         ("\n\r\n", DiscoverRefusal::NoHeader),
         ("\u{feff}", DiscoverRefusal::NoHeader),
         (
-            "a,b,c,d,e,f,g,h,i,j,k,l,m\n",
+            "0,1,2,3,4,5,6,7,8,9,a,b,c,d,e,f,g,h,i,j,k,l,m,n,o,p,q,r,s,t,u,v,\
+             w,x,y,z,!,#,$,%,&,',(,),*,+,-,.,/,:,;,<,=,>,?,@,[,],^,_,`,{,|,},~\n",
             DiscoverRefusal::TooManyColumns,
         ),
         (
-            "1,2,3,4,5,6,7,8,9,0,1,2,3\n",
+            "0,0,0,0,0,0,0,0,0,0,0,0,0,0,0,0,0,0,0,0,0,0,0,0,0,0,0,0,0,0,0,0,\
+             0,0,0,0,0,0,0,0,0,0,0,0,0,0,0,0,0,0,0,0,0,0,0,0,0,0,0,0,0,0,0,0,0\n",
             DiscoverRefusal::TooManyColumns,
+        ),
+        (
+            "0,0,0,0,0,0,0,0,0,0,0,0,0,0,0,0,0,0,0,0,0,0,0,0,0,0,0,0,0,0,0,0,\
+             0,0,0,0,0,0,0,0,0,0,0,0,0,0,0,0,0,0,0,0,0,0,0,0,0,0,0,0,0,0,0,0\n",
+            DiscoverRefusal::DoubleColumn { column: 2 },
         ),
         ("A,\n", DiscoverRefusal::BadColumn { column: 2 }),
         ("A,,A\n", DiscoverRefusal::BadColumn { column: 2 }),

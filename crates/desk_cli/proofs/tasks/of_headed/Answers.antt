@@ -8,4 +8,4 @@ use Rattle.desk_cli.proofs.tasks.of_headed.Goals as goal
 pub returns-clause-response : goal.returns-clause-response
 returns-clause-response g c = λ r shows.
     let file = c.args.file.now in
-    With-found (FileStops headed_file r file) (IsFile headed_file r file) FindsRules c.in-Ok.headed c.discover_rules.result (c.in-Ok.ensures.ok r shows.same) c.discover_rules.ensures.response
+    With-found (FileStops headed_file r file) (IsFile headed_file r file) (FindsRules file) c.in-Ok.headed c.discover_rules.result (c.in-Ok.ensures.ok r shows.same) c.discover_rules.ensures.response
