@@ -88,7 +88,7 @@ pairs_map {X} R f (x ∷ xs) pairs =
     (pairs_map R f xs (later_pairs (λ (v w : X). R (f v) (f w)) x xs pairs))
 
 -- ---- the columns, ascending
-pub range_push : (a n : ℕ) → range_with_len a (suc n) ≡ range_with_len a n ++ (a + n) ∷ []
+range_push : (a n : ℕ) → range_with_len a (suc n) ≡ range_with_len a n ++ (a + n) ∷ []
 range_push a zero = ap (λ (m : ℕ). m ∷ []) (omega arith)
 range_push a (suc n) =
     ap (λ (l : List ℕ). a ∷ l) (range_push (a + 1) n ∙ ap (λ (m : ℕ). range_with_len (a + 1) n ++ m ∷ []) (omega arith))
@@ -238,7 +238,7 @@ pair_precedes x y apart fits x_low y_low rises = elim (cases_order x.0.0 y.0.0) 
 
 module _ (n : ℕ) (r : Relation) (sides : List Side) (pairs sorted : List Pair) (n_in : n ≤ MOST_ATTRIBUTES)
     (are : All (HasMinimal n n r) sides) (is : pairs ≡ flat_map pairs_of sides) (moved : IsPermutation pairs sorted) where
-  pub minimal_pairs : All (IsMinimalPair n r) sorted
+  minimal_pairs : All (IsMinimalPair n r) sorted
   minimal_pairs = All-permutation (IsMinimalPair n r) pairs sorted moved
       (subst (All (IsMinimalPair n r)) (sym is) (pairs_minimal n r sides are))
 

@@ -7,7 +7,7 @@ ghost use Rattle.dep_model.specs.Tuples.{Relation};
 ghost use Rattle.fd_discovery.specs.Minimal.{AreAllMinimal};
 ghost use Rattle.fd_search.specs.Listing.{HasNumber, fd_of, pairs_of};
 
-use attr_sets::{AttrSet, MOST_ATTRIBUTES};
+use attr_sets::AttrSet;
 use candidate_search::Side;
 use dep_model::{Dep, OutOfMemory};
 use std::alloc::Global;

@@ -11,7 +11,6 @@ ghost use Rattle.dep_model.specs.Tuples.{IsOver};
 ghost use Rattle.fd_discovery.specs.Minimal.{AreAllMinimal};
 
 use crate::listing::in_order;
-use attr_sets::MOST_ATTRIBUTES;
 use candidate_search::{TooManyLeftSides, minimal_left_sides};
 use csv_rows::Interned;
 use dep_model::{Dep, Failure, OutOfMemory};
