@@ -1,0 +1,271 @@
+-- The left sides of all attributes in one list, and their order once they are sorted.
+use Rattle.std.proofs.Common.{inl, inr, ◌≡◌, ◌+◌, ◌*◌, ◌++◌, ◌<◌, ◌≤◌, ◌==◌, cond, nat_lt, ℕ, Bool, true, false, zero, suc, List, [], ◌∷◌, length, map, get_or, Less, Equal, Greater, refl, sym, ap, subst, ◌∙◌, arith}
+use Rattle.std.specs.Prelude.{All, AllPairs, Contains, flat_map}
+use Rattle.std.specs.List.{range_with_len}
+use Rattle.std.specs.Ordering.{nat_cmp, is_lt, ordering_then}
+use Rattle.std.specs.List.Sorted.{IsPermutation, IsSortedBy, IsNonDecreasingBy}
+use Rattle.std.proofs.lemmas.Bool.{cases_lt, cases_order}
+use Rattle.std.proofs.lemmas.Bool.Decides.{nat_tests}
+use Rattle.std.proofs.lemmas.List.Concat.{flat_map-cons}
+use Rattle.std.proofs.lemmas.List.Elements.{All-contains, All-head, All-map, All-tail, Contains-append_cases, Contains-append_left, Contains-append_right, Contains-get_or}
+use Rattle.std.proofs.lemmas.List.FromFn.{length-range_with_len, get_or-range_with_len}
+use Rattle.std.proofs.lemmas.List.Kept.{AllPairs-cons}
+use Rattle.std.proofs.lemmas.List.Sorted.{All-permutation, Contains-permutation, IsNonDecreasingBy-from_all_adjacent}
+use Rattle.attr_sets.specs.Attributes.{Attributes, IsBefore, only}
+use Rattle.attr_sets.specs.Sets.{attributes}
+use Rattle.attr_sets.specs.declared.set.AttrSet.{AttrSet}
+use Rattle.attr_sets.specs.declared.set.TheConstants.{MOST_ATTRIBUTES}
+use Rattle.attr_sets.proofs.AttributesLemmas.{attributes-at_number, count_below-le}
+use Rattle.attr_sets.proofs.OrderLemmas.{IsBefore-irrefl, before_from_lt}
+use Rattle.dep_model.specs.Dependencies.{fd}
+use Rattle.dep_model.specs.Tuples.{Relation}
+use Rattle.dep_model.proofs.ListLemmas.{Contains-cases, Contains-head, Contains-later, Contains-map, map-member}
+use Rattle.dep_model.proofs.PermutationLemmas.{AllPairs-permutation}
+use Rattle.candidate_laws.proofs.CountLemmas.{first_pairs, later_pairs}
+use Rattle.candidate_laws.proofs.StandingLemmas.{Contains-nil}
+use Rattle.candidate_search.specs.Sides.{HasMinimal, rights_of}
+use Rattle.candidate_search.specs.declared.side.Side.{Side}
+use Rattle.fd_discovery.specs.Minimal.{AreAllMinimal, IsMinimalFd, IsMinimalWithin, Precedes}
+use Rattle.fd_search.specs.Listing.{HasNumber, fd_of, pairs_of}
+
+abbrev pub Pair : Type 0
+Pair = AttrSet × ℕ
+
+abbrev IsMinimalPair : ℕ → Relation → Pair → Type 0
+IsMinimalPair n r p = IsMinimalWithin n r (attributes p.0) p.1
+
+-- two pairs have not both one left side and one attribute
+abbrev AreApart : Pair → Pair → Type 0
+AreApart p q = attributes p.0 ≡ attributes q.0 → p.1 ≡ q.1 → ⊥
+
+-- ---- lists of lists
+flat_map_has : {X Y : Type 0} (f : X → List Y) (xs : List X) (x : X) (y : Y) → Contains xs x → Contains (f x) y
+    → Contains (flat_map f xs) y
+flat_map_has f [] x y listed has = absurd (Contains-nil x listed)
+flat_map_has {X} {Y} f (z ∷ xs) x y listed has =
+    subst (λ (ys : List Y). Contains ys y) (sym (flat_map-cons f z xs)) (elim (Contains-cases z xs x listed) [
+      | inl same ↦ Contains-append_left (f z) (flat_map f xs) y (subst (λ (w : X). Contains (f w) y) same has)
+      | inr later ↦ Contains-append_right (f z) (flat_map f xs) y (flat_map_has f xs x y later has)
+    ])
+
+flat_map_member : {X Y : Type 0} (f : X → List Y) (xs : List X) (y : Y) → Contains (flat_map f xs) y
+    → (x : X) × Contains xs x × Contains (f x) y
+flat_map_member f [] y listed = absurd (Contains-nil y listed)
+flat_map_member {X} {Y} f (z ∷ xs) y listed =
+    elim (Contains-append_cases (f z) (flat_map f xs) y
+    (subst (λ (ys : List Y). Contains ys y) (flat_map-cons f z xs) listed)) [
+      | inl here ↦ (z, Contains-head z xs, here)
+      | inr later ↦
+          let (x, within, has) = flat_map_member f xs y later in
+          (x, Contains-later z xs x within, has)
+    ]
+
+all_from_contains : {X : Type 0} (P : X → Type 0) (xs : List X) → ((x : X) → Contains xs x → P x) → All P xs
+all_from_contains P xs each i d l = each (get_or xs i d) (Contains-get_or xs i d l)
+
+no_pairs : {X : Type 0} (R : X → X → Type 0) → AllPairs R []
+no_pairs R i j d before l = absurd (omega (arith, l))
+
+pairs_append : {X : Type 0} (R : X → X → Type 0) (xs ys : List X) → AllPairs R xs → AllPairs R ys
+    → ((x y : X) → Contains xs x → Contains ys y → R x y) → AllPairs R (xs ++ ys)
+pairs_append R [] ys first second across = second
+pairs_append R (x ∷ xs) ys first second across =
+    AllPairs-cons R x (xs ++ ys)
+    (all_from_contains (R x) (xs ++ ys) (λ y listed. elim (Contains-append_cases xs ys y listed) [
+      | inl here ↦ first_pairs R x xs y first here
+      | inr there ↦ across x y (Contains-head x xs) there
+    ]))
+    (pairs_append R xs ys (later_pairs R x xs first) second
+    (λ z y here there. across z y (Contains-later x xs z here) there))
+
+pairs_map : {X Y : Type 0} (R : Y → Y → Type 0) (f : X → Y) (xs : List X) → AllPairs (λ x y. R (f x) (f y)) xs
+    → AllPairs R (map f xs)
+pairs_map R f [] pairs = no_pairs R
+pairs_map {X} R f (x ∷ xs) pairs =
+    AllPairs-cons R (f x) (map f xs)
+    (All-map (R (f x)) f xs (all_from_contains (λ (y : X). R (f x) (f y)) xs
+    (λ y listed. first_pairs (λ (v w : X). R (f v) (f w)) x xs y pairs listed)))
+    (pairs_map R f xs (later_pairs (λ (v w : X). R (f v) (f w)) x xs pairs))
+
+-- ---- the columns, ascending
+range_push : (a n : ℕ) → range_with_len a (suc n) ≡ range_with_len a n ++ (a + n) ∷ []
+range_push a zero = ap (λ (m : ℕ). m ∷ []) (omega arith)
+range_push a (suc n) =
+    ap (λ (l : List ℕ). a ∷ l) (range_push (a + 1) n ∙ ap (λ (m : ℕ). range_with_len (a + 1) n ++ m ∷ []) (omega arith))
+
+pub range_more : (n : ℕ) → range_with_len 0 (n + 1) ≡ range_with_len 0 n ++ n ∷ []
+range_more n =
+    let next : n + 1 ≡ suc n = omega arith in
+    let last : 0 + n ≡ n = omega arith in
+    ap (range_with_len 0) next ∙ range_push 0 n ∙ ap (λ (m : ℕ). range_with_len 0 n ++ m ∷ []) last
+
+pub range_within : (n : ℕ) → All (λ k. k < n) (range_with_len 0 n)
+range_within n i d l =
+    let short : i < n = omega (arith, l, length-range_with_len 0 n) in
+    omega (arith, get_or-range_with_len 0 n i d short, short)
+
+range_ascends : (n : ℕ) → AllPairs (λ a b. a < b) (range_with_len 0 n)
+range_ascends n i j d before l =
+    let short : j < n = omega (arith, l, length-range_with_len 0 n) in
+    omega (arith, get_or-range_with_len 0 n i d (omega (arith, short, before)), get_or-range_with_len 0 n j d short, before)
+
+range_has : (n k : ℕ) → k < n → Contains (range_with_len 0 n) k
+range_has n k l = (k, omega (arith, l, length-range_with_len 0 n), get_or-range_with_len 0 n k k l ∙ omega arith)
+
+-- ---- the left sides of all attributes
+-- one side
+side_minimal : (n : ℕ) (r : Relation) (side : Side) → HasMinimal n n r side → (p : Pair) → Contains (pairs_of side) p
+    → IsMinimalPair n r p × (p.1 ≡ side.right)
+side_minimal n r side has p listed =
+    let (left, within, is) = map-member (λ (x : AttrSet). (x, side.right)) side.lefts.items p listed in
+    let m = (has.minimal.exactly (attributes left)).0 (Contains-map attributes side.lefts.items left within) in
+    (subst (IsMinimalPair n r) is m.0, sym (ap (λ (q : Pair). q.1) is))
+
+side_apart : (lefts : List AttrSet) (a : ℕ) → AllPairs IsBefore (map attributes lefts)
+    → AllPairs AreApart (map (λ left. (left, a)) lefts)
+side_apart [] a ascending = no_pairs AreApart
+side_apart (x ∷ xs) a ascending =
+    AllPairs-cons AreApart (x, a) (map (λ left. (left, a)) xs)
+    (All-map (AreApart (x, a)) (λ left. (left, a)) xs (all_from_contains (λ (y : AttrSet). AreApart (x, a) (y, a)) xs
+    (λ y listed same equal. IsBefore-irrefl (attributes y) (subst (λ (z : Attributes). IsBefore z (attributes y)) same
+    (first_pairs IsBefore (attributes x) (map attributes xs) (attributes y) ascending (Contains-map attributes xs y listed))))))
+    (side_apart xs a (later_pairs IsBefore (attributes x) (map attributes xs) ascending))
+
+-- all sides
+pairs_minimal : (n : ℕ) (r : Relation) (sides : List Side) → All (HasMinimal n n r) sides
+    → All (IsMinimalPair n r) (flat_map pairs_of sides)
+pairs_minimal n r sides are = all_from_contains (IsMinimalPair n r) (flat_map pairs_of sides) (λ p listed.
+    let (side, within, has) = flat_map_member pairs_of sides p listed in
+    (side_minimal n r side (All-contains (HasMinimal n n r) sides side are within) p has).0)
+
+pairs_all : (n : ℕ) (r : Relation) (sides : List Side) (x : Attributes) (a : ℕ) → All (HasMinimal n n r) sides
+    → rights_of sides ≡ range_with_len 0 n → IsMinimalWithin n r x a
+    → (p : Pair) × Contains (flat_map pairs_of sides) p × (fd_of p ≡ fd x (only a))
+pairs_all n r sides x a are rights minimal =
+    let (side, within, right) = map-member (λ (s : Side). s.right) sides a
+    (subst (λ (ks : List ℕ). Contains ks a) (sym rights) (range_has n a minimal.right)) in
+    let has = All-contains (HasMinimal n n r) sides side are within in
+    let (left, listed, is) = map-member attributes side.lefts.items x ((has.minimal.exactly x).1
+    (subst (IsMinimalWithin n r x) (sym right) minimal, count_below-le n x)) in (
+      (left, side.right),
+      flat_map_has pairs_of sides side (left, side.right) within
+          (Contains-map (λ (s : AttrSet). (s, side.right)) side.lefts.items left listed),
+      ap (λ (v : Attributes). fd v (only side.right)) is ∙ ap (λ (k : ℕ). fd x (only k)) right,
+    )
+
+pairs_apart : (n : ℕ) (r : Relation) (sides : List Side) → All (HasMinimal n n r) sides
+    → AllPairs (λ a b. a < b) (rights_of sides) → AllPairs AreApart (flat_map pairs_of sides)
+pairs_apart n r [] are ascend = no_pairs AreApart
+pairs_apart n r (side ∷ sides) are ascend =
+    let has = All-head (HasMinimal n n r) side sides are in
+    let rest = All-tail (HasMinimal n n r) side sides are in
+    subst (AllPairs AreApart) (sym (flat_map-cons pairs_of side sides))
+    (pairs_append AreApart (pairs_of side) (flat_map pairs_of sides) (side_apart side.lefts.items side.right has.minimal.ascending)
+    (pairs_apart n r sides rest (later_pairs (λ (a b : ℕ). a < b) side.right (rights_of sides) ascend))
+    (λ p q here there same equal.
+    let (other, within, holds) = flat_map_member pairs_of sides q there in
+    let p_right = (side_minimal n r side has p here).1 in
+    let q_right = (side_minimal n r other (All-contains (HasMinimal n n r) sides other rest within) q holds).1 in
+    let less : side.right < other.right = first_pairs (λ (a b : ℕ). a < b) side.right (rights_of sides) other.right ascend
+    (Contains-map (λ (s : Side). s.right) sides other within) in
+    omega (arith, less, p_right, q_right, equal)))
+
+-- ---- the sorted list
+only_before : (a b : ℕ) → a < b → IsBefore (only a) (only b)
+only_before a b less = (
+  b,
+  grind (arith, nat_tests, less),
+  grind (arith, nat_tests),
+  λ j more. grind (arith, nat_tests, less, more),
+)
+
+-- one number for both parts of a pair
+abbrev key : Pair → ℕ
+key p = p.0.0 * 128 + p.1
+
+key_le : (x y : Pair) → x.1 < 128 → y.1 < 128
+    → is_lt (ordering_then (nat_cmp x.0.0 y.0.0) (nat_cmp x.1 y.1)) ≡ false → key y ≤ key x
+key_le x y x_low y_low h = elim (cases_order x.0.0 y.0.0) [
+  | inl same ↦ elim (cases_lt x.1 y.1) [
+    | inl less ↦ absurd (lower (nat_lt x.0.0 y.0.0) (x.0.0 == y.0.0) (nat_lt x.1 y.1) (grind (arith, nat_tests, same))
+        (grind (arith, nat_tests, same)) (grind (arith, nat_tests, less)) h)
+    | inr other ↦ omega (arith, same, other)
+  ]
+  | inr other ↦ elim other [
+    | inl less ↦ absurd (first (nat_lt x.0.0 y.0.0) (grind (arith, nat_tests, less)) h)
+    | inr more ↦ omega (arith, more, x_low, y_low)
+  ]
+]
+  where
+    first : (b : Bool) → b ≡ true
+        → is_lt (ordering_then (cond b Less (cond (x.0.0 == y.0.0) Equal Greater)) (nat_cmp x.1 y.1)) ≡ false → ⊥
+    first true e f = cc
+    first false e f = cc
+
+    lower : (b c d : Bool) → b ≡ false → c ≡ true → d ≡ true
+        → is_lt (ordering_then (cond b Less (cond c Equal Greater)) (cond d Less (cond (x.1 == y.1) Equal Greater))) ≡ false
+        → ⊥
+    lower false true true e f g h = cc
+    lower true c d e f g h = cc
+    lower false false d e f g h = cc
+    lower false true false e f g h = cc
+
+keys_rise : (pairs : List Pair) → All (λ p. p.1 < 128) pairs
+    → IsSortedBy (λ (x y : Pair). is_lt (ordering_then (nat_cmp x.0.0 y.0.0) (nat_cmp x.1 y.1))) pairs
+    → IsNonDecreasingBy key pairs
+keys_rise pairs low sorted =
+    IsNonDecreasingBy-from_all_adjacent key pairs
+    (λ k d l. key_le (get_or pairs (k + 1) d) (get_or pairs k d) (low (k + 1) d l) (low k d (omega (arith, l)))
+    (sorted k d (omega arith) l))
+
+pair_precedes : (x y : Pair) → AreApart x y → HasNumber y → x.1 < 128 → y.1 < 128 → key x ≤ key y
+    → Precedes (fd_of x) (fd_of y)
+pair_precedes x y apart fits x_low y_low rises = elim (cases_order x.0.0 y.0.0) [
+  | inl same ↦
+      let sets : attributes x.0 ≡ attributes y.0 = attributes-at_number x.0 y.0 same in
+      inr (
+        sets,
+        only_before x.1 y.1 (elim (cases_order x.1 y.1) [
+          | inl equal ↦ absurd (apart sets equal)
+          | inr other ↦ elim other [ inl less ↦ less | inr more ↦ absurd (omega (arith, same, rises, more)) ]
+        ]),
+      )
+  | inr other ↦ elim other [
+    | inl less ↦ inl (before_from_lt x.0 y.0 fits less)
+    | inr more ↦ absurd (omega (arith, more, rises, x_low, y_low))
+  ]
+]
+
+module _ (n : ℕ) (r : Relation) (sides : List Side) (pairs sorted : List Pair) (n_in : n ≤ MOST_ATTRIBUTES)
+    (are : All (HasMinimal n n r) sides) (is : pairs ≡ flat_map pairs_of sides) (moved : IsPermutation pairs sorted) where
+  minimal_pairs : All (IsMinimalPair n r) sorted
+  minimal_pairs = All-permutation (IsMinimalPair n r) pairs sorted moved
+      (subst (All (IsMinimalPair n r)) (sym is) (pairs_minimal n r sides are))
+
+  pub low_pairs : All (λ p. p.1 < MOST_ATTRIBUTES) sorted
+  low_pairs i d l = omega (arith, (minimal_pairs i d l).right, n_in)
+
+  module _ (rights : rights_of sides ≡ range_with_len 0 n) (numbers : All HasNumber pairs)
+      (in_order : IsSortedBy (λ (x y : Pair). is_lt (ordering_then (nat_cmp x.0.0 y.0.0) (nat_cmp x.1 y.1))) sorted) where
+    precede : AllPairs (λ x y. Precedes (fd_of x) (fd_of y)) sorted
+    precede i j d before l =
+        let ascend : AllPairs (λ a b. a < b) (rights_of sides) =
+        subst (AllPairs (λ (a b : ℕ). a < b)) (sym rights) (range_ascends n) in
+        let apart : AllPairs AreApart sorted =
+        AllPairs-permutation AreApart (λ x y other same equal. other (sym same) (sym equal)) pairs sorted moved
+        (subst (AllPairs AreApart) (sym is) (pairs_apart n r sides are ascend)) in
+        let here : i < length sorted = omega (arith, before, l) in
+        pair_precedes (get_or sorted i d) (get_or sorted j d) (apart i j d before l)
+        (All-permutation HasNumber pairs sorted moved numbers j d l) (low_pairs i d here) (low_pairs j d l)
+        (keys_rise sorted low_pairs in_order i j d (omega (arith, before)) l)
+
+    pub all_in_order : AreAllMinimal n r (map fd_of sorted)
+    all_in_order = record {
+      each = All-map (IsMinimalFd n r) fd_of sorted
+          (λ i d l. let p = get_or sorted i d in (attributes p.0, p.1, refl, minimal_pairs i d l));
+      all = λ x a minimal.
+          let (p, listed, same) = pairs_all n r sides x a are rights minimal in
+          subst (Contains (map fd_of sorted)) same (Contains-map fd_of sorted p
+          (Contains-permutation pairs sorted p moved (subst (λ (ps : List Pair). Contains ps p) (sym is) listed)));
+      ascending = pairs_map Precedes fd_of sorted precede;
+    }
