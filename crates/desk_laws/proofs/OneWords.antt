@@ -48,7 +48,7 @@ refused_there : (file : List ℕ) (h k : Headed) (response : ResponseValue) → 
 refused_there file h k response same (refusal, many, says) =
     let moved = subst (λ (read : List (List ℕ) × Relation). rules_refused file read response) same
     (refusal, many.wide, many.exceeded, says) in
-    (moved.0, record { wide = moved.1.0; exceeded = moved.1.1.0 }, moved.1.1.1)
+    (moved.0, record { wide = moved.1; exceeded = moved.2 }, moved.3)
 
 found_there : (file : List ℕ) (h k : Headed) (response : ResponseValue) → names_and_rows h ≡ names_and_rows k
     → FindsRules file h response → FindsRules file k response

@@ -45,7 +45,7 @@ use Rattle.desk_texts.specs.Texts.{line, set_line, goal_refusal_text, set_refusa
 use Rattle.desk_implication.specs.Bases.{TellsBasis, GivesBasis, blocks_text}
 use Rattle.desk_implication.specs.Certificates.{Checked, ChecksProof}
 use Rattle.desk_covers.specs.Covering.{GivesCover}
-use Rattle.desk_discovery.specs.Discoveries.{FindsRules, GivesRules, HasTooManyLeftSides, RefusesRules, found_text}
+use Rattle.desk_discovery.specs.Discoveries.{FindsRules, GivesRules, RefusesRules, found_text}
 use Rattle.desk_discovery.specs.declared.discovering.TheConstants.{WIDEST_TRIED}
 use Rattle.desk_discovery.specs.Exhibits.{Exhibits, IsExample, multivalued_text}
 use Rattle.desk_arguments.specs.Goals.{GoalStops, IsGoal, SetStops, IsSetText, WithGoal}

@@ -33,7 +33,7 @@ pub fn exhibits_decide_goals()
 {}
 
 /// What `discover` finds in the relation that `exhibit` prints are dependencies that, in place of the
-/// schema's own, are answered alike, where a column of it has not too many left sides.
+/// schema's own, are answered alike; or it is refused, since a column has too many left sides.
 pub fn rules_of_exhibits_are_answered_alike()
     ensures law { (schema : Schema) (shown : ResponseValue) → Exhibits schema shown → shown.status ≡ Yes
         → (rows : Relation) × Says Yes (rows_text (names_of schema) rows) shown
