@@ -1,17 +1,17 @@
-//! Closures, by functional dependencies, that begin with those of parts.
+//! Closures, by the functional dependencies alone or by all, that begin with those of parts.
 
-ghost use Rattle.std.specs.Prelude.{◌≡◌, ℕ, ◌↔◌, true};
+ghost use Rattle.std.specs.Prelude.{◌≡◌, ℕ, ◌↔◌, Bool, true};
 ghost use Rattle.attr_sets.specs.Attributes.{IsSubset};
 ghost use Rattle.attr_sets.specs.Sets.{attributes};
-ghost use Rattle.dep_model.specs.Dependencies.{functional_part};
 ghost use Rattle.dep_model.specs.Keys.{InClosure};
-ghost use Rattle.dep_model.specs.Schemas.{width_of, universe_of, theory_of};
+ghost use Rattle.dep_model.specs.Schemas.{width_of, universe_of};
 ghost use Rattle.dep_model.specs.declared.schema.Schema.{Schema as Declared};
 ghost use Rattle.normal_forms.specs.Beginning.{IsKnownPart, IsBegun};
+ghost use Rattle.normal_forms.specs.Passing.{theory_by};
 
+use crate::passing::closed_set;
 use attr_sets::AttrSet;
 use dep_model::Schema;
-use fd_closure::closure;
 
 // A set, and what is known to be determined by it. The closure of a set that holds it begins with that.
 #[derive(Clone, Copy, Debug)]
@@ -22,7 +22,7 @@ pub struct KnownPart {
 
 // The empty set, of which nothing is known.
 pub fn no_part() -> KnownPart
-    ensures known { (s : Declared) → IsKnownPart s result }
+    ensures known { (functional : Bool) (s : Declared) → IsKnownPart functional s result }
 {
     let none = AttrSet::empty();
     KnownPart {
@@ -33,16 +33,22 @@ pub fn no_part() -> KnownPart
 
 // The part with which the closure of a set begins: all but a few attributes, which a search changes
 // while the others stay, so that the part is most often the one before.
-pub fn next_part(schema: &Schema, part: KnownPart, few: AttrSet, set: AttrSet) -> KnownPart
-    requires part { IsKnownPart schema.now part }
+pub fn next_part(
+    schema: &Schema,
+    functional: bool,
+    part: KnownPart,
+    few: AttrSet,
+    set: AttrSet,
+) -> KnownPart
+    requires part { IsKnownPart functional schema.now part }
     requires set { IsSubset (attributes set) (universe_of schema.now) }
-    ensures known { IsKnownPart schema.now result }
+    ensures known { IsKnownPart functional schema.now result }
 {
     let fixed = set.difference(few);
     if fixed == part.set {
         return part;
     }
-    let closed = closure(schema.deps(), fixed);
+    let closed = closed_set(schema, functional, fixed);
     KnownPart { set: fixed, closed }
 }
 
@@ -63,8 +69,9 @@ const MOST_CHANGED: u8 = 4;
 
 // A set with what is known to be determined by a part of it.
 pub fn begun(part: KnownPart, set: AttrSet) -> AttrSet
-    ensures begun { (s : Declared) → IsKnownPart s part → IsSubset (attributes set) (universe_of s)
-        → IsBegun s (attributes set) (attributes result) }
+    ensures begun { (functional : Bool) (s : Declared) → IsKnownPart functional s part
+        → IsSubset (attributes set) (universe_of s)
+        → IsBegun functional s (attributes set) (attributes result) }
 {
     if part.set.is_subset(set) {
         set.union(part.closed)
@@ -74,11 +81,11 @@ pub fn begun(part: KnownPart, set: AttrSet) -> AttrSet
 }
 
 // The closure of a set, begun with that of a part.
-pub fn closure_begun(schema: &Schema, part: KnownPart, set: AttrSet) -> AttrSet
-    requires part { IsKnownPart schema.now part }
+pub fn closure_begun(schema: &Schema, functional: bool, part: KnownPart, set: AttrSet) -> AttrSet
+    requires part { IsKnownPart functional schema.now part }
     requires set { IsSubset (attributes set) (universe_of schema.now) }
     ensures closure { (a : ℕ) → (attributes result a ≡ true)
-        ↔ InClosure (width_of schema.now) (functional_part (theory_of schema.now)) (attributes set) a }
+        ↔ InClosure (width_of schema.now) (theory_by functional schema.now) (attributes set) a }
 {
-    closure(schema.deps(), begun(part, set))
+    closed_set(schema, functional, begun(part, set))
 }

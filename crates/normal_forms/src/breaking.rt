@@ -9,7 +9,7 @@ ghost use Rattle.normal_forms.specs.Breaking.{Breaks, IsFirstBreaking, NoneBreak
 ghost use Rattle.normal_forms.specs.Passing.{LiesBetween, PassesOver};
 ghost use Rattle.normal_forms.specs.Violations.{Violates};
 
-use crate::beginning::{KnownPart, closure_begun, first_few, next_part, no_part};
+use crate::beginning::{KnownPart, begun, closure_begun, first_few, next_part, no_part};
 use crate::forms::Form;
 use crate::parting::parts_none;
 use crate::passing::{FEWEST_PASSED, determines_none, filled};
@@ -19,7 +19,8 @@ use dep_model::Schema;
 
 // Whether a left side violates Boyce-Codd or fourth form. Where all dependencies are functional
 // both are violated by a left side that determines some of the rest and not all. Else a left side
-// with one part alone is named first, which most often is all that is asked.
+// of which a part is known to determine all is named first, and one with one part alone, which most
+// often is all that is asked.
 pub fn breaks(
     schema: &Schema,
     scheme: AttrSet,
@@ -29,7 +30,7 @@ pub fn breaks(
     lhs: AttrSet,
 ) -> bool
     requires scheme { IsSubset (attributes scheme) (universe_of schema.now) }
-    requires part { IsKnownPart schema.now part }
+    requires part { IsKnownPart functional schema.now part }
     requires lhs { IsSubset (attributes lhs) (attributes scheme) }
     requires form { form ≡ Form.Third → ⊥ }
     requires functional { IsTrue functional
@@ -39,12 +40,15 @@ pub fn breaks(
         (attributes lhs) }
 {
     if functional {
-        return determines_some(scheme, lhs, closure_begun(schema, part, lhs));
+        return determines_some(scheme, lhs, closure_begun(schema, functional, part, lhs));
+    }
+    if scheme.is_subset(begun(part, lhs)) {
+        return false;
     }
     if !has_two_parts(schema, scheme, lhs) {
         return false;
     }
-    let found = closure_of(schema, lhs);
+    let found = closure_begun(schema, functional, part, lhs);
     match form {
         Form::Fourth => !scheme.is_subset(found),
         Form::Third | Form::Bcnf => determines_some(scheme, lhs, found),
@@ -85,7 +89,7 @@ pub fn first_breaking(
     let mut part = no_part();
     let mut next = Some(AttrSet::empty());
     while let Some(set) = next {
-        part = next_part(schema, part, few, set);
+        part = next_part(schema, functional, part, few, set);
         if breaks(schema, scheme, form, functional, part, set) {
             return Some(set);
         }

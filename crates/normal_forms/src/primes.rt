@@ -77,7 +77,7 @@ fn key_with(schema: &Schema, scheme: AttrSet, whole: AttrSet, attribute: u8) -> 
     let mut next = Some(AttrSet::empty());
     while let Some(set) = next {
         let before = set.union(rest);
-        part = next_part(schema, part, few, before);
+        part = next_part(schema, true, part, few, before);
         if becomes_superkey_by(schema, scheme, part, before, attribute) {
             return Some(functional_key(schema.deps(), before.with(attribute)));
         }
@@ -99,7 +99,7 @@ fn passed_keys(
     set: AttrSet,
 ) -> AttrSet
     requires scheme { IsSubset (attributes scheme) (universe_of schema.now) }
-    requires part { IsKnownPart schema.now part }
+    requires part { IsKnownPart true schema.now part }
     requires whole { IsSubset (attributes whole) (attributes scheme) }
     requires rest { IsSubset (attributes rest) (attributes scheme) }
     requires attribute { attributes scheme attribute ≡ true }
@@ -137,7 +137,7 @@ fn becomes_superkey_by(
     attribute: u8,
 ) -> bool
     requires scheme { IsSubset (attributes scheme) (universe_of schema.now) }
-    requires part { IsKnownPart schema.now part }
+    requires part { IsKnownPart true schema.now part }
     requires set { IsSubset (attributes set) (attributes scheme) }
     requires attribute { attributes scheme attribute ≡ true }
     ensures becomes_superkey { IsTrue result
@@ -152,7 +152,7 @@ fn becomes_superkey_by(
 // from what a part is known to determine on.
 fn is_superkey(schema: &Schema, scheme: AttrSet, part: KnownPart, set: AttrSet) -> bool
     requires scheme { IsSubset (attributes scheme) (universe_of schema.now) }
-    requires part { IsKnownPart schema.now part }
+    requires part { IsKnownPart true schema.now part }
     requires set { IsSubset (attributes set) (attributes scheme) }
     ensures superkey { IsTrue result
         ↔ IsSuperkey (width_of schema.now) (functional_part (theory_of schema.now))

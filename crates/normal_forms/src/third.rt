@@ -38,7 +38,7 @@ pub fn third_violation(schema: &Schema, scheme: AttrSet) -> Option<Breach>
     let mut primes = AttrSet::empty();
     let mut next = Some(AttrSet::empty());
     while let Some(lhs) = next {
-        part = next_part(schema, part, few, lhs);
+        part = next_part(schema, true, part, few, lhs);
         let beyond = determined_beyond(schema, scheme, part, lhs);
         match prime_or_not(schema, scheme, whole, primes, beyond) {
             Sifted::Prime(known) => primes = known,
@@ -79,7 +79,7 @@ fn passed_third(schema: &Schema, scheme: AttrSet, whole: AttrSet, set: AttrSet) 
 // where it is a superkey.
 fn determined_beyond(schema: &Schema, scheme: AttrSet, part: KnownPart, lhs: AttrSet) -> AttrSet
     requires scheme { IsSubset (attributes scheme) (universe_of schema.now) }
-    requires part { IsKnownPart schema.now part }
+    requires part { IsKnownPart true schema.now part }
     requires lhs { IsSubset (attributes lhs) (attributes scheme) }
     ensures beyond { (a : ℕ) → (attributes result a ≡ true)
         ↔ ((IsSuperkey (width_of schema.now) (functional_part (theory_of schema.now))
@@ -87,7 +87,7 @@ fn determined_beyond(schema: &Schema, scheme: AttrSet, part: KnownPart, lhs: Att
         × DeterminesBeyond (width_of schema.now) (functional_part (theory_of schema.now))
         (attributes scheme) (attributes lhs) a) }
 {
-    let found = closure_begun(schema, part, lhs);
+    let found = closure_begun(schema, true, part, lhs);
     if scheme.is_subset(found) {
         return AttrSet::empty();
     }

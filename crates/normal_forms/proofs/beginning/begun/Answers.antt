@@ -8,9 +8,9 @@ use Rattle.normal_forms.proofs.beginning.begun.Goals as goal
 
 pub returns-then-is_subset : goal.returns-then-is_subset
 returns-then-is_subset c = record {
-  begun = λ s known low. subst (λ (b : Attributes). IsBegun s (attributes c.args.set) b) (sym c.union.ensures.members)
-      (begun_with s c.args.part (attributes c.args.set) known low (c.is_subset.ensures.subset.0 c.if-is_subset.true));
+  begun = λ by s known low. subst (λ (b : Attributes). IsBegun by s (attributes c.args.set) b) (sym c.union.ensures.members)
+      (begun_with by s c.args.part (attributes c.args.set) known low (c.is_subset.ensures.subset.0 c.if-is_subset.true));
 }
 
 pub returns-else-is_subset : goal.returns-else-is_subset
-returns-else-is_subset c = record { begun = λ s known low. begun_bare s (attributes c.args.set) low }
+returns-else-is_subset c = record { begun = λ by s known low. begun_bare by s (attributes c.args.set) low }

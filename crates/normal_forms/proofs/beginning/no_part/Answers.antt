@@ -8,7 +8,7 @@ use Rattle.normal_forms.proofs.beginning.no_part.Goals as goal
 
 pub returns : goal.returns
 returns c = record {
-  known = λ s. record {
+  known = λ by s. record {
     within = λ k m. absurd (true≢false (sym m ∙ same_at c.empty-none.ensures.members k));
     determined = λ r legal. reflexivity_obeyed (attributes c.empty-none.result) (attributes c.empty-none.result) r (λ k m. m);
   };

@@ -23,7 +23,7 @@ pub loop-next-init : goal.loop-next-init
 loop-next-init c =
     let s = c.args.schema.now in
     record {
-      part = c.no_part-part.ensures.known s;
+      part = c.no_part-part.ensures.known c.args.functional s;
       searched = search_start (Breaks (width_of s) (theory_of s) c.args.form (attributes c.args.scheme)) (attributes c.args.whole) c.empty.result c.empty.ensures.members;
     }
 

@@ -8,7 +8,7 @@ use Rattle.normal_forms.proofs.breaking.first_breaking.Given as goal
 
 abbrev pub invariant-loop-next : goal.invariant-loop-next
 invariant-loop-next l = record {
-  part : IsKnownPart l.schema l.part;
+  part : IsKnownPart l.functional l.schema l.part;
   searched : IsSearched (Breaks (width_of l.schema) (theory_of l.schema) l.form (attributes l.scheme)) (attributes l.whole) l.next;
 }
 

@@ -1,5 +1,5 @@
 -- What is left to prove of `is_superkey`: its clause `superkey`.
-use Rattle.std.proofs.Common.{◌↔◌}
+use Rattle.std.proofs.Common.{◌↔◌, true}
 use Rattle.std.specs.Prelude.{IsTrue}
 use Rattle.attr_sets.specs.Attributes.{below, IsSubset}
 use Rattle.attr_sets.specs.Sets.{attributes}
@@ -19,7 +19,7 @@ returns c =
     let scheme = attributes c.args.scheme in
     let x = attributes c.args.set in
     let b = attributes c.begun.result in
-    let begun = c.begun.ensures.begun s c.requires.part (λ k m. c.requires.scheme k (c.requires.set k m)) in
+    let begun = c.begun.ensures.begun true s c.requires.part (λ k m. c.requires.scheme k (c.requires.set k m)) in
     let by_begun = of_functional_part s c.deps.result.now c.deps.ensures.deps (λ m ds. IsSubset b (below m) → IsSubset scheme (below m) → IsTrue c.follows.result ↔ Implies m ds (fd b scheme))
     c.follows.ensures.implied begun.within c.requires.scheme in
     let same = implied_begun n fs x b scheme begun.holds begun.determined in

@@ -1,7 +1,7 @@
 -- What is left to prove of `key_with`: its clause `none`, what it answers in one case, what
 -- `becomes_superkey_by` and `next_subset` require, that the invariant of its loop holds at first
 -- and stays, and that its loop ends, by `PrimeLemmas` and `SearchLemmas`.
-use Rattle.std.proofs.Common.{◌≡◌, sym, subst, ◌∙◌, inl, inr, arith}
+use Rattle.std.proofs.Common.{◌≡◌, true, sym, subst, ◌∙◌, inl, inr, arith}
 use mathlib.Core.Path.{fun_ext}
 use Rattle.std.proofs.lemmas.Bool.{true≢false, false≢true, or_cases}
 use Rattle.std.proofs.lemmas.Bool.Decides.{nat_tests}
@@ -48,7 +48,7 @@ loop-next-init c =
     let s = c.args.schema.now in
     let P = λ (y : Attributes). BecomesSuperkeyBy (width_of s) (functional_part (theory_of s)) (attributes c.args.scheme) (union y (attributes c.without-rest.result)) c.args.attribute in
     record {
-      part = c.no_part-part.ensures.known s;
+      part = c.no_part-part.ensures.known true s;
       searched = search_start P (attributes c.without-others.result) c.empty.result c.empty.ensures.members;
     }
 

@@ -1,4 +1,5 @@
 -- What the loop of `key_with` keeps: `IsSearched`, and that the part is known; and by what it ends.
+use Rattle.std.specs.Prelude.{true}
 use Rattle.attr_sets.specs.Attributes.{union}
 use Rattle.attr_sets.specs.Sets.{attributes}
 use Rattle.dep_model.specs.Dependencies.{functional_part}
@@ -10,7 +11,7 @@ use Rattle.normal_forms.proofs.primes.key_with.Given as goal
 
 abbrev pub invariant-loop-next : goal.invariant-loop-next
 invariant-loop-next l = record {
-  part : IsKnownPart l.schema l.part;
+  part : IsKnownPart true l.schema l.part;
   searched : IsSearched (λ y. BecomesSuperkeyBy (width_of l.schema) (functional_part (theory_of l.schema)) (attributes l.scheme) (union y (attributes l.rest)) l.attribute) (attributes l.others) l.next;
 }
 

@@ -1,6 +1,6 @@
 -- What is left to prove of `visible_violation`: its clauses `none` and `visible` and that the
 -- invariant of its loop holds at first and stays, by `FormLemmas`.
-use Rattle.std.proofs.Common.{◌≡◌, ℕ, ◌<◌, ◌≤◌, List, length, get_or, take_all, refl, sym, ap, subst, ◌∙◌, arith}
+use Rattle.std.proofs.Common.{◌≡◌, ℕ, ◌<◌, ◌≤◌, false, List, length, get_or, take_all, refl, sym, ap, subst, ◌∙◌, arith}
 use Rattle.std.proofs.lemmas.Bool.{true≢false, false≢true}
 use Rattle.std.proofs.lemmas.List.{length-map}
 use Rattle.std.proofs.lemmas.List.Elements.{All-more}
@@ -94,4 +94,4 @@ returns-clause-none c =
     )
 
 pub breaks-requires-clause-part : goal.breaks-requires-clause-part
-breaks-requires-clause-part c = c.no_part.ensures.known c.args.schema.now
+breaks-requires-clause-part c = c.no_part.ensures.known false c.args.schema.now

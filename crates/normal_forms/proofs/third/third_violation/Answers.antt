@@ -2,7 +2,7 @@
 -- `determined_beyond`, `prime_or_not`, `single` and `next_subset` require, that the invariant of
 -- its loop holds at first and stays, and that its loop ends, by `AddedLemmas`, `FormLemmas` and
 -- `SearchLemmas`.
-use Rattle.std.proofs.Common.{sym, subst, ◌∙◌, arith}
+use Rattle.std.proofs.Common.{true, sym, subst, ◌∙◌, arith}
 use Rattle.std.proofs.lemmas.Bool.{true≢false, false_from_ne_true, ltb-true}
 use Rattle.std.specs.Prelude.{Option, Some}
 use Rattle.attr_sets.specs.declared.set.AttrSet.{AttrSet}
@@ -34,7 +34,7 @@ pub loop-next-init : goal.loop-next-init
 loop-next-init c =
     let s = c.args.schema.now in
     record {
-      part = c.no_part-part.ensures.known s;
+      part = c.no_part-part.ensures.known true s;
       prime = λ a m. absurd (true≢false (sym m ∙ same_at c.empty-primes.ensures.members a));
       searched = search_start (MayViolateThird (width_of s) (functional_part (theory_of s)) (attributes c.args.scheme) (attributes c.empty-primes.result)) (attributes c.functionally_searched_attributes-whole.result)
           c.empty.result c.empty.ensures.members;

@@ -1,4 +1,5 @@
 -- What the loop of `third_violation` keeps: `part`, `prime` and `searched`; and by what it ends.
+use Rattle.std.specs.Prelude.{true}
 use Rattle.attr_sets.specs.Sets.{attributes}
 use Rattle.dep_model.specs.Dependencies.{functional_part}
 use Rattle.dep_model.specs.Schemas.{width_of, theory_of}
@@ -10,7 +11,7 @@ use Rattle.normal_forms.proofs.third.third_violation.Given as goal
 
 abbrev pub invariant-loop-next : goal.invariant-loop-next
 invariant-loop-next l = record {
-  part : IsKnownPart l.schema l.part;
+  part : IsKnownPart true l.schema l.part;
   prime : ArePrime (width_of l.schema) (functional_part (theory_of l.schema)) (attributes l.scheme) (attributes l.primes);
   searched : IsSearched (MayViolateThird (width_of l.schema) (functional_part (theory_of l.schema)) (attributes l.scheme) (attributes l.primes)) (attributes l.whole) l.next;
 }
