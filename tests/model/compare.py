@@ -162,7 +162,15 @@ class Maker:
         return out
 
     def plan_text(self, names, plan):
-        return "".join(f"scheme {self.side(names, x)}\n" for x in plan).encode()
+        """A plan, in which some tables have names."""
+        r = self.r
+        named = r.random() < .25
+        lines = []
+        for k, x in enumerate(plan):
+            own = r.choice((f"part{k}", f"Part_{k}", f"orders{k}", "orders", "t9", "joined", "version", "tx"))
+            head = f"table {own}{r.choice((':', ' : ', ':'))}" if named and r.random() < .5 else "scheme"
+            lines.append(f"{head} {self.side(names, x)}\n")
+        return "".join(lines).encode()
 
     def typed_value(self, column):
         """A value of a type that only some schemas have, or a text that is nearly one."""

@@ -1,7 +1,7 @@
 -- The answers of `ddl`, `draw`, `sql check` and `sql migrate` move to a schema that is built again.
 use Rattle.std.proofs.Common.{◌≡◌, ◌↔◌, ◌⊎◌, ◌≤◌, ℕ, List, [], ◌∷◌, ◌++◌, map, All, Contains, MatchOption, Some, codes, slice_get, slice_index_or, take, false, true, Option, None, Vec, length, is_some, decimal, refl, sym, subst, ap, ap₂, ◌∙◌, inl, inr}
 use Rattle.std.specs.Prelude.{⊤, AllPairs, filter, if◌then◌else◌, not}
-use Rattle.std.specs.List.{flat_map, range_with_len, zip}
+use Rattle.std.specs.List.{list_any, flat_map, range_with_len, zip}
 use Rattle.std.specs.declared.alloc.Global.{Global}
 use Rattle.attr_sets.specs.Attributes.{Attributes, difference}
 use Rattle.attr_sets.specs.Sets.{attributes, is_disjoint}
@@ -29,8 +29,8 @@ use Rattle.desk_designs.specs.Designs.{AreNeverMissing, IsDesignOf, IsSoundDesig
 use Rattle.desk_designs.specs.Decompositions.{WithPlanInForm}
 use Rattle.desk_designs.specs.Joins.{WithoutLoss}
 use Rattle.desk_designs.specs.Drawings.{DrawsForm, DrawsSchemes, DrawsTables}
-use Rattle.desk_designs.specs.Scripts.{AsksTable, IsSoundScript, MakesSchemes, MakesTables, ScriptsCheck, ScriptsMigration, ScriptsMigrationByPlan, TellLegal, WithTableName}
-use Rattle.desk_responses.specs.ResponseValues.{Allowed, ResponseValue, text_only}
+use Rattle.desk_designs.specs.Scripts.{MetNameStops, AsksTable, IsSoundScript, MakesSchemes, MakesTables, ScriptsCheck, ScriptsMigration, ScriptsMigrationByPlan, TellLegal, WithTableName}
+use Rattle.desk_responses.specs.ResponseValues.{Unless, Allowed, ResponseValue, text_only}
 use Rattle.desk_responses.specs.declared.status.Status.TheVariants.{Refused, Yes}
 use Rattle.ending_laws.specs.Ending.{FitsRelations, IsSoundRun}
 use Rattle.missing_values.specs.Missing.{FindsMissing, NeverMissing}
@@ -59,7 +59,8 @@ use Rattle.table_queries.specs.Meanings.{IsGiven, GivesNone}
 use Rattle.table_queries.specs.Queries.{breaches_of, rows_of}
 use Rattle.table_scripts.specs.Checking.{breaches_text, check_text, missing_text, rule_text, rules_text, value_text}
 use Rattle.table_scripts.specs.Migrating.{FillsTables, ViewIs, ViewIsTable, migrate_text, stored_of}
-use Rattle.table_scripts.specs.Naming.{quoted_table}
+use Rattle.table_names.specs.TableNames.{GivenNames, is_given}
+use Rattle.table_scripts.specs.Naming.{dotted_parts, last_of, quoted_table}
 use Rattle.alike_laws.proofs.Derivations.{said, said_back}
 use Rattle.alike_laws.proofs.Keys.{wide_back}
 use Rattle.alike_laws.proofs.Plans.{with_plan_moved, without_loss_moved}
@@ -85,9 +86,10 @@ module _ (s : Schema) (f : Frame s) where
             × (keys.items ≡ without_key key all)) listed.all;
       })
 
-  table_moved : (earlier : List TableDesign) (scheme : AttrSet) (table : TableDesign)
-      → IsTableOf s earlier scheme table → IsTableOf built earlier scheme table
-  table_moved earlier scheme table is = record {
+  table_moved : (names : GivenNames) (earlier : List TableDesign) (scheme : AttrSet) (table : TableDesign)
+      → IsTableOf s names earlier scheme table → IsTableOf built names earlier scheme table
+  table_moved names earlier scheme table is = record {
+    number = is.number;
     name = is.name;
     columns = is.columns;
     key = subst (λ (nullable : Attributes). IsPrimaryKey (width_of s) (theory_of built) nullable (attributes scheme)
@@ -97,12 +99,12 @@ module _ (s : Schema) (f : Frame s) where
     other_keys = other_keys_moved (attributes scheme) (attributes table.key) table.other_keys is.other_keys;
   }
 
-  design_moved : (schemes : List AttrSet) (tables : List TableDesign) → IsDesign s schemes tables
-      → IsDesign built schemes tables
-  design_moved schemes tables is = record {
+  design_moved : (names : GivenNames) (schemes : List AttrSet) (tables : List TableDesign) → IsDesign s names schemes tables
+      → IsDesign built names schemes tables
+  design_moved names schemes tables is = record {
     one_each = is.one_each;
     each = λ k low scheme table.
-        table_moved (take k tables) (slice_index_or schemes k scheme) (slice_index_or tables k table)
+        table_moved names (take k tables) (slice_index_or schemes k scheme) (slice_index_or tables k table)
         (is.each k low scheme table);
   }
 
@@ -137,12 +139,12 @@ module _ (s : Schema) (f : Frame s) where
       → ReferenceHolds (attributes table.scheme) (rows_on table r) (attributes other.scheme) (rows_on other r)
       (attributes other.key))
 
-  pub sound_design_moved : (plan : List AttrSet) (tables : List TableDesign) → IsSoundDesign s plan tables
-      → IsSoundDesign built plan tables
-  sound_design_moved plan tables is = record {
+  pub sound_design_moved : (names : GivenNames) (plan : List AttrSet) (tables : List TableDesign) → IsSoundDesign s names plan tables
+      → IsSoundDesign built names plan tables
+  sound_design_moved names plan tables is = record {
     ordered = is.ordered;
     order = said s f (λ ds. IsInDesignOrder (width_of s) ds (schemes_of plan) (schemes_of is.ordered)) is.order;
-    design = design_moved is.ordered tables is.design;
+    design = design_moved names is.ordered tables is.design;
     keys_hold = keys_hold_moved tables is.keys_hold;
     other_keys_hold = other_keys_hold_moved tables is.other_keys_hold;
     references_hold = references_hold_moved tables is.references_hold;
@@ -197,15 +199,15 @@ module _ (s : Schema) (f : Frame s) where
       ap (λ (text : TableDesign → List ℕ). flat_map text tables) (λ i table. table_text_moved tables table i)
 
   -- ---- missing values
-  design_of_moved : (schemes : List Attributes) (tables : List TableDesign) → IsDesignOf s schemes tables
-      → IsDesignOf built schemes tables
-  design_of_moved schemes tables is =
-      record { plan = is.plan; same = is.same; sound = sound_design_moved is.plan tables is.sound }
+  design_of_moved : (names : GivenNames) (schemes : List Attributes) (tables : List TableDesign) → IsDesignOf s names schemes tables
+      → IsDesignOf built names schemes tables
+  design_of_moved names schemes tables is =
+      record { plan = is.plan; same = is.same; sound = sound_design_moved names is.plan tables is.sound }
 
-  never_missing_moved : (schemes : List Attributes) → AreNeverMissing s schemes → AreNeverMissing built schemes
-  never_missing_moved schemes (tables, is, never) = (
+  never_missing_moved : (names : GivenNames) (schemes : List Attributes) → AreNeverMissing s names schemes → AreNeverMissing built names schemes
+  never_missing_moved names schemes (tables, is, never) = (
     tables,
-    design_of_moved schemes tables is,
+    design_of_moved names schemes tables is,
     subst (λ (nullable : Attributes). NeverMissing nullable tables) f.nullable never,
   )
 
@@ -215,11 +217,11 @@ module _ (s : Schema) (f : Frame s) where
   refusal_text_moved tables (InKey a k) = refl
   refusal_text_moved tables (InTwo a j k) = refl
 
-  missing_stops_moved : (schemes : List Attributes) (response : ResponseValue) → MissingStops s schemes response
-      → MissingStops built schemes response
-  missing_stops_moved schemes response (tables, is, (refusal, finds, says)) = (
+  missing_stops_moved : (names : GivenNames) (schemes : List Attributes) (response : ResponseValue) → MissingStops s names schemes response
+      → MissingStops built names schemes response
+  missing_stops_moved names schemes response (tables, is, (refusal, finds, says)) = (
     tables,
-    design_of_moved schemes tables is,
+    design_of_moved names schemes tables is,
     (
       refusal,
       subst (λ (nullable : Attributes). FindsMissing nullable tables (Some refusal)) f.nullable finds,
@@ -227,71 +229,71 @@ module _ (s : Schema) (f : Frame s) where
     ),
   )
 
-  pub missing_moved : (schemes : List Attributes) (rest after : Allowed)
+  pub missing_moved : (names : GivenNames) (schemes : List Attributes) (rest after : Allowed)
       → ((response : ResponseValue) → rest response → after response)
-      → (response : ResponseValue) → WithoutMissing s schemes rest response
-      → WithoutMissing built schemes after response
-  missing_moved schemes rest after moves response (inl stops) = inl (missing_stops_moved schemes response stops)
-  missing_moved schemes rest after moves response (inr (never, answers)) =
-      inr (never_missing_moved schemes never, moves response answers)
+      → (response : ResponseValue) → WithoutMissing s names schemes rest response
+      → WithoutMissing built names schemes after response
+  missing_moved names schemes rest after moves response (inl stops) = inl (missing_stops_moved names schemes response stops)
+  missing_moved names schemes rest after moves response (inr (never, answers)) =
+      inr (never_missing_moved names schemes never, moves response answers)
 
   -- a plan in a form, and then the test for what may be missing
   pub plan_and_missing_moved : (form : Form) (rest after : List AttrSet → Allowed)
       → ((plan : List AttrSet) (response : ResponseValue) → rest plan response → after plan response)
       → (response : ResponseValue)
-      → WithPlanInForm s form (λ plan. WithoutMissing s (schemes_of plan) (rest plan)) response
-      → WithPlanInForm built form (λ plan. WithoutMissing built (schemes_of plan) (after plan)) response
+      → WithPlanInForm s form (λ plan. WithoutMissing s [] (schemes_of plan) (rest plan)) response
+      → WithPlanInForm built form (λ plan. WithoutMissing built [] (schemes_of plan) (after plan)) response
   plan_and_missing_moved form rest after moves =
-      with_plan_moved s f form (λ plan. WithoutMissing s (schemes_of plan) (rest plan))
-      (λ plan. WithoutMissing built (schemes_of plan) (after plan))
-      (λ plan. missing_moved (schemes_of plan) (rest plan) (after plan) (moves plan))
+      with_plan_moved s f form (λ plan. WithoutMissing s [] (schemes_of plan) (rest plan))
+      (λ plan. WithoutMissing built [] (schemes_of plan) (after plan))
+      (λ plan. missing_moved [] (schemes_of plan) (rest plan) (after plan) (moves plan))
 
   -- that test, and then the one for what a plan loses
-  missing_and_loss_moved : (schemes : List Attributes) (rest after : Allowed)
+  missing_and_loss_moved : (names : GivenNames) (schemes : List Attributes) (rest after : Allowed)
       → ((response : ResponseValue) → rest response → after response)
-      → (response : ResponseValue) → WithoutMissing s schemes (WithoutLoss s schemes rest) response
-      → WithoutMissing built schemes (WithoutLoss built schemes after) response
-  missing_and_loss_moved schemes rest after moves =
-      missing_moved schemes (WithoutLoss s schemes rest) (WithoutLoss built schemes after)
+      → (response : ResponseValue) → WithoutMissing s names schemes (WithoutLoss s schemes rest) response
+      → WithoutMissing built names schemes (WithoutLoss built schemes after) response
+  missing_and_loss_moved names schemes rest after moves =
+      missing_moved names schemes (WithoutLoss s schemes rest) (WithoutLoss built schemes after)
       (without_loss_moved s f schemes rest after moves)
 
   -- ---- answers of `ddl`
-  tables_written_moved : (plan : List AttrSet) (response : ResponseValue) → WritesTables s plan response
-      → WritesTables built plan response
-  tables_written_moved plan response (tables, sound, says) =
-      (tables, sound_design_moved plan tables sound, says ∙ ap (text_only Yes) (ddl_text_moved tables))
+  tables_written_moved : (names : GivenNames) (plan : List AttrSet) (response : ResponseValue) → WritesTables s names plan response
+      → WritesTables built names plan response
+  tables_written_moved names plan response (tables, sound, says) =
+      (tables, sound_design_moved names plan tables sound, says ∙ ap (text_only Yes) (ddl_text_moved tables))
 
   pub form_written_moved : (form : Form) (response : ResponseValue) → WritesForm s form response
       → WritesForm built form response
-  form_written_moved form = plan_and_missing_moved form (WritesTables s) (WritesTables built) tables_written_moved
+  form_written_moved form = plan_and_missing_moved form (WritesTables s []) (WritesTables built []) (tables_written_moved [])
 
-  schemes_written_moved : (plan : List Attributes) (response : ResponseValue) → WritesSchemes s plan response
-      → WritesSchemes built plan response
-  schemes_written_moved plan response (schemes, same, written) =
-      (schemes, same, tables_written_moved schemes response written)
+  schemes_written_moved : (names : GivenNames) (plan : List Attributes) (response : ResponseValue) → WritesSchemes s names plan response
+      → WritesSchemes built names plan response
+  schemes_written_moved names plan response (schemes, same, written) =
+      (schemes, same, tables_written_moved names schemes response written)
 
-  pub plan_written_moved : (plan : List Attributes) (response : ResponseValue) → WritesPlan s plan response
-      → WritesPlan built plan response
-  plan_written_moved plan =
-      missing_and_loss_moved plan (WritesSchemes s plan) (WritesSchemes built plan) (schemes_written_moved plan)
+  pub plan_written_moved : (names : GivenNames) (plan : List Attributes) (response : ResponseValue) → WritesPlan s names plan response
+      → WritesPlan built names plan response
+  plan_written_moved names plan =
+      missing_and_loss_moved names plan (WritesSchemes s names plan) (WritesSchemes built names plan) (schemes_written_moved names plan)
 
   -- ---- `draw`
   drawing_moved : (tables : List TableDesign) → drawing_text s tables ≡ drawing_text built tables
   unfolding node_text edge_text row_text printed_names_of
   drawing_moved tables = refl
 
-  tables_drawn_moved : (plan : List AttrSet) (response : ResponseValue) → DrawsTables s plan response
-      → DrawsTables built plan response
-  tables_drawn_moved plan response (tables, sound, says) =
-      (tables, sound_design_moved plan tables sound, says ∙ ap (text_only Yes) (drawing_moved tables))
+  tables_drawn_moved : (names : GivenNames) (plan : List AttrSet) (response : ResponseValue) → DrawsTables s names plan response
+      → DrawsTables built names plan response
+  tables_drawn_moved names plan response (tables, sound, says) =
+      (tables, sound_design_moved names plan tables sound, says ∙ ap (text_only Yes) (drawing_moved tables))
 
   pub form_drawn_moved : (form : Form) (response : ResponseValue) → DrawsForm s form response
       → DrawsForm built form response
-  form_drawn_moved form = with_plan_moved s f form (DrawsTables s) (DrawsTables built) tables_drawn_moved
+  form_drawn_moved form = with_plan_moved s f form (DrawsTables s []) (DrawsTables built []) (tables_drawn_moved [])
 
-  pub plan_drawn_moved : (plan : List Attributes) (response : ResponseValue) → DrawsSchemes s plan response
-      → DrawsSchemes built plan response
-  plan_drawn_moved plan response (schemes, same, drawn) = (schemes, same, tables_drawn_moved schemes response drawn)
+  pub plan_drawn_moved : (names : GivenNames) (plan : List Attributes) (response : ResponseValue) → DrawsSchemes s names plan response
+      → DrawsSchemes built names plan response
+  plan_drawn_moved names plan response (schemes, same, drawn) = (schemes, same, tables_drawn_moved names schemes response drawn)
 
   -- ---- `sql check`
   query_moved : (table : List ℕ) (d : Dependency) → check_query s table d ≡ check_query built table d
@@ -403,6 +405,15 @@ module _ (s : Schema) (f : Frame s) where
       → (response : ResponseValue) → WithTableName name rest response → WithTableName name after response
   with_name_moved name rest after moves response (inl stops) = inl stops
   with_name_moved name rest after moves response (inr (named, answers)) = inr (named, moves response answers)
+
+  -- a word that names another table than those of a plan
+  other_name_moved : (names : GivenNames) (name : List ℕ) (rest after : Allowed)
+      → ((response : ResponseValue) → rest response → after response)
+      → (response : ResponseValue)
+      → Unless (MetNameStops names name) (list_any (is_given (last_of (dotted_parts name))) names ≡ false) rest response
+      → Unless (MetNameStops names name) (list_any (is_given (last_of (dotted_parts name))) names ≡ false) after response
+  other_name_moved names name rest after moves response (inl stops) = inl stops
+  other_name_moved names name rest after moves response (inr (free, answers)) = inr (free, moves response answers)
 
   pub check_scripted_moved : (name : List ℕ) (response : ResponseValue) → ScriptsCheck s name response
       → ScriptsCheck built name response
@@ -545,11 +556,11 @@ module _ (s : Schema) (f : Frame s) where
       → migrate_text s table tables ≡ migrate_text built table tables
   migrate_text_moved table tables = ap script_text (migration_moved table tables)
 
-  tables_made_moved : (name : List ℕ) (plan : List AttrSet) (response : ResponseValue)
-      → MakesTables s name plan response → MakesTables built name plan response
-  tables_made_moved name plan response (tables, sound, (script, says)) = (
+  tables_made_moved : (names : GivenNames) (name : List ℕ) (plan : List AttrSet) (response : ResponseValue)
+      → MakesTables s names name plan response → MakesTables built names name plan response
+  tables_made_moved names name plan response (tables, sound, (script, says)) = (
     tables,
-    sound_design_moved plan tables sound,
+    sound_design_moved names plan tables sound,
     (
       script_moved (quoted_table name) tables script,
       says ∙ ap (text_only Yes) (migrate_text_moved (quoted_table name) tables),
@@ -560,16 +571,16 @@ module _ (s : Schema) (f : Frame s) where
       → ScriptsMigration s form name response → ScriptsMigration built form name response
   form_scripted_moved form name =
       with_name_moved name _ _
-      (plan_and_missing_moved form (MakesTables s name) (MakesTables built name) (tables_made_moved name))
+      (plan_and_missing_moved form (MakesTables s [] name) (MakesTables built [] name) (tables_made_moved [] name))
 
-  schemes_made_moved : (name : List ℕ) (plan : List Attributes) (response : ResponseValue)
-      → MakesSchemes s name plan response → MakesSchemes built name plan response
-  schemes_made_moved name plan response (schemes, same, made) =
-      (schemes, same, tables_made_moved name schemes response made)
+  schemes_made_moved : (names : GivenNames) (name : List ℕ) (plan : List Attributes) (response : ResponseValue)
+      → MakesSchemes s names name plan response → MakesSchemes built names name plan response
+  schemes_made_moved names name plan response (schemes, same, made) =
+      (schemes, same, tables_made_moved names name schemes response made)
 
-  pub plan_scripted_moved : (plan : List Attributes) (name : List ℕ) (response : ResponseValue)
-      → ScriptsMigrationByPlan s plan name response → ScriptsMigrationByPlan built plan name response
-  plan_scripted_moved plan name =
+  pub plan_scripted_moved : (names : GivenNames) (plan : List Attributes) (name : List ℕ) (response : ResponseValue)
+      → ScriptsMigrationByPlan s names plan name response → ScriptsMigrationByPlan built names plan name response
+  plan_scripted_moved names plan name =
       with_name_moved name _ _
-      (missing_and_loss_moved plan (MakesSchemes s name plan) (MakesSchemes built name plan)
-      (schemes_made_moved name plan))
+      (other_name_moved names name _ _ (missing_and_loss_moved names plan (MakesSchemes s names name plan) (MakesSchemes built names name plan)
+      (schemes_made_moved names name plan)))

@@ -40,7 +40,9 @@ use Rattle.proof_grammar.specs.declared.line_kind.LineKind.{LineKind}
 use Rattle.proof_grammar.specs.declared.line_kind.LineKind.TheVariants.{Blank, Opening, Certificate}
 use Rattle.schema_grammar.specs.Rests.{rest_from, ◌>>=◌}
 use Rattle.schema_printer.specs.Spelling.{printed_names_of}
-use Rattle.alike_laws.proofs.Derivations.{leaf_moved}
+use Rattle.alike_laws.proofs.Derivations.{leaf_moved, said}
+use Rattle.named_plans.specs.NamedPlans.{NamedSchemes}
+use Rattle.design_order.specs.Order.{AreNamesInOrder}
 use Rattle.alike_laws.proofs.Rebuilt.{Frame, rebuilt}
 
 module _ (s : Schema) (f : Frame s) where
@@ -133,14 +135,27 @@ module _ (s : Schema) (f : Frame s) where
       )
 
   -- ---- plans
-  pub with_plan_file_moved : (r : Reading) (name : List ℕ) (rest after : List Attributes → Allowed)
-      → ((plan : List Attributes) (response : ResponseValue) → rest plan response → after plan response)
+  pub with_plan_file_moved : (r : Reading) (name : List ℕ) (rest after : NamedSchemes → Allowed)
+      → ((plan : NamedSchemes) (response : ResponseValue) → rest plan response → after plan response)
       → (response : ResponseValue) → WithFile (plan_file s) r name rest response
       → WithFile (plan_file built) r name after response
   unfolding printed_names_of
   with_plan_file_moved r name rest after moves response (inl stops) = inl stops
   with_plan_file_moved r name rest after moves response (inr (plan, is, answers)) =
-      inr (plan, is, moves plan response answers)
+      inr (
+        plan,
+        record {
+          bytes = is.bytes;
+          content = is.content;
+          means = record {
+            read = is.means.read;
+            means = is.means.means;
+            schemes = is.means.schemes;
+            order = said s f (λ ds. AreNamesInOrder (width_of s) ds is.means.read.schemes is.means.read.names plan.names) is.means.order;
+          };
+        },
+        moves plan response answers,
+      )
 
   -- ---- rows
   fit_moved : (columns : List ℕ) (fields : List (List ℕ)) (a : ℕ) → FitsAt s columns fields a → FitsAt built columns fields a

@@ -23,7 +23,7 @@ use Rattle.named_tables.specs.Tables.{TableValue}
 use Rattle.schema_printer.specs.Spelling.{printed_names_of}
 use Rattle.table_join.specs.Answers.{GivesBack}
 use Rattle.table_join.specs.Tables.{PartialRelation}
-use Rattle.table_names.specs.TableNames.{table_name}
+use Rattle.table_names.specs.TableNames.{GivenNames, name_of_table}
 use Rattle.alike_laws.proofs.Derivations.{said, said_back}
 use Rattle.alike_laws.proofs.Implication.{dep_text_moved}
 use Rattle.alike_laws.proofs.Plans.{without_loss_moved}
@@ -73,37 +73,37 @@ module _ (s : Schema) (f : Frame s) where
   rows_moved rows = with_legal_moved rows (Says Yes legal_text) (Says Yes legal_text) (λ response says. says)
 
   -- ---- `migrate`
-  tables_same : (rows : Relation) (number : ℕ) (plan : List Attributes)
-      → tables_from s rows number plan ≡ tables_from built rows number plan
-  tables_same rows number [] = refl
-  tables_same rows number (scheme ∷ plan) =
+  tables_same : (names : GivenNames) (rows : Relation) (number : ℕ) (plan : List Attributes)
+      → tables_from s names rows number plan ≡ tables_from built names rows number plan
+  tables_same names rows number [] = refl
+  tables_same names rows number (scheme ∷ plan) =
       ap₂ (λ (nullable : Attributes) (tables : List TableValue).
       record {
-        name = table_name number;
+        name = name_of_table names number;
         columns = column_names s scheme;
         nullable = map nullable (members_below (width_of s) scheme);
         rows = ordered_projection scheme rows;
-      } ∷ tables) f.nullable (tables_same rows (number + 1) plan)
+      } ∷ tables) f.nullable (tables_same names rows (number + 1) plan)
 
-  tables_moved : (plan : List Attributes) (rows : Relation) (tables : List TableValue)
-      → AreTablesOf s plan rows tables → AreTablesOf built plan rows tables
-  tables_moved plan rows tables are = record {
+  tables_moved : (names : GivenNames) (plan : List Attributes) (rows : Relation) (tables : List TableValue)
+      → AreTablesOf s names plan rows tables → AreTablesOf built names plan rows tables
+  tables_moved names plan rows tables are = record {
     ordered = are.ordered;
     order = said s f (λ ds. IsInDesignOrder (width_of s) ds plan are.ordered) are.order;
-    projections = are.projections ∙ tables_same rows 1 are.ordered;
+    projections = are.projections ∙ tables_same names rows 0 are.ordered;
     joins = are.joins;
   }
 
-  pub migrated_moved : (plan : List Attributes) (rows : Relation) (response : ResponseValue)
-      → MigratesRows s plan rows response → MigratesRows built plan rows response
-  migrated_moved plan rows =
-      with_legal_moved rows (GivesTables s plan rows) (GivesTables built plan rows)
-      (λ response given. (given.0, tables_moved plan rows given.0 given.1, given.2))
+  pub migrated_moved : (names : GivenNames) (plan : List Attributes) (rows : Relation) (response : ResponseValue)
+      → MigratesRows s names plan rows response → MigratesRows built names plan rows response
+  migrated_moved names plan rows =
+      with_legal_moved rows (GivesTables s names plan rows) (GivesTables built names plan rows)
+      (λ response given. (given.0, tables_moved names plan rows given.0 given.1, given.2))
 
-  pub plan_migrated_moved : (plan : List Attributes) (rows : Relation) (response : ResponseValue)
-      → MigratesPlan s plan rows response → MigratesPlan built plan rows response
-  plan_migrated_moved plan rows =
-      without_loss_moved s f plan (MigratesRows s plan rows) (MigratesRows built plan rows) (migrated_moved plan rows)
+  pub plan_migrated_moved : (names : GivenNames) (plan : List Attributes) (rows : Relation) (response : ResponseValue)
+      → MigratesPlan s names plan rows response → MigratesPlan built names plan rows response
+  plan_migrated_moved names plan rows =
+      without_loss_moved s f plan (MigratesRows s names plan rows) (MigratesRows built names plan rows) (migrated_moved names plan rows)
 
   -- ---- `rejoin`
   pub rejoined_moved : (tables : List PartialRelation) (response : ResponseValue) → JoinsTables s tables response

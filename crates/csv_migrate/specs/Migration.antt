@@ -8,7 +8,7 @@ use Rattle.dep_model.specs.Projections.{ordered_projection, members_below, InJoi
 use Rattle.dep_model.specs.Schemas.{names_of, width_of, nullable_of}
 use Rattle.dep_model.specs.declared.schema.Schema.{Schema}
 use Rattle.schema_printer.specs.Printing.{members_from}
-use Rattle.table_names.specs.TableNames.{table_name}
+use Rattle.table_names.specs.TableNames.{GivenNames, name_of_table}
 use Rattle.named_tables.specs.Tables.{TableValue}
 use Rattle.named_tables.specs.declared.table.ChosenTable.{ChosenTable}
 
@@ -20,25 +20,26 @@ column_names schema scheme = members_from scheme 0 (names_of schema)
 abbrev pub nullable_columns : Schema → Attributes → List Bool
 nullable_columns schema scheme = map (nullable_of schema) (members_below (width_of schema) scheme)
 
--- the table of a scheme: its attributes are the columns, and each distinct projection of the rows
+-- the table of a scheme, at a position: its attributes are the columns, and each distinct projection of the rows
 -- stands in it once, at its first occurrence
-abbrev pub table_of : Schema → Relation → ℕ → Attributes → TableValue
-table_of schema rows number scheme = record {
-  name = table_name number;
+abbrev pub table_of : Schema → GivenNames → Relation → ℕ → Attributes → TableValue
+table_of schema names rows position scheme = record {
+  name = name_of_table names position;
   columns = column_names schema scheme;
   nullable = nullable_columns schema scheme;
   rows = ordered_projection scheme rows;
 }
 
--- the tables of schemes, in order, numbered from this number on
-abbrev pub tables_from : Schema → Relation → ℕ → List Attributes → List TableValue
-tables_from schema rows number [] = []
-tables_from schema rows number (scheme ∷ schemes) =
-    table_of schema rows number scheme ∷ tables_from schema rows (number + 1) schemes
+-- the tables of schemes, in order, from this position on
+abbrev pub tables_from : Schema → GivenNames → Relation → ℕ → List Attributes → List TableValue
+tables_from schema names rows position [] = []
+tables_from schema names rows position (scheme ∷ schemes) =
+    table_of schema names rows position scheme ∷ tables_from schema names rows (position + 1) schemes
 
--- the tables of a migration: one of each scheme of the plan, in order, named `t1`, `t2` and so on
-abbrev pub tables_of_migration : Schema → List Attributes → Relation → List TableValue
-tables_of_migration schema plan rows = tables_from schema rows 1 plan
+-- the tables of a migration: one of each scheme of the plan, in order, with the names that are given, or else named
+-- by their numbers
+abbrev pub tables_of_migration : Schema → GivenNames → List Attributes → Relation → List TableValue
+tables_of_migration schema names plan rows = tables_from schema names rows 0 plan
 
 -- the schemes of tables
 abbrev pub schemes_in : List ChosenTable → List AttrSet

@@ -17,17 +17,18 @@ use named_tables::{ChosenTable, ChosenTables};
 use plans::Plan;
 use row_store::{Hashing, Rows};
 use std::alloc::Global;
-use table_names::{MOST_TABLES, table_name};
+use table_names::{MOST_TABLES, name_of_table};
 
 /// For each scheme of a plan, in order, the table of the distinct projections of the rows on it, each at
-/// the position of its first occurrence. The tables are named `t1`, `t2` and so on; the columns of a table
-/// are the attributes of its scheme, ascending. If the rows are legal and the plan is lossless, the
+/// the position of its first occurrence. The tables have the names that are given to them in order, and `t1`,
+/// `t2` and so on where none is; the columns of a table are the attributes of its scheme, ascending. If the rows are legal and the plan is lossless, the
 /// natural join of the tables is exactly the rows.
 pub fn tables(
     alloc: Global,
     hashing: Hashing,
     schema: &Schema,
     plan: &Plan,
+    names: &[Option<Name>],
     rows: Rows,
 ) -> Result<ChosenTables, OutOfMemory>
     requires over { IsOver (width_of schema.now) rows }
@@ -36,13 +37,13 @@ pub fn tables(
     requires within_limit { length (scheme_sets plan.now) ≤ MOST_TABLES }
     ensures rows { IfOk result (λ v. v.rows ≡ rows) }
     ensures tables { IfOk result (λ v.
-        table_values v ≡ tables_of_migration schema.now (plan_of plan.now) rows) }
+        table_values v ≡ tables_of_migration schema.now names.now (plan_of plan.now) rows) }
     ensures schemes { IfOk result (λ v. schemes_in v.tables.items ≡ scheme_sets plan.now) }
     ensures joins { LegalFor schema.now rows
         → IsLossless (width_of schema.now) (theory_of schema.now) (plan_of plan.now)
         → IfOk result (λ v. JoinIs (width_of schema.now) (plan_of plan.now) (table_values v) rows) }
 {
-    let tables = tables_of(alloc, hashing, schema, plan, &rows)?;
+    let tables = tables_of(alloc, hashing, schema, plan, names, &rows)?;
     Ok(ChosenTables { rows, tables })
 }
 
@@ -52,6 +53,7 @@ fn tables_of(
     hashing: Hashing,
     schema: &Schema,
     plan: &Plan,
+    names: &[Option<Name>],
     rows: &Rows,
 ) -> Result<Vec<ChosenTable>, OutOfMemory>
     requires over { IsOver (width_of schema.now) rows.now }
@@ -59,7 +61,7 @@ fn tables_of(
     requires universe { IsPlanOver schema.now plan.now }
     requires within_limit { length (scheme_sets plan.now) ≤ MOST_TABLES }
     ensures tables { IfOk result (λ v.
-        chosen_values rows.now v.items ≡ tables_of_migration schema.now (plan_of plan.now) rows.now) }
+        chosen_values rows.now v.items ≡ tables_of_migration schema.now names.now (plan_of plan.now) rows.now) }
     ensures schemes { IfOk result (λ v. schemes_in v.items ≡ scheme_sets plan.now) }
     ensures even { IfOk result (λ v. All (HasRows rows.now) v.items) }
 {
@@ -67,33 +69,35 @@ fn tables_of(
     let schemes = plan.schemes();
     let mut tables = Vec::with_capacity(alloc, schemes.len())?;
     for k in 0..schemes.len() {
-        let table = table(alloc, schema, rows, &codes, k as u32 + 1, schemes[k])?;
+        let table = table(alloc, schema, names, rows, &codes, k as u32, schemes[k])?;
         tables.push(table)?;
     }
     Ok(tables)
 }
 
-// The table of this number, on a scheme.
+// The table at this position, on a scheme.
 fn table(
     alloc: Global,
     schema: &Schema,
+    names: &[Option<Name>],
     rows: &Rows,
     codes: &Interned,
-    number: u32,
+    position: u32,
     scheme: AttrSet,
 ) -> Result<ChosenTable, OutOfMemory>
     requires over { IsOver (width_of schema.now) rows.now }
     requires codes { IsInterned (width_of schema.now) rows.now codes.now }
     requires scheme { IsSubset (attributes scheme) (below (width_of schema.now)) }
+    requires within_limit { position < MOST_TABLES }
     ensures value { IfOk result (λ t. chosen_value rows.now t
-        ≡ table_of schema.now rows.now number (attributes scheme)) }
+        ≡ table_of schema.now names.now rows.now position (attributes scheme)) }
     ensures scheme { IfOk result (λ t. t.scheme ≡ scheme) }
     ensures even { IfOk result (λ t. HasRows rows.now t) }
 {
     let groups = Groups::by_agreement(alloc, codes, scheme)?;
     let columns = columns(alloc, schema, scheme)?;
     let nullable = nullable_columns(alloc, schema, scheme)?;
-    let name = table_name(number);
+    let name = name_of_table(names, position);
     Ok(ChosenTable {
         name,
         columns,

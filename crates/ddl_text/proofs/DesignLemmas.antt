@@ -18,6 +18,7 @@ use Rattle.dep_model.specs.Schemas.{width_of, universe_of, theory_of, nullable_o
 use Rattle.dep_model.proofs.DistinctLemmas.{filter-member}
 use Rattle.dep_model.proofs.ListLemmas.{map-member}
 use Rattle.primary_keys.specs.PrimaryKeys.{IsPrimaryKey}
+use Rattle.table_names.specs.TableNames.{GivenNames}
 use Rattle.ddl_text.specs.declared.table.TableDesign.{TableDesign}
 use Rattle.ddl_text.specs.Designs.{RefersTo, AreReferences, AreOtherKeys, known_keys, IsTableOf, IsDesign, ReferToEarlier}
 use Rattle.ddl_text.specs.Laws.{KeysHold, OtherKeysHold, ReferencesHold}
@@ -125,10 +126,10 @@ references_passed tables i d scheme refs lt are not = rw (take_more tables i d l
 
 -- ---- tables
 
-design_push : (s : Schema) (schemes : List AttrSet) (tables : List TableDesign) (scheme : AttrSet)
-    (table : TableDesign) → IsDesign s schemes tables → IsTableOf s tables scheme table
-    → IsDesign s (schemes ++ scheme ∷ []) (tables ++ table ∷ [])
-design_push s schemes tables scheme table design last = record {
+design_push : (s : Schema) (names : GivenNames) (schemes : List AttrSet) (tables : List TableDesign) (scheme : AttrSet)
+    (table : TableDesign) → IsDesign s names schemes tables → IsTableOf s names tables scheme table
+    → IsDesign s names (schemes ++ scheme ∷ []) (tables ++ table ∷ [])
+design_push s names schemes tables scheme table design last = record {
   one_each = omega (arith, length_push tables table, length_push schemes scheme, design.one_each);
   each = λ k lt d t. elim (cases_lt k (length schemes)) [
     | inl before ↦
@@ -152,11 +153,11 @@ design_push s schemes tables scheme table design last = record {
 }
 
 -- the schemes before a position and the one that is there
-pub design_more : (s : Schema) (schemes : List AttrSet) (i : ℕ) (d : AttrSet) (tables : List TableDesign)
-    (table : TableDesign) → i < length schemes → IsDesign s (take i schemes) tables
-    → IsTableOf s tables (get_or schemes i d) table → IsDesign s (take (i + 1) schemes) (tables ++ table ∷ [])
-design_more s schemes i d tables table lt design last = rw (take_more schemes i d lt)
-    (design_push s (take i schemes) tables (get_or schemes i d) table design last)
+pub design_more : (s : Schema) (names : GivenNames) (schemes : List AttrSet) (i : ℕ) (d : AttrSet) (tables : List TableDesign)
+    (table : TableDesign) → i < length schemes → IsDesign s names (take i schemes) tables
+    → IsTableOf s names tables (get_or schemes i d) table → IsDesign s names (take (i + 1) schemes) (tables ++ table ∷ [])
+design_more s names schemes i d tables table lt design last = rw (take_more schemes i d lt)
+    (design_push s names (take i schemes) tables (get_or schemes i d) table design last)
 
 -- ---- other keys
 other_key : (s : Schema) (scheme key : Attributes) (others : Option (Vec AttrSet Global)) (k : Attributes)
@@ -173,20 +174,20 @@ other_key s scheme key (Some keys) k (inr listed) has =
     (All-contains (λ (j : AttrSet). IsKey (width_of s) (theory_of s) scheme (attributes j)) all.0 from.0 all.1.each at.0)
 
 -- ---- each table of a design
-table_at : (s : Schema) (schemes : List AttrSet) (tables : List TableDesign) (k : ℕ) (table : TableDesign)
-    → IsDesign s schemes tables → slice_get tables k ≡ Some table
-    → IsTableOf s (take k tables) (get_or schemes k table.scheme) table
-table_at s schemes tables k table design at =
+table_at : (s : Schema) (names : GivenNames) (schemes : List AttrSet) (tables : List TableDesign) (k : ℕ) (table : TableDesign)
+    → IsDesign s names schemes tables → slice_get tables k ≡ Some table
+    → IsTableOf s names (take k tables) (get_or schemes k table.scheme) table
+table_at s names schemes tables k table design at =
     let lt = slice_get_within tables k table at in
-    subst (λ (t : TableDesign). IsTableOf s (take k tables) (get_or schemes k table.scheme) t)
+    subst (λ (t : TableDesign). IsTableOf s names (take k tables) (get_or schemes k table.scheme) t)
     (get_or_from_slice_get tables k table table at)
     (design.each k (omega (arith, lt, design.one_each)) table.scheme table)
 
-pub design_earlier : (s : Schema) (schemes : List AttrSet) (tables : List TableDesign) → IsDesign s schemes tables
+pub design_earlier : (s : Schema) (names : GivenNames) (schemes : List AttrSet) (tables : List TableDesign) → IsDesign s names schemes tables
     → ReferToEarlier tables
-design_earlier s schemes tables design k table at =
+design_earlier s names schemes tables design k table at =
     let refs = table.refs.items in
-    let is = table_at s schemes tables k table design at in
+    let is = table_at s names schemes tables k table design at in
     let long : length (take k tables) ≡ k = length-take-le k tables
     (omega (arith, slice_get_within tables k table at)) in
     All-weaker (Contains refs) (λ (j : ℕ). j < k)
@@ -201,20 +202,20 @@ design_earlier s schemes tables design k table at =
 slice_get-member : {X : Type 0} (xs : List X) (x : X) (has : Contains xs x) → slice_get xs has.0 ≡ Some x
 slice_get-member xs x has = slice_get-get_or xs has.0 x has.1 ∙ ap Some has.2
 
-pub design_keys : (s : Schema) (schemes : List AttrSet) (tables : List TableDesign) → IsDesign s schemes tables
+pub design_keys : (s : Schema) (names : GivenNames) (schemes : List AttrSet) (tables : List TableDesign) → IsDesign s names schemes tables
     → All (λ (scheme : AttrSet). IsSubset (attributes scheme) (universe_of s)) schemes → KeysHold s tables
-design_keys s schemes tables design within r legal table has =
-    let is = table_at s schemes tables has.0 table design (slice_get-member tables table has) in
+design_keys s names schemes tables design within r legal table has =
+    let is = table_at s names schemes tables has.0 table design (slice_get-member tables table has) in
     let inside = within has.0 table.scheme (omega (arith, has.1, design.one_each)) in
     key_holds (width_of s) (theory_of s) (nullable_of s) (attributes table.scheme) (attributes table.key) r
     (subst (λ (x : AttrSet). IsSubset (attributes x) (universe_of s)) (sym is.columns) inside) legal
     (subst (λ (x : AttrSet). IsPrimaryKey (width_of s) (theory_of s) (nullable_of s) (attributes x)
     (attributes table.key)) (sym is.columns) is.key)
 
-pub design_other_keys : (s : Schema) (schemes : List AttrSet) (tables : List TableDesign) → IsDesign s schemes tables
+pub design_other_keys : (s : Schema) (names : GivenNames) (schemes : List AttrSet) (tables : List TableDesign) → IsDesign s names schemes tables
     → All (λ (scheme : AttrSet). IsSubset (attributes scheme) (universe_of s)) schemes → OtherKeysHold s tables
-design_other_keys s schemes tables design within r legal table has key named =
-    let is = table_at s schemes tables has.0 table design (slice_get-member tables table has) in
+design_other_keys s names schemes tables design within r legal table has key named =
+    let is = table_at s names schemes tables has.0 table design (slice_get-member tables table has) in
     let inside = within has.0 table.scheme (omega (arith, has.1, design.one_each)) in
     let is_key = other_key s (attributes (get_or schemes has.0 table.scheme)) (attributes table.key) table.other_keys key is.other_keys named in
     is_key_holds (width_of s) (theory_of s) (attributes table.scheme) key r
@@ -231,11 +232,11 @@ referred_table scheme tables k j other refers at =
     ∙ ap (λ (ts : List TableDesign). slice_get ts j) (take-append-drop k tables) ∙ at in
     subst (IsReferred scheme) same refers
 
-pub design_references : (s : Schema) (schemes : List AttrSet) (tables : List TableDesign)
-    → IsDesign s schemes tables → ReferencesHold s tables
-design_references s schemes tables design r legal table other j has named at =
-    let is = table_at s schemes tables has.0 table design (slice_get-member tables table has) in
-    let other_is = table_at s schemes tables j other design at in
+pub design_references : (s : Schema) (names : GivenNames) (schemes : List AttrSet) (tables : List TableDesign)
+    → IsDesign s names schemes tables → ReferencesHold s tables
+design_references s names schemes tables design r legal table other j has named at =
+    let is = table_at s names schemes tables has.0 table design (slice_get-member tables table has) in
+    let other_is = table_at s names schemes tables j other design at in
     let refers = referred_table (attributes (get_or schemes has.0 table.scheme)) tables has.0 j other
     ((is.refs.exactly j).0 named) at in
     reference_holds (attributes table.scheme) (attributes other.scheme) (attributes other.key) r

@@ -12,7 +12,7 @@ use Rattle.fd_closure.specs.LeftSides.{IsWide}
 use Rattle.key_listing.specs.declared.refusal.TheConstants.{MOST_KEYS}
 use Rattle.key_listing.specs.Listing.{AreAllKeys, AreManyKeys}
 use Rattle.primary_keys.specs.PrimaryKeys.{IsPrimaryKey}
-use Rattle.table_names.specs.TableNames.{table_name}
+use Rattle.table_names.specs.TableNames.{GivenNames, name_of_table}
 use Rattle.ddl_text.specs.declared.table.TableDesign.{TableDesign}
 
 -- a scheme refers to a table whose key is not empty and lies within it
@@ -52,20 +52,21 @@ abbrev pub known_keys : Option (Vec AttrSet Global) → List Attributes
 known_keys None = []
 known_keys (Some keys) = schemes_of keys.items
 
--- the table of a scheme, after the earlier ones
-pub record IsTableOf (s : Schema) (earlier : List TableDesign) (scheme : AttrSet) (table : TableDesign)
+-- the table of a scheme, after the earlier ones, with the name that is given to it, or else that of its number
+pub record IsTableOf (s : Schema) (names : GivenNames) (earlier : List TableDesign) (scheme : AttrSet) (table : TableDesign)
     : Type 0 where
-  pub name : table.name ≡ table_name (length earlier + 1)
+  pub number : table.number ≡ length earlier + 1
+  pub name : table.name ≡ name_of_table names (length earlier)
   pub columns : table.scheme ≡ scheme
   pub key : IsPrimaryKey (width_of s) (theory_of s) (nullable_of s) (attributes scheme) (attributes table.key)
   pub other_keys : AreOtherKeys s (attributes scheme) (attributes table.key) table.other_keys
   pub refs : AreReferences earlier (attributes scheme) table.refs.items
 
 -- the design of a plan: a table for each scheme, in order
-pub record IsDesign (s : Schema) (schemes : List AttrSet) (tables : List TableDesign) : Type 0 where
+pub record IsDesign (s : Schema) (names : GivenNames) (schemes : List AttrSet) (tables : List TableDesign) : Type 0 where
   pub one_each : length tables ≡ length schemes
   pub each : (k : ℕ) → k < length schemes → (scheme : AttrSet) (table : TableDesign)
-      → IsTableOf s (take k tables) (slice_index_or schemes k scheme) (slice_index_or tables k table)
+      → IsTableOf s names (take k tables) (slice_index_or schemes k scheme) (slice_index_or tables k table)
 
 -- each reference of a table names an earlier one
 abbrev pub ReferToEarlier : List TableDesign → Type 0

@@ -10,12 +10,12 @@ ghost use Rattle.ddl_text.specs.Laws.{KeysHold, OtherKeysHold, ReferencesHold};
 use crate::TableDesign;
 use crate::other_keys::other_keys;
 use attr_sets::AttrSet;
-use dep_model::{OutOfMemory, Schema};
+use dep_model::{Name, OutOfMemory, Schema};
 use plans::Plan;
 use primary_keys::primary_key;
 use std::alloc::Global;
 use std::marker::Model;
-use table_names::table_name;
+use table_names::name_of_table;
 
 /// Tables, of which each refers to earlier ones alone.
 #[derive(Debug, Drop)]
@@ -45,20 +45,25 @@ impl DesignList {
     }
 }
 
-/// The tables of a plan, one for each scheme, in order. They are named `t1`, `t2` and so on. The key of a
-/// table is the primary key of its scheme, of which no value may be missing where some key of the scheme is
+/// The tables of a plan, one for each scheme, in order. They have the names that are given to them in order, and
+/// `t1`, `t2` and so on where none is. The key of a table is the primary key of its scheme, of which no value may be missing where some key of the scheme is
 /// so. Its other keys are those that `key_listing::keys_of_scheme` lists beside
 /// this one; they are not looked for where that is refused and the key is not empty. It refers to each earlier
 /// table whose key lies within its scheme and is not empty.
-pub fn design(alloc: Global, schema: &Schema, plan: &Plan) -> Result<DesignList, OutOfMemory>
+pub fn design(
+    alloc: Global,
+    schema: &Schema,
+    plan: &Plan,
+    names: &[Option<Name>],
+) -> Result<DesignList, OutOfMemory>
     requires universe { IsPlanOver schema.now plan.now }
     requires within_limit { length (scheme_sets plan.now) ≤ MOST_TABLES }
-    ensures design { IfOk result (λ tables. IsDesign schema.now (scheme_sets plan.now) tables) }
+    ensures design { IfOk result (λ tables. IsDesign schema.now names.now (scheme_sets plan.now) tables) }
     ensures keys_hold { IfOk result (λ tables. KeysHold schema.now tables) }
     ensures other_keys_hold { IfOk result (λ tables. OtherKeysHold schema.now tables) }
     ensures references_hold { IfOk result (λ tables. ReferencesHold schema.now tables) }
 {
-    let tables = tables_of(alloc, schema, plan.schemes())?;
+    let tables = tables_of(alloc, schema, names, plan.schemes())?;
     Ok(DesignList { tables })
 }
 
@@ -66,16 +71,17 @@ pub fn design(alloc: Global, schema: &Schema, plan: &Plan) -> Result<DesignList,
 fn tables_of(
     alloc: Global,
     schema: &Schema,
+    names: &[Option<Name>],
     schemes: &[AttrSet],
 ) -> Result<Vec<TableDesign>, OutOfMemory>
     requires within { All (λ scheme. IsSubset (attributes scheme)
         (universe_of schema.now)) schemes.now }
     requires within_limit { length schemes.now ≤ MOST_TABLES }
-    ensures design { IfOk result (λ tables. IsDesign schema.now schemes.now tables.items) }
+    ensures design { IfOk result (λ tables. IsDesign schema.now names.now schemes.now tables.items) }
 {
     let mut tables = Vec::new(alloc);
     for scheme in schemes {
-        let table = table_of(alloc, schema, &tables, *scheme)?;
+        let table = table_of(alloc, schema, names, &tables, *scheme)?;
         tables.push(table)?;
     }
     Ok(tables)
@@ -85,16 +91,18 @@ fn tables_of(
 fn table_of(
     alloc: Global,
     schema: &Schema,
+    names: &[Option<Name>],
     earlier: &[TableDesign],
     scheme: AttrSet,
 ) -> Result<TableDesign, OutOfMemory>
     requires scheme { IsSubset (attributes scheme) (universe_of schema.now) }
     requires within_limit { length earlier.now < MOST_TABLES }
-    ensures table { IfOk result (IsTableOf schema.now earlier.now scheme) }
+    ensures table { IfOk result (IsTableOf schema.now names.now earlier.now scheme) }
 {
     let key = primary_key(schema, scheme);
     Ok(TableDesign {
-        name: table_name(earlier.len() as u32 + 1),
+        number: earlier.len() as u32 + 1,
+        name: name_of_table(names, earlier.len() as u32),
         scheme,
         key,
         other_keys: other_keys(alloc, schema, scheme, key)?,

@@ -4,6 +4,8 @@ use dep_model::Name;
 /// A table for a scheme.
 #[derive(Debug, Drop)]
 pub struct TableDesign {
+    /// Its number in the design, from 1.
+    pub number: u32,
     pub name: Name,
     /// The attributes of its columns.
     pub scheme: AttrSet,

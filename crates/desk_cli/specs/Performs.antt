@@ -1,9 +1,9 @@
 -- Which answers a command allows, and the words that form it: for `desk`, by `Desk`.
 use Rattle.std.specs.Prelude.{ℕ, List, [], ◌∷◌, MatchOption}
-use Rattle.attr_sets.specs.Attributes.{Attributes}
 use Rattle.dep_model.specs.Tuples.{Relation}
 use Rattle.dep_model.specs.declared.schema.Schema.{Schema}
 use Rattle.table_join.specs.Tables.{tables_of}
+use Rattle.named_plans.specs.NamedPlans.{NamedSchemes}
 use Rattle.desk_responses.specs.declared.status.Status.TheVariants.{Yes, Refused}
 use Rattle.desk_responses.specs.ResponseValues.{Allowed, Says}
 use Rattle.desk_implication.specs.Bases.{GivesBasis}
@@ -75,14 +75,14 @@ AnswersSchema schema (form.sql_migrate normal name) = ScriptsMigration schema no
 AnswersSchema schema (form.draw normal) = DrawsForm schema normal
 
 -- what is asked of a schema and a plan
-unfoldable pub AnswersPlan : Schema → List Attributes → PlanQuestion → Allowed
-AnswersPlan schema plan form.check_join = JudgesJoin schema plan
-AnswersPlan schema plan (form.check_form normal) = JudgesForm schema normal plan
-AnswersPlan schema plan form.check_keeps = JudgesKeeping schema plan
-AnswersPlan schema plan form.keys_of_plan = ListsKeysOfPlan schema plan
-AnswersPlan schema plan form.ddl_plan = WritesPlan schema plan
-AnswersPlan schema plan (form.sql_migrate_plan name) = ScriptsMigrationByPlan schema plan name
-AnswersPlan schema plan form.draw_plan = DrawsSchemes schema plan
+unfoldable pub AnswersPlan : Schema → NamedSchemes → PlanQuestion → Allowed
+AnswersPlan schema plan form.check_join = JudgesJoin schema plan.schemes
+AnswersPlan schema plan (form.check_form normal) = JudgesForm schema normal plan.schemes
+AnswersPlan schema plan form.check_keeps = JudgesKeeping schema plan.schemes
+AnswersPlan schema plan form.keys_of_plan = ListsKeysOfPlan schema plan.schemes
+AnswersPlan schema plan form.ddl_plan = WritesPlan schema plan.names plan.schemes
+AnswersPlan schema plan (form.sql_migrate_plan name) = ScriptsMigrationByPlan schema plan.names plan.schemes name
+AnswersPlan schema plan form.draw_plan = DrawsSchemes schema plan.names plan.schemes
 
 -- what is asked of a schema and rows
 unfoldable pub AnswersRows : Schema → Relation → RowsQuestion → Allowed
@@ -109,12 +109,13 @@ Does looks r schema (form.migrate own file normal) =
     WithFile (rows_file schema) r file (MigratesHere schema normal (own ∷ file ∷ []))
 Does looks r schema (form.migrate_plan own planned file) =
     WithFile (plan_file schema) r planned
-    (λ plan. WithFile (rows_file schema) r file (MigratesPlanHere schema plan (own ∷ planned ∷ file ∷ [])))
+    (λ plan. WithFile (rows_file schema) r file
+    (MigratesPlanHere schema plan.names plan.schemes (own ∷ planned ∷ file ∷ [])))
 Does looks r schema (form.migrate_into file normal folder) =
     WithFile (rows_file schema) r file (MigratesInto looks schema normal folder)
 Does looks r schema (form.migrate_plan_into planned file folder) =
     WithFile (plan_file schema) r planned
-    (λ plan. WithFile (rows_file schema) r file (MigratesPlanInto looks schema plan folder))
+    (λ plan. WithFile (rows_file schema) r file (MigratesPlanInto looks schema plan.names plan.schemes folder))
 Does looks r schema (form.check_proof file goal) =
     WithFile (proof_file schema) r file (λ tree. ChecksProof schema tree goal)
 Does looks r schema (form.check_derivation file goal) =

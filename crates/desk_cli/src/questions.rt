@@ -4,12 +4,13 @@ ghost use Rattle.std.specs.Prelude.{◌≤◌, ◌<◌, ◌^◌, length};
 ghost use Rattle.dep_model.specs.Projections.{Covers};
 ghost use Rattle.dep_model.specs.Schemas.{width_of};
 ghost use Rattle.dep_model.specs.Tuples.{IsOver};
+ghost use Rattle.named_plans.specs.NamedPlans.{named_schemes};
 ghost use Rattle.plans.specs.Plans.{IsPlanOver, plan_of};
 ghost use Rattle.desk_words.specs.Commands.{plan_question, rows_question, schema_question};
 ghost use Rattle.desk_cli.specs.Performs.{AnswersPlan, AnswersRows, AnswersSchema};
 ghost use Rattle.desk_responses.specs.Responses.{RespondsAs};
 
-use dep_model::Schema;
+use dep_model::{Name, Schema};
 use desk_covers::{cover, explain_cover};
 use desk_designs::{
     check_form, check_join, check_keeps, draw_form, draw_plan, script_check, script_migration,
@@ -24,8 +25,8 @@ use desk_reasons::{explain_split, explain_synthesis};
 use desk_responses::{EarlyExit, Response};
 use desk_tables::check_rows;
 use desk_words::{PlanQuestion, RowsQuestion, SchemaQuestion};
+use named_plans::NamedPlan;
 use plan_reader::MOST_SCHEMES;
-use plans::Plan;
 use row_store::{Hashing, Rows};
 use std::alloc::Global;
 
@@ -66,23 +67,27 @@ pub fn answer_schema(
 pub fn answer_plan(
     alloc: Global,
     schema: &Schema,
-    plan: &Plan,
+    planned: &NamedPlan,
     question: PlanQuestion<'_>,
 ) -> Result<Response, EarlyExit>
-    requires universe { IsPlanOver schema.now plan.now }
-    requires within_limit { length (plan_of plan.now) ≤ MOST_SCHEMES }
-    requires covers { Covers (width_of schema.now) (plan_of plan.now) }
+    requires universe { IsPlanOver schema.now planned.now.plan }
+    requires within_limit { length (plan_of planned.now.plan) ≤ MOST_SCHEMES }
+    requires covers { Covers (width_of schema.now) (plan_of planned.now.plan) }
     ensures response { RespondsAs
-        (AnswersPlan schema.now (plan_of plan.now) (plan_question question.entry)) result }
+        (AnswersPlan schema.now (named_schemes planned.now) (plan_question question.entry)) result }
 {
+    let plan = &planned.plan;
+    let names: &[Option<Name>] = &planned.names;
     match question {
         PlanQuestion::CheckJoin => check_join(alloc, schema, plan),
         PlanQuestion::CheckForm { form } => check_form(alloc, schema, form, plan),
         PlanQuestion::CheckKeeps => check_keeps(alloc, schema, plan),
         PlanQuestion::Keys => list_keys_of_plan(alloc, schema, plan),
-        PlanQuestion::Ddl => write_plan(alloc, schema, plan),
-        PlanQuestion::SqlMigrate { name } => script_migration_by_plan(alloc, schema, plan, name),
-        PlanQuestion::Draw => draw_plan(alloc, schema, plan),
+        PlanQuestion::Ddl => write_plan(alloc, schema, plan, names),
+        PlanQuestion::SqlMigrate { name } => {
+            script_migration_by_plan(alloc, schema, plan, names, name)
+        }
+        PlanQuestion::Draw => draw_plan(alloc, schema, plan, names),
     }
 }
 

@@ -239,7 +239,7 @@ fn of_plan_and_rows<F: FileSource>(
     ensures response { (r : Reading) → Shows F.files F.faults F.taken F.begun source.old source.new r
         → RespondsAs (WithFile (plan_file schema.now) r planned.now
         (λ plan. WithFile (rows_file schema.now) r file.now
-        (MigratesPlanHere schema.now plan (own.now ∷ planned.now ∷ file.now ∷ [])))) result }
+        (MigratesPlanHere schema.now plan.names plan.schemes (own.now ∷ planned.now ∷ file.now ∷ [])))) result }
 {
     let plan = match open_plan(alloc, source, schema, planned) {
         Ok(plan) => plan,
@@ -253,7 +253,8 @@ fn of_plan_and_rows<F: FileSource>(
         alloc,
         hashing,
         schema,
-        &plan,
+        &plan.plan,
+        &plan.names,
         own.bytes(),
         planned.bytes(),
         file.bytes(),
@@ -306,7 +307,7 @@ fn of_plan_and_rows_into<F: FileSource, M: FolderMaker>(
     ensures response { (r : Reading) → Shows F.files F.faults F.taken F.begun source.old source.new r
         → RespondsAs (WithFile (plan_file schema.now) r planned.now
         (λ plan. WithFile (rows_file schema.now) r file.now
-        (MigratesPlanInto (M.may_be_free place.now) schema.now plan folder.now))) result }
+        (MigratesPlanInto (M.may_be_free place.now) schema.now plan.names plan.schemes folder.now))) result }
 {
     let plan = match open_plan(alloc, source, schema, planned) {
         Ok(plan) => plan,
@@ -317,7 +318,16 @@ fn of_plan_and_rows_into<F: FileSource, M: FolderMaker>(
         Err(exit) => return Err(exit),
     };
     let is_free = place.is_free(folder.bytes());
-    migrate_plan_into(alloc, hashing, schema, &plan, folder, is_free, rows)
+    migrate_plan_into(
+        alloc,
+        hashing,
+        schema,
+        &plan.plan,
+        &plan.names,
+        folder,
+        is_free,
+        rows,
+    )
 }
 
 // Whether the certificate of a file proves a goal.

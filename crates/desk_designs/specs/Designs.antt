@@ -1,10 +1,11 @@
 -- SQL tables of a plan: for `ddl`, and for what else refuses values that may be missing.
-use Rattle.std.specs.Prelude.{◌≡◌, List, Some}
+use Rattle.std.specs.Prelude.{◌≡◌, List, [], Some}
 use Rattle.attr_sets.specs.Attributes.{Attributes}
 use Rattle.attr_sets.specs.declared.set.AttrSet.{AttrSet}
 use Rattle.dep_model.specs.Plans.{schemes_of}
 use Rattle.dep_model.specs.Schemas.{nullable_of, theory_of, width_of}
 use Rattle.dep_model.specs.declared.schema.Schema.{Schema}
+use Rattle.table_names.specs.TableNames.{GivenNames}
 use Rattle.ddl_text.specs.declared.table.TableDesign.{TableDesign}
 use Rattle.ddl_text.specs.Ddl.{ddl_text}
 use Rattle.ddl_text.specs.Designs.{IsDesign}
@@ -19,55 +20,55 @@ use Rattle.desk_responses.specs.ResponseValues.{Allowed, Says, Unless}
 use Rattle.desk_designs.specs.Decompositions.{WithPlanInForm}
 use Rattle.desk_designs.specs.Joins.{WithoutLoss}
 
--- the design of a plan in its order; in the tables of every legal relation its keys and references hold
-pub record IsSoundDesign (schema : Schema) (plan : List AttrSet) (tables : List TableDesign) : Type 0 where
+-- the design of a plan in its order, with the names that are given in this order; in the tables of every legal relation its keys and references hold
+pub record IsSoundDesign (schema : Schema) (names : GivenNames) (plan : List AttrSet) (tables : List TableDesign) : Type 0 where
   pub ordered : List AttrSet
   pub order : IsInDesignOrder (width_of schema) (theory_of schema) (schemes_of plan) (schemes_of ordered)
-  pub design : IsDesign schema ordered tables
+  pub design : IsDesign schema names ordered tables
   pub keys_hold : KeysHold schema tables
   pub other_keys_hold : OtherKeysHold schema tables
   pub references_hold : ReferencesHold schema tables
 
 -- a sound design of a plan of these schemes, as sets of attributes
-pub record IsDesignOf (schema : Schema) (schemes : List Attributes) (tables : List TableDesign) : Type 0 where
+pub record IsDesignOf (schema : Schema) (names : GivenNames) (schemes : List Attributes) (tables : List TableDesign) : Type 0 where
   pub plan : List AttrSet
   pub same : schemes_of plan ≡ schemes
-  pub sound : IsSoundDesign schema plan tables
+  pub sound : IsSoundDesign schema names plan tables
 
 -- ---- missing values
 -- no value of a key of the tables may be missing, and none of an attribute of two of them
-abbrev pub AreNeverMissing : Schema → List Attributes → Type 0
-AreNeverMissing schema schemes =
-    (tables : List TableDesign) × IsDesignOf schema schemes tables × NeverMissing (nullable_of schema) tables
+abbrev pub AreNeverMissing : Schema → GivenNames → List Attributes → Type 0
+AreNeverMissing schema names schemes =
+    (tables : List TableDesign) × IsDesignOf schema names schemes tables × NeverMissing (nullable_of schema) tables
 
 -- how a value that may be missing ends a command: the first found decides
-abbrev pub MissingStops : Schema → List Attributes → Allowed
-MissingStops schema schemes response =
-    (tables : List TableDesign) × IsDesignOf schema schemes tables
+abbrev pub MissingStops : Schema → GivenNames → List Attributes → Allowed
+MissingStops schema names schemes response =
+    (tables : List TableDesign) × IsDesignOf schema names schemes tables
     × ((refusal : MissingRefusal) × FindsMissing (nullable_of schema) tables (Some refusal)
     × Says Refused (refusal_text schema tables refusal) response)
 
 -- no value is missing where it must not be, and then the rest follows
-abbrev pub WithoutMissing : Schema → List Attributes → Allowed → Allowed
-WithoutMissing schema schemes = Unless (MissingStops schema schemes) (AreNeverMissing schema schemes)
+abbrev pub WithoutMissing : Schema → GivenNames → List Attributes → Allowed → Allowed
+WithoutMissing schema names schemes = Unless (MissingStops schema names schemes) (AreNeverMissing schema names schemes)
 
 -- ---- answers
 -- yes, with the statements that create the tables of a plan
-abbrev pub WritesTables : Schema → List AttrSet → Allowed
-WritesTables schema plan response =
-    (tables : List TableDesign) × IsSoundDesign schema plan tables × Says Yes (ddl_text schema tables) response
+abbrev pub WritesTables : Schema → GivenNames → List AttrSet → Allowed
+WritesTables schema names plan response =
+    (tables : List TableDesign) × IsSoundDesign schema names plan tables × Says Yes (ddl_text schema tables) response
 
 -- the same of the plan of a normal form
 abbrev pub WritesForm : Schema → Form → Allowed
 WritesForm schema form =
-    WithPlanInForm schema form (λ plan. WithoutMissing schema (schemes_of plan) (WritesTables schema plan))
+    WithPlanInForm schema form (λ plan. WithoutMissing schema [] (schemes_of plan) (WritesTables schema [] plan))
 
 -- the same of schemes, as sets of attributes
-abbrev pub WritesSchemes : Schema → List Attributes → Allowed
-WritesSchemes schema schemes response =
-    (plan : List AttrSet) × (schemes_of plan ≡ schemes) × WritesTables schema plan response
+abbrev pub WritesSchemes : Schema → GivenNames → List Attributes → Allowed
+WritesSchemes schema names schemes response =
+    (plan : List AttrSet) × (schemes_of plan ≡ schemes) × WritesTables schema names plan response
 
 -- the same of a plan, where it loses nothing
-abbrev pub WritesPlan : Schema → List Attributes → Allowed
-WritesPlan schema schemes =
-    WithoutMissing schema schemes (WithoutLoss schema schemes (WritesSchemes schema schemes))
+abbrev pub WritesPlan : Schema → GivenNames → List Attributes → Allowed
+WritesPlan schema names schemes =
+    WithoutMissing schema names schemes (WithoutLoss schema schemes (WritesSchemes schema names schemes))

@@ -1,9 +1,10 @@
 -- The tables of a plan as a picture: for `draw`.
-use Rattle.std.specs.Prelude.{◌≡◌, List}
+use Rattle.std.specs.Prelude.{◌≡◌, List, []}
 use Rattle.attr_sets.specs.Attributes.{Attributes}
 use Rattle.attr_sets.specs.declared.set.AttrSet.{AttrSet}
 use Rattle.dep_model.specs.Plans.{schemes_of}
 use Rattle.dep_model.specs.declared.schema.Schema.{Schema}
+use Rattle.table_names.specs.TableNames.{GivenNames}
 use Rattle.ddl_text.specs.declared.table.TableDesign.{TableDesign}
 use Rattle.normal_forms.specs.declared.forms.Form.{Form}
 use Rattle.table_drawing.specs.Drawing.{drawing_text}
@@ -13,16 +14,16 @@ use Rattle.desk_designs.specs.Decompositions.{WithPlanInForm}
 use Rattle.desk_designs.specs.Designs.{IsSoundDesign}
 
 -- yes, with the picture of a plan's tables
-abbrev pub DrawsTables : Schema → List AttrSet → Allowed
-DrawsTables schema plan response =
-    (tables : List TableDesign) × IsSoundDesign schema plan tables
+abbrev pub DrawsTables : Schema → GivenNames → List AttrSet → Allowed
+DrawsTables schema names plan response =
+    (tables : List TableDesign) × IsSoundDesign schema names plan tables
     × Says Yes (drawing_text schema tables) response
 
 -- the same of the plan of a normal form
 abbrev pub DrawsForm : Schema → Form → Allowed
-DrawsForm schema form = WithPlanInForm schema form (DrawsTables schema)
+DrawsForm schema form = WithPlanInForm schema form (DrawsTables schema [])
 
 -- the same of schemes, as sets of attributes
-abbrev pub DrawsSchemes : Schema → List Attributes → Allowed
-DrawsSchemes schema schemes response =
-    (plan : List AttrSet) × (schemes_of plan ≡ schemes) × DrawsTables schema plan response
+abbrev pub DrawsSchemes : Schema → GivenNames → List Attributes → Allowed
+DrawsSchemes schema names schemes response =
+    (plan : List AttrSet) × (schemes_of plan ≡ schemes) × DrawsTables schema names plan response

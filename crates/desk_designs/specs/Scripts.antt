@@ -1,11 +1,13 @@
 -- SQL scripts over a table of the user's: for `sql check` and `sql migrate`.
-use Rattle.std.specs.Prelude.{◌≡◌, ◌↔◌, ℕ, IsTrue, List, codes}
+use Rattle.std.specs.Prelude.{◌≡◌, ◌↔◌, ℕ, Bool, false, IsTrue, List, [], codes}
+use Rattle.std.specs.List.{list_any}
 use Rattle.attr_sets.specs.Attributes.{Attributes}
 use Rattle.attr_sets.specs.declared.set.AttrSet.{AttrSet}
 use Rattle.dep_model.specs.Plans.{schemes_of}
 use Rattle.dep_model.specs.Schemas.{width_of, LegalFor}
 use Rattle.dep_model.specs.Tuples.{Relation, IsOver}
 use Rattle.dep_model.specs.declared.schema.Schema.{Schema}
+use Rattle.table_names.specs.TableNames.{GivenNames, is_given}
 use Rattle.ddl_text.specs.declared.table.TableDesign.{TableDesign}
 use Rattle.normal_forms.specs.declared.forms.Form.{Form}
 use Rattle.sql_evaluation.specs.Cells.{Cell}
@@ -18,7 +20,7 @@ use Rattle.check_laws.specs.Holding.{Holds, CastsIntegers}
 use Rattle.check_laws.specs.Telling.{NoBreachShown, RulesHold, NothingShown}
 use Rattle.table_scripts.specs.Checking.{check_text, NothingBreaks}
 use Rattle.table_scripts.specs.Migrating.{migrate_text, FillsTables, ViewIsTable}
-use Rattle.table_scripts.specs.Naming.{is_table_name, quoted_table}
+use Rattle.table_scripts.specs.Naming.{dotted_parts, is_table_name, last_of, quoted_table}
 use Rattle.desk_responses.specs.declared.status.Status.TheVariants.{Yes, Refused}
 use Rattle.desk_responses.specs.ResponseValues.{Allowed, Says, Unless}
 use Rattle.desk_designs.specs.Decompositions.{WithPlanInForm}
@@ -37,6 +39,17 @@ TableNameStops name response = (IsTrue (is_table_name name) → ⊥) × Says Ref
 -- a word names a table, and then the rest follows
 abbrev pub WithTableName : List ℕ → Allowed → Allowed
 WithTableName name = Unless (TableNameStops name) (IsTrue (is_table_name name))
+
+-- how it ends a command that makes tables with names: where its last part is one of these, the case of letters aside
+abbrev pub MetNameStops : GivenNames → List ℕ → Allowed
+MetNameStops names name response =
+    IsTrue (list_any (is_given (last_of (dotted_parts name))) names) × Says Refused bad_name_text response
+
+-- a word names a table other than those with these names, and then the rest follows
+abbrev pub WithOtherName : GivenNames → List ℕ → Allowed → Allowed
+WithOtherName names name rest =
+    WithTableName name
+    (Unless (MetNameStops names name) (list_any (is_given (last_of (dotted_parts name))) names ≡ false) rest)
 
 -- ---- checking
 -- what the queries of a script for a table tell: over a relation, the terms for the dependencies of a
@@ -83,23 +96,23 @@ MakesDesign schema name tables response =
     × Says Yes (migrate_text schema (quoted_table name) tables) response
 
 -- the same of a plan
-abbrev pub MakesTables : Schema → List ℕ → List AttrSet → Allowed
-MakesTables schema name plan response =
-    (tables : List TableDesign) × IsSoundDesign schema plan tables × MakesDesign schema name tables response
+abbrev pub MakesTables : Schema → GivenNames → List ℕ → List AttrSet → Allowed
+MakesTables schema names name plan response =
+    (tables : List TableDesign) × IsSoundDesign schema names plan tables × MakesDesign schema name tables response
 
 -- the same of the plan of a normal form
 abbrev pub ScriptsMigration : Schema → Form → List ℕ → Allowed
 ScriptsMigration schema form name =
     WithTableName name (WithPlanInForm schema form
-    (λ plan. WithoutMissing schema (schemes_of plan) (MakesTables schema name plan)))
+    (λ plan. WithoutMissing schema [] (schemes_of plan) (MakesTables schema [] name plan)))
 
 -- the same of schemes, as sets of attributes
-abbrev pub MakesSchemes : Schema → List ℕ → List Attributes → Allowed
-MakesSchemes schema name schemes response =
-    (plan : List AttrSet) × (schemes_of plan ≡ schemes) × MakesTables schema name plan response
+abbrev pub MakesSchemes : Schema → GivenNames → List ℕ → List Attributes → Allowed
+MakesSchemes schema names name schemes response =
+    (plan : List AttrSet) × (schemes_of plan ≡ schemes) × MakesTables schema names name plan response
 
 -- the same of a plan, where it loses nothing
-abbrev pub ScriptsMigrationByPlan : Schema → List Attributes → List ℕ → Allowed
-ScriptsMigrationByPlan schema schemes name =
-    WithTableName name (WithoutMissing schema schemes
-    (WithoutLoss schema schemes (MakesSchemes schema name schemes)))
+abbrev pub ScriptsMigrationByPlan : Schema → GivenNames → List Attributes → List ℕ → Allowed
+ScriptsMigrationByPlan schema names schemes name =
+    WithOtherName names name (WithoutMissing schema names schemes
+    (WithoutLoss schema schemes (MakesSchemes schema names name schemes)))

@@ -12,7 +12,7 @@ use crate::decomposition::plan_in_form;
 use crate::join::test_loss;
 use crate::missing::required_design;
 use ddl_text::{DesignList, design, print_ddl};
-use dep_model::{OutOfMemory, Schema};
+use dep_model::{Name, OutOfMemory, Schema};
 use design_order::in_design_order;
 use desk_responses::{EarlyExit, Response, Status};
 use normal_forms::Form;
@@ -29,21 +29,27 @@ pub fn write_form(alloc: Global, schema: &Schema, form: Form) -> Result<Response
         Ok(plan) => plan,
         Err(exit) => return Err(exit),
     };
-    let tables = match required_design(alloc, schema, &plan) {
+    let tables = match required_design(alloc, schema, &plan, &[]) {
         Ok(tables) => tables,
         Err(exit) => return Err(exit),
     };
     Ok(tables_response(alloc, schema, &tables)?)
 }
 
-/// The statements that create the tables of a plan, where it loses nothing.
-pub fn write_plan(alloc: Global, schema: &Schema, plan: &Plan) -> Result<Response, EarlyExit>
+/// The statements that create the tables of a plan, where it loses nothing; the names of its tables come in the
+/// order of its design.
+pub fn write_plan(
+    alloc: Global,
+    schema: &Schema,
+    plan: &Plan,
+    names: &[Option<Name>],
+) -> Result<Response, EarlyExit>
     requires universe { IsPlanOver schema.now plan.now }
     requires within_limit { length (plan_of plan.now) ≤ MOST_SCHEMES }
     requires covers { Covers (width_of schema.now) (plan_of plan.now) }
-    ensures response { RespondsAs (WritesPlan schema.now (plan_of plan.now)) result }
+    ensures response { RespondsAs (WritesPlan schema.now names.now (plan_of plan.now)) result }
 {
-    let tables = match required_design(alloc, schema, plan) {
+    let tables = match required_design(alloc, schema, plan, names) {
         Ok(tables) => tables,
         Err(exit) => return Err(exit),
     };
@@ -66,18 +72,19 @@ fn tables_response(
     Ok(Response::with_text(Status::Yes, print_ddl(alloc, schema, tables)?))
 }
 
-/// The design of a plan in its order. No memory holds a plan of more tables than have a name.
+/// The design of a plan in its order, with the names that are given in this order. No memory holds a plan of more tables than have a name.
 pub fn design_of_plan(
     alloc: Global,
     schema: &Schema,
     plan: &Plan,
+    names: &[Option<Name>],
 ) -> Result<DesignList, OutOfMemory>
     requires universe { IsPlanOver schema.now plan.now }
-    ensures sound { IfOk result (λ tables. IsSoundDesign schema.now (scheme_sets plan.now) tables) }
+    ensures sound { IfOk result (λ tables. IsSoundDesign schema.now names.now (scheme_sets plan.now) tables) }
 {
     let ordered = in_design_order(alloc, schema, plan)?;
     if ordered.schemes().len() > MOST_TABLES as usize {
         return Err(OutOfMemory);
     }
-    Ok(design(alloc, schema, &ordered)?)
+    Ok(design(alloc, schema, &ordered, names)?)
 }

@@ -5,7 +5,7 @@ ghost use Rattle.desk_responses.specs.Responses.{response_value, RespondsAs};
 
 use crate::decomposition::plan_in_form;
 use crate::designs::design_of_plan;
-use dep_model::{OutOfMemory, Schema};
+use dep_model::{Name, OutOfMemory, Schema};
 use desk_responses::{EarlyExit, Response, Status};
 use normal_forms::Form;
 use plans::Plan;
@@ -20,23 +20,33 @@ pub fn draw_form(alloc: Global, schema: &Schema, form: Form) -> Result<Response,
         Ok(plan) => plan,
         Err(exit) => return Err(exit),
     };
-    Ok(drawing_response(alloc, schema, &plan)?)
+    Ok(drawing_response(alloc, schema, &plan, &[])?)
 }
 
 /// The picture of the tables of a plan, which may lose something.
-pub fn draw_plan(alloc: Global, schema: &Schema, plan: &Plan) -> Result<Response, EarlyExit>
+pub fn draw_plan(
+    alloc: Global,
+    schema: &Schema,
+    plan: &Plan,
+    names: &[Option<Name>],
+) -> Result<Response, EarlyExit>
     requires universe { IsPlanOver schema.now plan.now }
-    ensures response { RespondsAs (DrawsSchemes schema.now (plan_of plan.now)) result }
+    ensures response { RespondsAs (DrawsSchemes schema.now names.now (plan_of plan.now)) result }
 {
-    Ok(drawing_response(alloc, schema, plan)?)
+    Ok(drawing_response(alloc, schema, plan, names)?)
 }
 
 // The picture of the tables of a plan.
-fn drawing_response(alloc: Global, schema: &Schema, plan: &Plan) -> Result<Response, OutOfMemory>
+fn drawing_response(
+    alloc: Global,
+    schema: &Schema,
+    plan: &Plan,
+    names: &[Option<Name>],
+) -> Result<Response, OutOfMemory>
     requires universe { IsPlanOver schema.now plan.now }
-    ensures response { IfOk result (λ response. DrawsTables schema.now (scheme_sets plan.now)
+    ensures response { IfOk result (λ response. DrawsTables schema.now names.now (scheme_sets plan.now)
         (response_value response)) }
 {
-    let tables = design_of_plan(alloc, schema, plan)?;
+    let tables = design_of_plan(alloc, schema, plan, names)?;
     Ok(Response::with_text(Status::Yes, draw(alloc, schema, &tables)?))
 }

@@ -12,33 +12,43 @@ ghost use Rattle.missing_values.specs.Refusals.{IsWithin, refusal_text};
 
 use crate::designs::design_of_plan;
 use ddl_text::DesignList;
-use dep_model::Schema;
+use dep_model::{Name, Schema};
 use desk_responses::{EarlyExit, Status};
 use missing_values::{MissingRefusal, missing_refusal, print_refusal};
 use plans::Plan;
 use std::alloc::Global;
 
 /// Tests that no value of a key of the tables of a plan may be missing, and none of an attribute of two.
-pub fn test_missing(alloc: Global, schema: &Schema, plan: &Plan) -> Result<(), EarlyExit>
+pub fn test_missing(
+    alloc: Global,
+    schema: &Schema,
+    plan: &Plan,
+    names: &[Option<Name>],
+) -> Result<(), EarlyExit>
     requires universe { IsPlanOver schema.now plan.now }
-    ensures ok { IfOk result (λ _. AreNeverMissing schema.now (plan_of plan.now)) }
-    ensures exit { IfErr result (ExitsAs (MissingStops schema.now (plan_of plan.now))) }
+    ensures ok { IfOk result (λ _. AreNeverMissing schema.now names.now (plan_of plan.now)) }
+    ensures exit { IfErr result (ExitsAs (MissingStops schema.now names.now (plan_of plan.now))) }
 {
-    match required_design(alloc, schema, plan) {
+    match required_design(alloc, schema, plan, names) {
         Ok(_) => Ok(()),
         Err(exit) => Err(exit),
     }
 }
 
-/// The design of a plan in its order, where no value of a key may be missing and none of an attribute of two
+/// The design of a plan in its order, with the names that are given in this order, where no value of a key may be missing and none of an attribute of two
 /// tables.
-pub fn required_design(alloc: Global, schema: &Schema, plan: &Plan) -> Result<DesignList, EarlyExit>
+pub fn required_design(
+    alloc: Global,
+    schema: &Schema,
+    plan: &Plan,
+    names: &[Option<Name>],
+) -> Result<DesignList, EarlyExit>
     requires universe { IsPlanOver schema.now plan.now }
-    ensures sound { IfOk result (λ tables. IsSoundDesign schema.now (scheme_sets plan.now) tables) }
+    ensures sound { IfOk result (λ tables. IsSoundDesign schema.now names.now (scheme_sets plan.now) tables) }
     ensures never_missing { IfOk result (λ tables. NeverMissing (nullable_of schema.now) tables) }
-    ensures exit { IfErr result (ExitsAs (MissingStops schema.now (plan_of plan.now))) }
+    ensures exit { IfErr result (ExitsAs (MissingStops schema.now names.now (plan_of plan.now))) }
 {
-    let tables = design_of_plan(alloc, schema, plan)?;
+    let tables = design_of_plan(alloc, schema, plan, names)?;
     match missing_refusal(schema, tables.tables()) {
         None => Ok(tables),
         Some(refusal) => Err(missing_exit(alloc, schema, &tables, refusal)),

@@ -1,17 +1,19 @@
-ghost use Rattle.std.specs.Prelude.{◌≡◌, ◌≤◌, length, IsTrue, IfOk, IfErr};
+ghost use Rattle.std.specs.Prelude.{◌≡◌, ◌≤◌, false, length, IsTrue, IfOk, IfErr};
+ghost use Rattle.std.specs.List.{list_any};
 ghost use Rattle.dep_model.specs.Projections.{Covers};
 ghost use Rattle.dep_model.specs.Schemas.{width_of};
 ghost use Rattle.plans.specs.Plans.{IsPlanOver, plan_of, scheme_sets};
-ghost use Rattle.table_scripts.specs.Naming.{is_table_name};
+ghost use Rattle.table_names.specs.TableNames.{is_given};
+ghost use Rattle.table_scripts.specs.Naming.{dotted_parts, is_table_name, last_of};
 ghost use Rattle.desk_responses.specs.ResponseValues.{Says};
 ghost use Rattle.desk_responses.specs.Responses.{response_value, RespondsAs, ExitsAs};
-ghost use Rattle.desk_designs.specs.Scripts.{AsksTable, MakesDesign, TableNameStops, ScriptsCheck, ScriptsMigration, ScriptsMigrationByPlan, bad_name_text};
+ghost use Rattle.desk_designs.specs.Scripts.{AsksTable, MakesDesign, MetNameStops, TableNameStops, ScriptsCheck, ScriptsMigration, ScriptsMigrationByPlan, bad_name_text};
 
 use crate::decomposition::plan_in_form;
 use crate::join::test_loss;
 use crate::missing::required_design;
 use ddl_text::DesignList;
-use dep_model::{OutOfMemory, Schema};
+use dep_model::{Name, OutOfMemory, Schema};
 use desk_outside::Argument;
 use desk_responses::{EarlyExit, Response, Status};
 use desk_texts::line_of;
@@ -19,7 +21,8 @@ use normal_forms::Form;
 use plan_reader::MOST_SCHEMES;
 use plans::Plan;
 use std::alloc::Global;
-use table_scripts::{check_script, is_table_name, migrate_script};
+use table_names::is_given;
+use table_scripts::{check_script, is_table_name, last_part, migrate_script};
 
 /// The queries for what breaks each rule in a table.
 pub fn script_check(alloc: Global, schema: &Schema, name: &Argument) -> Result<Response, EarlyExit>
@@ -49,7 +52,7 @@ pub fn script_migration(
         Ok(plan) => plan,
         Err(exit) => return Err(exit),
     };
-    let tables = match required_design(alloc, schema, &plan) {
+    let tables = match required_design(alloc, schema, &plan, &[]) {
         Ok(tables) => tables,
         Err(exit) => return Err(exit),
     };
@@ -61,18 +64,23 @@ pub fn script_migration_by_plan(
     alloc: Global,
     schema: &Schema,
     plan: &Plan,
+    names: &[Option<Name>],
     name: &Argument,
 ) -> Result<Response, EarlyExit>
     requires universe { IsPlanOver schema.now plan.now }
     requires within_limit { length (plan_of plan.now) ≤ MOST_SCHEMES }
     requires covers { Covers (width_of schema.now) (plan_of plan.now) }
-    ensures response { RespondsAs (ScriptsMigrationByPlan schema.now (plan_of plan.now) name.now) result }
+    ensures response { RespondsAs (ScriptsMigrationByPlan schema.now names.now (plan_of plan.now) name.now) result }
 {
     match test_name(alloc, name) {
         Ok(()) => {}
         Err(exit) => return Err(exit),
     }
-    let tables = match required_design(alloc, schema, plan) {
+    match test_other_name(alloc, names, name) {
+        Ok(()) => {}
+        Err(exit) => return Err(exit),
+    }
+    let tables = match required_design(alloc, schema, plan, names) {
         Ok(tables) => tables,
         Err(exit) => return Err(exit),
     };
@@ -92,6 +100,21 @@ fn test_name(alloc: Global, name: &Argument) -> Result<(), EarlyExit>
         return Ok(());
     }
     Err(bad_name_exit(alloc))
+}
+
+// Whether the last part of a word is none of these names.
+fn test_other_name(
+    alloc: Global,
+    names: &[Option<Name>],
+    name: &Argument,
+) -> Result<(), EarlyExit>
+    ensures ok { IfOk result (λ _. list_any (is_given (last_of (dotted_parts name.now))) names.now ≡ false) }
+    ensures exit { IfErr result (ExitsAs (MetNameStops names.now name.now)) }
+{
+    if is_given(names, last_part(name.bytes())) {
+        return Err(bad_name_exit(alloc));
+    }
+    Ok(())
 }
 
 // A word names no table.

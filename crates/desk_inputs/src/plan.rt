@@ -1,9 +1,11 @@
 ghost use Rattle.std.specs.Prelude.{◌≡◌, ◌≤◌, ◌++◌, ◌∷◌, [], length, OnOk, IfOk, IfErr};
 ghost use Rattle.std.specs.Fmt.{decimal};
 ghost use Rattle.dep_model.specs.Projections.{Covers};
-ghost use Rattle.dep_model.specs.Schemas.{width_of};
+ghost use Rattle.dep_model.specs.Schemas.{width_of, theory_of};
+ghost use Rattle.design_order.specs.Order.{AreNamesInOrder};
 ghost use Rattle.schema_printer.specs.Spelling.{printed_names_of};
-ghost use Rattle.plans.specs.Plans.{plan_of, IsPlanOver};
+ghost use Rattle.named_plans.specs.NamedPlans.{named_schemes};
+ghost use Rattle.plans.specs.Plans.{plan_of, scheme_sets, IsPlanOver};
 ghost use Rattle.plan_grammar.specs.RefusalTexts.{plan_reason_text};
 ghost use Rattle.plan_grammar.specs.declared.refusal.TheConstants.{MOST_SCHEMES};
 ghost use Rattle.plan_grammar.specs.declared.refusal.PlanRefusal.TheVariants as refusals;
@@ -17,31 +19,32 @@ ghost use Rattle.desk_responses.specs.Responses.{ExitsAs};
 
 use crate::read::open_file;
 use dep_model::{Failure, OutOfMemory, Schema};
+use design_order::names_in_design_order;
 use desk_outside::{Argument, FileSource};
 use desk_responses::{EarlyExit, Status, put_name};
 use desk_texts::add_displayed;
+use named_plans::NamedPlan;
 use plan_reader::{MOST_PLAN_BYTES, PlanRefusal, read_plan};
-use plans::Plan;
 use schema_printer::{add, add_number};
 use schema_reader::SchemaRefusal;
 use std::alloc::Global;
 
-/// The plan of a file.
+/// The plan of a file, with the names of its tables in the order in which a design has these.
 pub fn open_plan<F: FileSource>(
     alloc: Global,
     source: &mut F,
     schema: &Schema,
     name: &Argument,
-) -> Result<Plan, EarlyExit>
+) -> Result<NamedPlan, EarlyExit>
     ensures files { F.files source.new ≡ F.files source.old }
     ensures later { F.faults source.old ≤ F.faults source.new }
     ensures begins { OnOk result (Begins name.now (F.begun source.old) (F.begun source.new)) }
     ensures reads { BeginsFront (name.now ∷ []) (F.begun source.old) (F.begun source.new) }
     ensures ok { (r : Reading) → files_in r ≡ F.files source.old
-        → IfOk result (λ plan. IsFile (plan_file schema.now) r name.now (plan_of plan)) }
-    ensures universe { IfOk result (IsPlanOver schema.now) }
-    ensures within_limit { IfOk result (λ plan. length (plan_of plan) ≤ MOST_SCHEMES) }
-    ensures covers { IfOk result (λ plan. Covers (width_of schema.now) (plan_of plan)) }
+        → IfOk result (λ plan. IsFile (plan_file schema.now) r name.now (named_schemes plan)) }
+    ensures universe { IfOk result (λ plan. IsPlanOver schema.now plan.plan) }
+    ensures within_limit { IfOk result (λ plan. length (plan_of plan.plan) ≤ MOST_SCHEMES) }
+    ensures covers { IfOk result (λ plan. Covers (width_of schema.now) (plan_of plan.plan)) }
     ensures exit { (r : Reading) → Shows F.files F.faults F.taken F.begun source.old source.new r
         → IfErr result (ExitsAs (FileStops (plan_file schema.now) r name.now)) }
 {
@@ -50,7 +53,7 @@ pub fn open_plan<F: FileSource>(
         Err(exit) => return Err(exit),
     };
     match read_plan(alloc, schema, &bytes) {
-        Ok(plan) => Ok(plan),
+        Ok(plan) => Ok(in_order(alloc, schema, plan)?),
         Err(Failure::Refused(refusal)) => Err(plan_refusal_exit(
             alloc,
             schema,
@@ -59,6 +62,21 @@ pub fn open_plan<F: FileSource>(
         )),
         Err(Failure::OutOfMemory) => Err(EarlyExit::OutOfMemory),
     }
+}
+
+// A plan with the names of its tables in the order in which a design has these.
+fn in_order(alloc: Global, schema: &Schema, read: NamedPlan) -> Result<NamedPlan, OutOfMemory>
+    requires universe { IsPlanOver schema.now read.plan }
+    requires beside { length read.names.items ≡ length (scheme_sets read.plan) }
+    ensures plan { IfOk result (λ plan. plan.plan ≡ read.plan) }
+    ensures order { IfOk result (λ plan. AreNamesInOrder (width_of schema.now) (theory_of schema.now)
+        (plan_of read.plan) read.names.items plan.names.items) }
+{
+    let names = names_in_design_order(alloc, schema, &read.plan, &read.names)?;
+    Ok(NamedPlan {
+        plan: read.plan,
+        names,
+    })
 }
 
 // A command that ends with the refusal of a plan.

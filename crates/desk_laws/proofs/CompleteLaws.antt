@@ -34,6 +34,9 @@ use Rattle.key_listing.specs.Listing.{AreManyKeys}
 use Rattle.fd_closure.specs.LeftSides.{IsWide}
 use Rattle.key_listing.specs.Refusals.{IsTooWide}
 use Rattle.chase_laws.specs.Rounds.{RoundsExceed}
+use Rattle.named_plans.specs.NamedPlans.{NamedSchemes}
+use Rattle.design_order.specs.Order.{AreNamesInOrder}
+use Rattle.design_order.proofs.OrderLemmas.{one_names}
 use Rattle.desk_outside.specs.Files.{Files}
 use Rattle.desk_designs.specs.declared.join.TheConstants.{MOST_TABLEAU_ROWS}
 use Rattle.desk_inputs.specs.declared.rows.TheConstants.{MOST_CSV_BYTES}
@@ -250,29 +253,47 @@ rows_answered files name file schema rows held_schema held_rows looks response a
     (rows_asks files name file looks response answered)
 
 -- ---- plans
-plan_moved : (s r : Schema) (text : List ℕ) (plan : List Attributes) → AreSame s r → MeansPlan (naming_of s) (names_of s) text plan
+plan_moved : (s r : Schema) (text : List ℕ) (plan : NamedSchemes) → AreSame s r → MeansPlan (naming_of s) (names_of s) text plan
     → MeansPlan (naming_of r) (names_of r) text plan
 plan_moved s r text plan same means =
     subst (λ (names : List (List ℕ)). MeansPlan (naming_of r) names text plan) (names_same s r same)
     (subst (λ (naming : Naming). MeansPlan naming (names_of s) text plan) (naming_same s r same) means)
 
-pub after_plan : (files : Files) (s r : Schema) (name : List ℕ) (plan : List Attributes) (rest : List Attributes → Allowed)
+-- two texts of plans that mean the same tables mean the same order of their names
+order_moved : (s r : Schema) (one other : NamedSchemes) (names : List (Option (List ℕ))) → AreSame s r → one ≡ other
+    → AreNamesInOrder (width_of r) (theory_of r) one.schemes one.names names
+    → AreNamesInOrder (width_of s) (theory_of s) other.schemes other.names names
+order_moved s r one other names same is order =
+    subst (λ (d : Declarations). AreNamesInOrder (length d.names) d.deps other.schemes other.names names) (sym same)
+    (subst (λ (read : NamedSchemes). AreNamesInOrder (width_of r) (theory_of r) read.schemes read.names names) is order)
+
+-- so they mean the same
+same_tables : (schemes others : List Attributes) (names ordered : List (Option (List ℕ))) → schemes ≡ others → names ≡ ordered
+    → ◌≡◌ {A = NamedSchemes} (record { schemes = schemes; names = names }) (record { schemes = others; names = ordered })
+same_tables schemes others names ordered at also = cc
+
+pub after_plan : (files : Files) (s r : Schema) (name : List ℕ) (plan : NamedSchemes) (rest : NamedSchemes → Allowed)
     (response : ResponseValue)
     → AreSame s r → IsFile (plan_file s) (known_files files) name plan
-    → ((p : List Attributes) → p ≡ plan → rest p response → IsYesOrNo response.status)
+    → ((p : NamedSchemes) → p ≡ plan → rest p response → IsYesOrNo response.status)
     → WithFile (plan_file r) (known_files files) name rest response → IsYesOrNo response.status
 after_plan files s r name plan rest response same file go (inl (inl exit)) =
     absurd (file_goes files name file.bytes MOST_PLAN_BYTES response file.content.0 file.content.1 exit)
 after_plan files s r name plan rest response same file go (inl (inr (refusal, is, says))) =
-    let means = plan_moved s r file.bytes plan same file.means in
+    let means = plan_moved s r file.bytes file.means.read same file.means.means in
     let here : RefusesPlan (naming_of r) (names_of r) file.bytes refusal =
     subst (λ (b : List ℕ). RefusesPlan (naming_of r) (names_of r) b refusal) (one_content files name is.bytes file.bytes is.content.0 file.content.0) is.refused in
-    absurd (plan_never_both (naming_of r) (names_of r) file.bytes plan refusal means here)
+    absurd (plan_never_both (naming_of r) (names_of r) file.bytes file.means.read refusal means here)
 after_plan files s r name plan rest response same file go (inr (p, is, more)) =
-    let means = plan_moved s r file.bytes plan same file.means in
-    let here : MeansPlan (naming_of r) (names_of r) file.bytes p =
-    subst (λ (b : List ℕ). MeansPlan (naming_of r) (names_of r) b p) (one_content files name is.bytes file.bytes is.content.0 file.content.0) is.means in
-    go p (plan_one_meaning (naming_of r) (names_of r) file.bytes p plan here means) more
+    let means = plan_moved s r file.bytes file.means.read same file.means.means in
+    let here : MeansPlan (naming_of r) (names_of r) file.bytes is.means.read =
+    subst (λ (b : List ℕ). MeansPlan (naming_of r) (names_of r) b is.means.read) (one_content files name is.bytes file.bytes is.content.0 file.content.0) is.means.means in
+    let read : is.means.read ≡ file.means.read = plan_one_meaning (naming_of r) (names_of r) file.bytes is.means.read file.means.read here means in
+    let names : p.names ≡ plan.names =
+    one_names (width_of s) (theory_of s) file.means.read.schemes file.means.read.names p.names plan.names
+    (order_moved s r is.means.read file.means.read p.names same read is.means.order) file.means.order in
+    go p (same_tables p.schemes plan.schemes p.names plan.names
+    (is.means.schemes ∙ ap (λ (q : NamedSchemes). q.schemes) read ∙ sym file.means.schemes) names) more
 
 judges_join : (r : Schema) (plan : List Attributes) (response : ResponseValue) → (IsTooLarge r plan → ⊥) → JudgesJoin r plan response
     → IsYesOrNo response.status
@@ -288,17 +309,17 @@ small_same s r p plan same is small large =
 
 join_asks : (files : Files) (name file : List ℕ) (looks : Looks) (response : ResponseValue)
     → Answers looks (known_files files) (codes "check" ∷ codes "join" ∷ name ∷ file ∷ []) response
-    → WithFile schema_file (known_files files) name (λ r. WithFile (plan_file r) (known_files files) file (JudgesJoin r)) response
+    → WithFile schema_file (known_files files) name (λ r. WithFile (plan_file r) (known_files files) file (λ p. JudgesJoin r p.schemes)) response
 unfolding form_of form_over_schema after_check schema_and_plan Performs Does AnswersPlan
 join_asks files name file looks response answered = answered
 
-pub join_answered : (files : Files) (name file : List ℕ) (schema : Schema) (plan : List Attributes)
+pub join_answered : (files : Files) (name file : List ℕ) (schema : Schema) (plan : NamedSchemes)
     → IsFile schema_file (known_files files) name schema → IsFile (plan_file schema) (known_files files) file plan
-    → (IsTooLarge schema plan → ⊥) → IsAnswered files (codes "check" ∷ codes "join" ∷ name ∷ file ∷ [])
+    → (IsTooLarge schema plan.schemes → ⊥) → IsAnswered files (codes "check" ∷ codes "join" ∷ name ∷ file ∷ [])
 join_answered files name file schema plan held_schema held_plan small looks response answered =
-    after_schema files name schema (λ r. WithFile (plan_file r) (known_files files) file (JudgesJoin r)) response held_schema
-    (λ r same more. after_plan files schema r file plan (JudgesJoin r) response same held_plan
-    (λ p is found. judges_join r p response (small_same schema r p plan same is small) found) more)
+    after_schema files name schema (λ r. WithFile (plan_file r) (known_files files) file (λ p. JudgesJoin r p.schemes)) response held_schema
+    (λ r same more. after_plan files schema r file plan (λ p. JudgesJoin r p.schemes) response same held_plan
+    (λ p is found. judges_join r p.schemes response (small_same schema r p.schemes plan.schemes same (ap (λ (q : NamedSchemes). q.schemes) is) small) found) more)
     (join_asks files name file looks response answered)
 
 -- ---- schemas alone

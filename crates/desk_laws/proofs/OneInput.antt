@@ -16,7 +16,6 @@ use Rattle.fd_discovery.specs.declared.headed_rows.Headed.{Headed}
 use Rattle.implication_laws.specs.OneAnswer.{AllowsOne}
 use Rattle.implication_laws.proofs.StepLaws.{With-alike}
 use Rattle.plan_grammar.proofs.PlanLaws.{lines_within, lines_not_empty}
-use Rattle.plan_grammar.specs.Meanings.{MeansPlan}
 use Rattle.lexer.specs.Lines.{line_texts, without_mark}
 use Rattle.proof_grammar.specs.Spelling.{SpellsWithin}
 use Rattle.schema_grammar.specs.Schemas.{MeansSchema}
@@ -29,10 +28,11 @@ use Rattle.desk_inputs.specs.FileKinds.{FileStops, IsFile, WithFile}
 use Rattle.desk_inputs.specs.Headed.{headed_file}
 use Rattle.desk_inputs.specs.Inputs.{derivation_file, proof_file, schema_file}
 use Rattle.desk_inputs.specs.Parts.{ArePartFiles, PartsStop, WithParts, part_file}
-use Rattle.desk_inputs.specs.Plans.{plan_file}
+use Rattle.desk_inputs.specs.Plans.{MeansTables, plan_file}
+use Rattle.named_plans.specs.NamedPlans.{NamedSchemes}
 use Rattle.desk_inputs.specs.Rows.{rows_file}
 use Rattle.desk_laws.proofs.OneFile.{goes, one_after, one_stop, one_view}
-use Rattle.desk_laws.proofs.OneText.{derivation_text_once, headed_text_once, names_and_rows, part_text_once, plan_text_once, proof_text_once, rows_text_once, schema_text_once, MeansNamesAndRows, MeansTable}
+use Rattle.desk_laws.proofs.OneText.{derivation_text_once, headed_text_once, names_and_rows, part_text_once, plan_tables_once, proof_text_once, rows_text_once, schema_text_once, MeansNamesAndRows, MeansTable}
 use Rattle.schema_grammar.specs.Declarations.{Declarations}
 
 -- ---- files
@@ -49,25 +49,26 @@ module _ (files : Files) where
       (λ text s means. means) rest
       (λ s t one other is also same. alike s t one other (ap (λ (d : Declarations). d.naming) same) same)
 
-  pub one_after_plan : (s : Schema) (name : List ℕ) (rest : List Attributes → Allowed)
-      → ((plan : List Attributes) → IsPlan (width_of s) plan → AllowsOne (rest plan))
+  pub one_after_plan : (s : Schema) (name : List ℕ) (rest : NamedSchemes → Allowed)
+      → ((plan : NamedSchemes) → IsPlan (width_of s) plan.schemes → AllowsOne (rest plan))
       → AllowsOne (WithFile (plan_file s) known name rest)
   one_after_plan s name rest each =
-      one_after files name (plan_file s) (λ (plan : List Attributes). plan) (MeansPlan (naming_of s) (names_of s))
-      (plan_text_once (naming_of s) (names_of s)) (λ text plan means. means) rest
+      one_after files name (plan_file s) (λ (plan : NamedSchemes). plan) (MeansTables s)
+      (plan_tables_once s) (λ text plan means. means) rest
       (λ plan others one other is also same first second.
       each plan (is_plan is.bytes plan is.means) one other first
-      (subst (λ (p : List Attributes). rest p other) (sym same) second))
+      (subst (λ (p : NamedSchemes). rest p other) (sym same) second))
     where
-      is_plan : (text : List ℕ) (plan : List Attributes) → MeansPlan (naming_of s) (names_of s) text plan
-          → IsPlan (width_of s) plan
+      is_plan : (text : List ℕ) (plan : NamedSchemes) → MeansTables s text plan → IsPlan (width_of s) plan.schemes
       is_plan text plan means =
           let lines = line_texts (without_mark text) in
-          record {
-            within = lines_within (naming_of s) (names_of s) lines plan means.lines;
-            not_empty = lines_not_empty (naming_of s) (names_of s) lines plan means.lines;
-            covers = means.covers;
-          }
+          let read = means.read in
+          subst (λ (schemes : List Attributes). IsPlan (width_of s) schemes) (sym means.schemes)
+          (record {
+            within = lines_within (naming_of s) (names_of s) [] lines read means.means.lines;
+            not_empty = lines_not_empty (naming_of s) (names_of s) [] lines read means.means.lines;
+            covers = means.means.covers;
+          })
 
   pub one_after_rows : (s : Schema) (name : List ℕ) (rest : Relation → Allowed)
       → ((rows : Relation) → AllowsOne (rest rows)) → AllowsOne (WithFile (rows_file s) known name rest)

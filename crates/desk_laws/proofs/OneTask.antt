@@ -9,6 +9,7 @@ use Rattle.dep_model.specs.Schemas.{width_of}
 use Rattle.dep_model.specs.Tuples.{Relation}
 use Rattle.dep_model.specs.declared.column_type.ColumnType.TheVariants.{Text}
 use Rattle.dep_model.specs.declared.schema.Schema.{Schema}
+use Rattle.named_plans.specs.NamedPlans.{NamedSchemes}
 use Rattle.desk_outside.specs.Files.{Files}
 use Rattle.schema_grammar.specs.Declarations.{Declarations}
 use Rattle.schema_grammar.specs.Schemas.{MeansSchema}
@@ -236,28 +237,28 @@ one_schema_answer (form.sql_migrate normal name) s t same one other first second
 one_schema_answer (form.draw normal) s t same one other first second =
     inl (alike _ (λ s f. form_drawn_moved s f normal) (λ s. one_form_drawn s normal) s t same one other first second)
 
-pub one_answer_of_plan : (s : Schema) (plan : List Attributes) (question : PlanQuestion) → IsPlan (width_of s) plan
+pub one_answer_of_plan : (s : Schema) (plan : NamedSchemes) (question : PlanQuestion) → IsPlan (width_of s) plan.schemes
     → AllowsOne (AnswersPlan s plan question)
 unfolding AnswersPlan
-one_answer_of_plan s plan form.check_join valid one other = one_join s plan one other
-one_answer_of_plan s plan (form.check_form normal) valid one other = one_form s normal plan one other valid
-one_answer_of_plan s plan form.check_keeps valid one other = one_keeping s plan one other
-one_answer_of_plan s plan form.keys_of_plan valid one other = one_plan_answer s plan one other
-one_answer_of_plan s plan form.ddl_plan valid one other = one_plan_written s plan one other
-one_answer_of_plan s plan (form.sql_migrate_plan name) valid one other = one_plan_scripted s plan name one other
-one_answer_of_plan s plan form.draw_plan valid one other = one_plan_drawn s plan one other
+one_answer_of_plan s plan form.check_join valid one other = one_join s plan.schemes one other
+one_answer_of_plan s plan (form.check_form normal) valid one other = one_form s normal plan.schemes one other valid
+one_answer_of_plan s plan form.check_keeps valid one other = one_keeping s plan.schemes one other
+one_answer_of_plan s plan form.keys_of_plan valid one other = one_plan_answer s plan.schemes one other
+one_answer_of_plan s plan form.ddl_plan valid one other = one_plan_written s plan.names plan.schemes one other
+one_answer_of_plan s plan (form.sql_migrate_plan name) valid one other = one_plan_scripted s plan.names plan.schemes name one other
+one_answer_of_plan s plan form.draw_plan valid one other = one_plan_drawn s plan.names plan.schemes one other
 
-plan_answer_moved : (s : Schema) (f : Frame s) (question : PlanQuestion) (plan : List Attributes)
+plan_answer_moved : (s : Schema) (f : Frame s) (question : PlanQuestion) (plan : NamedSchemes)
     (response : ResponseValue) → AnswersPlan s plan question response → AnswersPlan (rebuilt s f) plan question response
 unfolding AnswersPlan
-plan_answer_moved s f form.check_join plan response answers = join_moved s f plan response answers
-plan_answer_moved s f (form.check_form normal) plan response answers = form_moved s f normal plan response answers
-plan_answer_moved s f form.check_keeps plan response answers = keeping_moved s f plan response answers
-plan_answer_moved s f form.keys_of_plan plan response answers = plan_keys_moved s f plan response answers
-plan_answer_moved s f form.ddl_plan plan response answers = plan_written_moved s f plan response answers
+plan_answer_moved s f form.check_join plan response answers = join_moved s f plan.schemes response answers
+plan_answer_moved s f (form.check_form normal) plan response answers = form_moved s f normal plan.schemes response answers
+plan_answer_moved s f form.check_keeps plan response answers = keeping_moved s f plan.schemes response answers
+plan_answer_moved s f form.keys_of_plan plan response answers = plan_keys_moved s f plan.schemes response answers
+plan_answer_moved s f form.ddl_plan plan response answers = plan_written_moved s f plan.names plan.schemes response answers
 plan_answer_moved s f (form.sql_migrate_plan name) plan response answers =
-    plan_scripted_moved s f plan name response answers
-plan_answer_moved s f form.draw_plan plan response answers = plan_drawn_moved s f plan response answers
+    plan_scripted_moved s f plan.names plan.schemes name response answers
+plan_answer_moved s f form.draw_plan plan response answers = plan_drawn_moved s f plan.names plan.schemes response answers
 
 pub one_answer_of_rows : (s : Schema) (rows : Relation) (question : RowsQuestion)
     → AllowsOne (AnswersRows s rows question)
@@ -336,20 +337,20 @@ one_task looks files s t (form.migrate_plan own planned file) one other single s
     inl (alike
     (λ (u : Schema). WithFile (plan_file u) (known_files files) planned
     (λ plan. WithFile (rows_file u) (known_files files) file
-    (MigratesPlanHere u plan (own ∷ planned ∷ file ∷ []))))
+    (MigratesPlanHere u plan.names plan.schemes (own ∷ planned ∷ file ∷ []))))
     (λ u f. with_plan_file_moved u f (known_files files) planned
     (λ plan. WithFile (rows_file u) (known_files files) file
-    (MigratesPlanHere u plan (own ∷ planned ∷ file ∷ [])))
+    (MigratesPlanHere u plan.names plan.schemes (own ∷ planned ∷ file ∷ [])))
     (λ plan. WithFile (rows_file (rebuilt u f)) (known_files files) file
-    (MigratesPlanHere (rebuilt u f) plan (own ∷ planned ∷ file ∷ [])))
-    (λ plan. with_rows_moved u f (known_files files) file (MigratesPlanHere u plan (own ∷ planned ∷ file ∷ []))
-    (MigratesPlanHere (rebuilt u f) plan (own ∷ planned ∷ file ∷ []))
-    (λ rows. plan_placed_moved u f plan (own ∷ planned ∷ file ∷ []) rows)))
+    (MigratesPlanHere (rebuilt u f) plan.names plan.schemes (own ∷ planned ∷ file ∷ [])))
+    (λ plan. with_rows_moved u f (known_files files) file (MigratesPlanHere u plan.names plan.schemes (own ∷ planned ∷ file ∷ []))
+    (MigratesPlanHere (rebuilt u f) plan.names plan.schemes (own ∷ planned ∷ file ∷ []))
+    (λ rows. plan_placed_moved u f plan.names plan.schemes (own ∷ planned ∷ file ∷ []) rows)))
     (λ u. one_after_plan files u planned
     (λ plan. WithFile (rows_file u) (known_files files) file
-    (MigratesPlanHere u plan (own ∷ planned ∷ file ∷ [])))
-    (λ plan valid. one_after_rows files u file (MigratesPlanHere u plan (own ∷ planned ∷ file ∷ []))
-    (λ rows. one_plan_placed u plan (own ∷ planned ∷ file ∷ []) rows)))
+    (MigratesPlanHere u plan.names plan.schemes (own ∷ planned ∷ file ∷ [])))
+    (λ plan valid. one_after_rows files u file (MigratesPlanHere u plan.names plan.schemes (own ∷ planned ∷ file ∷ []))
+    (λ rows. one_plan_placed u plan.names plan.schemes (own ∷ planned ∷ file ∷ []) rows)))
     s t same one other first second)
 one_task looks files s t (form.migrate_into file normal name) one other single same first second =
     inl (alike
@@ -363,16 +364,16 @@ one_task looks files s t (form.migrate_into file normal name) one other single s
 one_task looks files s t (form.migrate_plan_into planned file name) one other single same first second =
     inl (alike
     (λ (u : Schema). WithFile (plan_file u) (known_files files) planned
-    (λ plan. WithFile (rows_file u) (known_files files) file (MigratesPlanInto looks u plan name)))
+    (λ plan. WithFile (rows_file u) (known_files files) file (MigratesPlanInto looks u plan.names plan.schemes name)))
     (λ u f. with_plan_file_moved u f (known_files files) planned
-    (λ plan. WithFile (rows_file u) (known_files files) file (MigratesPlanInto looks u plan name))
-    (λ plan. WithFile (rows_file (rebuilt u f)) (known_files files) file (MigratesPlanInto looks (rebuilt u f) plan name))
-    (λ plan. with_rows_moved u f (known_files files) file (MigratesPlanInto looks u plan name)
-    (MigratesPlanInto looks (rebuilt u f) plan name) (λ rows. plan_into_moved u f looks plan name rows)))
+    (λ plan. WithFile (rows_file u) (known_files files) file (MigratesPlanInto looks u plan.names plan.schemes name))
+    (λ plan. WithFile (rows_file (rebuilt u f)) (known_files files) file (MigratesPlanInto looks (rebuilt u f) plan.names plan.schemes name))
+    (λ plan. with_rows_moved u f (known_files files) file (MigratesPlanInto looks u plan.names plan.schemes name)
+    (MigratesPlanInto looks (rebuilt u f) plan.names plan.schemes name) (λ rows. plan_into_moved u f plan.names looks plan.schemes name rows)))
     (λ u. one_after_plan files u planned
-    (λ plan. WithFile (rows_file u) (known_files files) file (MigratesPlanInto looks u plan name))
-    (λ plan valid. one_after_rows files u file (MigratesPlanInto looks u plan name)
-    (λ rows. one_plan_into looks u plan name rows single)))
+    (λ plan. WithFile (rows_file u) (known_files files) file (MigratesPlanInto looks u plan.names plan.schemes name))
+    (λ plan valid. one_after_rows files u file (MigratesPlanInto looks u plan.names plan.schemes name)
+    (λ rows. one_plan_into looks u plan.names plan.schemes name rows single)))
     s t same one other first second)
 one_task looks files s t (form.check_proof file goal) one other single same first second =
     inl (alike

@@ -1,5 +1,5 @@
 -- Every text of a file has one reading: it means one value, or is refused in one way, and never both.
-use Rattle.std.proofs.Common.{◌≡◌, ℕ, List, ◌∷◌, Ok, Err, Result, sym, ap, ◌∙◌}
+use Rattle.std.proofs.Common.{◌≡◌, ℕ, List, ◌∷◌, Ok, Err, Result, sym, ap, ◌∙◌, Option, subst}
 use Rattle.attr_sets.specs.Attributes.{Attributes}
 use Rattle.attr_sets.specs.Sets.{attributes}
 use Rattle.csv_rows.proofs.UniqueRows.{table_same, whole_header_same, part_header_same}
@@ -9,7 +9,7 @@ use Rattle.csv_rows.specs.Quotes.{open_record}
 use Rattle.csv_rows.specs.Records.{records_of}
 use Rattle.csv_rows.specs.declared.part.PartialRows.{PartialRows}
 use Rattle.csv_rows.specs.declared.refusal.RowRefusal.{RowRefusal}
-use Rattle.dep_model.specs.Schemas.{names_of, width_of}
+use Rattle.dep_model.specs.Schemas.{names_of, width_of, naming_of, theory_of}
 use Rattle.dep_model.specs.Tuples.{Relation}
 use Rattle.dep_model.specs.declared.schema.Schema.{Schema}
 use Rattle.derivation.proofs.RuleTableLemmas.{the_ok}
@@ -33,6 +33,10 @@ use Rattle.schema_grammar.proofs.SchemaLaws.{schema-law}
 use Rattle.schema_grammar.specs.Schemas.{MeansSchema, RefusesSchema}
 use Rattle.schema_grammar.specs.Texts.{read_text}
 use Rattle.table_join.specs.Tables.{PartialRelation, table_of_part}
+use Rattle.named_plans.specs.NamedPlans.{NamedSchemes}
+use Rattle.design_order.specs.Order.{AreNamesInOrder}
+use Rattle.design_order.proofs.OrderLemmas.{one_names}
+use Rattle.desk_inputs.specs.Plans.{MeansTables}
 use Rattle.desk_laws.specs.OneReading.{HasOneReading}
 use Rattle.dep_model.specs.declared.naming.Naming.{Naming}
 
@@ -73,6 +77,28 @@ plan_text_once naming names text = record {
   one_refusal = plan_one_refusal naming names text;
   never_both = plan_never_both naming names text;
 }
+
+-- and so have the names of its tables in their order
+pub plan_tables_once : (s : Schema) (text : List ℕ)
+    → HasOneReading (MeansTables s text) (RefusesPlan (naming_of s) (names_of s) text)
+plan_tables_once s text = record {
+  one_meaning = one_meaning;
+  one_refusal = plan_one_refusal (naming_of s) (names_of s) text;
+  never_both = λ plan e means refused. plan_never_both (naming_of s) (names_of s) text means.read e means.means refused;
+}
+  where
+    same_tables : (one other : NamedSchemes) → one.schemes ≡ other.schemes → one.names ≡ other.names → one ≡ other
+    same_tables one other at also =
+        ap (λ (schemes : List Attributes). record { schemes = schemes; names = one.names }) at
+        ∙ ap (λ (names : List (Option (List ℕ))). record { schemes = other.schemes; names = names }) also
+
+    one_meaning : (one other : NamedSchemes) → MeansTables s text one → MeansTables s text other → one ≡ other
+    one_meaning one other first second =
+        let read : first.read ≡ second.read = plan_one_meaning (naming_of s) (names_of s) text first.read second.read first.means second.means in
+        let order : AreNamesInOrder (width_of s) (theory_of s) second.read.schemes second.read.names one.names =
+        subst (λ (tables : NamedSchemes). AreNamesInOrder (width_of s) (theory_of s) tables.schemes tables.names one.names) read first.order in
+        same_tables one other (first.schemes ∙ ap (λ (tables : NamedSchemes). tables.schemes) read ∙ sym second.schemes)
+        (one_names (width_of s) (theory_of s) second.read.schemes second.read.names one.names other.names order second.order)
 
 -- a relation to one result is one reading
 one_result : {A E : Type 0} (Gives : Result A E → Type 0)

@@ -1,6 +1,6 @@
 -- Where the inputs of the commands on sets, keys of a plan and two schemas have their meaning, they answer
 -- yes or no.
-use Rattle.std.proofs.Common.{◌≡◌, ℕ, List, [], ◌∷◌, ◌++◌, length, slice_index_or, is_none, nat_lt, ◌&&◌, Ok, Err, inl, inr, refl, sym, ap, ◌∙◌, subst, arith}
+use Rattle.std.proofs.Common.{◌≡◌, ℕ, List, [], ◌∷◌, ◌++◌, length, slice_index_or, is_none, nat_lt, ◌&&◌, Ok, Err, inl, inr, refl, sym, ap, ◌∙◌, subst, arith, false}
 use Rattle.std.proofs.lemmas.Bool.{false≢true}
 use Rattle.std.specs.Prelude.{codes, All, Contains}
 use Rattle.attr_sets.specs.Attributes.{Attributes, IsEmpty}
@@ -15,6 +15,7 @@ use Rattle.schema_grammar.specs.Declarations.{Declarations}
 use Rattle.schema_grammar.specs.Sets.{MeansSet, read_set}
 use Rattle.schema_grammar.proofs.SetLaws.{set-law, set-refusal-law}
 use Rattle.schema_match.specs.Columns.{SameNames, undeclared_attributes}
+use Rattle.named_plans.specs.NamedPlans.{NamedSchemes}
 use Rattle.desk_outside.specs.Files.{Files}
 use Rattle.desk_responses.specs.ResponseValues.{ResponseValue, Allowed}
 use Rattle.desk_implication.specs.Bases.{TellsBasis}
@@ -168,19 +169,19 @@ answer_agrees s r p plan response same is narrow within_limit (inr (scheme, firs
 
 keys_asks : (files : Files) (name file : List ℕ) (looks : Looks) (response : ResponseValue)
     → Answers looks (known_files files) (codes "keys" ∷ name ∷ file ∷ []) response
-    → WithFile schema_file (known_files files) name (λ r. WithFile (plan_file r) (known_files files) file (ListsKeysOfPlan r)) response
+    → WithFile schema_file (known_files files) name (λ r. WithFile (plan_file r) (known_files files) file (λ p. ListsKeysOfPlan r p.schemes)) response
 unfolding form_of form_over_schema after_keys Performs Does AnswersSchema AnswersPlan
 keys_asks files name file looks response answered = answered
 
-pub keys_of_plan_answered : (files : Files) (name file : List ℕ) (schema : Schema) (plan : List Attributes)
+pub keys_of_plan_answered : (files : Files) (name file : List ℕ) (schema : Schema) (plan : NamedSchemes)
     → IsFile schema_file (known_files files) name schema → IsFile (plan_file schema) (known_files files) file plan
-    → All (λ scheme. IsWide (theory_of schema) scheme → ⊥) plan
-    → All (λ scheme. (found : List AttrSet) → AreManyKeys (width_of schema) (theory_of schema) scheme found → ⊥) plan
+    → All (λ scheme. IsWide (theory_of schema) scheme → ⊥) plan.schemes
+    → All (λ scheme. (found : List AttrSet) → AreManyKeys (width_of schema) (theory_of schema) scheme found → ⊥) plan.schemes
     → IsAnswered files (codes "keys" ∷ name ∷ file ∷ [])
 keys_of_plan_answered files name file schema plan held_schema held_plan narrow within_limit looks response answered =
-    after_schema files name schema (λ r. WithFile (plan_file r) (known_files files) file (ListsKeysOfPlan r)) response held_schema
-    (λ r same more. after_plan files schema r file plan (ListsKeysOfPlan r) response same held_plan
-    (λ p is found. answer_agrees schema r p plan response same is narrow within_limit found) more)
+    after_schema files name schema (λ r. WithFile (plan_file r) (known_files files) file (λ p. ListsKeysOfPlan r p.schemes)) response held_schema
+    (λ r same more. after_plan files schema r file plan (λ p. ListsKeysOfPlan r p.schemes) response same held_plan
+    (λ p is found. answer_agrees schema r p.schemes plan.schemes response same (ap (λ (q : NamedSchemes). q.schemes) is) narrow within_limit found) more)
     (keys_asks files name file looks response answered)
 
 -- ---- two schemas

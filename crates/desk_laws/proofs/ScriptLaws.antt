@@ -1,5 +1,5 @@
 -- Where the inputs of the commands that print scripts and pictures have their meaning, they answer yes or no.
-use Rattle.std.proofs.Common.{ℕ, List, [], ◌∷◌, inl, inr, ap}
+use Rattle.std.proofs.Common.{ℕ, List, [], ◌∷◌, inl, inr, ap, ◌≡◌, false, sym, subst, ◌∙◌}
 use Rattle.std.specs.Prelude.{codes, IsTrue}
 use Rattle.attr_sets.specs.Attributes.{Attributes}
 use Rattle.attr_sets.specs.declared.set.AttrSet.{AttrSet}
@@ -7,9 +7,13 @@ use Rattle.dep_model.specs.Plans.{schemes_of}
 use Rattle.dep_model.specs.declared.schema.Schema.{Schema}
 use Rattle.normal_forms.specs.declared.forms.Form.{Form}
 use Rattle.normal_forms.specs.declared.forms.Form.TheVariants.{Third, Bcnf, Fourth}
+use Rattle.std.specs.List.{list_any}
+use Rattle.std.proofs.lemmas.Bool.{true≢false}
+use Rattle.table_names.specs.TableNames.{GivenNames, is_given}
+use Rattle.named_plans.specs.NamedPlans.{NamedSchemes}
 use Rattle.desk_outside.specs.Files.{Files}
-use Rattle.table_scripts.specs.Naming.{is_table_name}
-use Rattle.desk_responses.specs.ResponseValues.{ResponseValue, Allowed}
+use Rattle.table_scripts.specs.Naming.{dotted_parts, is_table_name, last_of}
+use Rattle.desk_responses.specs.ResponseValues.{Unless, ResponseValue, Allowed}
 use Rattle.desk_designs.specs.Decompositions.{WithPlanInForm}
 use Rattle.desk_designs.specs.Drawings.{DrawsTables, DrawsSchemes}
 use Rattle.desk_words.specs.Forms.{form_of, form_over_schema, after_sql, after_sql_migrate, after_draw, normal_form, schema_alone, schema_and_word, schema_and_plan, schema_and_plan_and_word}
@@ -20,7 +24,7 @@ use Rattle.desk_designs.specs.NormalForms.{form_word}
 use Rattle.desk_cli.specs.Performs.{Answers, Performs, Does, AnswersSchema, AnswersPlan}
 use Rattle.desk_inputs.specs.Plans.{plan_file}
 use Rattle.desk_inputs.specs.Readings.{known_files}
-use Rattle.desk_designs.specs.Scripts.{AsksTable, MakesSchemes, MakesTables, ScriptsMigrationByPlan, WithTableName}
+use Rattle.desk_designs.specs.Scripts.{MetNameStops, AsksTable, MakesSchemes, MakesTables, ScriptsMigrationByPlan, WithTableName}
 use Rattle.desk_designs.specs.Designs.{WithoutMissing}
 use Rattle.desk_laws.specs.Completeness.{IsYesOrNo, IsAnswered, HasPlanInForm, RequiresAll}
 use Rattle.desk_laws.proofs.CompleteLaws.{after_schema, after_plan}
@@ -33,11 +37,18 @@ after_name : (table : List ℕ) (rest : Allowed) (response : ResponseValue) → 
 after_name table rest response is go (inl exit) = absurd (exit.0 is)
 after_name table rest response is go (inr (named, more)) = go more
 
-MakesTables-yes_or_no : (r : Schema) (table : List ℕ) (plan : List AttrSet) (response : ResponseValue) → MakesTables r table plan response → IsYesOrNo response.status
-MakesTables-yes_or_no r table plan response found = inl (ap (λ (a : ResponseValue). a.status) found.2.1)
+after_other : (names : GivenNames) (table : List ℕ) (rest : Allowed) (response : ResponseValue)
+    → list_any (is_given (last_of (dotted_parts table))) names ≡ false → (rest response → IsYesOrNo response.status)
+    → Unless (MetNameStops names table) (list_any (is_given (last_of (dotted_parts table))) names ≡ false) rest response
+    → IsYesOrNo response.status
+after_other names table rest response other go (inl stops) = absurd (true≢false (sym stops.0 ∙ other))
+after_other names table rest response other go (inr (free, more)) = go more
 
-DrawsTables-yes_or_no : (r : Schema) (plan : List AttrSet) (response : ResponseValue) → DrawsTables r plan response → IsYesOrNo response.status
-DrawsTables-yes_or_no r plan response found = inl (ap (λ (a : ResponseValue). a.status) found.2)
+MakesTables-yes_or_no : (r : Schema) (names : GivenNames) (table : List ℕ) (plan : List AttrSet) (response : ResponseValue) → MakesTables r names table plan response → IsYesOrNo response.status
+MakesTables-yes_or_no r names table plan response found = inl (ap (λ (a : ResponseValue). a.status) found.2.1)
+
+DrawsTables-yes_or_no : (names : GivenNames) (r : Schema) (plan : List AttrSet) (response : ResponseValue) → DrawsTables r names plan response → IsYesOrNo response.status
+DrawsTables-yes_or_no names r plan response found = inl (ap (λ (a : ResponseValue). a.status) found.2)
 
 -- ---- `sql check`
 sql_check_asks : (files : Files) (name table : List ℕ) (looks : Looks) (response : ResponseValue)
@@ -56,7 +67,7 @@ sql_check_answered files name table schema file is looks response answered =
 -- ---- `sql migrate`
 -- the script of a plan, where no value is missing in its tables where it must not be
 abbrev MakesRequired : List ℕ → Schema → List AttrSet → Allowed
-MakesRequired table r plan = WithoutMissing r (schemes_of plan) (MakesTables r table plan)
+MakesRequired table r plan = WithoutMissing r [] (schemes_of plan) (MakesTables r [] table plan)
 
 sql_migrate_asks : (form : Form) (files : Files) (name table : List ℕ) (looks : Looks) (response : ResponseValue)
     → Answers looks (known_files files) (codes "sql" ∷ codes "migrate" ∷ form_word form ∷ name ∷ table ∷ []) response
@@ -74,36 +85,41 @@ sql_migrate_answered form files name table schema file is none can looks respons
     after_schema files name schema (λ r. WithTableName table (WithPlanInForm r form (MakesRequired table r))) response file
     (λ r same more. after_name table (WithPlanInForm r form (MakesRequired table r)) response is
     (λ found. after_form schema r form (MakesRequired table r) response same can
-    (λ plan stands. after_missing schema r (schemes_of plan) (MakesTables r table plan) response same none
-    (λ makes. MakesTables-yes_or_no r table plan response makes) stands) found) more)
+    (λ plan stands. after_missing schema r [] (schemes_of plan) (MakesTables r [] table plan) response same none
+    (λ makes. MakesTables-yes_or_no r [] table plan response makes) stands) found) more)
     (sql_migrate_asks form files name table looks response answered)
 
 sql_plan_asks : (files : Files) (name file table : List ℕ) (looks : Looks) (response : ResponseValue)
     → Answers looks (known_files files) (codes "sql" ∷ codes "migrate" ∷ codes "plan" ∷ name ∷ file ∷ table ∷ []) response
     → WithFile schema_file (known_files files) name (λ r. WithFile (plan_file r) (known_files files) file
-    (λ schemes. ScriptsMigrationByPlan r schemes table)) response
+    (λ p. ScriptsMigrationByPlan r p.names p.schemes table)) response
 unfolding form_of form_over_schema after_sql after_sql_migrate schema_and_plan_and_word Performs Does AnswersPlan
 sql_plan_asks files name file table looks response answered = answered
 
-pub sql_plan_answered : (files : Files) (name file table : List ℕ) (schema : Schema) (plan : List Attributes)
+pub sql_plan_answered : (files : Files) (name file table : List ℕ) (schema : Schema) (plan : NamedSchemes)
     → IsFile schema_file (known_files files) name schema → IsFile (plan_file schema) (known_files files) file plan → IsTrue (is_table_name table)
-    → RequiresAll schema → (IsTooLarge schema plan → ⊥)
+    → list_any (is_given (last_of (dotted_parts table))) plan.names ≡ false
+    → RequiresAll schema → (IsTooLarge schema plan.schemes → ⊥)
     → IsAnswered files (codes "sql" ∷ codes "migrate" ∷ codes "plan" ∷ name ∷ file ∷ table ∷ [])
-sql_plan_answered files name file table schema plan held_schema held_plan is_name none small looks response answered =
+sql_plan_answered files name file table schema plan held_schema held_plan is_name other none small looks response answered =
     after_schema files name schema
-    (λ r. WithFile (plan_file r) (known_files files) file (λ schemes. ScriptsMigrationByPlan r schemes table)) response held_schema
+    (λ r. WithFile (plan_file r) (known_files files) file (λ p. ScriptsMigrationByPlan r p.names p.schemes table)) response held_schema
     (λ r same more. after_plan files schema r file plan
-    (λ schemes. ScriptsMigrationByPlan r schemes table) response same held_plan
-    (λ p is found. after_name table (WithoutMissing r p (WithoutLoss r p (MakesSchemes r table p))) response is_name
-    (λ stands. after_missing schema r p (WithoutLoss r p (MakesSchemes r table p)) response same none
-    (λ kept. after_loss schema r p plan (MakesSchemes r table p) response same is small
-    (λ makes. MakesTables-yes_or_no r table makes.0 response makes.2) kept) stands) found) more)
+    (λ p. ScriptsMigrationByPlan r p.names p.schemes table) response same held_plan
+    (λ p is found. after_name table
+    (Unless (MetNameStops p.names table) (list_any (is_given (last_of (dotted_parts table))) p.names ≡ false)
+    (WithoutMissing r p.names p.schemes (WithoutLoss r p.schemes (MakesSchemes r p.names table p.schemes)))) response is_name
+    (λ named. after_other p.names table (WithoutMissing r p.names p.schemes (WithoutLoss r p.schemes (MakesSchemes r p.names table p.schemes))) response
+    (subst (λ (q : NamedSchemes). list_any (is_given (last_of (dotted_parts table))) q.names ≡ false) (sym is) other)
+    (λ stands. after_missing schema r p.names p.schemes (WithoutLoss r p.schemes (MakesSchemes r p.names table p.schemes)) response same none
+    (λ kept. after_loss schema r p.schemes plan.schemes (MakesSchemes r p.names table p.schemes) response same (ap (λ (q : NamedSchemes). q.schemes) is) small
+    (λ makes. MakesTables-yes_or_no r p.names table makes.0 response makes.2) kept) stands) named) found) more)
     (sql_plan_asks files name file table looks response answered)
 
 -- ---- `draw`
 draw_asks : (form : Form) (files : Files) (name : List ℕ) (looks : Looks) (response : ResponseValue)
     → Answers looks (known_files files) (codes "draw" ∷ form_word form ∷ name ∷ []) response
-    → WithFile schema_file (known_files files) name (λ r. WithPlanInForm r form (DrawsTables r)) response
+    → WithFile schema_file (known_files files) name (λ r. WithPlanInForm r form (DrawsTables r [])) response
 unfolding form_of form_over_schema after_draw normal_form schema_alone Performs Does AnswersSchema
 draw_asks Third files name looks response answered = answered
 draw_asks Bcnf files name looks response answered = answered
@@ -113,20 +129,20 @@ pub draw_answered : (form : Form) (files : Files) (name : List ℕ)
     → (schema : Schema) → IsFile schema_file (known_files files) name schema → HasPlanInForm schema form
     → IsAnswered files (codes "draw" ∷ form_word form ∷ name ∷ [])
 draw_answered form files name =
-    form_answered files (codes "draw" ∷ form_word form ∷ name ∷ []) name form DrawsTables DrawsTables-yes_or_no
+    form_answered files (codes "draw" ∷ form_word form ∷ name ∷ []) name form (λ r. DrawsTables r []) (DrawsTables-yes_or_no [])
     (draw_asks form files name)
 
 draw_plan_asks : (files : Files) (name file : List ℕ) (looks : Looks) (response : ResponseValue)
     → Answers looks (known_files files) (codes "draw" ∷ codes "plan" ∷ name ∷ file ∷ []) response
-    → WithFile schema_file (known_files files) name (λ r. WithFile (plan_file r) (known_files files) file (DrawsSchemes r)) response
+    → WithFile schema_file (known_files files) name (λ r. WithFile (plan_file r) (known_files files) file (λ p. DrawsSchemes r p.names p.schemes)) response
 unfolding form_of form_over_schema after_draw schema_and_plan Performs Does AnswersPlan
 draw_plan_asks files name file looks response answered = answered
 
-pub draw_plan_answered : (files : Files) (name file : List ℕ) (schema : Schema) (plan : List Attributes)
+pub draw_plan_answered : (files : Files) (name file : List ℕ) (schema : Schema) (plan : NamedSchemes)
     → IsFile schema_file (known_files files) name schema → IsFile (plan_file schema) (known_files files) file plan
     → IsAnswered files (codes "draw" ∷ codes "plan" ∷ name ∷ file ∷ [])
 draw_plan_answered files name file schema plan held_schema held_plan looks response answered =
-    after_schema files name schema (λ r. WithFile (plan_file r) (known_files files) file (DrawsSchemes r)) response held_schema
-    (λ r same more. after_plan files schema r file plan (DrawsSchemes r) response same held_plan
-    (λ p is found. DrawsTables-yes_or_no r found.0 response found.2) more)
+    after_schema files name schema (λ r. WithFile (plan_file r) (known_files files) file (λ p. DrawsSchemes r p.names p.schemes)) response held_schema
+    (λ r same more. after_plan files schema r file plan (λ p. DrawsSchemes r p.names p.schemes) response same held_plan
+    (λ p is found. DrawsTables-yes_or_no p.names r found.0 response found.2) more)
     (draw_plan_asks files name file looks response answered)

@@ -1,5 +1,5 @@
 -- Where the inputs of a command on forms, plans or tables have their meaning, it answers yes or no.
-use Rattle.std.proofs.Common.{◌≡◌, ◌<◌, ◌≤◌, ◌-◌, ◌^◌, ◌⊎◌, ℕ, true, List, [], ◌∷◌, length, inl, inr, sym, ap, refl, subst, ◌∙◌, arith}
+use Rattle.std.proofs.Common.{◌≡◌, ◌<◌, ◌≤◌, ◌-◌, ◌^◌, ◌⊎◌, ℕ, true, List, [], ◌∷◌, length, inl, inr, sym, ap, refl, subst, ◌∙◌, arith, false}
 use Rattle.std.specs.Prelude.{codes, All, Contains, Some}
 use Rattle.std.proofs.lemmas.List.Elements.{All-contains, Contains-append_right}
 use Rattle.std.proofs.Math.Nat.{pow-le-pow_right}
@@ -24,6 +24,8 @@ use Rattle.normal_forms.specs.declared.forms.Form.TheVariants.{Third, Bcnf, Four
 use Rattle.schema_grammar.specs.Declarations.{Declarations}
 use Rattle.split_forms.proofs.SplitLemmas.{too_many_short}
 use Rattle.split_forms.specs.Splitting.{IsTooWideAt, HasTooManySchemes}
+use Rattle.table_names.specs.TableNames.{GivenNames}
+use Rattle.named_plans.specs.NamedPlans.{NamedSchemes}
 use Rattle.desk_outside.specs.Files.{Files}
 use Rattle.desk_designs.specs.declared.decomposition.TheConstants.{MOST_SPLIT_SCHEMES}
 use Rattle.desk_responses.specs.ResponseValues.{ResponseValue, Allowed}
@@ -78,12 +80,12 @@ found_nowhere : (nullable : Attributes) (tables : List TableDesign) (refusal : M
 found_nowhere nullable tables (InKey a k) none finds = none a finds.1.here.missing
 found_nowhere nullable tables (InTwo a j k) none finds = none a finds.1.here.missing
 
-pub after_missing : (s r : Schema) (plan : List Attributes) (rest : Allowed) (response : ResponseValue) → AreSame s r → RequiresAll s
-    → (rest response → IsYesOrNo response.status) → WithoutMissing r plan rest response → IsYesOrNo response.status
-after_missing s r plan rest response same none go (inl (tables, design, found)) =
+pub after_missing : (s r : Schema) (names : GivenNames) (plan : List Attributes) (rest : Allowed) (response : ResponseValue) → AreSame s r → RequiresAll s
+    → (rest response → IsYesOrNo response.status) → WithoutMissing r names plan rest response → IsYesOrNo response.status
+after_missing s r names plan rest response same none go (inl (tables, design, found)) =
     absurd (found_nowhere (nullable_of r) tables found.0
     (subst (λ (x : Attributes). (a : ℕ) → x a ≡ true → ⊥) (nullable_same s r same) none) found.1)
-after_missing s r plan rest response same none go (inr (never, more)) = go more
+after_missing s r names plan rest response same none go (inr (never, more)) = go more
 
 after_legal : (r : Schema) (rows : Relation) (rest : Allowed) (response : ResponseValue)
     → (rest response → IsYesOrNo response.status) → WithLegal r rows rest response → IsYesOrNo response.status
@@ -91,12 +93,12 @@ after_legal r rows rest response go (inl (broken, found)) = inr (ap (λ (a : Res
 after_legal r rows rest response go (inr (legal, more)) = go more
 
 -- ---- answers
-pub MigratesRows-yes_or_no : (r : Schema) (plan : List Attributes) (rows : Relation) (response : ResponseValue) → MigratesRows r plan rows response → IsYesOrNo response.status
-MigratesRows-yes_or_no r plan rows response migrates =
-    after_legal r rows (GivesTables r plan rows) response (λ found. inl (ap (λ (a : ResponseValue). a.status) found.2)) migrates
+pub MigratesRows-yes_or_no : (r : Schema) (names : GivenNames) (plan : List Attributes) (rows : Relation) (response : ResponseValue) → MigratesRows r names plan rows response → IsYesOrNo response.status
+MigratesRows-yes_or_no r names plan rows response migrates =
+    after_legal r rows (GivesTables r names plan rows) response (λ found. inl (ap (λ (a : ResponseValue). a.status) found.2)) migrates
 
-WritesTables-yes_or_no : (r : Schema) (plan : List AttrSet) (response : ResponseValue) → WritesTables r plan response → IsYesOrNo response.status
-WritesTables-yes_or_no r plan response found = inl (ap (λ (a : ResponseValue). a.status) found.2)
+WritesTables-yes_or_no : (r : Schema) (names : GivenNames) (plan : List AttrSet) (response : ResponseValue) → WritesTables r names plan response → IsYesOrNo response.status
+WritesTables-yes_or_no r names plan response found = inl (ap (λ (a : ResponseValue). a.status) found.2)
 
 JudgesKeeping-yes_or_no : (r : Schema) (plan : List Attributes) (response : ResponseValue) → JudgesKeeping r plan response → IsYesOrNo response.status
 JudgesKeeping-yes_or_no r plan response (inl (kept, says)) = inl (ap (λ (a : ResponseValue). a.status) says)
@@ -152,20 +154,20 @@ small_is_splittable s form within_limit which = record {
 -- ---- commands
 -- each asks what `Performs` says of its words, and then what it reads and finds is there
 check_form_asks : (form : Form) (files : Files) (name file : List ℕ) (looks : Looks) (response : ResponseValue) → Answers looks (known_files files) (codes "check" ∷ codes "form" ∷ form_word form ∷ name ∷ file ∷ []) response
-    → WithFile schema_file (known_files files) name (λ r. WithFile (plan_file r) (known_files files) file (JudgesForm r form)) response
+    → WithFile schema_file (known_files files) name (λ r. WithFile (plan_file r) (known_files files) file (λ p. JudgesForm r form p.schemes)) response
 unfolding form_of form_over_schema after_check after_check_form normal_form schema_and_plan Performs Does AnswersPlan
 check_form_asks Third files name file looks response answered = answered
 check_form_asks Bcnf files name file looks response answered = answered
 check_form_asks Fourth files name file looks response answered = answered
 
 pub check_answered : (form : Form) (files : Files) (name file : List ℕ)
-    → (schema : Schema) (plan : List Attributes)
+    → (schema : Schema) (plan : NamedSchemes)
     → IsFile schema_file (known_files files) name schema → IsFile (plan_file schema) (known_files files) file plan
-    → All (λ scheme. IsWide (theory_of schema) scheme → ⊥) plan → IsAnswered files (codes "check" ∷ codes "form" ∷ form_word form ∷ name ∷ file ∷ [])
+    → All (λ scheme. IsWide (theory_of schema) scheme → ⊥) plan.schemes → IsAnswered files (codes "check" ∷ codes "form" ∷ form_word form ∷ name ∷ file ∷ [])
 check_answered form files name file schema plan held_schema held_plan narrow looks response answered =
-    after_schema files name schema (λ r. WithFile (plan_file r) (known_files files) file (JudgesForm r form)) response held_schema
-    (λ r same more. after_plan files schema r file plan (JudgesForm r form) response same held_plan
-    (λ p is found. JudgesForm-yes_or_no schema r form p plan response same is narrow found) more)
+    after_schema files name schema (λ r. WithFile (plan_file r) (known_files files) file (λ p. JudgesForm r form p.schemes)) response held_schema
+    (λ r same more. after_plan files schema r file plan (λ p. JudgesForm r form p.schemes) response same held_plan
+    (λ p is found. JudgesForm-yes_or_no schema r form p.schemes plan.schemes response same (ap (λ (q : NamedSchemes). q.schemes) is) narrow found) more)
     (check_form_asks form files name file looks response answered)
 
 -- a command over a schema alone that finds a plan in a form and goes on with it
@@ -182,7 +184,7 @@ form_answered files words name form rest says asks schema file can looks respons
 
 -- the tables of a plan, where no value is missing in them where it must not be
 abbrev WritesRequired : Schema → List AttrSet → Allowed
-WritesRequired r plan = WithoutMissing r (schemes_of plan) (WritesTables r plan)
+WritesRequired r plan = WithoutMissing r [] (schemes_of plan) (WritesTables r [] plan)
 
 ddl_asks : (form : Form) (files : Files) (name : List ℕ) (looks : Looks) (response : ResponseValue) → Answers looks (known_files files) (codes "ddl" ∷ form_word form ∷ name ∷ []) response
     → WithFile schema_file (known_files files) name (λ r. WithPlanInForm r form (WritesRequired r)) response
@@ -197,21 +199,21 @@ pub ddl_answered : (form : Form) (files : Files) (name : List ℕ)
 ddl_answered form files name schema file none can looks response answered =
     after_schema files name schema (λ r. WithPlanInForm r form (WritesRequired r)) response file
     (λ r same more. after_form schema r form (WritesRequired r) response same can
-    (λ plan found. after_missing schema r (schemes_of plan) (WritesTables r plan) response same none
-    (λ writes. WritesTables-yes_or_no r plan response writes) found) more)
+    (λ plan found. after_missing schema r [] (schemes_of plan) (WritesTables r [] plan) response same none
+    (λ writes. WritesTables-yes_or_no r [] plan response writes) found) more)
     (ddl_asks form files name looks response answered)
 
 -- files of which none is a table's stay as they are
-abbrev EachNamesNoTable : List (List ℕ) → Type 0
-EachNamesNoTable [] = Unit {0}
-EachNamesNoTable (file ∷ files) = NamesNoTable file × EachNamesNoTable files
+abbrev EachNamesNoTable : GivenNames → List (List ℕ) → Type 0
+EachNamesNoTable names [] = Unit {0}
+EachNamesNoTable names (file ∷ files) = NamesNoTable names file × EachNamesNoTable names files
 
-keeps_files : (tables : ℕ) (files : List (List ℕ)) (rest : Allowed) (response : ResponseValue)
-    → EachNamesNoTable files → KeepsFiles tables files rest response → rest response
-keeps_files tables [] rest response none kept = kept
-keeps_files tables (file ∷ files) rest response none (inl (is, says)) = absurd (none.0 tables is)
-keeps_files tables (file ∷ files) rest response none (inr (passed, kept)) =
-    keeps_files tables files rest response none.1 kept
+keeps_files : (names : GivenNames) (tables : ℕ) (files : List (List ℕ)) (rest : Allowed) (response : ResponseValue)
+    → EachNamesNoTable names files → KeepsFiles names tables files rest response → rest response
+keeps_files names tables [] rest response none kept = kept
+keeps_files names tables (file ∷ files) rest response none (inl (is, says)) = absurd (none.0 tables is)
+keeps_files names tables (file ∷ files) rest response none (inr (passed, kept)) =
+    keeps_files names tables files rest response none.1 kept
 
 migrate_asks : (form : Form) (files : Files) (name file : List ℕ) (looks : Looks) (response : ResponseValue)
     → Answers looks (known_files files) (codes "migrate" ∷ form_word form ∷ name ∷ file ∷ []) response
@@ -225,19 +227,19 @@ migrate_asks Fourth files name file looks response answered = answered
 pub migrate_answered : (form : Form) (files : Files) (name file : List ℕ)
     → (schema : Schema) (rows : Relation)
     → IsFile schema_file (known_files files) name schema → IsFile (rows_file schema) (known_files files) file rows
-    → NamesNoTable name → NamesNoTable file → RequiresAll schema → HasPlanInForm schema form
+    → NamesNoTable [] name → NamesNoTable [] file → RequiresAll schema → HasPlanInForm schema form
     → IsAnswered files (codes "migrate" ∷ form_word form ∷ name ∷ file ∷ [])
 migrate_answered form files name file schema rows held_schema held_rows own other none can looks response answered =
     after_schema files name schema
     (λ r. WithFile (rows_file r) (known_files files) file (MigratesHere r form (name ∷ file ∷ []))) response held_schema
     (λ r same more. after_rows files schema r file rows (MigratesHere r form (name ∷ file ∷ [])) response same held_rows
     (λ x found. after_form schema r form
-    (λ plan. WithoutMissing r (schemes_of plan)
-    (KeepsFiles (length (schemes_of plan)) (name ∷ file ∷ []) (MigratesRows r (schemes_of plan) x))) response same can
-    (λ plan stands. after_missing schema r (schemes_of plan)
-    (KeepsFiles (length (schemes_of plan)) (name ∷ file ∷ []) (MigratesRows r (schemes_of plan) x)) response same none
-    (λ kept. MigratesRows-yes_or_no r (schemes_of plan) x response
-    (keeps_files (length (schemes_of plan)) (name ∷ file ∷ []) (MigratesRows r (schemes_of plan) x) response (own, (other, tt)) kept))
+    (λ plan. WithoutMissing r [] (schemes_of plan)
+    (KeepsFiles [] (length (schemes_of plan)) (name ∷ file ∷ []) (MigratesRows r [] (schemes_of plan) x))) response same can
+    (λ plan stands. after_missing schema r [] (schemes_of plan)
+    (KeepsFiles [] (length (schemes_of plan)) (name ∷ file ∷ []) (MigratesRows r [] (schemes_of plan) x)) response same none
+    (λ kept. MigratesRows-yes_or_no r [] (schemes_of plan) x response
+    (keeps_files [] (length (schemes_of plan)) (name ∷ file ∷ []) (MigratesRows r [] (schemes_of plan) x) response (own, (other, tt)) kept))
     stands)
     found) more)
     (migrate_asks form files name file looks response answered)
@@ -281,33 +283,33 @@ exhibit_answered files name schema file functional narrow few looks response ans
     after_schema files name schema Exhibits response file (λ r same found. Exhibits-yes_or_no schema r response same functional narrow few found) (exhibit_asks files name looks response answered)
 
 check_keeps_asks : (files : Files) (name file : List ℕ) (looks : Looks) (response : ResponseValue) → Answers looks (known_files files) (codes "check" ∷ codes "keeps" ∷ name ∷ file ∷ []) response
-    → WithFile schema_file (known_files files) name (λ r. WithFile (plan_file r) (known_files files) file (JudgesKeeping r)) response
+    → WithFile schema_file (known_files files) name (λ r. WithFile (plan_file r) (known_files files) file (λ p. JudgesKeeping r p.schemes)) response
 unfolding form_of form_over_schema after_check schema_and_plan Performs Does AnswersPlan
 check_keeps_asks files name file looks response answered = answered
 
-pub check_keeps_answered : (files : Files) (name file : List ℕ) (schema : Schema) (plan : List Attributes)
+pub check_keeps_answered : (files : Files) (name file : List ℕ) (schema : Schema) (plan : NamedSchemes)
     → IsFile schema_file (known_files files) name schema → IsFile (plan_file schema) (known_files files) file plan
     → IsAnswered files (codes "check" ∷ codes "keeps" ∷ name ∷ file ∷ [])
 check_keeps_answered files name file schema plan held_schema held_plan looks response answered =
-    after_schema files name schema (λ r. WithFile (plan_file r) (known_files files) file (JudgesKeeping r)) response held_schema
-    (λ r same more. after_plan files schema r file plan (JudgesKeeping r) response same held_plan (λ p is found. JudgesKeeping-yes_or_no r p response found) more)
+    after_schema files name schema (λ r. WithFile (plan_file r) (known_files files) file (λ p. JudgesKeeping r p.schemes)) response held_schema
+    (λ r same more. after_plan files schema r file plan (λ p. JudgesKeeping r p.schemes) response same held_plan (λ p is found. JudgesKeeping-yes_or_no r p.schemes response found) more)
     (check_keeps_asks files name file looks response answered)
 
 ddl_plan_asks : (files : Files) (name file : List ℕ) (looks : Looks) (response : ResponseValue) → Answers looks (known_files files) (codes "ddl" ∷ codes "plan" ∷ name ∷ file ∷ []) response
-    → WithFile schema_file (known_files files) name (λ r. WithFile (plan_file r) (known_files files) file (WritesPlan r)) response
+    → WithFile schema_file (known_files files) name (λ r. WithFile (plan_file r) (known_files files) file (λ p. WritesPlan r p.names p.schemes)) response
 unfolding form_of form_over_schema after_ddl schema_and_plan Performs Does AnswersPlan
 ddl_plan_asks files name file looks response answered = answered
 
-pub ddl_plan_answered : (files : Files) (name file : List ℕ) (schema : Schema) (plan : List Attributes)
+pub ddl_plan_answered : (files : Files) (name file : List ℕ) (schema : Schema) (plan : NamedSchemes)
     → IsFile schema_file (known_files files) name schema → IsFile (plan_file schema) (known_files files) file plan
-    → RequiresAll schema → (IsTooLarge schema plan → ⊥)
+    → RequiresAll schema → (IsTooLarge schema plan.schemes → ⊥)
     → IsAnswered files (codes "ddl" ∷ codes "plan" ∷ name ∷ file ∷ [])
 ddl_plan_answered files name file schema plan held_schema held_plan none small looks response answered =
-    after_schema files name schema (λ r. WithFile (plan_file r) (known_files files) file (WritesPlan r)) response held_schema
-    (λ r same more. after_plan files schema r file plan (WritesPlan r) response same held_plan
-    (λ p is found. after_missing schema r p (WithoutLoss r p (WritesSchemes r p)) response same none
-    (λ kept. after_loss schema r p plan (WritesSchemes r p) response same is small
-    (λ writes. WritesTables-yes_or_no r writes.0 response writes.2) kept) found) more)
+    after_schema files name schema (λ r. WithFile (plan_file r) (known_files files) file (λ p. WritesPlan r p.names p.schemes)) response held_schema
+    (λ r same more. after_plan files schema r file plan (λ p. WritesPlan r p.names p.schemes) response same held_plan
+    (λ p is found. after_missing schema r p.names p.schemes (WithoutLoss r p.schemes (WritesSchemes r p.names p.schemes)) response same none
+    (λ kept. after_loss schema r p.schemes plan.schemes (WritesSchemes r p.names p.schemes) response same (ap (λ (q : NamedSchemes). q.schemes) is) small
+    (λ writes. WritesTables-yes_or_no r p.names writes.0 response writes.2) kept) found) more)
     (ddl_plan_asks files name file looks response answered)
 
 migrate_plan_asks : (files : Files) (name planned file : List ℕ) (looks : Looks) (response : ResponseValue)
@@ -315,31 +317,32 @@ migrate_plan_asks : (files : Files) (name planned file : List ℕ) (looks : Look
     → WithFile schema_file (known_files files) name
     (λ r. WithFile (plan_file r) (known_files files) planned
     (λ plan. WithFile (rows_file r) (known_files files) file
-    (MigratesPlanHere r plan (name ∷ planned ∷ file ∷ [])))) response
+    (MigratesPlanHere r plan.names plan.schemes (name ∷ planned ∷ file ∷ [])))) response
 unfolding form_of form_over_schema form_over_rows after_migrate after_migrate_plan Performs Does
 migrate_plan_asks files name planned file looks response answered = answered
 
-pub migrate_plan_answered : (files : Files) (name planned file : List ℕ) (schema : Schema) (plan : List Attributes)
+pub migrate_plan_answered : (files : Files) (name planned file : List ℕ) (schema : Schema) (plan : NamedSchemes)
     (rows : Relation)
     → IsFile schema_file (known_files files) name schema
     → IsFile (plan_file schema) (known_files files) planned plan
     → IsFile (rows_file schema) (known_files files) file rows
-    → NamesNoTable name → NamesNoTable planned → NamesNoTable file
-    → RequiresAll schema → (IsTooLarge schema plan → ⊥)
+    → NamesNoTable plan.names name → NamesNoTable plan.names planned → NamesNoTable plan.names file
+    → RequiresAll schema → (IsTooLarge schema plan.schemes → ⊥)
     → IsAnswered files (codes "migrate" ∷ codes "plan" ∷ name ∷ planned ∷ file ∷ [])
 migrate_plan_answered files name planned file schema plan rows held_schema held_plan held_rows own also other none small
     looks response answered =
     let read = name ∷ planned ∷ file ∷ [] in
     after_schema files name schema
     (λ r. WithFile (plan_file r) (known_files files) planned
-    (λ p. WithFile (rows_file r) (known_files files) file (MigratesPlanHere r p read))) response held_schema
+    (λ p. WithFile (rows_file r) (known_files files) file (MigratesPlanHere r p.names p.schemes read))) response held_schema
     (λ r same more. after_plan files schema r planned plan
-    (λ p. WithFile (rows_file r) (known_files files) file (MigratesPlanHere r p read)) response same held_plan
-    (λ p is found. after_rows files schema r file rows (MigratesPlanHere r p read) response same held_rows
-    (λ x stands. after_missing schema r p (KeepsFiles (length p) read (MigratesPlan r p x)) response same none
-    (λ kept. after_loss schema r p plan (MigratesRows r p x) response same is small
-    (λ gives. MigratesRows-yes_or_no r p x response gives)
-    (keeps_files (length p) read (MigratesPlan r p x) response (own, (also, (other, tt))) kept)) stands) found) more)
+    (λ p. WithFile (rows_file r) (known_files files) file (MigratesPlanHere r p.names p.schemes read)) response same held_plan
+    (λ p is found. after_rows files schema r file rows (MigratesPlanHere r p.names p.schemes read) response same held_rows
+    (λ x stands. after_missing schema r p.names p.schemes (KeepsFiles p.names (length p.schemes) read (MigratesPlan r p.names p.schemes x)) response same none
+    (λ kept. after_loss schema r p.schemes plan.schemes (MigratesRows r p.names p.schemes x) response same (ap (λ (q : NamedSchemes). q.schemes) is) small
+    (λ gives. MigratesRows-yes_or_no r p.names p.schemes x response gives)
+    (keeps_files p.names (length p.schemes) read (MigratesPlan r p.names p.schemes x) response
+    (subst (λ (q : NamedSchemes). EachNamesNoTable q.names read) (sym is) (own, (also, (other, tt)))) kept)) stands) found) more)
     (migrate_plan_asks files name planned file looks response answered)
 
 sample_asks : (files : Files) (word : List ℕ) (looks : Looks) (response : ResponseValue) → is_count word ≡ true → Answers looks (known_files files) (codes "sample" ∷ word ∷ []) response → Samples (number_of word) response
@@ -350,5 +353,5 @@ pub sample_answered : (files : Files) (word : List ℕ) → is_count word ≡ tr
 sample_answered files word is looks response answered =
     let (schema, of_sample, found) = sample_asks files word looks response is answered in
     let within_limit : width_of schema ≤ 13 = omega (arith, ap length of_sample.names) in
-    after_form schema schema Fourth (λ plan. MigratesRows schema (schemes_of plan) (sample_relation (number_of word))) response refl (small_is_splittable schema Fourth within_limit (inr refl))
-    (λ plan gives. MigratesRows-yes_or_no schema (schemes_of plan) (sample_relation (number_of word)) response gives) found
+    after_form schema schema Fourth (λ plan. MigratesRows schema [] (schemes_of plan) (sample_relation (number_of word))) response refl (small_is_splittable schema Fourth within_limit (inr refl))
+    (λ plan gives. MigratesRows-yes_or_no schema [] (schemes_of plan) (sample_relation (number_of word)) response gives) found

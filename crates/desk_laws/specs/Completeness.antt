@@ -15,6 +15,7 @@ use Rattle.desk_responses.specs.declared.status.Status.TheVariants.{Yes, No}
 use Rattle.desk_responses.specs.ResponseValues.{ResponseValue}
 use Rattle.desk_tables.specs.Overwriting.{IsTableFile}
 use Rattle.desk_tables.specs.OwnFolders.{Looks}
+use Rattle.table_names.specs.TableNames.{GivenNames}
 use Rattle.desk_cli.specs.Desk.{FileSourceInCall, SinkInCall}
 use Rattle.desk_delivery.specs.Outcomes.{DestinationsInCall, NoneFails, OwnInCall, OwnIsFine}
 use Rattle.desk_cli.specs.Performs.{Answers}
@@ -58,6 +59,6 @@ HasPlanInForm schema Fourth = IsSplittable schema Fourth
 abbrev pub RequiresAll : Schema → Type 0
 RequiresAll schema = (a : ℕ) → nullable_of schema a ≡ true → ⊥
 
--- no table has a file of this name
-abbrev pub NamesNoTable : List ℕ → Type 0
-NamesNoTable name = (tables : ℕ) → IsTableFile tables name → ⊥
+-- no table has a file of this name, where these names are given to tables
+abbrev pub NamesNoTable : GivenNames → List ℕ → Type 0
+NamesNoTable names name = (tables : ℕ) → IsTableFile names tables name → ⊥

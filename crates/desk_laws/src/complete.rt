@@ -3,13 +3,13 @@
 //! the others stand in `complete_questions`, `complete_scripts` and `complete_tables`.
 
 ghost use Rattle.std.specs.Prelude.{◌≡◌, ℕ, List, [], ◌∷◌, Result, Ok, codes};
-ghost use Rattle.attr_sets.specs.Attributes.{Attributes};
 ghost use Rattle.dep_model.specs.Dependencies.{Dependency};
 ghost use Rattle.dep_model.specs.Tuples.{Relation};
 ghost use Rattle.dep_model.specs.declared.memory.OutOfMemory.{OutOfMemory};
 ghost use Rattle.dep_model.specs.declared.schema.Schema.{Schema};
 ghost use Rattle.derivation.specs.Trees.{Tree};
 ghost use Rattle.key_listing.specs.Refusals.{IsTooWide};
+ghost use Rattle.named_plans.specs.NamedPlans.{NamedSchemes};
 ghost use Rattle.desk_outside.specs.Files.{Files};
 ghost use Rattle.desk_responses.specs.declared.status.Status.{Status};
 ghost use Rattle.desk_cli.specs.Desk.{Desk, SinkInCall, source_in_call};
@@ -76,9 +76,9 @@ pub fn check_rows_is_answered()
 /// `check join` is answered where the schema file means a schema, the plan file a plan, and the chase
 /// comes to no tableau of too many rows.
 pub fn check_join_is_answered()
-    ensures law { (files : Files) (name file : List ℕ) (schema : Schema) (plan : List Attributes)
+    ensures law { (files : Files) (name file : List ℕ) (schema : Schema) (plan : NamedSchemes)
         → IsFile schema_file (known_files files) name schema → IsFile (plan_file schema) (known_files files) file plan
-        → (IsTooLarge schema plan → ⊥)
+        → (IsTooLarge schema plan.schemes → ⊥)
         → IsAnswered files (codes "check" ∷ codes "join" ∷ name ∷ file ∷ []) }
 {}
 

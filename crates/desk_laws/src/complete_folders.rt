@@ -2,10 +2,10 @@
 //! with yes or no, or runs out of memory (`complete` says it of every call).
 
 ghost use Rattle.std.specs.Prelude.{ℕ, IsTrue, false, List, [], ◌∷◌, codes};
-ghost use Rattle.attr_sets.specs.Attributes.{Attributes};
 ghost use Rattle.dep_model.specs.Tuples.{Relation};
 ghost use Rattle.dep_model.specs.declared.schema.Schema.{Schema};
 ghost use Rattle.normal_forms.specs.declared.forms.Form.{Form};
+ghost use Rattle.named_plans.specs.NamedPlans.{NamedSchemes};
 ghost use Rattle.desk_outside.specs.Files.{Files};
 ghost use Rattle.desk_inputs.specs.FileKinds.{IsFile};
 ghost use Rattle.desk_inputs.specs.Inputs.{schema_file};
@@ -28,11 +28,11 @@ pub fn migrate_into_is_answered()
         → IsAnsweredBy looks files
         (codes "migrate" ∷ form_word form ∷ name ∷ file ∷ codes "into" ∷ folder ∷ []) }
     ensures plan { (looks : Looks) (files : Files) (name planned file folder : List ℕ) (schema : Schema)
-        (plan : List Attributes) (rows : Relation)
+        (plan : NamedSchemes) (rows : Relation)
         → IsFile schema_file (known_files files) name schema
         → IsFile (plan_file schema) (known_files files) planned plan
         → IsFile (rows_file schema) (known_files files) file rows
-        → RequiresAll schema → (IsTooLarge schema plan → ⊥) → (IsTrue (looks folder false) → ⊥)
+        → RequiresAll schema → (IsTooLarge schema plan.schemes → ⊥) → (IsTrue (looks folder false) → ⊥)
         → IsAnsweredBy looks files
         (codes "migrate" ∷ codes "plan" ∷ name ∷ planned ∷ file ∷ codes "into" ∷ folder ∷ []) }
 {}

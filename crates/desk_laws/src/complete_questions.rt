@@ -12,6 +12,7 @@ ghost use Rattle.key_listing.specs.Listing.{AreManyKeys};
 ghost use Rattle.fd_closure.specs.LeftSides.{IsWide};
 ghost use Rattle.fd_projection.specs.Refusals.{AreTooMany};
 ghost use Rattle.schema_match.specs.Columns.{SameNames};
+ghost use Rattle.named_plans.specs.NamedPlans.{NamedSchemes};
 ghost use Rattle.desk_outside.specs.Files.{Files};
 ghost use Rattle.desk_inputs.specs.FileKinds.{IsFile};
 ghost use Rattle.desk_inputs.specs.Inputs.{schema_file};
@@ -54,11 +55,11 @@ pub fn check_key_is_answered()
 /// `keys` of a plan is answered where the schema file means a schema, the plan file a plan, and each scheme
 /// of the plan is not too wide and has no more keys than are listed.
 pub fn keys_of_plan_is_answered()
-    ensures law { (files : Files) (name file : List ℕ) (schema : Schema) (plan : List Attributes)
+    ensures law { (files : Files) (name file : List ℕ) (schema : Schema) (plan : NamedSchemes)
         → IsFile schema_file (known_files files) name schema → IsFile (plan_file schema) (known_files files) file plan
-        → All (λ scheme. IsWide (theory_of schema) scheme → ⊥) plan
+        → All (λ scheme. IsWide (theory_of schema) scheme → ⊥) plan.schemes
         → All (λ scheme. (found : List AttrSet)
-        → AreManyKeys (width_of schema) (theory_of schema) scheme found → ⊥) plan
+        → AreManyKeys (width_of schema) (theory_of schema) scheme found → ⊥) plan.schemes
         → IsAnswered files (codes "keys" ∷ name ∷ file ∷ []) }
 {}
 

@@ -3,7 +3,6 @@
 //! tables.
 
 ghost use Rattle.std.specs.Prelude.{◌≡◌, ◌<◌, ◌≤◌, ℕ, true, List, [], ◌∷◌, codes, All};
-ghost use Rattle.attr_sets.specs.Attributes.{Attributes};
 ghost use Rattle.armstrong_rel.specs.Refusals.{IsFirstMvd, HasTooManyRows, IsTooWideToExhibit};
 ghost use Rattle.candidate_search.specs.declared.side.TooManyLeftSides.{TooManyLeftSides};
 ghost use Rattle.csv_rows.specs.declared.part.PartialRows.{PartialRows};
@@ -17,6 +16,7 @@ ghost use Rattle.normal_forms.specs.declared.forms.Form.{Form};
 ghost use Rattle.normal_forms.specs.declared.forms.Form.TheVariants as forms;
 ghost use Rattle.table_join.specs.Answers.{IsWithinLimit};
 ghost use Rattle.table_join.specs.Tables.{tables_of, plan_of_tables};
+ghost use Rattle.named_plans.specs.NamedPlans.{NamedSchemes};
 ghost use Rattle.desk_outside.specs.Files.{Files};
 ghost use Rattle.desk_discovery.specs.Discoveries.{HasTooManyLeftSides};
 ghost use Rattle.desk_tables.specs.declared.rejoining.TheConstants.{MOST_JOINED_ROWS};
@@ -36,15 +36,15 @@ ghost use Rattle.desk_laws.specs.Completeness.{IsAnswered, HasPlanInForm, NamesN
 /// `check form` is answered where the schema file means a schema, the plan file a plan, and no scheme of
 /// the plan has more attributes than are tested.
 pub fn check_form_is_answered()
-    ensures in_form { (form : Form) (files : Files) (name file : List ℕ) (schema : Schema) (plan : List Attributes)
+    ensures in_form { (form : Form) (files : Files) (name file : List ℕ) (schema : Schema) (plan : NamedSchemes)
         → IsFile schema_file (known_files files) name schema → IsFile (plan_file schema) (known_files files) file plan
-        → All (λ scheme. IsWide (theory_of schema) scheme → ⊥) plan
+        → All (λ scheme. IsWide (theory_of schema) scheme → ⊥) plan.schemes
         → IsAnswered files (codes "check" ∷ codes "form" ∷ form_word form ∷ name ∷ file ∷ []) }
 {}
 
 /// `check keeps` is answered where the schema file means a schema and the plan file a plan.
 pub fn check_keeps_is_answered()
-    ensures law { (files : Files) (name file : List ℕ) (schema : Schema) (plan : List Attributes)
+    ensures law { (files : Files) (name file : List ℕ) (schema : Schema) (plan : NamedSchemes)
         → IsFile schema_file (known_files files) name schema → IsFile (plan_file schema) (known_files files) file plan
         → IsAnswered files (codes "check" ∷ codes "keeps" ∷ name ∷ file ∷ []) }
 {}
@@ -79,9 +79,9 @@ pub fn ddl_is_answered()
     ensures in_form { (form : Form) (files : Files) (name : List ℕ) (schema : Schema)
         → IsFile schema_file (known_files files) name schema → RequiresAll schema → HasPlanInForm schema form
         → IsAnswered files (codes "ddl" ∷ form_word form ∷ name ∷ []) }
-    ensures plan { (files : Files) (name file : List ℕ) (schema : Schema) (plan : List Attributes)
+    ensures plan { (files : Files) (name file : List ℕ) (schema : Schema) (plan : NamedSchemes)
         → IsFile schema_file (known_files files) name schema → IsFile (plan_file schema) (known_files files) file plan
-        → RequiresAll schema → (IsTooLarge schema plan → ⊥)
+        → RequiresAll schema → (IsTooLarge schema plan.schemes → ⊥)
         → IsAnswered files (codes "ddl" ∷ codes "plan" ∷ name ∷ file ∷ []) }
 {}
 
@@ -90,16 +90,16 @@ pub fn ddl_is_answered()
 pub fn migrate_is_answered()
     ensures in_form { (form : Form) (files : Files) (name file : List ℕ) (schema : Schema) (rows : Relation)
         → IsFile schema_file (known_files files) name schema → IsFile (rows_file schema) (known_files files) file rows
-        → NamesNoTable name → NamesNoTable file → RequiresAll schema → HasPlanInForm schema form
+        → NamesNoTable [] name → NamesNoTable [] file → RequiresAll schema → HasPlanInForm schema form
         → IsAnswered files (codes "migrate" ∷ form_word form ∷ name ∷ file ∷ []) }
     ensures plan { (files : Files) (name planned file : List ℕ) (schema : Schema)
-        (plan : List Attributes)
+        (plan : NamedSchemes)
         (rows : Relation)
         → IsFile schema_file (known_files files) name schema
         → IsFile (plan_file schema) (known_files files) planned plan
         → IsFile (rows_file schema) (known_files files) file rows
-        → NamesNoTable name → NamesNoTable planned → NamesNoTable file
-        → RequiresAll schema → (IsTooLarge schema plan → ⊥)
+        → NamesNoTable plan.names name → NamesNoTable plan.names planned → NamesNoTable plan.names file
+        → RequiresAll schema → (IsTooLarge schema plan.schemes → ⊥)
         → IsAnswered files (codes "migrate" ∷ codes "plan" ∷ name ∷ planned ∷ file ∷ []) }
 {}
 

@@ -37,6 +37,6 @@ words_more naming names i d within =
 
 -- what is answered of the schema of the sample is answered of the sample
 pub sample_response : (persons : ℕ) (schema : Schema) (result : Result Response EarlyExit) → IsSampleSchema schema
-    → RespondsAs (WithPlanInForm schema Fourth (λ plan. MigratesRows schema (schemes_of plan) (sample_relation persons))) result → RespondsAs (Samples persons) result
+    → RespondsAs (WithPlanInForm schema Fourth (λ plan. MigratesRows schema [] (schemes_of plan) (sample_relation persons))) result → RespondsAs (Samples persons) result
 sample_response persons schema (Ok response) is goes = (schema, is, goes)
 sample_response persons schema (Err exit) is goes = λ response e. (schema, is, goes response e)

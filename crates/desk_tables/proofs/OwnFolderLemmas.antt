@@ -5,6 +5,7 @@ use Rattle.attr_sets.specs.declared.set.AttrSet.{AttrSet}
 use Rattle.dep_model.specs.Plans.{schemes_of}
 use Rattle.dep_model.specs.Tuples.{Relation}
 use Rattle.dep_model.specs.declared.schema.Schema.{Schema}
+use Rattle.table_names.specs.TableNames.{GivenNames}
 use Rattle.desk_responses.specs.Responses.{RespondsAs}
 use Rattle.desk_responses.specs.declared.response.EarlyExit.{EarlyExit}
 use Rattle.desk_responses.specs.declared.response.Response.{Response}
@@ -15,7 +16,7 @@ pub is_free : (looks : Looks) (folder : List ℕ) (free : Bool) → free ≡ tru
 is_free looks folder free answered look = subst (λ (b : Bool). IsTrue (looks folder b)) answered look
 
 -- what is answered of the sets of a plan is answered of its schemes
-pub of_schemes : (schema : Schema) (plan : List AttrSet) (folder : List ℕ) (rows : Relation) (result : Result Response EarlyExit)
-    → RespondsAs (MigratesRowsInto schema plan folder rows) result → RespondsAs (MigratesSchemesInto schema (schemes_of plan) folder rows) result
-of_schemes schema plan folder rows (Ok response) goes = (plan, refl, goes)
-of_schemes schema plan folder rows (Err exit) goes = λ response e. (plan, refl, goes response e)
+pub of_schemes : (schema : Schema) (names : GivenNames) (plan : List AttrSet) (folder : List ℕ) (rows : Relation) (result : Result Response EarlyExit)
+    → RespondsAs (MigratesRowsInto schema names plan folder rows) result → RespondsAs (MigratesSchemesInto schema names (schemes_of plan) folder rows) result
+of_schemes schema names plan folder rows (Ok response) goes = (plan, refl, goes)
+of_schemes schema names plan folder rows (Err exit) goes = λ response e. (plan, refl, goes response e)

@@ -1,5 +1,5 @@
 -- Rows, as tables for the destinations: for `migrate` and `sample`.
-use Rattle.std.specs.Prelude.{◌≡◌, ℕ, List, ◌++◌, map, codes, length}
+use Rattle.std.specs.Prelude.{◌≡◌, ℕ, List, [], ◌++◌, map, codes, length}
 use Rattle.std.specs.Fmt.{decimal}
 use Rattle.std.specs.List.{flat_map}
 use Rattle.attr_sets.specs.Attributes.{Attributes}
@@ -12,6 +12,7 @@ use Rattle.dep_model.specs.declared.schema.Schema.{Schema}
 use Rattle.dep_model.specs.Tuples.{Relation}
 use Rattle.design_order.specs.Order.{IsInDesignOrder}
 use Rattle.normal_forms.specs.declared.forms.Form.TheVariants.{Fourth}
+use Rattle.table_names.specs.TableNames.{GivenNames}
 use Rattle.sample_rows.specs.Sample.{sample_names, sample_theory, sample_relation}
 use Rattle.schema_printer.specs.Printing.{words_text}
 use Rattle.schema_printer.specs.Spelling.{spelling}
@@ -34,28 +35,28 @@ migrated_text naming rows tables =
     line (codes "read " ++ decimal (length rows) ++ codes " rows") ++ flat_map (table_line naming) tables
 
 -- ---- answers
--- the tables of a plan, in the order of a design, hold the ordered projections of the rows, and their natural
+-- the tables of a plan, in the order of a design and with the names that are given in it, hold the ordered projections of the rows, and their natural
 -- join is exactly the rows
-pub record AreTablesOf (schema : Schema) (plan : List Attributes) (rows : Relation)
+pub record AreTablesOf (schema : Schema) (names : GivenNames) (plan : List Attributes) (rows : Relation)
     (tables : List TableValue) : Type 0 where
   pub ordered : List Attributes
   pub order : IsInDesignOrder (width_of schema) (theory_of schema) plan ordered
-  pub projections : tables ≡ tables_of_migration schema ordered rows
+  pub projections : tables ≡ tables_of_migration schema names ordered rows
   pub joins : JoinIs (width_of schema) ordered tables rows
 
 -- yes, with the tables of a plan, which the destinations are given
-abbrev pub GivesTables : Schema → List Attributes → Relation → Allowed
-GivesTables schema plan rows response =
-    (tables : List TableValue) × AreTablesOf schema plan rows tables
+abbrev pub GivesTables : Schema → GivenNames → List Attributes → Relation → Allowed
+GivesTables schema names plan rows response =
+    (tables : List TableValue) × AreTablesOf schema names plan rows tables
     × RespondsWithTables (migrated_text (naming_of schema) rows tables) tables response
 
 -- legal rows as tables
-abbrev pub MigratesRows : Schema → List Attributes → Relation → Allowed
-MigratesRows schema plan rows = WithLegal schema rows (GivesTables schema plan rows)
+abbrev pub MigratesRows : Schema → GivenNames → List Attributes → Relation → Allowed
+MigratesRows schema names plan rows = WithLegal schema rows (GivesTables schema names plan rows)
 
 -- rows as tables of a plan, where it loses nothing
-abbrev pub MigratesPlan : Schema → List Attributes → Relation → Allowed
-MigratesPlan schema plan rows = WithoutLoss schema plan (MigratesRows schema plan rows)
+abbrev pub MigratesPlan : Schema → GivenNames → List Attributes → Relation → Allowed
+MigratesPlan schema names plan rows = WithoutLoss schema plan (MigratesRows schema names plan rows)
 
 -- the schema of the sample, which is one of bare names
 pub record IsSampleSchema (schema : Schema) : Type 0 where
@@ -68,4 +69,4 @@ abbrev pub Samples : ℕ → Allowed
 Samples persons response =
     (schema : Schema) × IsSampleSchema schema
     × WithPlanInForm schema Fourth
-    (λ plan. MigratesRows schema (schemes_of plan) (sample_relation persons)) response
+    (λ plan. MigratesRows schema [] (schemes_of plan) (sample_relation persons)) response

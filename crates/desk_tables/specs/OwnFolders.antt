@@ -1,11 +1,12 @@
 -- Rows as tables in a folder of their own: for `migrate .. into`.
-use Rattle.std.specs.Prelude.{◌≡◌, ℕ, Bool, true, false, List, ◌++◌, codes, IsTrue}
+use Rattle.std.specs.Prelude.{◌≡◌, ℕ, Bool, true, false, List, [], ◌++◌, codes, IsTrue}
 use Rattle.attr_sets.specs.Attributes.{Attributes}
 use Rattle.attr_sets.specs.declared.set.AttrSet.{AttrSet}
 use Rattle.dep_model.specs.Plans.{schemes_of}
 use Rattle.dep_model.specs.Tuples.{Relation}
 use Rattle.dep_model.specs.declared.schema.Schema.{Schema}
 use Rattle.ddl_text.specs.Ddl.{ddl_text}
+use Rattle.table_names.specs.TableNames.{GivenNames}
 use Rattle.ddl_text.specs.declared.table.TableDesign.{TableDesign}
 use Rattle.normal_forms.specs.declared.forms.Form.{Form}
 use Rattle.desk_designs.specs.Decompositions.{WithPlanInForm}
@@ -31,37 +32,37 @@ not_empty_text folder = line (codes "refused: " ++ folder ++ codes " is not an e
 abbrev pub FolderStops : Looks → List ℕ → Allowed
 FolderStops looks folder response = IsTrue (looks folder false) × Says Refused (not_empty_text folder) response
 
--- the folder of this name, with the statements of a sound design of a plan
-pub record IsFolderOf (schema : Schema) (plan : List AttrSet) (name : List ℕ) (folder : OwnFolder) : Type 0 where
+-- the folder of this name, with the statements of a sound design of a plan, whose tables have these names
+pub record IsFolderOf (schema : Schema) (names : GivenNames) (plan : List AttrSet) (name : List ℕ) (folder : OwnFolder) : Type 0 where
   pub named : folder.name ≡ name
   pub tables : List TableDesign
-  pub sound : IsSoundDesign schema plan tables
+  pub sound : IsSoundDesign schema names plan tables
   pub script : folder.script ≡ ddl_text schema tables
 
 -- an answer whose tables, if it has any, are for the folder of a plan
-abbrev pub InFolder : Schema → List AttrSet → List ℕ → Allowed → Allowed
-InFolder schema plan name answers response =
-    (folder : OwnFolder) × IsFolderOf schema plan name folder
+abbrev pub InFolder : Schema → GivenNames → List AttrSet → List ℕ → Allowed → Allowed
+InFolder schema names plan name answers response =
+    (folder : OwnFolder) × IsFolderOf schema names plan name folder
     × ((plain : ResponseValue) × answers plain × (response ≡ in_own_folder folder plain))
 
 -- rows as tables of a plan that loses nothing, in a folder of their own
-abbrev pub MigratesRowsInto : Schema → List AttrSet → List ℕ → Relation → Allowed
-MigratesRowsInto schema plan folder rows = InFolder schema plan folder (MigratesRows schema (schemes_of plan) rows)
+abbrev pub MigratesRowsInto : Schema → GivenNames → List AttrSet → List ℕ → Relation → Allowed
+MigratesRowsInto schema names plan folder rows = InFolder schema names plan folder (MigratesRows schema names (schemes_of plan) rows)
 
 -- rows as tables in a normal form, in a folder of their own
 abbrev pub MigratesInto : Looks → Schema → Form → List ℕ → Relation → Allowed
 MigratesInto looks schema form folder rows =
     WithPlanInForm schema form
-    (λ plan. WithoutMissing schema (schemes_of plan)
-    (Unless (FolderStops looks folder) (IsTrue (looks folder true)) (MigratesRowsInto schema plan folder rows)))
+    (λ plan. WithoutMissing schema [] (schemes_of plan)
+    (Unless (FolderStops looks folder) (IsTrue (looks folder true)) (MigratesRowsInto schema [] plan folder rows)))
 
 -- the same of schemes, as sets of attributes
-abbrev pub MigratesSchemesInto : Schema → List Attributes → List ℕ → Relation → Allowed
-MigratesSchemesInto schema schemes folder rows response =
-    (plan : List AttrSet) × (schemes_of plan ≡ schemes) × MigratesRowsInto schema plan folder rows response
+abbrev pub MigratesSchemesInto : Schema → GivenNames → List Attributes → List ℕ → Relation → Allowed
+MigratesSchemesInto schema names schemes folder rows response =
+    (plan : List AttrSet) × (schemes_of plan ≡ schemes) × MigratesRowsInto schema names plan folder rows response
 
 -- rows as tables of a plan, where it loses nothing, in a folder of their own
-abbrev pub MigratesPlanInto : Looks → Schema → List Attributes → List ℕ → Relation → Allowed
-MigratesPlanInto looks schema plan folder rows =
-    WithoutMissing schema plan (Unless (FolderStops looks folder) (IsTrue (looks folder true))
-    (WithoutLoss schema plan (MigratesSchemesInto schema plan folder rows)))
+abbrev pub MigratesPlanInto : Looks → Schema → GivenNames → List Attributes → List ℕ → Relation → Allowed
+MigratesPlanInto looks schema names plan folder rows =
+    WithoutMissing schema names plan (Unless (FolderStops looks folder) (IsTrue (looks folder true))
+    (WithoutLoss schema plan (MigratesSchemesInto schema names plan folder rows)))

@@ -34,6 +34,7 @@ pub fn migrate_by_plan(
     hashing: Hashing,
     schema: &Schema,
     plan: &Plan,
+    names: &[Option<Name>],
     rows: Rows,
 ) -> Result<Response, EarlyExit>
     requires universe { IsPlanOver schema.now plan.now }
@@ -41,13 +42,13 @@ pub fn migrate_by_plan(
     requires covers { Covers (width_of schema.now) (plan_of plan.now) }
     requires over { IsOver (width_of schema.now) rows }
     requires fits_u32 { length rows < 2 ^ 32 }
-    ensures response { RespondsAs (MigratesPlan schema.now (plan_of plan.now) rows) result }
+    ensures response { RespondsAs (MigratesPlan schema.now names.now (plan_of plan.now) rows) result }
 {
     match test_loss(alloc, schema, plan) {
         Ok(()) => {}
         Err(exit) => return Err(exit),
     }
-    migrate_rows(alloc, hashing, schema, plan, rows)
+    migrate_rows(alloc, hashing, schema, plan, names, rows)
 }
 
 /// Rows as tables of a plan that loses nothing, if they are legal.
@@ -56,19 +57,27 @@ pub fn migrate_rows(
     hashing: Hashing,
     schema: &Schema,
     plan: &Plan,
+    names: &[Option<Name>],
     rows: Rows,
 ) -> Result<Response, EarlyExit>
     requires over { IsOver (width_of schema.now) rows }
     requires fits_u32 { length rows < 2 ^ 32 }
     requires universe { IsPlanOver schema.now plan.now }
     requires lossless { IsLossless (width_of schema.now) (theory_of schema.now) (plan_of plan.now) }
-    ensures response { RespondsAs (MigratesRows schema.now (plan_of plan.now) rows) result }
+    ensures response { RespondsAs (MigratesRows schema.now names.now (plan_of plan.now) rows) result }
 {
     match test_rows(alloc, hashing, schema, &rows) {
         Ok(()) => {}
         Err(exit) => return Err(exit),
     }
-    Ok(tables_response(alloc, hashing, schema, plan, rows)?)
+    Ok(tables_response(
+        alloc,
+        hashing,
+        schema,
+        plan,
+        names,
+        rows,
+    )?)
 }
 
 // Legal rows as the tables of a plan.
@@ -77,6 +86,7 @@ fn tables_response(
     hashing: Hashing,
     schema: &Schema,
     plan: &Plan,
+    names: &[Option<Name>],
     rows: Rows,
 ) -> Result<Response, OutOfMemory>
     requires over { IsOver (width_of schema.now) rows }
@@ -85,9 +95,9 @@ fn tables_response(
     requires lossless { IsLossless (width_of schema.now) (theory_of schema.now) (plan_of plan.now) }
     requires legal { LegalFor schema.now rows }
     ensures response { IfOk result
-        (λ response. GivesTables schema.now (plan_of plan.now) rows (response_value response)) }
+        (λ response. GivesTables schema.now names.now (plan_of plan.now) rows (response_value response)) }
 {
-    let tables = tables_of(alloc, hashing, schema, plan, rows)?;
+    let tables = tables_of(alloc, hashing, schema, plan, names, rows)?;
     let text = migrated_lines(alloc, schema.naming(), &tables)?;
     Ok(Response::with_tables(text, tables))
 }
@@ -98,6 +108,7 @@ fn tables_of(
     hashing: Hashing,
     schema: &Schema,
     plan: &Plan,
+    names: &[Option<Name>],
     rows: Rows,
 ) -> Result<ChosenTables, OutOfMemory>
     requires over { IsOver (width_of schema.now) rows }
@@ -107,13 +118,13 @@ fn tables_of(
     requires legal { LegalFor schema.now rows }
     ensures rows { IfOk result (λ tables. tables.rows ≡ rows) }
     ensures tables { IfOk result
-        (λ tables. AreTablesOf schema.now (plan_of plan.now) rows (table_values tables)) }
+        (λ tables. AreTablesOf schema.now names.now (plan_of plan.now) rows (table_values tables)) }
 {
     let ordered = in_design_order(alloc, schema, plan)?;
     if ordered.schemes().len() > MOST_TABLES as usize {
         return Err(OutOfMemory);
     }
-    Ok(tables(alloc, hashing, schema, &ordered, rows)?)
+    Ok(tables(alloc, hashing, schema, &ordered, names, rows)?)
 }
 
 // How many rows were read, and the tables that they became.

@@ -3,7 +3,7 @@
 ghost use Rattle.std.specs.Prelude.{◌≡◌, ◌≤◌, ◌++◌, false, length, IfOk, IfErr, IsTrue};
 ghost use Rattle.dep_model.specs.Names.{same_name};
 ghost use Rattle.plans.specs.Plans.{plan_of};
-ghost use Rattle.table_names.specs.TableNames.{table_name};
+ghost use Rattle.table_names.specs.TableNames.{name_of_table};
 ghost use Rattle.desk_responses.specs.ResponseValues.{Says};
 ghost use Rattle.desk_responses.specs.Responses.{ExitsAs};
 ghost use Rattle.desk_responses.specs.declared.status.Status.TheVariants.{Refused};
@@ -15,25 +15,36 @@ use desk_texts::line_of;
 use plans::Plan;
 use schema_printer::add;
 use std::alloc::Global;
-use table_names::{MOST_TABLES, table_name};
+use table_names::{MOST_TABLES, name_of_table};
 
-/// Tests whether a file that is read would be written over by the tables of a plan.
-pub fn test_file(alloc: Global, plan: &Plan, file: &[u8]) -> Result<(), EarlyExit>
-    ensures ok { IfOk result (λ _. IsTableFile (length (plan_of plan.now)) file.now → ⊥) }
-    ensures exit { IfErr result (ExitsAs (OverStops (length (plan_of plan.now)) file.now)) }
+/// Tests whether a file that is read would be written over by the tables of a plan, whose names come in the order of
+/// its design.
+pub fn test_file(
+    alloc: Global,
+    plan: &Plan,
+    names: &[Option<Name>],
+    file: &[u8],
+) -> Result<(), EarlyExit>
+    ensures ok { IfOk result (λ _. IsTableFile names.now (length (plan_of plan.now)) file.now → ⊥) }
+    ensures exit { IfErr result (ExitsAs (OverStops names.now (length (plan_of plan.now)) file.now)) }
 {
-    test_file_of(alloc, plan.schemes().len(), file)
+    test_file_of(alloc, plan.schemes().len(), names, file)
 }
 
 // The same of so many tables. No memory holds more tables than have a name.
-fn test_file_of(alloc: Global, tables: usize, file: &[u8]) -> Result<(), EarlyExit>
-    ensures ok { IfOk result (λ _. IsTableFile tables file.now → ⊥) }
-    ensures exit { IfErr result (ExitsAs (OverStops tables file.now)) }
+fn test_file_of(
+    alloc: Global,
+    tables: usize,
+    names: &[Option<Name>],
+    file: &[u8],
+) -> Result<(), EarlyExit>
+    ensures ok { IfOk result (λ _. IsTableFile names.now tables file.now → ⊥) }
+    ensures exit { IfErr result (ExitsAs (OverStops names.now tables file.now)) }
 {
     if tables > MOST_TABLES as usize {
         return Err(EarlyExit::OutOfMemory);
     }
-    if is_table_file(alloc, tables as u32, file)? {
+    if is_table_file(alloc, tables as u32, names, file)? {
         return Err(written_over_exit(alloc, file));
     }
     Ok(())
@@ -53,14 +64,19 @@ fn written_over_line(alloc: Global, file: &[u8]) -> Result<Vec<u8>, OutOfMemory>
 }
 
 // Whether a name is that of a file of one of so many tables.
-fn is_table_file(alloc: Global, tables: u32, name: &[u8]) -> Result<bool, OutOfMemory>
+fn is_table_file(
+    alloc: Global,
+    tables: u32,
+    names: &[Option<Name>],
+    name: &[u8],
+) -> Result<bool, OutOfMemory>
     requires named { tables ≤ MOST_TABLES }
-    ensures yes { IfOk result (λ is. IsTrue is → IsTableFile tables name.now) }
-    ensures no { IfOk result (λ is. is ≡ false → IsTableFile tables name.now → ⊥) }
+    ensures yes { IfOk result (λ is. IsTrue is → IsTableFile names.now tables name.now) }
+    ensures no { IfOk result (λ is. is ≡ false → IsTableFile names.now tables name.now → ⊥) }
 {
     let plain = without_dot(name);
     for i in 0..tables {
-        if is_file_of(alloc, &table_name(i + 1), plain)? {
+        if is_file_of(alloc, &name_of_table(names, i), plain)? {
             return Ok(true);
         }
     }

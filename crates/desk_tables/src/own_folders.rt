@@ -2,6 +2,7 @@
 
 ghost use Rattle.std.specs.Prelude.{◌≡◌, ◌≤◌, ◌<◌, ◌^◌, true, List, length, IfOk, IfErr, IsTrue};
 ghost use Rattle.attr_sets.specs.declared.set.AttrSet.{AttrSet};
+ghost use Rattle.table_names.specs.TableNames.{GivenNames};
 ghost use Rattle.desk_designs.specs.Designs.{IsSoundDesign};
 ghost use Rattle.dep_model.specs.Projections.{Covers, IsLossless};
 ghost use Rattle.dep_model.specs.Schemas.{theory_of, width_of};
@@ -14,7 +15,7 @@ ghost use Rattle.desk_tables.specs.OwnFolders.{FolderStops, IsFolderOf, Looks, M
 
 use crate::migration::migrate_rows;
 use ddl_text::{DesignList, print_ddl};
-use dep_model::{OutOfMemory, Schema};
+use dep_model::{Name, OutOfMemory, Schema};
 use desk_designs::{plan_in_form, required_design, test_loss};
 use desk_outside::Argument;
 use desk_responses::{EarlyExit, OwnFolder, Response, Status};
@@ -44,7 +45,7 @@ pub fn migrate_form_into(
         Ok(plan) => plan,
         Err(exit) => return Err(exit),
     };
-    let tables = match required_design(alloc, schema, &plan) {
+    let tables = match required_design(alloc, schema, &plan, &[]) {
         Ok(tables) => tables,
         Err(exit) => return Err(exit),
     };
@@ -52,7 +53,16 @@ pub fn migrate_form_into(
         Ok(()) => {}
         Err(exit) => return Err(exit),
     }
-    migrate_rows_into(alloc, hashing, schema, &plan, &tables, folder, rows)
+    migrate_rows_into(
+        alloc,
+        hashing,
+        schema,
+        &plan,
+        &[],
+        &tables,
+        folder,
+        rows,
+    )
 }
 
 /// Rows as tables of a plan, where it loses nothing, in a folder of their own; `is_free` is the answer to a
@@ -62,6 +72,7 @@ pub fn migrate_plan_into(
     hashing: Hashing,
     schema: &Schema,
     plan: &Plan,
+    names: &[Option<Name>],
     folder: &Argument,
     is_free: bool,
     rows: Rows,
@@ -72,9 +83,9 @@ pub fn migrate_plan_into(
     requires over { IsOver (width_of schema.now) rows }
     requires fits_u32 { length rows < 2 ^ 32 }
     ensures response { (looks : Looks) → IsTrue (looks folder.now is_free)
-        → RespondsAs (MigratesPlanInto looks schema.now (plan_of plan.now) folder.now rows) result }
+        → RespondsAs (MigratesPlanInto looks schema.now names.now (plan_of plan.now) folder.now rows) result }
 {
-    let tables = match required_design(alloc, schema, plan) {
+    let tables = match required_design(alloc, schema, plan, names) {
         Ok(tables) => tables,
         Err(exit) => return Err(exit),
     };
@@ -86,7 +97,16 @@ pub fn migrate_plan_into(
         Ok(()) => {}
         Err(exit) => return Err(exit),
     }
-    migrate_rows_into(alloc, hashing, schema, plan, &tables, folder, rows)
+    migrate_rows_into(
+        alloc,
+        hashing,
+        schema,
+        plan,
+        names,
+        &tables,
+        folder,
+        rows,
+    )
 }
 
 // Rows as tables of a plan that loses nothing, if they are legal, in a folder of their own.
@@ -95,6 +115,7 @@ fn migrate_rows_into(
     hashing: Hashing,
     schema: &Schema,
     plan: &Plan,
+    names: &[Option<Name>],
     tables: &DesignList,
     folder: &Argument,
     rows: Rows,
@@ -102,13 +123,13 @@ fn migrate_rows_into(
     requires over { IsOver (width_of schema.now) rows }
     requires fits_u32 { length rows < 2 ^ 32 }
     requires universe { IsPlanOver schema.now plan.now }
-    requires sound { IsSoundDesign schema.now (scheme_sets plan.now) tables.now }
+    requires sound { IsSoundDesign schema.now names.now (scheme_sets plan.now) tables.now }
     requires lossless { IsLossless (width_of schema.now) (theory_of schema.now) (plan_of plan.now) }
     ensures response { RespondsAs
-        (MigratesRowsInto schema.now (scheme_sets plan.now) folder.now rows) result }
+        (MigratesRowsInto schema.now names.now (scheme_sets plan.now) folder.now rows) result }
 {
     let own = folder_of(alloc, schema, tables, folder)?;
-    match migrate_rows(alloc, hashing, schema, plan, rows) {
+    match migrate_rows(alloc, hashing, schema, plan, names, rows) {
         Ok(response) => Ok(response.in_own_folder(own)),
         Err(EarlyExit::Answered(response)) => Ok(response.in_own_folder(own)),
         Err(EarlyExit::OutOfMemory) => Err(EarlyExit::OutOfMemory),
@@ -122,8 +143,8 @@ fn folder_of(
     tables: &DesignList,
     name: &Argument,
 ) -> Result<OwnFolder, OutOfMemory>
-    ensures folder { (plan : List AttrSet) → IsSoundDesign schema.now plan tables.now → IfOk result
-        (λ folder. IsFolderOf schema.now plan name.now (own_folder_value folder)) }
+    ensures folder { (names : GivenNames) (plan : List AttrSet) → IsSoundDesign schema.now names plan tables.now → IfOk result
+        (λ folder. IsFolderOf schema.now names plan name.now (own_folder_value folder)) }
 {
     Ok(OwnFolder {
         name: Vec::from_slice(alloc, name.bytes())?,

@@ -10,7 +10,7 @@ ghost use Rattle.desk_tables.specs.Overwriting.{MigratesHere, MigratesPlanHere};
 
 use crate::migration::{migrate_by_plan, migrate_rows};
 use crate::overwriting::test_file;
-use dep_model::Schema;
+use dep_model::{Name, Schema};
 use desk_designs::{plan_in_form, test_missing};
 use desk_responses::{EarlyExit, Response};
 use normal_forms::Form;
@@ -38,19 +38,19 @@ pub fn migrate_form_here(
         Ok(plan) => plan,
         Err(exit) => return Err(exit),
     };
-    match test_missing(alloc, schema, &plan) {
+    match test_missing(alloc, schema, &plan, &[]) {
         Ok(()) => {}
         Err(exit) => return Err(exit),
     }
-    match test_file(alloc, &plan, schema_file) {
+    match test_file(alloc, &plan, &[], schema_file) {
         Ok(()) => {}
         Err(exit) => return Err(exit),
     }
-    match test_file(alloc, &plan, rows_file) {
+    match test_file(alloc, &plan, &[], rows_file) {
         Ok(()) => {}
         Err(exit) => return Err(exit),
     }
-    migrate_rows(alloc, hashing, schema, &plan, rows)
+    migrate_rows(alloc, hashing, schema, &plan, &[], rows)
 }
 
 /// Rows as tables of a plan, where it loses nothing and none of their files is one of these.
@@ -59,6 +59,7 @@ pub fn migrate_plan_here(
     hashing: Hashing,
     schema: &Schema,
     plan: &Plan,
+    names: &[Option<Name>],
     schema_file: &[u8],
     plan_file: &[u8],
     rows_file: &[u8],
@@ -70,24 +71,24 @@ pub fn migrate_plan_here(
     requires over { IsOver (width_of schema.now) rows }
     requires fits_u32 { length rows < 2 ^ 32 }
     ensures response { RespondsAs
-        (MigratesPlanHere schema.now (plan_of plan.now)
+        (MigratesPlanHere schema.now names.now (plan_of plan.now)
         (schema_file.now ∷ plan_file.now ∷ rows_file.now ∷ []) rows) result }
 {
-    match test_missing(alloc, schema, plan) {
+    match test_missing(alloc, schema, plan, names) {
         Ok(()) => {}
         Err(exit) => return Err(exit),
     }
-    match test_file(alloc, plan, schema_file) {
+    match test_file(alloc, plan, names, schema_file) {
         Ok(()) => {}
         Err(exit) => return Err(exit),
     }
-    match test_file(alloc, plan, plan_file) {
+    match test_file(alloc, plan, names, plan_file) {
         Ok(()) => {}
         Err(exit) => return Err(exit),
     }
-    match test_file(alloc, plan, rows_file) {
+    match test_file(alloc, plan, names, rows_file) {
         Ok(()) => {}
         Err(exit) => return Err(exit),
     }
-    migrate_by_plan(alloc, hashing, schema, plan, rows)
+    migrate_by_plan(alloc, hashing, schema, plan, names, rows)
 }

@@ -24,5 +24,5 @@ pub fn migrate_sample(
         Ok(plan) => plan,
         Err(exit) => return Err(exit),
     };
-    migrate_rows(alloc, hashing, &schema, &plan, rows)
+    migrate_rows(alloc, hashing, &schema, &plan, &[], rows)
 }

@@ -1,5 +1,6 @@
 pub mod FirstLemmas
 pub mod WordLemmas
+pub mod NameLemmas
 pub mod LineLemmas
 pub mod PlanLaws
 pub mod PrintedLaws

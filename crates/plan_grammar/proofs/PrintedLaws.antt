@@ -1,5 +1,5 @@
 -- A printed plan means its schemes.
-use Rattle.std.proofs.Common.{◌≡◌, ◌≤◌, ◌+◌, ℕ, true, false, List, [], ◌∷◌, ◌++◌, map, length, refl, sym, ap, subst, ◌∙◌, ⊎_elim, inl, inr}
+use Rattle.std.proofs.Common.{◌≡◌, ◌≤◌, ◌+◌, ℕ, true, false, Option, None, List, [], ◌∷◌, ◌++◌, map, length, refl, sym, ap, subst, ◌∙◌, ⊎_elim, inl, inr}
 use Rattle.std.specs.Prelude.{All, codes}
 use Rattle.std.proofs.lemmas.List.Elements.{All-head, All-tail}
 use Rattle.attr_sets.specs.Attributes.{Attributes, below, IsSubset, IsEmpty}
@@ -8,7 +8,9 @@ use Rattle.dep_model.specs.Plans.{IsPlan}
 use Rattle.lexer.specs.Modes as mode
 use Rattle.lexer.specs.declared.token.TokenKind.TheVariants as token
 use Rattle.lexer.specs.Lines.{line_texts, without_mark}
-use Rattle.lexer.specs.Tokens.{Mark, lex}
+use Rattle.lexer.specs.Tokens.{Mark, Lexed, lex}
+use Rattle.lexer.specs.declared.mode.Mode.{Mode}
+use Rattle.schema_grammar.specs.Meanings.{HasTokens}
 use Rattle.schema_grammar.specs.declared.format.Format.TheVariants as format
 use Rattle.schema_grammar.specs.Meanings.{IsSide, IsNamedSide, IsAttribute}
 use Rattle.schema_grammar.specs.Printed.{AreReadBack}
@@ -19,7 +21,9 @@ use Rattle.schema_grammar.proofs.PrintedTexts.{Bytes, bytes_both, EachBytes, lin
 use Rattle.schema_grammar.proofs.SpelledSides.{kind_is_word, printed_side, printed_names}
 use Rattle.schema_grammar.proofs.SpelledWords.{kind_of, name_mark, name_marks, side_marks, members_spelled, named_line, names_bytes, nothing_left}
 use Rattle.plan_grammar.specs.declared.refusal.TheConstants.{MOST_SCHEMES}
-use Rattle.plan_grammar.specs.Meanings.{is_scheme, MeansScheme, MeansSchemeLines, MeansPlan}
+use Rattle.named_plans.specs.NamedPlans.{NamedSchemes, PlannedTable, unnamed}
+use Rattle.plan_grammar.specs.LineTokens.{is_keyword, is_table, lex_line, line_mode, mode_by_head}
+use Rattle.plan_grammar.specs.Meanings.{MeansTable, MeansTableLines, MeansPlan}
 use Rattle.plans.specs.Printing.{scheme_text, plan_text}
 
 -- the words of a set with attributes are a side for it
@@ -46,41 +50,52 @@ side_named naming names (word ∷ words) x not_empty side =
         let kinds : kind_of naming word ≡ token.Empty = ap (λ (m : Mark). m.kind) heads ∙ is in
         let wrong : true ≡ false = sym (kind_is_word naming word) ∙ ap is_word_token kinds in cc
 
-scheme_means : (naming : Naming) (names : List (List ℕ)) (x : Attributes) → AreReadBack format.Plain naming names
+-- a line that does not name its table, or has no tokens, has the tokens that it has by its names alone
+plain_line : (naming : Naming) (line : List ℕ) (ms : List Mark) → HasTokens (lex (mode.plain naming) line) ms
+    → mode_by_head naming ms ≡ mode.plain naming → HasTokens (lex_line naming line) ms
+unfolding line_mode
+plain_line naming line ms tokens by =
+    ap (λ (taken : Mode). lex taken line) (ap (λ (l : Lexed). mode_by_head naming l.marks) tokens ∙ by) ∙ tokens
+
+-- a table without a name
+abbrev without_name : Attributes → PlannedTable
+without_name x = record { name = None; scheme = x }
+
+scheme_means : (naming : Naming) (names : List (List ℕ)) (earlier : List (Option (List ℕ))) (x : Attributes) → AreReadBack format.Plain naming names
     → IsSubset x (below (length names)) → (IsEmpty x → ⊥)
-    → MeansScheme naming names (scheme_text (map (spelling naming) names) x) x
-unfolding is_scheme
-scheme_means naming names x are within not_empty =
+    → MeansTable naming names earlier (scheme_text (map (spelling naming) names) x) (without_name x)
+unfolding is_keyword
+scheme_means naming names earlier x are within not_empty =
     let words = members_from x 0 names in
     let head : Mark = record { kind = token.Identifier; column = 1; length = length (codes "scheme"); word = codes "scheme" } in
     let side = side_named naming names words x not_empty (printed_side format.Plain naming names x 8 are within) in
     record {
       marks = head ∷ name_marks naming 7 words;
-      tokens = ap (λ (printed : List (List ℕ)). lex (mode.plain naming) (codes "scheme" ++ words_text printed))
+      tokens = plain_line naming (scheme_text (map (spelling naming) names) x) (head ∷ name_marks naming 7 words)
+          (ap (λ (printed : List (List ℕ)). lex (mode.plain naming) (codes "scheme" ++ words_text printed))
           (members_spelled naming x 0 names)
           ∙ named_line format.Plain naming (mode.plain naming) (codes "scheme") words refl refl
-          (printed_names format.Plain naming names x are);
-      scheme = record {
-        head = head;
+          (printed_names format.Plain naming names x are)) refl;
+      is_line = record {
         words = name_marks naming 7 words;
-        whole = refl;
-        scheme = refl;
+        opens = inl (record { head = head; whole = refl; scheme = refl; unnamed = refl });
         not_empty = side.not_empty;
         each = side.each;
         members = side.members;
       };
     }
 
-lines_mean : (naming : Naming) (names : List (List ℕ)) (schemes : List Attributes) → AreReadBack format.Plain naming names
+lines_mean : (naming : Naming) (names : List (List ℕ)) (earlier : List (Option (List ℕ))) (schemes : List Attributes) → AreReadBack format.Plain naming names
     → All (λ x. IsSubset x (below (length names))) schemes → All (λ x. IsEmpty x → ⊥) schemes
-    → MeansSchemeLines naming names (map (scheme_text (map (spelling naming) names)) schemes ++ [] ∷ []) schemes
-lines_mean naming names [] are within not_empty = inl (nothing_left (mode.plain naming) 1, refl)
-lines_mean naming names (x ∷ schemes) are within not_empty =
+    → MeansTableLines naming names earlier (map (scheme_text (map (spelling naming) names)) schemes ++ [] ∷ []) (unnamed schemes)
+lines_mean naming names earlier [] are within not_empty =
+    inl (plain_line naming [] [] (nothing_left (mode.plain naming) 1) refl, refl)
+lines_mean naming names earlier (x ∷ schemes) are within not_empty =
     inr (
-      x,
-      schemes,
-      scheme_means naming names x are (All-head (λ (y : Attributes). IsSubset y (below (length names))) x schemes within) (All-head (λ (y : Attributes). IsEmpty y → ⊥) x schemes not_empty),
-      lines_mean naming names schemes are (All-tail (λ (y : Attributes). IsSubset y (below (length names))) x schemes within) (All-tail (λ (y : Attributes). IsEmpty y → ⊥) x schemes not_empty),
+      without_name x,
+      unnamed schemes,
+      scheme_means naming names earlier x are (All-head (λ (y : Attributes). IsSubset y (below (length names))) x schemes within) (All-head (λ (y : Attributes). IsEmpty y → ⊥) x schemes not_empty),
+      lines_mean naming names (earlier ++ None ∷ []) schemes are (All-tail (λ (y : Attributes). IsSubset y (below (length names))) x schemes within) (All-tail (λ (y : Attributes). IsEmpty y → ⊥) x schemes not_empty),
       refl,
     )
 
@@ -102,12 +117,12 @@ no_mark names (x ∷ schemes) = refl
 
 pub printed_plan_means : (naming : Naming) (names : List (List ℕ)) (schemes : List Attributes)
     → AreReadBack format.Plain naming names → IsPlan (length names) schemes → length schemes ≤ MOST_SCHEMES
-    → MeansPlan naming names (plan_text (map (spelling naming) names) schemes) schemes
+    → MeansPlan naming names (plan_text (map (spelling naming) names) schemes) (unnamed schemes)
 printed_plan_means naming names schemes are plan within_limit = record {
-  lines = subst (λ (lines : List (List ℕ)). MeansSchemeLines naming names lines schemes)
+  lines = subst (λ (lines : List (List ℕ)). MeansTableLines naming names [] lines (unnamed schemes))
       (sym (ap (λ (text : List ℕ). line_texts text) (no_mark (map (spelling naming) names) schemes)
       ∙ lines_cut (map (scheme_text (map (spelling naming) names)) schemes) (each_bytes naming names schemes are)))
-      (lines_mean naming names schemes are plan.within plan.not_empty);
+      (lines_mean naming names [] schemes are plan.within plan.not_empty);
   schemes_fit = within_limit;
   covers = plan.covers;
 }

@@ -1,4 +1,4 @@
--- The words after `scheme`: read where nothing is wrong with them, or refused by the first diagnostic.
+-- The attributes of a line: read where nothing is wrong with them, or refused by the first diagnostic.
 use Rattle.std.proofs.Common.{◌≡◌, ◌<◌, ◌≤◌, ◌+◌, ℕ, Bool, true, false, cond, List, [], ◌∷◌, length, Option, Some, None, Result, Ok, Err, refl, sym, ap, ◌∙◌, ◌⊎◌, inl, inr, ⊎_elim, arith}
 use Rattle.std.specs.Prelude.{All}
 use Rattle.std.proofs.lemmas.Bool.{false≢true, true≢false}
@@ -41,7 +41,7 @@ unfolding is_empty
 no_empty k other same = true≢false (sym (ap is_empty same) ∙ other)
 
 -- ---- one token
--- what a token after the word `scheme` stands for, or what is wrong with it
+-- what a token of the attributes stands for, or what is wrong with it
 module _ (names : List (List ℕ)) (line after : ℕ) (m : Mark) (ms : List Mark) (stop : Option LexError) where
   pub record IsNamed (a : ℕ) : Type 0 where
     pub word : is_word_token m.kind ≡ true

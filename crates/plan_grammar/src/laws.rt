@@ -4,45 +4,56 @@ ghost use Rattle.std.specs.Prelude.{◌≡◌, ◌≤◌, ℕ, List, [], length,
 ghost use Rattle.attr_sets.specs.Attributes.{Attributes};
 ghost use Rattle.dep_model.specs.Plans.{IsPlan};
 ghost use Rattle.schema_grammar.specs.Printed.{AreReadBack};
-ghost use Rattle.plan_grammar.specs.Diagnostics.{RefusesSchemeLines, RefusesPlan};
-ghost use Rattle.plan_grammar.specs.Meanings.{MeansSchemeLines, MeansPlan};
+ghost use Rattle.named_plans.specs.NamedPlans.{AreApart, NamedSchemes, no_tables, unnamed};
+ghost use Rattle.plan_grammar.specs.Diagnostics.{RefusesTableLines, RefusesPlan};
+ghost use Rattle.plan_grammar.specs.Meanings.{MeansTableLines, MeansPlan};
 ghost use Rattle.plans.specs.Printing.{plan_text};
 ghost use Rattle.schema_printer.specs.Spelling.{spelling};
-ghost use Rattle.plan_grammar.specs.Reading.{read_scheme_lines};
+ghost use Rattle.plan_grammar.specs.Reading.{read_table_lines};
 ghost use Rattle.plan_grammar.specs.declared.refusal.PlanRefusal.{PlanRefusal};
 
 use crate::MOST_SCHEMES;
 use dep_model::Naming;
 use schema_grammar::Format;
 
-/// Lines are read as the schemes that they mean.
+/// Lines are read as the tables that they mean.
 pub fn lines_are_read()
-    ensures law { (naming : Naming) (names lines : List (List ℕ)) (schemes : List Attributes)
-        → read_scheme_lines naming names 1 [] lines ≡ Ok schemes
-        → MeansSchemeLines naming names lines schemes × (length schemes ≤ MOST_SCHEMES) }
+    ensures law { (naming : Naming) (names lines : List (List ℕ)) (plan : NamedSchemes)
+        → read_table_lines naming names 1 no_tables lines ≡ Ok plan
+        → MeansTableLines naming names [] lines plan × (length plan.schemes ≤ MOST_SCHEMES) }
 {}
 
 /// Lines are refused by their first diagnostic.
 pub fn lines_are_refused()
     ensures law { (naming : Naming) (names lines : List (List ℕ)) (refusal : PlanRefusal)
-        → read_scheme_lines naming names 1 [] lines ≡ Err refusal → RefusesSchemeLines naming names 1 0 lines refusal }
+        → read_table_lines naming names 1 no_tables lines ≡ Err refusal
+        → RefusesTableLines naming names 1 [] lines refusal }
 {}
 
-/// What is printed of a plan means its schemes, where its names are read again.
+/// What is printed of a plan means its schemes, where its names are read again; no table has a name.
 pub fn printed_plan_means()
     ensures law { (naming : Naming) (names : List (List ℕ)) (schemes : List Attributes)
         → AreReadBack Format.Plain naming names
         → IsPlan (length names) schemes → length schemes ≤ MOST_SCHEMES
-        → MeansPlan naming names (plan_text (map (spelling naming) names) schemes) schemes }
+        → MeansPlan naming names (plan_text (map (spelling naming) names) schemes) (unnamed schemes) }
 {}
 
-/// A plan text means one list of schemes at most, or has one refusal at most, and never both.
+/// Of the names that a plan text gives no two are the same, the case of letters aside, and none is one by which a
+/// script names a table or a view itself; beside each scheme stands one, or none.
+pub fn names_are_apart()
+    ensures differ { (naming : Naming) (names : List (List ℕ)) (text : List ℕ) (plan : NamedSchemes)
+        → MeansPlan naming names text plan → AreApart plan.names }
+    ensures beside { (naming : Naming) (names : List (List ℕ)) (text : List ℕ) (plan : NamedSchemes)
+        → MeansPlan naming names text plan → length plan.names ≡ length plan.schemes }
+{}
+
+/// A plan text means one list of tables at most, or has one refusal at most, and never both.
 pub fn plan_texts_have_one_answer()
-    ensures one_meaning { (naming : Naming) (names : List (List ℕ)) (text : List ℕ) (xs ys : List Attributes)
-        → MeansPlan naming names text xs → MeansPlan naming names text ys → xs ≡ ys }
+    ensures one_meaning { (naming : Naming) (names : List (List ℕ)) (text : List ℕ) (one other : NamedSchemes)
+        → MeansPlan naming names text one → MeansPlan naming names text other → one ≡ other }
     ensures one_refusal { (naming : Naming) (names : List (List ℕ)) (text : List ℕ) (e f : PlanRefusal)
         → RefusesPlan naming names text e → RefusesPlan naming names text f → e ≡ f }
-    ensures never_both { (naming : Naming) (names : List (List ℕ)) (text : List ℕ) (schemes : List Attributes)
+    ensures never_both { (naming : Naming) (names : List (List ℕ)) (text : List ℕ) (plan : NamedSchemes)
         (e : PlanRefusal)
-        → MeansPlan naming names text schemes → RefusesPlan naming names text e → ⊥ }
+        → MeansPlan naming names text plan → RefusesPlan naming names text e → ⊥ }
 {}

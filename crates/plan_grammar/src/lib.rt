@@ -1,7 +1,7 @@
 //! What plan texts mean, and how they are refused: the grammar, which their reader promises.
 //!
-//! A plan text over the names of a schema means a list of schemes, or it is refused by its first
-//! diagnostic: that of the first line that has one, there of the first position, and there of the
+//! A plan text over the names of a schema means a list of schemes, and for some of them the names of their
+//! tables, or it is refused by its first diagnostic: that of the first line that has one, there of the first position, and there of the
 //! least number. Where no line has one, it is refused for the first attribute that is in no scheme.
 //! There is no code here but the enum of the refusals.
 #![tactic(auto)]
@@ -9,5 +9,8 @@
 mod laws;
 mod refusal;
 
-pub use laws::{lines_are_read, lines_are_refused, plan_texts_have_one_answer, printed_plan_means};
+pub use laws::{
+    lines_are_read, lines_are_refused, names_are_apart, plan_texts_have_one_answer,
+    printed_plan_means,
+};
 pub use refusal::{MOST_SCHEMES, PlanRefusal};

@@ -1,19 +1,22 @@
 -- `ddl`, `draw` and `sql` have one answer each.
-use Rattle.std.proofs.Common.{◌≡◌, ℕ, IsTrue, List, sym, ◌∙◌}
+use Rattle.std.proofs.Common.{◌≡◌, ℕ, IsTrue, false, List, [], sym, ◌∙◌}
+use Rattle.std.specs.List.{list_any}
+use Rattle.std.proofs.lemmas.Bool.{true≢false}
 use Rattle.attr_sets.specs.Attributes.{Attributes}
 use Rattle.attr_sets.specs.declared.set.AttrSet.{AttrSet}
 use Rattle.dep_model.specs.Plans.{schemes_of}
 use Rattle.dep_model.specs.declared.schema.Schema.{Schema}
 use Rattle.normal_forms.specs.declared.forms.Form.{Form}
-use Rattle.table_scripts.specs.Naming.{is_table_name, quoted_table}
+use Rattle.table_scripts.specs.Naming.{dotted_parts, is_table_name, last_of, quoted_table}
+use Rattle.table_names.specs.TableNames.{GivenNames, is_given}
 use Rattle.implication_laws.specs.OneAnswer.{AllowsOne}
 use Rattle.implication_laws.proofs.StepLaws.{same_says, Unless-one}
-use Rattle.desk_responses.specs.ResponseValues.{ResponseValue, Allowed}
+use Rattle.desk_responses.specs.ResponseValues.{ResponseValue, Allowed, Unless}
 use Rattle.desk_responses.specs.declared.status.Status.TheVariants.{Yes}
 use Rattle.desk_designs.specs.Designs.{WithoutMissing, WritesTables, WritesForm, WritesSchemes, WritesPlan}
 use Rattle.desk_designs.specs.Drawings.{DrawsTables, DrawsForm, DrawsSchemes}
 use Rattle.desk_designs.specs.Joins.{IsShownLossless, LossStops, WithoutLoss}
-use Rattle.desk_designs.specs.Scripts.{AsksTable, MakesSchemes, MakesTables, ScriptsCheck, ScriptsMigration, ScriptsMigrationByPlan, TableNameStops, WithTableName}
+use Rattle.desk_designs.specs.Scripts.{AsksTable, MetNameStops, MakesSchemes, MakesTables, ScriptsCheck, ScriptsMigration, ScriptsMigrationByPlan, TableNameStops, WithTableName}
 use Rattle.desk_designs.specs.Decompositions.{WithPlanInForm}
 use Rattle.plan_laws.proofs.DesignTexts.{ddl_same, drawing_same}
 use Rattle.plan_laws.proofs.MissingAnswers.{one_without_missing, same_without_missing}
@@ -30,39 +33,39 @@ one_without_loss s plan rest one_rest =
     (λ response shown stops. loss_goes s plan response shown stops) (λ shown. one_rest)
 
 -- ---- `ddl`
-one_written : (s : Schema) (plan others : List AttrSet) (one other : ResponseValue)
-    → schemes_of plan ≡ schemes_of others → WritesTables s plan one → WritesTables s others other → one ≡ other
-one_written s plan others one other at (tables, sound, says) (designs, also, said) =
+one_written : (s : Schema) (names : GivenNames) (plan others : List AttrSet) (one other : ResponseValue)
+    → schemes_of plan ≡ schemes_of others → WritesTables s names plan one → WritesTables s names others other → one ≡ other
+one_written s names plan others one other at (tables, sound, says) (designs, also, said) =
     same_says Yes _ _ one other says said
-    (ddl_same s tables designs (one_sound_design s plan others tables designs at sound also))
+    (ddl_same s tables designs (one_sound_design s names plan others tables designs at sound also))
 
 pub one_form_written : (s : Schema) (form : Form) → AllowsOne (WritesForm s form)
 one_form_written s form =
-    one_in_form s form (λ plan. WithoutMissing s (schemes_of plan) (WritesTables s plan))
-    (same_without_missing s (WritesTables s) (one_written s))
+    one_in_form s form (λ plan. WithoutMissing s [] (schemes_of plan) (WritesTables s [] plan))
+    (same_without_missing s [] (WritesTables s []) (one_written s []))
 
-one_schemes_written : (s : Schema) (schemes : List Attributes) → AllowsOne (WritesSchemes s schemes)
-one_schemes_written s schemes one other (plan, is, written) (others, also, again) =
-    one_written s plan others one other (is ∙ sym also) written again
+one_schemes_written : (s : Schema) (names : GivenNames) (schemes : List Attributes) → AllowsOne (WritesSchemes s names schemes)
+one_schemes_written s names schemes one other (plan, is, written) (others, also, again) =
+    one_written s names plan others one other (is ∙ sym also) written again
 
-pub one_plan_written : (s : Schema) (schemes : List Attributes) → AllowsOne (WritesPlan s schemes)
-one_plan_written s schemes =
-    one_without_missing s schemes (WithoutLoss s schemes (WritesSchemes s schemes))
-    (one_without_loss s schemes (WritesSchemes s schemes) (one_schemes_written s schemes))
+pub one_plan_written : (s : Schema) (names : GivenNames) (schemes : List Attributes) → AllowsOne (WritesPlan s names schemes)
+one_plan_written s names schemes =
+    one_without_missing s names schemes (WithoutLoss s schemes (WritesSchemes s names schemes))
+    (one_without_loss s schemes (WritesSchemes s names schemes) (one_schemes_written s names schemes))
 
 -- ---- `draw`
-one_drawn : (s : Schema) (plan others : List AttrSet) (one other : ResponseValue)
-    → schemes_of plan ≡ schemes_of others → DrawsTables s plan one → DrawsTables s others other → one ≡ other
-one_drawn s plan others one other at (tables, sound, says) (designs, also, said) =
+one_drawn : (s : Schema) (names : GivenNames) (plan others : List AttrSet) (one other : ResponseValue)
+    → schemes_of plan ≡ schemes_of others → DrawsTables s names plan one → DrawsTables s names others other → one ≡ other
+one_drawn s names plan others one other at (tables, sound, says) (designs, also, said) =
     same_says Yes _ _ one other says said
-    (drawing_same s tables designs (one_sound_design s plan others tables designs at sound also))
+    (drawing_same s tables designs (one_sound_design s names plan others tables designs at sound also))
 
 pub one_form_drawn : (s : Schema) (form : Form) → AllowsOne (DrawsForm s form)
-one_form_drawn s form = one_in_form s form (DrawsTables s) (one_drawn s)
+one_form_drawn s form = one_in_form s form (DrawsTables s []) (one_drawn s [])
 
-pub one_plan_drawn : (s : Schema) (schemes : List Attributes) → AllowsOne (DrawsSchemes s schemes)
-one_plan_drawn s schemes one other (plan, is, drawn) (others, also, again) =
-    one_drawn s plan others one other (is ∙ sym also) drawn again
+pub one_plan_drawn : (s : Schema) (names : GivenNames) (schemes : List Attributes) → AllowsOne (DrawsSchemes s names schemes)
+one_plan_drawn s names schemes one other (plan, is, drawn) (others, also, again) =
+    one_drawn s names plan others one other (is ∙ sym also) drawn again
 
 -- ---- `sql`
 one_after_name : (name : List ℕ) (rest : Allowed) → AllowsOne rest → AllowsOne (WithTableName name rest)
@@ -74,28 +77,34 @@ pub one_check_scripted : (s : Schema) (name : List ℕ) → AllowsOne (ScriptsCh
 one_check_scripted s name =
     one_after_name name (AsksTable s name) (λ one other first second. first.1 ∙ sym second.1)
 
-one_made : (s : Schema) (name : List ℕ) (plan others : List AttrSet) (one other : ResponseValue)
-    → schemes_of plan ≡ schemes_of others → MakesTables s name plan one → MakesTables s name others other
+one_made : (s : Schema) (names : GivenNames) (name : List ℕ) (plan others : List AttrSet) (one other : ResponseValue)
+    → schemes_of plan ≡ schemes_of others → MakesTables s names name plan one → MakesTables s names name others other
     → one ≡ other
-one_made s name plan others one other at (tables, sound, (script, says)) (designs, also, (second, said)) =
+one_made s names name plan others one other at (tables, sound, (script, says)) (designs, also, (second, said)) =
     same_says Yes _ _ one other says said
     (script_same s (quoted_table name) tables designs
-    (one_sound_design s plan others tables designs at sound also))
+    (one_sound_design s names plan others tables designs at sound also))
 
 pub one_form_scripted : (s : Schema) (form : Form) (name : List ℕ) → AllowsOne (ScriptsMigration s form name)
 one_form_scripted s form name =
     one_after_name name
-    (WithPlanInForm s form (λ plan. WithoutMissing s (schemes_of plan) (MakesTables s name plan)))
-    (one_in_form s form (λ plan. WithoutMissing s (schemes_of plan) (MakesTables s name plan))
-    (same_without_missing s (MakesTables s name) (one_made s name)))
+    (WithPlanInForm s form (λ plan. WithoutMissing s [] (schemes_of plan) (MakesTables s [] name plan)))
+    (one_in_form s form (λ plan. WithoutMissing s [] (schemes_of plan) (MakesTables s [] name plan))
+    (same_without_missing s [] (MakesTables s [] name) (one_made s [] name)))
 
-one_schemes_made : (s : Schema) (name : List ℕ) (schemes : List Attributes) → AllowsOne (MakesSchemes s name schemes)
-one_schemes_made s name schemes one other (plan, is, made) (others, also, again) =
-    one_made s name plan others one other (is ∙ sym also) made again
+one_schemes_made : (s : Schema) (names : GivenNames) (name : List ℕ) (schemes : List Attributes) → AllowsOne (MakesSchemes s names name schemes)
+one_schemes_made s names name schemes one other (plan, is, made) (others, also, again) =
+    one_made s names name plan others one other (is ∙ sym also) made again
 
-pub one_plan_scripted : (s : Schema) (schemes : List Attributes) (name : List ℕ)
-    → AllowsOne (ScriptsMigrationByPlan s schemes name)
-one_plan_scripted s schemes name =
-    one_after_name name (WithoutMissing s schemes (WithoutLoss s schemes (MakesSchemes s name schemes)))
-    (one_without_missing s schemes (WithoutLoss s schemes (MakesSchemes s name schemes))
-    (one_without_loss s schemes (MakesSchemes s name schemes) (one_schemes_made s name schemes)))
+pub one_plan_scripted : (s : Schema) (names : GivenNames) (schemes : List Attributes) (name : List ℕ)
+    → AllowsOne (ScriptsMigrationByPlan s names schemes name)
+one_plan_scripted s names schemes name =
+    one_after_name name
+    (Unless (MetNameStops names name) (list_any (is_given (last_of (dotted_parts name))) names ≡ false)
+    (WithoutMissing s names schemes (WithoutLoss s schemes (MakesSchemes s names name schemes))))
+    (Unless-one (MetNameStops names name) (list_any (is_given (last_of (dotted_parts name))) names ≡ false)
+    (WithoutMissing s names schemes (WithoutLoss s schemes (MakesSchemes s names name schemes)))
+    (λ one other stops also. stops.1 ∙ sym also.1)
+    (λ response free stops. true≢false (sym stops.0 ∙ free))
+    (λ free. one_without_missing s names schemes (WithoutLoss s schemes (MakesSchemes s names name schemes))
+    (one_without_loss s schemes (MakesSchemes s names name schemes) (one_schemes_made s names name schemes))))

@@ -108,12 +108,12 @@ ddl_same s one other same =
 -- ---- pictures
 node_same : (s : Schema) (t u : TableDesign) → IsSameTable t u → node_text s t ≡ node_text s u
 unfolding node_text
-node_same s t u same = simp (same.name, same.key, same.columns)
+node_same s t u same = simp (same.number, same.name, same.key, same.columns)
 
 edge_same : (s : Schema) (t u : TableDesign) → IsSameTable t u → (v w : TableDesign) → IsSameTable v w
     → edge_text s t v ≡ edge_text s u w
 unfolding edge_text
-edge_same s t u same v w alike = simp (same.name, alike.name, alike.key)
+edge_same s t u same v w alike = simp (same.number, alike.number, alike.key)
 
 edges_same : (s : Schema) (one other : List TableDesign) → AreSameTables one other → (t u : TableDesign)
     → IsSameTable t u → edges_text s one t ≡ edges_text s other u

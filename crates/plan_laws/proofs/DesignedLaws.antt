@@ -18,47 +18,47 @@ use Rattle.ddl_text.specs.Holding.{KeyHolds, ReferenceHolds}
 use Rattle.ddl_text.specs.declared.table.TableDesign.{TableDesign}
 use Rattle.design_order.proofs.OrderLemmas.{one_order}
 use Rattle.named_tables.specs.Tables.{TableValue}
-use Rattle.table_names.specs.TableNames.{table_name}
+use Rattle.table_names.specs.TableNames.{GivenNames, name_of_table}
 use Rattle.desk_designs.specs.Designs.{IsSoundDesign}
 use Rattle.desk_tables.specs.Migrations.{AreTablesOf}
 use Rattle.plan_laws.specs.Designed.{AreDesignedAs, KeysHoldIn, OtherKeysHoldIn, ReferencesHoldIn}
 
 -- ---- the tables of schemes
-pub tables_length : (s : Schema) (rows : Relation) (number : ℕ) (plan : List Attributes)
-    → length (tables_from s rows number plan) ≡ length plan
-tables_length s rows number [] = refl
-tables_length s rows number (x ∷ plan) = ap (λ (k : ℕ). suc k) (tables_length s rows (number + 1) plan)
+pub tables_length : (s : Schema) (names : GivenNames) (rows : Relation) (number : ℕ) (plan : List Attributes)
+    → length (tables_from s names rows number plan) ≡ length plan
+tables_length s names rows number [] = refl
+tables_length s names rows number (x ∷ plan) = ap (λ (k : ℕ). suc k) (tables_length s names rows (number + 1) plan)
 
-pub table_at : (s : Schema) (rows : Relation) (number : ℕ) (plan : List Attributes) (k : ℕ)
+pub table_at : (s : Schema) (names : GivenNames) (rows : Relation) (number : ℕ) (plan : List Attributes) (k : ℕ)
     (x : Attributes) (d : TableValue)
-    → k < length plan → get_or (tables_from s rows number plan) k d ≡ table_of s rows (number + k) (get_or plan k x)
-table_at s rows number [] k x d lt = absurd (omega (arith, lt))
-table_at s rows number (y ∷ plan) zero x d lt =
-    let same : number ≡ number + 0 = omega arith in ap (λ (m : ℕ). table_of s rows m y) same
-table_at s rows number (y ∷ plan) (suc k) x d lt =
+    → k < length plan → get_or (tables_from s names rows number plan) k d ≡ table_of s names rows (number + k) (get_or plan k x)
+table_at s names rows number [] k x d lt = absurd (omega (arith, lt))
+table_at s names rows number (y ∷ plan) zero x d lt =
+    let same : number ≡ number + 0 = omega arith in ap (λ (m : ℕ). table_of s names rows m y) same
+table_at s names rows number (y ∷ plan) (suc k) x d lt =
     let same : (number + 1) + k ≡ number + suc k = omega arith in
-    table_at s rows (number + 1) plan k x d (omega (arith, lt))
-    ∙ ap (λ (m : ℕ). table_of s rows m (get_or plan k x)) same
+    table_at s names rows (number + 1) plan k x d (omega (arith, lt))
+    ∙ ap (λ (m : ℕ). table_of s names rows m (get_or plan k x)) same
 
-module _ (s : Schema) (plan : List AttrSet) (designs : List TableDesign) (rows : Relation) (tables : List TableValue)
-    (sound : IsSoundDesign s plan designs) (are : AreTablesOf s (schemes_of plan) rows tables) where
-  same_tables : tables ≡ tables_from s rows 1 (schemes_of sound.ordered)
+module _ (s : Schema) (names : GivenNames) (plan : List AttrSet) (designs : List TableDesign) (rows : Relation) (tables : List TableValue)
+    (sound : IsSoundDesign s names plan designs) (are : AreTablesOf s names (schemes_of plan) rows tables) where
+  same_tables : tables ≡ tables_from s names rows 0 (schemes_of sound.ordered)
   same_tables =
       are.projections
-      ∙ ap (λ (ordered : List Attributes). tables_from s rows 1 ordered)
+      ∙ ap (λ (ordered : List Attributes). tables_from s names rows 0 ordered)
       (one_order (width_of s) (theory_of s) (schemes_of plan) are.ordered (schemes_of sound.ordered)
       are.order sound.order)
 
   same_length : length tables ≡ length designs
   same_length =
-      ap length same_tables ∙ tables_length s rows 1 (schemes_of sound.ordered) ∙ length-map sound.ordered attributes
+      ap length same_tables ∙ tables_length s names rows 0 (schemes_of sound.ordered) ∙ length-map sound.ordered attributes
       ∙ sym sound.design.one_each
 
   -- the designed table at a position
   design_at : (k : ℕ) (design : TableDesign) → slice_get designs k ≡ Some design
-      → IsTableOf s (take k designs) (get_or sound.ordered k design.scheme) design
+      → IsTableOf s names (take k designs) (get_or sound.ordered k design.scheme) design
   design_at k design at =
-      subst (λ (t : TableDesign). IsTableOf s (take k designs) (get_or sound.ordered k design.scheme) t)
+      subst (λ (t : TableDesign). IsTableOf s names (take k designs) (get_or sound.ordered k design.scheme) t)
       (get_or_from_slice_get designs k design design at)
       (sound.design.each k
       (omega (arith, slice_get_within designs k design at, sound.design.one_each)) design.scheme
@@ -66,23 +66,23 @@ module _ (s : Schema) (plan : List AttrSet) (designs : List TableDesign) (rows :
 
   -- and the table there
   value_at : (k : ℕ) (design : TableDesign) (table : TableValue) → slice_get designs k ≡ Some design
-      → slice_get tables k ≡ Some table → table ≡ table_of s rows (1 + k) (attributes design.scheme)
+      → slice_get tables k ≡ Some table → table ≡ table_of s names rows (0 + k) (attributes design.scheme)
   value_at k design table at here =
       let lt = slice_get_within designs k design at in
       let low : k < length (schemes_of sound.ordered) =
       omega (arith, lt, sound.design.one_each, length-map sound.ordered attributes) in
       sym (get_or_from_slice_get tables k table table here)
       ∙ ap (λ (l : List TableValue). get_or l k table) same_tables
-      ∙ table_at s rows 1 (schemes_of sound.ordered) k (attributes design.scheme) table low
-      ∙ ap (λ (x : Attributes). table_of s rows (1 + k) x) (get_or-map attributes sound.ordered k design.scheme)
-      ∙ ap (λ (x : AttrSet). table_of s rows (1 + k) (attributes x)) (sym (design_at k design at).columns)
+      ∙ table_at s names rows 0 (schemes_of sound.ordered) k (attributes design.scheme) table low
+      ∙ ap (λ (x : Attributes). table_of s names rows (0 + k) x) (get_or-map attributes sound.ordered k design.scheme)
+      ∙ ap (λ (x : AttrSet). table_of s names rows (0 + k) (attributes x)) (sym (design_at k design at).columns)
 
-  same_name : (k : ℕ) (design : TableDesign) → slice_get designs k ≡ Some design → design.name ≡ table_name (1 + k)
+  same_name : (k : ℕ) (design : TableDesign) → slice_get designs k ≡ Some design → design.name ≡ name_of_table names k
   same_name k design at =
       let lt = slice_get_within designs k design at in
-      let count : length (take k designs) + 1 ≡ 1 + k =
+      let count : length (take k designs) ≡ k =
       omega (arith, lt, length-take-le k designs (omega (arith, lt))) in
-      (design_at k design at).name ∙ ap table_name count
+      (design_at k design at).name ∙ ap (name_of_table names) count
 
   pub designed : AreDesignedAs s designs tables
   designed = record {

@@ -8,6 +8,7 @@ use Rattle.dep_model.specs.Tuples.{Relation}
 use Rattle.dep_model.specs.declared.schema.Schema.{Schema}
 use Rattle.ddl_text.specs.declared.table.TableDesign.{TableDesign}
 use Rattle.named_tables.specs.Tables.{TableValue}
+use Rattle.table_names.specs.TableNames.{GivenNames}
 use Rattle.normal_forms.specs.declared.forms.Form.{Form}
 use Rattle.normal_forms.specs.declared.forms.Form.TheVariants.{Third, Bcnf, Fourth}
 use Rattle.plans.specs.Printing.{plan_text}
@@ -35,11 +36,11 @@ one_synthesis s one other (plan, third, says) (also, third', says') =
     (grouped_same (width_of s) (theory_of s) (nullable_of s) plan also third.grouped third'.grouped)
     ∙ sym says'
 
-pub form_designed : (s : Schema) (form : Form) (plan other : List AttrSet)
+pub form_designed : (s : Schema) (names : GivenNames) (form : Form) (plan other : List AttrSet)
     (designs : List TableDesign) (rows : Relation)
     (tables : List TableValue) → IsPlanInForm s form plan → IsPlanInForm s form other
-    → IsSoundDesign s plan designs → AreTablesOf s (schemes_of other) rows tables → AreDesignedAs s designs tables
-form_designed s form plan other designs rows tables one two sound are =
-    designed s plan designs rows tables sound
-    (subst (λ (schemes : List Attributes). AreTablesOf s schemes rows tables)
+    → IsSoundDesign s names plan designs → AreTablesOf s names (schemes_of other) rows tables → AreDesignedAs s designs tables
+form_designed s names form plan other designs rows tables one two sound are =
+    designed s names plan designs rows tables sound
+    (subst (λ (schemes : List Attributes). AreTablesOf s names schemes rows tables)
     (sym (same_schemes s form plan other one two)) are)

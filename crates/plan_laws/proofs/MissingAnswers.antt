@@ -13,6 +13,7 @@ use Rattle.missing_values.specs.Missing.{FindsMissing, HasAt, IsFineAt, IsInKeyA
 use Rattle.missing_values.specs.Refusals.{in_key_text, in_two_text, name_at, refusal_text}
 use Rattle.missing_values.specs.declared.refusal.MissingRefusal.{MissingRefusal}
 use Rattle.missing_values.specs.declared.refusal.MissingRefusal.TheVariants.{InKey, InTwo}
+use Rattle.table_names.specs.TableNames.{GivenNames}
 use Rattle.implication_laws.specs.OneAnswer.{AllowsOne}
 use Rattle.implication_laws.proofs.StepLaws.{same_says, Unless-one}
 use Rattle.desk_responses.specs.ResponseValues.{Allowed, ResponseValue}
@@ -90,14 +91,14 @@ module _ (nullable : Attributes) (one other : List TableDesign) (same : AreSameT
       ∙ ap (in_two_text s a (name_at other j)) (name_same k)
 
 -- ---- what stops
-one_design_of : (s : Schema) (schemes : List Attributes) (tables designs : List TableDesign)
-    → IsDesignOf s schemes tables → IsDesignOf s schemes designs → AreSameTables tables designs
-one_design_of s schemes tables designs is also =
-    one_sound_design s is.plan also.plan tables designs (is.same ∙ sym also.same) is.sound also.sound
+one_design_of : (s : Schema) (names : GivenNames) (schemes : List Attributes) (tables designs : List TableDesign)
+    → IsDesignOf s names schemes tables → IsDesignOf s names schemes designs → AreSameTables tables designs
+one_design_of s names schemes tables designs is also =
+    one_sound_design s names is.plan also.plan tables designs (is.same ∙ sym also.same) is.sound also.sound
 
-one_missing_stop : (s : Schema) (schemes : List Attributes) → AllowsOne (MissingStops s schemes)
-one_missing_stop s schemes one other (tables, is, (refusal, finds, says)) (designs, also, (another, found, said)) =
-    let same = one_design_of s schemes tables designs is also in
+one_missing_stop : (s : Schema) (names : GivenNames) (schemes : List Attributes) → AllowsOne (MissingStops s names schemes)
+one_missing_stop s names schemes one other (tables, is, (refusal, finds, says)) (designs, also, (another, found, said)) =
+    let same = one_design_of s names schemes tables designs is also in
     let there = finds_there (nullable_of s) tables designs same (Some refusal) finds in
     let found_one = one_missing (nullable_of s) designs (Some refusal) (Some another) there found in
     same_says Refused _ _ one other says said
@@ -109,35 +110,35 @@ found_or_none : (nullable : Attributes) (tables : List TableDesign) (refusal : M
 found_or_none nullable tables (InKey a k) never found = (never k).key a found.1.here
 found_or_none nullable tables (InTwo a j k) never found = (never k).shared a j found.1.here
 
-missing_goes : (s : Schema) (schemes : List Attributes) (response : ResponseValue) → AreNeverMissing s schemes
-    → MissingStops s schemes response → ⊥
-missing_goes s schemes response (tables, is, never) (designs, also, (refusal, found, says)) =
+missing_goes : (s : Schema) (names : GivenNames) (schemes : List Attributes) (response : ResponseValue) → AreNeverMissing s names schemes
+    → MissingStops s names schemes response → ⊥
+missing_goes s names schemes response (tables, is, never) (designs, also, (refusal, found, says)) =
     found_or_none (nullable_of s) designs refusal
-    (finds_there (nullable_of s) tables designs (one_design_of s schemes tables designs is also) None never) found
+    (finds_there (nullable_of s) tables designs (one_design_of s names schemes tables designs is also) None never) found
 
 -- ---- answers
 -- after the test for what may be missing there is one answer
-pub one_without_missing : (s : Schema) (schemes : List Attributes) (rest : Allowed) → AllowsOne rest
-    → AllowsOne (WithoutMissing s schemes rest)
-one_without_missing s schemes rest one_rest =
-    Unless-one (MissingStops s schemes) (AreNeverMissing s schemes) rest (one_missing_stop s schemes)
-    (λ response passed stops. missing_goes s schemes response passed stops) (λ passed. one_rest)
+pub one_without_missing : (s : Schema) (names : GivenNames) (schemes : List Attributes) (rest : Allowed) → AllowsOne rest
+    → AllowsOne (WithoutMissing s names schemes rest)
+one_without_missing s names schemes rest one_rest =
+    Unless-one (MissingStops s names schemes) (AreNeverMissing s names schemes) rest (one_missing_stop s names schemes)
+    (λ response passed stops. missing_goes s names schemes response passed stops) (λ passed. one_rest)
 
 -- the same of plans of the same schemes, where what follows rests on the sets of a plan alone
-pub same_without_missing : (s : Schema) (rest : List AttrSet → Allowed)
+pub same_without_missing : (s : Schema) (names : GivenNames) (rest : List AttrSet → Allowed)
     → ((plan others : List AttrSet) (one other : ResponseValue) → schemes_of plan ≡ schemes_of others
     → rest plan one → rest others other → one ≡ other)
     → (plan others : List AttrSet) (one other : ResponseValue) → schemes_of plan ≡ schemes_of others
-    → WithoutMissing s (schemes_of plan) (rest plan) one → WithoutMissing s (schemes_of others) (rest others) other
+    → WithoutMissing s names (schemes_of plan) (rest plan) one → WithoutMissing s names (schemes_of others) (rest others) other
     → one ≡ other
-same_without_missing s rest alike plan others one other at (inl stops) (inl stopped) =
-    one_missing_stop s (schemes_of others) one other
-    (subst (λ (schemes : List Attributes). MissingStops s schemes one) at stops) stopped
-same_without_missing s rest alike plan others one other at (inl stops) (inr (passed, answers)) =
-    absurd (missing_goes s (schemes_of others) one passed
-    (subst (λ (schemes : List Attributes). MissingStops s schemes one) at stops))
-same_without_missing s rest alike plan others one other at (inr (passed, answers)) (inl stops) =
-    absurd (missing_goes s (schemes_of others) other
-    (subst (λ (schemes : List Attributes). AreNeverMissing s schemes) at passed) stops)
-same_without_missing s rest alike plan others one other at (inr (passed, answers)) (inr (also, again)) =
+same_without_missing s names rest alike plan others one other at (inl stops) (inl stopped) =
+    one_missing_stop s names (schemes_of others) one other
+    (subst (λ (schemes : List Attributes). MissingStops s names schemes one) at stops) stopped
+same_without_missing s names rest alike plan others one other at (inl stops) (inr (passed, answers)) =
+    absurd (missing_goes s names (schemes_of others) one passed
+    (subst (λ (schemes : List Attributes). MissingStops s names schemes one) at stops))
+same_without_missing s names rest alike plan others one other at (inr (passed, answers)) (inl stops) =
+    absurd (missing_goes s names (schemes_of others) other
+    (subst (λ (schemes : List Attributes). AreNeverMissing s names schemes) at passed) stops)
+same_without_missing s names rest alike plan others one other at (inr (passed, answers)) (inr (also, again)) =
     alike plan others one other at answers again

@@ -17,7 +17,7 @@ use Rattle.ddl_text.specs.declared.table.TableDesign.{TableDesign}
 use Rattle.design_order.specs.Order.{IsInDesignOrder}
 use Rattle.design_order.proofs.OrderLemmas.{one_order}
 use Rattle.split_forms.proofs.StepLemmas.{cons-head, cons-tail}
-use Rattle.table_names.specs.TableNames.{table_name}
+use Rattle.table_names.specs.TableNames.{GivenNames, name_of_table}
 use Rattle.check_laws.proofs.EachLemmas.{filter-map}
 use Rattle.implication_laws.proofs.OneAnswer.{all_or_many}
 use Rattle.implication_laws.proofs.OneKey.{one_keys}
@@ -28,6 +28,7 @@ use Rattle.plan_laws.specs.SameDesigns.{IsSameTable, AreSameTables}
 -- ---- tables that are the same
 table_back : (one other : TableDesign) → IsSameTable one other → IsSameTable other one
 table_back one other same = record {
+  number = sym same.number;
   name = sym same.name;
   columns = sym same.columns;
   key = sym same.key;
@@ -110,30 +111,30 @@ one_list_beside s scheme key (Some keys) (Some others) (inr listed) (inr also) =
 
 -- ---- one table after the other
 -- tables of schemes, after earlier ones
-abbrev DesignFrom : Schema → List TableDesign → List AttrSet → List TableDesign → Type 0
-DesignFrom s earlier [] [] = Unit {0}
-DesignFrom s earlier [] (t ∷ ts) = ⊥
-DesignFrom s earlier (x ∷ xs) [] = ⊥
-DesignFrom s earlier (x ∷ xs) (t ∷ ts) = IsTableOf s earlier x t × DesignFrom s (earlier ++ t ∷ []) xs ts
+abbrev DesignFrom : Schema → GivenNames → List TableDesign → List AttrSet → List TableDesign → Type 0
+DesignFrom s names earlier [] [] = Unit {0}
+DesignFrom s names earlier [] (t ∷ ts) = ⊥
+DesignFrom s names earlier (x ∷ xs) [] = ⊥
+DesignFrom s names earlier (x ∷ xs) (t ∷ ts) = IsTableOf s names earlier x t × DesignFrom s names (earlier ++ t ∷ []) xs ts
 
-design_from : (s : Schema) (earlier : List TableDesign) (xs : List AttrSet) (ts : List TableDesign)
+design_from : (s : Schema) (names : GivenNames) (earlier : List TableDesign) (xs : List AttrSet) (ts : List TableDesign)
     → length ts ≡ length xs
     → ((k : ℕ) → k < length xs → (x : AttrSet) (t : TableDesign)
-    → IsTableOf s (earlier ++ take k ts) (get_or xs k x) (get_or ts k t))
-    → DesignFrom s earlier xs ts
-design_from s earlier [] [] same each = tt
-design_from s earlier [] (t ∷ ts) same each = absurd (omega (arith, same))
-design_from s earlier (x ∷ xs) [] same each = absurd (omega (arith, same))
-design_from s earlier (x ∷ xs) (t ∷ ts) same each = (
-  subst (λ (before : List TableDesign). IsTableOf s before x t) (append-nil earlier) (each 0 (omega arith) x t),
-  design_from s (earlier ++ t ∷ []) xs ts (omega (arith, same))
-      (λ k l y u. subst (λ (before : List TableDesign). IsTableOf s before (get_or xs k y) (get_or ts k u))
+    → IsTableOf s names (earlier ++ take k ts) (get_or xs k x) (get_or ts k t))
+    → DesignFrom s names earlier xs ts
+design_from s names earlier [] [] same each = tt
+design_from s names earlier [] (t ∷ ts) same each = absurd (omega (arith, same))
+design_from s names earlier (x ∷ xs) [] same each = absurd (omega (arith, same))
+design_from s names earlier (x ∷ xs) (t ∷ ts) same each = (
+  subst (λ (before : List TableDesign). IsTableOf s names before x t) (append-nil earlier) (each 0 (omega arith) x t),
+  design_from s names (earlier ++ t ∷ []) xs ts (omega (arith, same))
+      (λ k l y u. subst (λ (before : List TableDesign). IsTableOf s names before (get_or xs k y) (get_or ts k u))
       (sym (append_assoc earlier (t ∷ []) (take k ts))) (each (suc k) (omega (arith, l)) y u)),
 )
 
-module _ (s : Schema) (earlier before : List TableDesign) (x y : AttrSet) (t u : TableDesign)
+module _ (s : Schema) (names : GivenNames) (earlier before : List TableDesign) (x y : AttrSet) (t u : TableDesign)
     (same : AreSameTables earlier before) (at : attributes x ≡ attributes y)
-    (first : IsTableOf s earlier x t) (second : IsTableOf s before y u) where
+    (first : IsTableOf s names earlier x t) (second : IsTableOf s names before y u) where
   held : HoldsAll t.refs.items u.refs.items
   held j has =
       (second.refs.exactly j).1
@@ -160,7 +161,8 @@ module _ (s : Schema) (earlier before : List TableDesign) (x y : AttrSet) (t u :
 
   one_table : IsSameTable t u
   one_table = record {
-    name = first.name ∙ ap (λ (k : ℕ). table_name (k + 1)) (as_many earlier before same) ∙ sym second.name;
+    number = first.number ∙ ap (λ (k : ℕ). k + 1) (as_many earlier before same) ∙ sym second.number;
+    name = first.name ∙ ap (name_of_table names) (as_many earlier before same) ∙ sym second.name;
     columns = ap attributes first.columns ∙ at ∙ sym (ap attributes second.columns);
     key = same_key;
     other_keys = same_others.0;
@@ -170,37 +172,37 @@ module _ (s : Schema) (earlier before : List TableDesign) (x y : AttrSet) (t u :
         second.refs.ascending held held_back;
   }
 
-same_from : (s : Schema) (earlier before : List TableDesign) (xs ys : List AttrSet) (ts us : List TableDesign)
-    → AreSameTables earlier before → schemes_of xs ≡ schemes_of ys → DesignFrom s earlier xs ts
-    → DesignFrom s before ys us → AreSameTables ts us
-same_from s earlier before [] [] [] [] same at first second = tt
-same_from s earlier before [] [] [] (u ∷ us) same at first second = absurd second
-same_from s earlier before [] [] (t ∷ ts) us same at first second = absurd first
-same_from s earlier before [] (y ∷ ys) ts us same at first second = absurd (omega (arith, ap length at))
-same_from s earlier before (x ∷ xs) [] ts us same at first second = absurd (omega (arith, ap length at))
-same_from s earlier before (x ∷ xs) (y ∷ ys) [] us same at first second = absurd first
-same_from s earlier before (x ∷ xs) (y ∷ ys) (t ∷ ts) [] same at first second = absurd second
-same_from s earlier before (x ∷ xs) (y ∷ ys) (t ∷ ts) (u ∷ us) same at first second =
+same_from : (s : Schema) (names : GivenNames) (earlier before : List TableDesign) (xs ys : List AttrSet) (ts us : List TableDesign)
+    → AreSameTables earlier before → schemes_of xs ≡ schemes_of ys → DesignFrom s names earlier xs ts
+    → DesignFrom s names before ys us → AreSameTables ts us
+same_from s names earlier before [] [] [] [] same at first second = tt
+same_from s names earlier before [] [] [] (u ∷ us) same at first second = absurd second
+same_from s names earlier before [] [] (t ∷ ts) us same at first second = absurd first
+same_from s names earlier before [] (y ∷ ys) ts us same at first second = absurd (omega (arith, ap length at))
+same_from s names earlier before (x ∷ xs) [] ts us same at first second = absurd (omega (arith, ap length at))
+same_from s names earlier before (x ∷ xs) (y ∷ ys) [] us same at first second = absurd first
+same_from s names earlier before (x ∷ xs) (y ∷ ys) (t ∷ ts) [] same at first second = absurd second
+same_from s names earlier before (x ∷ xs) (y ∷ ys) (t ∷ ts) (u ∷ us) same at first second =
     let heads = cons-head (attributes x) (attributes y) (schemes_of xs) (schemes_of ys) at in
     let tails = cons-tail (attributes x) (attributes y) (schemes_of xs) (schemes_of ys) at in
-    let table = one_table s earlier before x y t u same heads first.0 second.0 in (
+    let table = one_table s names earlier before x y t u same heads first.0 second.0 in (
       table,
-      same_from s (earlier ++ t ∷ []) (before ++ u ∷ []) xs ys ts us (one_more earlier before t u same table) tails
+      same_from s names (earlier ++ t ∷ []) (before ++ u ∷ []) xs ys ts us (one_more earlier before t u same table) tails
           first.1 second.1,
     )
 
 -- ---- designs
-pub one_design : (s : Schema) (plan others : List AttrSet) (one other : List TableDesign)
-    → schemes_of plan ≡ schemes_of others → IsDesign s plan one → IsDesign s others other → AreSameTables one other
-one_design s plan others one other at first second =
-    same_from s [] [] plan others one other tt at (design_from s [] plan one first.one_each first.each)
-    (design_from s [] others other second.one_each second.each)
+pub one_design : (s : Schema) (names : GivenNames) (plan others : List AttrSet) (one other : List TableDesign)
+    → schemes_of plan ≡ schemes_of others → IsDesign s names plan one → IsDesign s names others other → AreSameTables one other
+one_design s names plan others one other at first second =
+    same_from s names [] [] plan others one other tt at (design_from s names [] plan one first.one_each first.each)
+    (design_from s names [] others other second.one_each second.each)
 
-pub one_sound_design : (s : Schema) (plan others : List AttrSet) (one other : List TableDesign)
-    → schemes_of plan ≡ schemes_of others → IsSoundDesign s plan one → IsSoundDesign s others other
+pub one_sound_design : (s : Schema) (names : GivenNames) (plan others : List AttrSet) (one other : List TableDesign)
+    → schemes_of plan ≡ schemes_of others → IsSoundDesign s names plan one → IsSoundDesign s names others other
     → AreSameTables one other
-one_sound_design s plan others one other at first second =
-    one_design s first.ordered second.ordered one other
+one_sound_design s names plan others one other at first second =
+    one_design s names first.ordered second.ordered one other
     (one_order (width_of s) (theory_of s) (schemes_of plan) (schemes_of first.ordered) (schemes_of second.ordered)
     first.order
     (subst (λ (schemes : List Attributes).

@@ -13,6 +13,7 @@ use Rattle.dep_model.specs.declared.schema.Schema.{Schema}
 use Rattle.dep_model.proofs.JoinLemmas.{lossless_from}
 use Rattle.dep_model.proofs.ListLemmas.{Any-from, Contains-cases, Contains-head, Contains-later, Contains-map}
 use Rattle.design_order.proofs.OrderLemmas.{one_order, order-lossless}
+use Rattle.table_names.specs.TableNames.{GivenNames}
 use Rattle.named_tables.specs.Tables.{TableValue}
 use Rattle.table_join.specs.Answers.{AreProjections}
 use Rattle.split_forms.proofs.StepLemmas.{cons-head, cons-tail}
@@ -22,19 +23,19 @@ use Rattle.desk_designs.specs.Joins.{LosesNothing}
 use Rattle.desk_tables.specs.Migrations.{AreTablesOf}
 use Rattle.plan_laws.specs.Rejoined.{GivesTheRows, HaveRowsOf, HaveRowsInAnyOrder}
 
-relations_from : (s : Schema) (rows : Relation) (number : ℕ) (plan : List Attributes)
-    → relations_of (tables_from s rows number plan) ≡ map (λ scheme. ordered_projection scheme rows) plan
-relations_from s rows number [] = refl
-relations_from s rows number (x ∷ plan) =
-    ap (λ (l : List Relation). ordered_projection x rows ∷ l) (relations_from s rows (number + 1) plan)
+relations_from : (s : Schema) (names : GivenNames) (rows : Relation) (number : ℕ) (plan : List Attributes)
+    → relations_of (tables_from s names rows number plan) ≡ map (λ scheme. ordered_projection scheme rows) plan
+relations_from s names rows number [] = refl
+relations_from s names rows number (x ∷ plan) =
+    ap (λ (l : List Relation). ordered_projection x rows ∷ l) (relations_from s names rows (number + 1) plan)
 
-projected : (s : Schema) (plan : List Attributes) (rows : Relation) (tables : List TableValue)
-    (parts : List PartialRelation) → AreTablesOf s plan rows tables → HaveRowsOf s plan tables parts
+projected : (s : Schema) (names : GivenNames) (plan : List Attributes) (rows : Relation) (tables : List TableValue)
+    (parts : List PartialRelation) → AreTablesOf s names plan rows tables → HaveRowsOf s plan tables parts
     → AreProjections parts rows
-projected s plan rows tables parts are have =
+projected s names plan rows tables parts are have =
     have.rows
     ∙ ap relations_of are.projections
-    ∙ relations_from s rows 1 are.ordered
+    ∙ relations_from s names rows 0 are.ordered
     ∙ ap (λ (l : List Attributes). map (λ scheme. ordered_projection scheme rows) l)
     (one_order (width_of s) (theory_of s) plan are.ordered (plan_of_tables parts) are.order have.order)
 
@@ -48,13 +49,13 @@ joined_again s rows parts kept legal are response (inr (NotCovered a, refused, s
     absurd (refused.uncovered (kept.covers a refused.within))
 joined_again s rows parts kept legal are response (inr (TooManyRows k, refused, says)) = inr (k, says)
 
-pub rejoined : (s : Schema) (plan : List Attributes) (rows : Relation) (tables : List TableValue)
-    (parts : List PartialRelation) → LosesNothing s plan → LegalFor s rows → AreTablesOf s plan rows tables
+pub rejoined : (s : Schema) (names : GivenNames) (plan : List Attributes) (rows : Relation) (tables : List TableValue)
+    (parts : List PartialRelation) → LosesNothing s plan → LegalFor s rows → AreTablesOf s names plan rows tables
     → HaveRowsOf s plan tables parts → GivesTheRows s parts rows
-rejoined s plan rows tables parts lossless legal are have =
+rejoined s names plan rows tables parts lossless legal are have =
     joined_again s rows parts
     (order-lossless (width_of s) (theory_of s) (theory_of s) plan (plan_of_tables parts) have.order lossless) legal
-    (projected s plan rows tables parts are have)
+    (projected s names plan rows tables parts are have)
 
 -- ---- in any order
 -- a part is the ordered projection of rows on its scheme
@@ -110,10 +111,10 @@ more_lossless n ds plan more among lossless =
     Any-from (λ (scheme : Attributes). scheme k ≡ true) more has.1 (among has.1 (has.0, has.2, has.3)) has.4)
     (λ r legal t long each scheme has. each scheme (among scheme has))
 
-pub rejoined_in_any_order : (s : Schema) (plan : List Attributes) (rows : Relation) (tables : List TableValue)
-    (parts : List PartialRelation) → LosesNothing s plan → LegalFor s rows → AreTablesOf s plan rows tables
+pub rejoined_in_any_order : (s : Schema) (names : GivenNames) (plan : List Attributes) (rows : Relation) (tables : List TableValue)
+    (parts : List PartialRelation) → LosesNothing s plan → LegalFor s rows → AreTablesOf s names plan rows tables
     → HaveRowsInAnyOrder s plan tables parts → GivesTheRows s parts rows
-rejoined_in_any_order s plan rows tables parts lossless legal are have =
+rejoined_in_any_order s names plan rows tables parts lossless legal are have =
     joined_again s rows parts
     (more_lossless (width_of s) (theory_of s) (plan_of_tables have.in_order) (plan_of_tables parts)
     (schemes_among have.in_order parts (λ part has. (have.same part).1 has))
@@ -123,6 +124,6 @@ rejoined_in_any_order s plan rows tables parts lossless legal are have =
     (all_projections rows parts
     (All-weaker (Contains parts) (IsProjection rows)
     (λ part has. All-contains (IsProjection rows) have.in_order part
-    (each_projection rows have.in_order (projected s plan rows tables have.in_order are have.are))
+    (each_projection rows have.in_order (projected s names plan rows tables have.in_order are have.are))
     ((have.same part).0 has))
     parts (All-contains_itself parts)))

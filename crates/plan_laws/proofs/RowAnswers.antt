@@ -16,6 +16,7 @@ use Rattle.table_join.specs.Answers.{IsFirstBeyond, IsFirstUncovered, RefusesJoi
 use Rattle.table_join.specs.Tables.{PartialRelation, plan_of_tables}
 use Rattle.table_join.specs.declared.refusal.JoinRefusal.{JoinRefusal}
 use Rattle.table_join.specs.declared.refusal.JoinRefusal.TheVariants.{NotCovered, TooManyRows}
+use Rattle.table_names.specs.TableNames.{GivenNames}
 use Rattle.implication_laws.specs.OneAnswer.{AllowsOne}
 use Rattle.implication_laws.proofs.StepLaws.{same_says, Unless-one}
 use Rattle.desk_responses.specs.ResponseValues.{ResponseValue, Allowed, Says, yes_with_tables}
@@ -43,33 +44,33 @@ pub one_rows_answer : (s : Schema) (rows : Relation) → AllowsOne (JudgesRows s
 one_rows_answer s rows = one_with_legal s rows (Says Yes legal_text) (λ one other says said. says ∙ sym said)
 
 -- ---- tables
-one_migration : (s : Schema) (plan : List Attributes) (rows : Relation) (tables others : List TableValue)
-    → AreTablesOf s plan rows tables → AreTablesOf s plan rows others → tables ≡ others
-one_migration s plan rows tables others first second =
+one_migration : (s : Schema) (names : GivenNames) (plan : List Attributes) (rows : Relation) (tables others : List TableValue)
+    → AreTablesOf s names plan rows tables → AreTablesOf s names plan rows others → tables ≡ others
+one_migration s names plan rows tables others first second =
     first.projections
-    ∙ ap (λ (ordered : List Attributes). tables_of_migration s ordered rows)
+    ∙ ap (λ (ordered : List Attributes). tables_of_migration s names ordered rows)
     (one_order (width_of s) (theory_of s) plan first.ordered second.ordered first.order second.order)
     ∙ sym second.projections
 
-one_given : (s : Schema) (plan : List Attributes) (rows : Relation) → AllowsOne (GivesTables s plan rows)
-one_given s plan rows one other (tables, are, says) (others, also, said) =
+one_given : (s : Schema) (names : GivenNames) (plan : List Attributes) (rows : Relation) → AllowsOne (GivesTables s names plan rows)
+one_given s names plan rows one other (tables, are, says) (others, also, said) =
     says
     ∙ ap (λ (ts : List TableValue). yes_with_tables (migrated_text (naming_of s) rows ts) ts)
-    (one_migration s plan rows tables others are also)
+    (one_migration s names plan rows tables others are also)
     ∙ sym said
 
-pub one_migrated : (s : Schema) (plan : List Attributes) (rows : Relation) → AllowsOne (MigratesRows s plan rows)
-one_migrated s plan rows = one_with_legal s rows (GivesTables s plan rows) (one_given s plan rows)
+pub one_migrated : (s : Schema) (names : GivenNames) (plan : List Attributes) (rows : Relation) → AllowsOne (MigratesRows s names plan rows)
+one_migrated s names plan rows = one_with_legal s rows (GivesTables s names plan rows) (one_given s names plan rows)
 
-pub same_migrated : (s : Schema) (rows : Relation) (plan others : List AttrSet) (one other : ResponseValue)
-    → schemes_of plan ≡ schemes_of others → MigratesRows s (schemes_of plan) rows one
-    → MigratesRows s (schemes_of others) rows other → one ≡ other
-same_migrated s rows plan others one other at first second =
-    one_migrated s (schemes_of plan) rows one other first
-    (subst (λ (schemes : List Attributes). MigratesRows s schemes rows other) (sym at) second)
+pub same_migrated : (s : Schema) (names : GivenNames) (rows : Relation) (plan others : List AttrSet) (one other : ResponseValue)
+    → schemes_of plan ≡ schemes_of others → MigratesRows s names (schemes_of plan) rows one
+    → MigratesRows s names (schemes_of others) rows other → one ≡ other
+same_migrated s names rows plan others one other at first second =
+    one_migrated s names (schemes_of plan) rows one other first
+    (subst (λ (schemes : List Attributes). MigratesRows s names schemes rows other) (sym at) second)
 
-pub one_plan_migrated : (s : Schema) (plan : List Attributes) (rows : Relation) → AllowsOne (MigratesPlan s plan rows)
-one_plan_migrated s plan rows = one_without_loss s plan (MigratesRows s plan rows) (one_migrated s plan rows)
+pub one_plan_migrated : (s : Schema) (names : GivenNames) (plan : List Attributes) (rows : Relation) → AllowsOne (MigratesPlan s names plan rows)
+one_plan_migrated s names plan rows = one_without_loss s plan (MigratesRows s names plan rows) (one_migrated s names plan rows)
 
 -- ---- joined tables
 -- of two numbers that are each no greater than the other where it has the property, both are the same

@@ -23,7 +23,7 @@ use Rattle.schema_printer.specs.Printing.{members_from}
 use Rattle.schema_printer.specs.Spelling.{printed_names_of, spelling}
 use Rattle.split_forms.specs.Refusals.{IsWithinLimits}
 use Rattle.split_forms.specs.Splitting.{HasTooManySchemes, IsSplitPlan, IsTooWideAt}
-use Rattle.table_names.specs.TableNames.{table_name}
+use Rattle.table_names.specs.TableNames.{name_of_table}
 use Rattle.implication_laws.specs.OneAnswer.{AllowsOne}
 use Rattle.desk_designs.specs.declared.decomposition.TheConstants.{MOST_SPLIT_SCHEMES}
 use Rattle.desk_designs.specs.Decompositions.{IsSplitInForm, SplitStops, WithPlanInForm}
@@ -71,7 +71,7 @@ module _ (s t : Schema) (first : IsSampleSchema s) (second : IsSampleSchema t) w
 
   abbrev made : ℕ → List (List ℕ) → List Bool → Relation → TableValue
   made number columns nullable rows =
-      record { name = table_name number; columns = columns; nullable = nullable; rows = rows }
+      record { name = name_of_table [] number; columns = columns; nullable = nullable; rows = rows }
 
   -- whether a value of each attribute of a scheme may be missing, by a width and a set
   abbrev flags : ℕ → Attributes → Attributes → List Bool
@@ -88,25 +88,25 @@ module _ (s t : Schema) (first : IsSampleSchema s) (second : IsSampleSchema t) w
       ∙ ap (λ (nullable : Attributes). flags (width_of t) nullable scheme) same_nullable
 
   same_tables : (rows : Relation) (number : ℕ) (plan : List Attributes)
-      → tables_from s rows number plan ≡ tables_from t rows number plan
+      → tables_from s [] rows number plan ≡ tables_from t [] rows number plan
   same_tables rows number [] = refl
   same_tables rows number (scheme ∷ plan) =
       ap₂ (λ (names : List (List ℕ)) (nullable : List Bool).
       made number (members_from scheme 0 names) nullable (ordered_projection scheme rows)
-      ∷ tables_from s rows (number + 1) plan) same_names (same_flags scheme)
+      ∷ tables_from s [] rows (number + 1) plan) same_names (same_flags scheme)
       ∙ ap (λ (tables : List TableValue).
       made number (members_from scheme 0 (names_of t)) (flags (width_of t) (nullable_of t) scheme)
       (ordered_projection scheme rows) ∷ tables)
       (same_tables rows (number + 1) plan)
 
   given_moved : (plan : List Attributes) (rows : Relation) (response : ResponseValue)
-      → GivesTables s plan rows response → GivesTables t plan rows response
+      → GivesTables s [] plan rows response → GivesTables t [] plan rows response
   given_moved plan rows response (tables, are, responds) = (
     tables,
     record {
       ordered = are.ordered;
       order = moved (λ n ds. IsInDesignOrder n ds plan are.ordered) are.order;
-      projections = are.projections ∙ same_tables rows 1 are.ordered;
+      projections = are.projections ∙ same_tables rows 0 are.ordered;
       joins = moved (λ n ds. JoinIs n are.ordered tables rows) are.joins;
     },
     subst (λ (naming : Naming). RespondsWithTables (migrated_text naming rows tables) tables response)
@@ -120,8 +120,8 @@ module _ (s t : Schema) (first : IsSampleSchema s) (second : IsSampleSchema t) w
       (sym first.names) (rows_legal persons (sample_relation persons) short refl))
 
   rows_moved : (persons : ℕ) → persons < 2 ^ 64 → (plan : List Attributes) (response : ResponseValue)
-      → MigratesRows s plan (sample_relation persons) response
-      → MigratesRows t plan (sample_relation persons) response
+      → MigratesRows s [] plan (sample_relation persons) response
+      → MigratesRows t [] plan (sample_relation persons) response
   rows_moved persons short plan response (inl stops) = absurd (stops.0 (legal persons short))
   rows_moved persons short plan response (inr (is_legal, given)) =
       inr (
@@ -130,8 +130,8 @@ module _ (s t : Schema) (first : IsSampleSchema s) (second : IsSampleSchema t) w
       )
 
   answer_moved : (persons : ℕ) → persons < 2 ^ 64 → (response : ResponseValue)
-      → WithPlanInForm s Fourth (λ plan. MigratesRows s (schemes_of plan) (sample_relation persons)) response
-      → WithPlanInForm t Fourth (λ plan. MigratesRows t (schemes_of plan) (sample_relation persons)) response
+      → WithPlanInForm s Fourth (λ plan. MigratesRows s [] (schemes_of plan) (sample_relation persons)) response
+      → WithPlanInForm t Fourth (λ plan. MigratesRows t [] (schemes_of plan) (sample_relation persons)) response
   answer_moved persons short response (inl stops) = inl (stop_moved response stops)
   answer_moved persons short response (inr (plan, is, rest)) =
       inr (plan, plan_moved plan is, rows_moved persons short (schemes_of plan) response rest)
@@ -139,6 +139,6 @@ module _ (s t : Schema) (first : IsSampleSchema s) (second : IsSampleSchema t) w
 -- ---- `sample`
 pub one_sampled : (persons : ℕ) → persons < 2 ^ 64 → AllowsOne (Samples persons)
 one_sampled persons short one other (s, is, first) (t, also, second) =
-    one_in_form t Fourth (λ plan. MigratesRows t (schemes_of plan) (sample_relation persons))
-    (same_migrated t (sample_relation persons)) one other
+    one_in_form t Fourth (λ plan. MigratesRows t [] (schemes_of plan) (sample_relation persons))
+    (same_migrated t [] (sample_relation persons)) one other
     (answer_moved s t is also persons short one first) second

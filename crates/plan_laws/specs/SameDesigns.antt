@@ -6,8 +6,9 @@ use Rattle.attr_sets.specs.Sets.{attributes}
 use Rattle.ddl_text.specs.Designs.{known_keys}
 use Rattle.ddl_text.specs.declared.table.TableDesign.{TableDesign}
 
--- two tables have the same name, columns, key, other keys and references
+-- two tables have the same number, name, columns, key, other keys and references
 pub record IsSameTable (one other : TableDesign) : Type 0 where
+  pub number : one.number ≡ other.number
   pub name : one.name ≡ other.name
   pub columns : attributes one.scheme ≡ attributes other.scheme
   pub key : attributes one.key ≡ attributes other.key

@@ -1,10 +1,14 @@
 //! Plan texts, read by their grammar.
 //!
-//! `read_plan` gives the plan that a text means, or refuses it by its first diagnostic.
+//! `read_plan` gives the plan that a text means, with the names of its tables, or refuses it by its first diagnostic.
 #![tactic(auto)]
 
 mod covering;
+mod draft;
+mod labels;
 mod reading;
+mod words;
 
+pub use named_plans::NamedPlan;
 pub use plan_grammar::{MOST_SCHEMES, PlanRefusal};
 pub use reading::{MOST_PLAN_BYTES, read_plan};

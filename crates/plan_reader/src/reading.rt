@@ -1,25 +1,30 @@
-ghost use Rattle.std.specs.Prelude.{◌≡◌, ◌+◌, ◌<◌, ◌≤◌, ◌^◌, true, [], length, OnOk, IfOk, IfErr, Ok, Err};
+ghost use Rattle.std.specs.Prelude.{◌≡◌, ◌+◌, ◌<◌, ◌≤◌, ◌^◌, true, length, OnOk, IfOk, IfErr, Ok, Err};
 ghost use Rattle.attr_sets.specs.Attributes.{none};
 ghost use Rattle.attr_sets.specs.Sets.{attributes};
 ghost use Rattle.dep_model.specs.Failures.{RefusesAs};
-ghost use Rattle.dep_model.specs.Plans.{schemes_of};
 ghost use Rattle.dep_model.specs.Schemas.{naming_of, names_of};
 ghost use Rattle.lexer.specs.Lines.{line_texts};
-ghost use Rattle.lexer.specs.Modes.{plain};
-ghost use Rattle.lexer.specs.Tokens.{lex, bytes_of};
+ghost use Rattle.lexer.specs.Tokens.{bytes_of};
 ghost use Rattle.tokens.specs.Views.{names_in, rest_of};
 ghost use Rattle.schema_grammar.specs.Declarations.{mark_of};
 ghost use Rattle.schema_grammar.specs.Refusals.{Refuses, refusal};
 ghost use Rattle.plan_grammar.specs.Diagnostics.{RefusesPlan};
-ghost use Rattle.plan_grammar.specs.Meanings.{is_scheme, MeansPlan};
-ghost use Rattle.plan_grammar.specs.Reading.{attribute_of_token, no_scheme, read_words_rest, read_scheme, read_scheme_line, read_scheme_lines};
-ghost use Rattle.plans.specs.Plans.{plan_of, IsPlanOver};
+ghost use Rattle.plan_grammar.specs.LineTokens.{lex_line};
+ghost use Rattle.plan_grammar.specs.Meanings.{MeansPlan};
+ghost use Rattle.plan_grammar.specs.Reading.{attribute_of_token, no_scheme, read_opened, read_table, read_table_line, read_table_lines, read_words_rest, table_of};
+ghost use Rattle.named_plans.specs.NamedPlans.{named_schemes, no_tables};
+ghost use Rattle.plans.specs.Plans.{IsPlanOver, scheme_sets};
+ghost use Rattle.plan_reader.specs.Drafts.{drafted, table_read};
 
 use crate::covering::first_uncovered;
+use crate::draft::Draft;
+use crate::labels::read_named;
+use crate::words::{is_table, line_mode, opens_line};
 use attr_sets::{AttrSet, MOST_ATTRIBUTES};
-use dep_model::{Failure, Schema};
-use lexer::{Mode, Token, TokenKind, Word, cut_line, without_mark};
+use dep_model::{Failure, Name, Schema};
+use lexer::{Token, TokenKind, Word, cut_line, without_mark};
 use plan_grammar::{MOST_SCHEMES, PlanRefusal};
+use named_plans::NamedPlan;
 use plans::Plan;
 use schema_grammar::{Format, SchemaRefusal, SchemaRefusalKind, What};
 use std::alloc::Global;
@@ -28,21 +33,30 @@ use tokens::{Cursor, Guide, Names, NextToken, is_reserved_token, look_up};
 /// The most bytes of a plan text.
 pub const MOST_PLAN_BYTES: usize = 1_048_576;
 
-/// The plan that a text means over the names of a schema, or its first diagnostic. A byte-order mark at
-/// its very start is skipped.
-pub fn read_plan(alloc: Global, schema: &Schema, text: &[u8]) -> Result<Plan, Failure<PlanRefusal>>
+/// The plan that a text means over the names of a schema, with the names that it gives to tables, or its first
+/// diagnostic. A byte-order mark at its very start is skipped.
+pub fn read_plan(
+    alloc: Global,
+    schema: &Schema,
+    text: &[u8],
+) -> Result<NamedPlan, Failure<PlanRefusal>>
     requires { length text.now ≤ MOST_PLAN_BYTES }
-    ensures universe { IfOk result (λ plan. IsPlanOver schema.now plan) }
-    ensures ok { IfOk result (λ plan. MeansPlan (naming_of schema.now) (names_of schema.now) text.now (plan_of plan)) }
+    ensures universe { IfOk result (λ planned. IsPlanOver schema.now planned.plan) }
+    ensures ok { IfOk result (λ planned.
+        MeansPlan (naming_of schema.now) (names_of schema.now) text.now (named_schemes planned)) }
+    ensures beside { IfOk result (λ planned. length planned.names.items ≡ length (scheme_sets planned.plan)) }
     ensures err { IfErr result (RefusesAs (RefusesPlan (naming_of schema.now) (names_of schema.now) text.now)) }
 {
-    let schemes = match read_lines(alloc, schema, without_mark(text)) {
-        Ok(schemes) => schemes,
+    let draft = match read_lines(alloc, schema, without_mark(text)) {
+        Ok(draft) => draft,
         Err(failure) => return Err(failure),
     };
-    match first_uncovered(schema, &schemes) {
+    match first_uncovered(schema, &draft.schemes) {
         Some(attribute) => Err(Failure::Refused(PlanRefusal::NotCovered { attribute })),
-        None => Ok(Plan::new(schema, schemes)),
+        None => Ok(NamedPlan {
+            plan: Plan::new(schema, draft.schemes),
+            names: draft.names,
+        }),
     }
 }
 
@@ -51,25 +65,25 @@ fn read_lines(
     alloc: Global,
     schema: &Schema,
     text: &[u8],
-) -> Result<Vec<AttrSet>, Failure<PlanRefusal>>
+) -> Result<Draft, Failure<PlanRefusal>>
     requires { length text.now ≤ MOST_PLAN_BYTES }
-    ensures ok { IfOk result (λ schemes. read_scheme_lines (naming_of schema.now) (names_of schema.now) 1 []
+    ensures ok { IfOk result (λ draft. read_table_lines (naming_of schema.now) (names_of schema.now) 1 no_tables
         (line_texts text.now)
-        ≡ Ok (schemes_of schemes.items)) }
+        ≡ Ok (drafted draft)) }
     ensures err { IfErr result (λ failure. Refuses failure
-        (read_scheme_lines (naming_of schema.now) (names_of schema.now) 1 [] (line_texts text.now))) }
+        (read_table_lines (naming_of schema.now) (names_of schema.now) 1 no_tables (line_texts text.now))) }
 {
     let guide = Guide::of(schema);
     let names = Names::Guided(schema, &guide);
-    let mut schemes = Vec::new(alloc);
+    let mut draft = Draft::new(alloc);
     let mut number = 1;
     let mut rest = text;
     'lines: loop {
         let (line, after) = cut_line(rest);
-        match read_line(schema, &names, number, line, &mut schemes) {
+        match read_line(schema, &names, number, line, &mut draft) {
             Err(failure) => return Err(failure),
             Ok(()) => match after {
-                None => return Ok(schemes),
+                None => return Ok(draft),
                 Some(lines) => {
                     rest = lines;
                     number += 1;
@@ -79,67 +93,94 @@ fn read_lines(
     }
 }
 
-// Reads a line, and adds its scheme if it has tokens.
+// Reads a line, and adds its table if it has tokens.
 fn read_line(
     schema: &Schema,
     names: &Names<'_>,
     number: u32,
     line: &[u8],
-    schemes: &mut Vec<AttrSet>,
+    draft: &mut Draft,
 ) -> Result<(), Failure<PlanRefusal>>
     requires within_limit { length (names_in names.now) ≤ MOST_ATTRIBUTES }
     requires fits_u32 { 1 + length line.now < 2 ^ 32 }
-    ensures ok { OnOk result (read_scheme_line (names_in names.now) number (schemes_of schemes.old.items)
-        (lex (plain (naming_of schema.now)) line.now).marks (lex (plain (naming_of schema.now)) line.now).stop
-        ≡ Ok (schemes_of schemes.new.items)) }
-    ensures err { IfErr result (λ failure. Refuses failure (read_scheme_line (names_in names.now) number
-        (schemes_of schemes.old.items) (lex (plain (naming_of schema.now)) line.now).marks
-        (lex (plain (naming_of schema.now)) line.now).stop)) }
+    ensures ok { OnOk result (read_table_line (names_in names.now) number (drafted draft.old)
+        (lex_line (naming_of schema.now) line.now).marks (lex_line (naming_of schema.now) line.now).stop
+        ≡ Ok (drafted draft.new)) }
+    ensures err { IfErr result (λ failure. Refuses failure (read_table_line (names_in names.now) number
+        (drafted draft.old) (lex_line (naming_of schema.now) line.now).marks
+        (lex_line (naming_of schema.now) line.now).stop)) }
 {
-    let start = Cursor::start(number, Mode::plain(schema.naming()), line);
+    let start = Cursor::start(number, line_mode(schema.naming(), line), line);
     match start.next() {
         NextToken::End => Ok(()),
         NextToken::Refusal(refusal) => Err(Failure::Refused(PlanRefusal::Text(refusal))),
         NextToken::Token(token, word, rest) => {
-            match read_scheme(names, schemes.len(), token, &word, rest) {
+            match read_table(names, &draft.names, token, &word, rest) {
                 Err(refusal) => Err(Failure::Refused(refusal)),
-                Ok(scheme) => Ok(schemes.push(scheme)?),
+                Ok((name, scheme)) => Ok(draft.add(name, scheme)?),
             }
         }
     }
 }
 
-// The scheme of a line of which the first token is taken, where so many scheme lines stand before it.
-fn read_scheme(
+// The table of a line of which the first token is taken, where earlier lines give these names.
+fn read_table(
     names: &Names<'_>,
-    earlier: usize,
+    earlier: &[Option<Name>],
     token: Token,
     word: &Word<'_>,
     rest: Cursor<'_>,
-) -> Result<AttrSet, PlanRefusal>
+) -> Result<(Option<Name>, AttrSet), PlanRefusal>
     requires within_limit { length (names_in names.now) ≤ MOST_ATTRIBUTES }
-    ensures ok { IfOk result (λ scheme. read_scheme (names_in names.now) earlier (mark_of token (bytes_of word.now))
-        (rest_of rest.entry) ≡ Ok (attributes scheme)) }
-    ensures err { IfErr result (λ refusal. read_scheme (names_in names.now) earlier
+    ensures ok { IfOk result (λ table. read_table (names_in names.now) earlier.now
+        (mark_of token (bytes_of word.now)) (rest_of rest.entry) ≡ Ok (table_read table.0 table.1)) }
+    ensures err { IfErr result (λ refusal. read_table (names_in names.now) earlier.now
         (mark_of token (bytes_of word.now)) (rest_of rest.entry) ≡ Err refusal) }
 {
-    if !is_scheme(token.kind, word) {
+    if !opens_line(token.kind, word) {
         return Err(refusal_of_token(rest.line(), token, no_scheme(token.kind, word)));
     }
-    if earlier >= MOST_SCHEMES {
+    if earlier.len() >= MOST_SCHEMES {
         return Err(PlanRefusal::TooManySchemes { line: rest.line() });
     }
-    read_words(names, rest)
+    read_opened(names, earlier, is_table(token.kind, word), rest)
 }
 
-// Whether a token is the word `scheme`, in lower case.
-#[tactic(auto, unfolding(plan_grammar::specs::Meanings::is_scheme))]
-fn is_scheme(kind: TokenKind, word: &Word<'_>) -> bool
-    ensures exact { result ≡ is_scheme kind (bytes_of word.now) }
+// What stands after the first token, by whether it is the word `table`.
+fn read_opened(
+    names: &Names<'_>,
+    earlier: &[Option<Name>],
+    is_named: bool,
+    rest: Cursor<'_>,
+) -> Result<(Option<Name>, AttrSet), PlanRefusal>
+    requires within_limit { length (names_in names.now) ≤ MOST_ATTRIBUTES }
+    ensures ok { IfOk result (λ table. read_opened is_named (names_in names.now) earlier.now (rest_of rest.entry)
+        ≡ Ok (table_read table.0 table.1)) }
+    ensures err { IfErr result (λ refusal. read_opened is_named (names_in names.now) earlier.now
+        (rest_of rest.entry) ≡ Err refusal) }
 {
-    match kind {
-        TokenKind::Identifier => word.bytes().as_slice() == b"scheme".as_slice(),
-        _ => false,
+    if is_named {
+        read_named(names, earlier, rest)
+    } else {
+        read_attributes(names, None, rest)
+    }
+}
+
+/// The attributes of a table of this name, if it has one.
+pub fn read_attributes(
+    names: &Names<'_>,
+    name: Option<Name>,
+    rest: Cursor<'_>,
+) -> Result<(Option<Name>, AttrSet), PlanRefusal>
+    requires within_limit { length (names_in names.now) ≤ MOST_ATTRIBUTES }
+    ensures ok { IfOk result (λ table. table_of name (read_words_rest (names_in names.now) true none
+        (rest_of rest.entry)) ≡ Ok (table_read table.0 table.1)) }
+    ensures err { IfErr result (λ refusal. table_of name (read_words_rest (names_in names.now) true none
+        (rest_of rest.entry)) ≡ Err refusal) }
+{
+    match read_words(names, rest) {
+        Ok(scheme) => Ok((name, scheme)),
+        Err(refusal) => Err(refusal),
     }
 }
 
@@ -154,7 +195,7 @@ fn no_scheme(kind: TokenKind, word: &Word<'_>) -> SchemaRefusalKind
     }
 }
 
-// The attributes that the tokens after the word `scheme` stand for.
+// The attributes that the tokens stand for.
 fn read_words(names: &Names<'_>, start: Cursor<'_>) -> Result<AttrSet, PlanRefusal>
     requires within_limit { length (names_in names.now) ≤ MOST_ATTRIBUTES }
     ensures ok { IfOk result (λ scheme. read_words_rest (names_in names.now) true none
@@ -189,8 +230,7 @@ fn read_words(names: &Names<'_>, start: Cursor<'_>) -> Result<AttrSet, PlanRefus
     }
 }
 
-// The attribute that a token after the word `scheme` stands for; `first` is whether it stands right
-// after it.
+// The attribute that a token stands for; `first` is whether it is the first of the attributes.
 fn attribute_of_token(
     names: &Names<'_>,
     line: u32,
@@ -232,8 +272,8 @@ fn attribute_of_token(
     }
 }
 
-// The refusal of a token.
-fn refusal_of_token(line: u32, token: Token, kind: SchemaRefusalKind) -> PlanRefusal
+/// The refusal of a token.
+pub fn refusal_of_token(line: u32, token: Token, kind: SchemaRefusalKind) -> PlanRefusal
     ensures refusal { result ≡ PlanRefusal.Text (refusal line token.column token.length kind) }
 {
     PlanRefusal::Text(SchemaRefusal::at(line, token.column, token.length, kind))

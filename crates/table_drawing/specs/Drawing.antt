@@ -8,6 +8,7 @@ use Rattle.dep_model.specs.Projections.{members_below}
 use Rattle.dep_model.specs.Schemas.{names_of, width_of}
 use Rattle.schema_printer.specs.Printing.{set_text}
 use Rattle.schema_printer.specs.Spelling.{printed_names_of}
+use Rattle.table_names.specs.TableNames.{table_name}
 use Rattle.ddl_text.specs.declared.table.TableDesign.{TableDesign}
 
 -- a byte in an HTML label: `&`, `<`, `>` and `"` as entities
@@ -42,10 +43,10 @@ row_text s key k =
 abbrev pub table_rows_text : Schema → Attributes → Attributes → List ℕ
 table_rows_text s scheme key = flat_map (row_text s key) (members_below (width_of s) scheme)
 
--- the node of a table: its name, and a row for each attribute
+-- the node of a table, after its number: its name, and a row for each attribute
 unfoldable pub node_text : Schema → TableDesign → List ℕ
 node_text s table =
-    codes "  " ++ table.name
+    codes "  " ++ table_name table.number
     ++ codes " [label=<<TABLE BORDER=\"0\" CELLBORDER=\"1\" CELLSPACING=\"0\"><TR><TD BGCOLOR=\"lightgrey\"><B>"
     ++ table.name ++ codes "</B></TD></TR>" ++ table_rows_text s (attributes table.scheme) (attributes table.key)
     ++ codes "</TABLE>>];\n"
@@ -53,7 +54,7 @@ node_text s table =
 -- the edge from a table to another, with the key of that one
 unfoldable pub edge_text : Schema → TableDesign → TableDesign → List ℕ
 edge_text s table other =
-    codes "  " ++ table.name ++ codes " -> " ++ other.name ++ codes " [label=\""
+    codes "  " ++ table_name table.number ++ codes " -> " ++ table_name other.number ++ codes " [label=\""
     ++ label_text (set_text (printed_names_of s) (attributes other.key)) ++ codes "\"];\n"
 
 -- the edges from a table to those at these positions, in order

@@ -8,6 +8,7 @@ use ddl_text::TableDesign;
 use dep_model::{OutOfMemory, Schema};
 use schema_printer::{add, add_set};
 use std::alloc::Global;
+use table_names::table_name;
 
 // Adds the edges of these tables.
 pub fn add_edges(
@@ -62,9 +63,9 @@ fn edge_text(
     add_set(&mut key, schema, other.key)?;
     let mut text = Vec::new(alloc);
     add(&mut text, b"  ")?;
-    add(&mut text, table.name.bytes())?;
+    add(&mut text, table_name(table.number).bytes())?;
     add(&mut text, b" -> ")?;
-    add(&mut text, other.name.bytes())?;
+    add(&mut text, table_name(other.number).bytes())?;
     add(&mut text, b" [label=\"")?;
     add_label(&mut text, &key)?;
     add(&mut text, b"\"];\n")?;

@@ -10,6 +10,7 @@ use ddl_text::TableDesign;
 use dep_model::{OutOfMemory, Schema};
 use schema_printer::add;
 use std::alloc::Global;
+use table_names::table_name;
 
 // Adds the nodes of these tables.
 pub fn add_nodes(
@@ -34,7 +35,7 @@ fn node_text(alloc: Global, schema: &Schema, table: &TableDesign) -> Result<Vec<
 {
     let mut text = Vec::new(alloc);
     add(&mut text, b"  ")?;
-    add(&mut text, table.name.bytes())?;
+    add(&mut text, table_name(table.number).bytes())?;
     add(
         &mut text,
         b" [label=<<TABLE BORDER=\"0\" CELLBORDER=\"1\" CELLSPACING=\"0\"><TR><TD BGCOLOR=\"lightgrey\"><B>",

@@ -5,6 +5,7 @@ use Rattle.std.proofs.lemmas.List.{length-map}
 use Rattle.std.proofs.lemmas.List.Elements.{All-cons, All-tail, All-map, All-filter}
 use Rattle.std.proofs.lemmas.List.Filters.{length-filter_both}
 use Rattle.attr_sets.specs.Attributes.{Attributes, count_below}
+use Rattle.table_names.specs.TableNames.{GivenNames}
 use Rattle.csv_migrate.specs.Migration.{table_of, tables_from}
 use Rattle.csv_rows.specs.Reading.{PartOf}
 use Rattle.csv_rows.specs.declared.reading.TheConstants.{MOST_ROWS}
@@ -33,10 +34,10 @@ length-distinct_tuples-le (t ∷ r) =
     omega (arith, length-distinct_tuples-le r, both)
 
 -- ---- one table
-table_back : (s : Schema) (rows : Relation) (number : ℕ) (x : Attributes) → All (λ name. IsTrue (is_bare_name name)) (names_of s)
+table_back : (s : Schema) (names : GivenNames) (rows : Relation) (number : ℕ) (x : Attributes) → All (λ name. IsTrue (is_bare_name name)) (names_of s)
     → IsOver (width_of s) rows → FitsColumns s rows → length rows ≤ MOST_ROWS → 0 < count_below x (width_of s)
-    → PartOf s (table_file Csv (table_of s rows number x)).bytes (Ok (ordered_projection x rows))
-table_back s rows number x proper over typed within_limit not_empty =
+    → PartOf s (table_file Csv (table_of s names rows number x)).bytes (Ok (ordered_projection x rows))
+table_back s names rows number x proper over typed within_limit not_empty =
     let n = width_of s in
     let each : IsOver (count_below x n) (projection x rows) =
     All-map (λ (u : Tuple). length u ≡ count_below x n) (project_tuple x) rows
@@ -51,13 +52,13 @@ table_back s rows number x proper over typed within_limit not_empty =
     (omega (arith, within_limit, length-distinct_tuples-le (projection x rows), length-map rows (project_tuple x)))
 
 -- ---- all tables
-pub tables_back : (s : Schema) (rows : Relation) (number : ℕ) (plan : List Attributes)
+pub tables_back : (s : Schema) (names : GivenNames) (rows : Relation) (number : ℕ) (plan : List Attributes)
     → All (λ name. IsTrue (is_bare_name name)) (names_of s) → IsOver (width_of s) rows → FitsColumns s rows
     → length rows ≤ MOST_ROWS → All (λ (x : Attributes). 0 < count_below x (width_of s)) plan
-    → All (λ (table : TableValue). PartOf s (table_file Csv table).bytes (Ok table.rows)) (tables_from s rows number plan)
-tables_back s rows number [] proper over typed within_limit not_empty = λ i d l. absurd (omega (arith, l))
-tables_back s rows number (x ∷ plan) proper over typed within_limit not_empty =
+    → All (λ (table : TableValue). PartOf s (table_file Csv table).bytes (Ok table.rows)) (tables_from s names rows number plan)
+tables_back s names rows number [] proper over typed within_limit not_empty = λ i d l. absurd (omega (arith, l))
+tables_back s names rows number (x ∷ plan) proper over typed within_limit not_empty =
     let Back : TableValue → Type 0 = λ table. PartOf s (table_file Csv table).bytes (Ok table.rows) in
-    All-cons Back (table_of s rows number x) (tables_from s rows (number + 1) plan)
-    (table_back s rows number x proper over typed within_limit (not_empty 0 x (omega arith)))
-    (tables_back s rows (number + 1) plan proper over typed within_limit (All-tail (λ (y : Attributes). 0 < count_below y (width_of s)) x plan not_empty))
+    All-cons Back (table_of s names rows number x) (tables_from s names rows (number + 1) plan)
+    (table_back s names rows number x proper over typed within_limit (not_empty 0 x (omega arith)))
+    (tables_back s names rows (number + 1) plan proper over typed within_limit (All-tail (λ (y : Attributes). 0 < count_below y (width_of s)) x plan not_empty))

@@ -20,6 +20,7 @@ use Rattle.dep_model.proofs.RuleLemmas.{transitivity_obeyed, fd_weaker_obeyed}
 use Rattle.primary_keys.specs.PrimaryKeys.{IsPrimaryKey}
 use Rattle.primary_keys.proofs.PrimaryLemmas.{primary_is_key}
 use Rattle.ddl_text.specs.Designs.{IsDesign, IsTableOf, RefersTo}
+use Rattle.table_names.specs.TableNames.{GivenNames}
 use Rattle.ddl_text.specs.declared.table.TableDesign.{TableDesign}
 use Rattle.design_order.specs.Order.{DetermineTheSame, IsInDesignOrder}
 use Rattle.design_order.proofs.OrderLemmas.{order-plan, later_the_same}
@@ -31,22 +32,22 @@ get_in_front [] (suc i) j lt = refl
 get_in_front (x ∷ xs) (suc i) zero lt = refl
 get_in_front (x ∷ xs) (suc i) (suc j) lt = get_in_front xs i j (omega (arith, lt))
 
-table_at : (s : Schema) (schemes : List AttrSet) (tables : List TableDesign) (k : ℕ) (table : TableDesign) (d : AttrSet)
-    → IsDesign s schemes tables → slice_get tables k ≡ Some table
-    → IsTableOf s (take k tables) (get_or schemes k d) table
-table_at s schemes tables k table d design at =
+table_at : (s : Schema) (names : GivenNames) (schemes : List AttrSet) (tables : List TableDesign) (k : ℕ) (table : TableDesign) (d : AttrSet)
+    → IsDesign s names schemes tables → slice_get tables k ≡ Some table
+    → IsTableOf s names (take k tables) (get_or schemes k d) table
+table_at s names schemes tables k table d design at =
     let lt = slice_get_within tables k table at in
-    subst (λ (t : TableDesign). IsTableOf s (take k tables) (get_or schemes k d) t)
+    subst (λ (t : TableDesign). IsTableOf s names (take k tables) (get_or schemes k d) t)
     (get_or_from_slice_get tables k table table at)
     (design.each k (omega (arith, lt, design.one_each)) d table)
 
 -- the scheme at the position of a table is the table's
-scheme_at : (s : Schema) (schemes : List AttrSet) (tables : List TableDesign) (k : ℕ) (table : TableDesign) (d : AttrSet)
-    → IsDesign s schemes tables → slice_get tables k ≡ Some table
+scheme_at : (s : Schema) (names : GivenNames) (schemes : List AttrSet) (tables : List TableDesign) (k : ℕ) (table : TableDesign) (d : AttrSet)
+    → IsDesign s names schemes tables → slice_get tables k ≡ Some table
     → get_or (schemes_of schemes) k (attributes d) ≡ attributes table.scheme
-scheme_at s schemes tables k table d design at =
+scheme_at s names schemes tables k table d design at =
     get_or-map attributes schemes k d
-    ∙ ap (λ (x : AttrSet). attributes x) (sym (table_at s schemes tables k table d design at).columns)
+    ∙ ap (λ (x : AttrSet). attributes x) (sym (table_at s names schemes tables k table d design at).columns)
 
 -- what a key determines is determined by each scheme that holds it
 key_determines : (n : ℕ) (ds : List Dependency) (nullable scheme other key : Attributes) → IsSubset other (below n)
@@ -59,32 +60,32 @@ key_determines n ds nullable scheme other key inside primary held a has =
           (fd_weaker_obeyed key other scheme other r held (λ (k : ℕ) m. m) (whole r legal)) (has.1 r legal),
     )
 
-earlier_stated : (s : Schema) (schemes : List AttrSet) (tables : List TableDesign) (i j : ℕ) (table other : TableDesign)
-    → IsDesign s schemes tables → slice_get tables i ≡ Some table → slice_get tables j ≡ Some other → j < i
+earlier_stated : (s : Schema) (names : GivenNames) (schemes : List AttrSet) (tables : List TableDesign) (i j : ℕ) (table other : TableDesign)
+    → IsDesign s names schemes tables → slice_get tables i ≡ Some table → slice_get tables j ≡ Some other → j < i
     → RefersTo (attributes table.scheme) other → Contains table.refs.items j
-earlier_stated s schemes tables i j table other design at other_at before refers =
-    let is = table_at s schemes tables i table table.scheme design at in
+earlier_stated s names schemes tables i j table other design at other_at before refers =
+    let is = table_at s names schemes tables i table table.scheme design at in
     let here : slice_get (take i tables) j ≡ Some other = get_in_front tables i j before ∙ other_at in
     let scheme = attributes (get_or schemes i table.scheme) in
     let named : RefersTo scheme other = subst (λ (x : AttrSet). RefersTo (attributes x) other) is.columns refers in
     (is.refs.exactly j).1 (subst (λ (found : Option TableDesign). IsSomeAnd found (RefersTo scheme)) (sym here) named)
 
-later_same : (s : Schema) (plan : List Attributes) (schemes : List AttrSet) (tables : List TableDesign) (i j : ℕ)
+later_same : (s : Schema) (names : GivenNames) (plan : List Attributes) (schemes : List AttrSet) (tables : List TableDesign) (i j : ℕ)
     (table other : TableDesign) → IsPlan (width_of s) plan
-    → IsInDesignOrder (width_of s) (theory_of s) plan (schemes_of schemes) → IsDesign s schemes tables
+    → IsInDesignOrder (width_of s) (theory_of s) plan (schemes_of schemes) → IsDesign s names schemes tables
     → slice_get tables i ≡ Some table → slice_get tables j ≡ Some other → i < j
     → RefersTo (attributes table.scheme) other
     → DetermineTheSame (width_of s) (theory_of s) (attributes table.scheme) (attributes other.scheme)
-later_same s plan schemes tables i j table other valid order design at other_at before refers =
+later_same s names plan schemes tables i j table other valid order design at other_at before refers =
     let n = width_of s in
     let ds = theory_of s in
     let ordered = schemes_of schemes in
     let d = attributes table.scheme in
     let short : j < length ordered =
     omega (arith, slice_get_within tables j other other_at, design.one_each, length-map schemes attributes) in
-    let first = scheme_at s schemes tables i table table.scheme design at in
-    let second = scheme_at s schemes tables j other table.scheme design other_at in
-    let is = table_at s schemes tables j other table.scheme design other_at in
+    let first = scheme_at s names schemes tables i table table.scheme design at in
+    let second = scheme_at s names schemes tables j other table.scheme design other_at in
+    let is = table_at s names schemes tables j other table.scheme design other_at in
     let primary : IsPrimaryKey n ds (nullable_of s) (attributes other.scheme) (attributes other.key) =
     subst (λ (x : AttrSet). IsPrimaryKey n ds (nullable_of s) (attributes x) (attributes other.key)) (sym is.columns)
     is.key in
@@ -101,12 +102,12 @@ later_same s plan schemes tables i j table other valid order design at other_at 
     subst (λ (y : Attributes). DetermineTheSame n ds (attributes table.scheme) y) second
     (subst (λ (x : Attributes). DetermineTheSame n ds x (get_or ordered j d)) first same)
 
-pub stated : (s : Schema) (plan : List Attributes) (schemes : List AttrSet) (tables : List TableDesign)
+pub stated : (s : Schema) (names : GivenNames) (plan : List Attributes) (schemes : List AttrSet) (tables : List TableDesign)
     → IsPlan (width_of s) plan → IsInDesignOrder (width_of s) (theory_of s) plan (schemes_of schemes)
-    → IsDesign s schemes tables → ReferencesAreStated s tables
-stated s plan schemes tables valid order design i j table other at other_at apart refers = elim (cases_lt j i) [
-  | inl before ↦ inl (earlier_stated s schemes tables i j table other design at other_at before refers)
+    → IsDesign s names schemes tables → ReferencesAreStated s tables
+stated s names plan schemes tables valid order design i j table other at other_at apart refers = elim (cases_lt j i) [
+  | inl before ↦ inl (earlier_stated s names schemes tables i j table other design at other_at before refers)
   | inr from_on ↦
       let later : i < j = omega (arith, from_on, apart) in
-      inr (later, later_same s plan schemes tables i j table other valid order design at other_at later refers)
+      inr (later, later_same s names plan schemes tables i j table other valid order design at other_at later refers)
 ]

@@ -19,6 +19,7 @@ ghost use Rattle.dep_model.specs.declared.column_type.ColumnType.{ColumnType};
 ghost use Rattle.dep_model.specs.declared.schema.Schema.{Schema};
 ghost use Rattle.ddl_text.specs.Designs.{IsDesign};
 ghost use Rattle.ddl_text.specs.declared.table.TableDesign.{TableDesign};
+ghost use Rattle.table_names.specs.TableNames.{GivenNames};
 ghost use Rattle.design_order.specs.Order.{IsInDesignOrder};
 ghost use Rattle.hex.specs.Hex.{IsBytes};
 ghost use Rattle.named_tables.specs.Tables.{TableValue};
@@ -44,11 +45,11 @@ pub fn files_of_tables_are_read_back()
 /// The CSV file of each table of a migration means the rows of that table, where the rows that were migrated
 /// fit the types of the columns and are no more than a file may have, and no scheme of the plan is empty.
 pub fn migrated_tables_are_read_back()
-    ensures law { (s : Schema) (plan : List Attributes) (rows : Relation)
+    ensures law { (s : Schema) (names : GivenNames) (plan : List Attributes) (rows : Relation)
         → All (λ name. IsTrue (is_bare_name name)) (names_of s) → IsOver (width_of s) rows → FitsColumns s rows
         → length rows ≤ MOST_ROWS → All (λ scheme. 0 < count_below scheme (width_of s)) plan
         → All (λ table. PartOf s (table_file Csv table).bytes (Ok table.rows))
-        (tables_of_migration s plan rows) }
+        (tables_of_migration s names plan rows) }
 {}
 
 /// A text between single quotes tells the text: two values with the same one are the same. So nothing is lost
@@ -69,8 +70,8 @@ pub fn cells_of_values_differ()
 /// In the design of a plan in its order each table refers to every other one whose key, not empty, lies
 /// within it, but for later ones that determine the same attributes.
 pub fn references_are_stated()
-    ensures law { (s : Schema) (plan : List Attributes) (schemes : List AttrSet) (tables : List TableDesign)
+    ensures law { (s : Schema) (names : GivenNames) (plan : List Attributes) (schemes : List AttrSet) (tables : List TableDesign)
         → IsPlan (width_of s) plan
         → IsInDesignOrder (width_of s) (theory_of s) plan (schemes_of schemes)
-        → IsDesign s schemes tables → ReferencesAreStated s tables }
+        → IsDesign s names schemes tables → ReferencesAreStated s tables }
 {}

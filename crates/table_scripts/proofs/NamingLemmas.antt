@@ -4,7 +4,8 @@ use Rattle.std.proofs.lemmas.Bool.{cases_Bool}
 use Rattle.std.proofs.lemmas.Bool.Decides.{nat_tests}
 use Rattle.std.specs.Prelude.{◌-◌, if◌then◌else◌, codes, nat_le, slice_index_or}
 use Rattle.std.specs.List.{flat_map, list_all, position_or_len}
-use Rattle.table_scripts.specs.Naming.{byte_in_front, dotted_parts, is_part, is_taken, last_of, are_parts, dotted_name, byte_between_quotes, quoted_table}
+use Rattle.table_names.specs.TableNames.{is_taken}
+use Rattle.table_scripts.specs.Naming.{byte_in_front, dotted_parts, is_part, last_of, are_parts, dotted_name, byte_between_quotes, quoted_table}
 
 abbrev pub is_dot : ℕ → Bool
 is_dot b = b == 46

@@ -1,8 +1,9 @@
 -- The name of a user's table: for `sql check` and `sql migrate` (`desk_designs/Scripts`).
-use Rattle.std.specs.Prelude.{ℕ, Bool, ◌&&◌, ◌||◌, ◌==◌, ◌-◌, not, nat_lt, nat_le, if◌then◌else◌, List, [], ◌∷◌, ◌++◌, length, take, drop, codes, slice_index, slice_index_or}
-use Rattle.std.specs.Char.{is_ascii_alphabetic, is_ascii_digit}
+use Rattle.std.specs.Prelude.{ℕ, Bool, ◌&&◌, ◌||◌, ◌==◌, ◌-◌, not, nat_lt, nat_le, if◌then◌else◌, List, [], ◌∷◌, ◌++◌, length, codes, slice_index, slice_index_or}
+use Rattle.std.specs.Char.{is_ascii_alphabetic}
 use Rattle.std.specs.List.{flat_map, list_all}
-use Rattle.dep_model.specs.Names.{is_name_byte, same_name}
+use Rattle.dep_model.specs.Names.{is_name_byte}
+use Rattle.table_names.specs.TableNames.{is_taken}
 use Rattle.table_scripts.specs.declared.naming.TheConstants.{MOST_PARTS, MOST_PART_BYTES}
 
 -- a byte in front of the first part
@@ -21,15 +22,6 @@ is_part bytes =
     nat_lt 0 (length bytes)
     && (is_ascii_alphabetic (slice_index bytes 0) || (slice_index bytes 0 == 95))
     && list_all is_name_byte bytes && nat_le (length bytes) MOST_PART_BYTES
-
--- `t` and a number, in any case
-abbrev pub is_numbered : List ℕ → Bool
-is_numbered bytes =
-    nat_lt 1 (length bytes) && same_name (take 1 bytes) (codes "t") && list_all is_ascii_digit (drop 1 bytes)
-
--- a name that a script gives to a table or a view
-abbrev pub is_taken : List ℕ → Bool
-is_taken bytes = same_name bytes (codes "joined") || is_numbered bytes
 
 abbrev pub last_of : List (List ℕ) → List ℕ
 last_of parts = slice_index_or parts (length parts - 1) []

@@ -1,12 +1,14 @@
 ghost use Rattle.std.specs.Prelude.{◌≡◌, ◌==◌, ◌++◌, ◌&&◌, ◌||◌, not, IfOk, OnOk};
 ghost use Rattle.std.specs.List.{list_all, position_or_len};
-ghost use Rattle.std.specs.Char.{is_ascii_alphabetic, is_ascii_digit};
+ghost use Rattle.std.specs.Char.{is_ascii_alphabetic};
 ghost use Rattle.dep_model.specs.Names.{is_name_byte};
-ghost use Rattle.table_scripts.specs.Naming.{dotted_parts, is_part, is_numbered, is_taken, are_parts, is_table_name, quoted_table, byte_between_quotes};
+ghost use Rattle.table_names.specs.TableNames.{is_taken};
+ghost use Rattle.table_scripts.specs.Naming.{dotted_parts, is_part, are_parts, is_table_name, last_of, quoted_table, byte_between_quotes};
 
 use dep_model::OutOfMemory;
 use schema_printer::add;
 use std::alloc::Global;
+use table_names::is_taken;
 
 /// The most parts of the name of a table.
 pub const MOST_PARTS: usize = 3;
@@ -26,6 +28,20 @@ pub fn is_table_name(bytes: &[u8]) -> bool
         return is_last_part(bytes);
     }
     is_part(&bytes[..end]) && are_two_parts(&bytes[end + 1..])
+}
+
+/// The last part of a name: what stands after the last dot, or all of it.
+pub fn last_part(bytes: &[u8]) -> &[u8]
+    ensures part { result.now ≡ last_of (dotted_parts bytes.now) }
+{
+    let mut rest = bytes;
+    loop {
+        let end = part_end(rest);
+        if end == rest.len() {
+            return rest;
+        }
+        rest = &rest[end + 1..];
+    }
 }
 
 // Whether the bytes are at most two parts.
@@ -82,26 +98,6 @@ fn are_name_bytes(bytes: &[u8]) -> bool
     bytes
         .iter()
         .all(|b| b.is_ascii_alphanumeric() || *b == b'_')
-}
-
-// Whether a script gives this name itself.
-fn is_taken(bytes: &[u8]) -> bool
-    ensures taken { result ≡ is_taken bytes.now }
-{
-    bytes.eq_ignore_ascii_case(b"joined") || is_numbered(bytes)
-}
-
-// Whether the bytes are `t` and a number.
-fn is_numbered(bytes: &[u8]) -> bool
-    ensures numbered { result ≡ is_numbered bytes.now }
-{
-    bytes.len() > 1 && bytes[..1].eq_ignore_ascii_case(b"t") && are_digits(&bytes[1..])
-}
-
-fn are_digits(bytes: &[u8]) -> bool
-    ensures digits { result ≡ list_all is_ascii_digit bytes.now }
-{
-    bytes.iter().all(|b| b.is_ascii_digit())
 }
 
 // The parts of a name in double quotes.

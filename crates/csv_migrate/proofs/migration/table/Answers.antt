@@ -20,7 +20,7 @@ returns-clause-even c =
 pub returns-clause-value : goal.returns-clause-value
 returns-clause-value c =
     let n = width_of c.args.schema.now in
-    same_table _ _ _ _ _ _ _ _ c.table_name-name.ensures.name c.in_ok-columns.ensures.names c.in_ok-nullable.ensures.flags
+    same_table _ _ _ _ _ _ _ _ c.name_of_table-name.ensures.name c.in_ok-columns.ensures.names c.in_ok-nullable.ensures.flags
     (table_rows n c.args.rows.now (attributes c.args.scheme) (groups_of c.in_ok-groups.groups)
     (firsts_of c.in_ok-groups.groups) c.into_firsts.result.items c.requires.over
     (c.in_ok-groups.ensures.groups n c.args.rows.now c.requires.codes)

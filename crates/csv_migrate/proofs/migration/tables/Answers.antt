@@ -11,5 +11,5 @@ pub returns-clause-joins : goal.returns-clause-joins
 returns-clause-joins c = λ legal lossless.
     let n = width_of c.args.schema.now in
     subst (λ (ts : List TableValue). JoinIs n (plan_of c.args.plan.now) ts c.args.rows) (sym c.in_ok-tables.ensures.tables)
-    (join_is_rows c.args.schema.now n (theory_of c.args.schema.now)
+    (join_is_rows c.args.schema.now c.args.names.now n (theory_of c.args.schema.now)
     (plan_of c.args.plan.now) c.args.rows legal lossless)

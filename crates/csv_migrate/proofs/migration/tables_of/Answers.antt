@@ -10,7 +10,7 @@ use Rattle.csv_migrate.proofs.migration.tables_of.Goals as goal
 pub loop-k-preserved : goal.loop-k-preserved
 loop-k-preserved c = record {
   tables =
-      table_added c.args.schema.now c.args.rows.now
+      table_added c.args.schema.now c.args.names.now c.args.rows.now
       (scheme_sets c.args.plan.now) c.schemes-schemes.result.now c.loop-k.k _ c.loop-k.tables.items _ c.in_ok-table.table
       c.schemes-schemes.ensures.schemes c.loop-k-test.true c.loop-k.invariant.tables c.in_ok-push.ensures.items c.in_ok-table.ensures.value;
   schemes =
@@ -24,6 +24,6 @@ loop-k-preserved c = record {
 
 pub returns-clause-tables : goal.returns-clause-tables
 returns-clause-tables c =
-    all_tables c.args.schema.now c.args.rows.now
+    all_tables c.args.schema.now c.args.names.now c.args.rows.now
     (scheme_sets c.args.plan.now) c.schemes-schemes.result.now c.loop-k.k c.loop-k.tables.items
     c.schemes-schemes.ensures.schemes (omega (arith, c.loop-k-test.false)) c.loop-k.invariant.tables

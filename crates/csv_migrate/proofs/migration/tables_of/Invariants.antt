@@ -9,7 +9,7 @@ use Rattle.csv_migrate.proofs.migration.tables_of.Given as goal
 -- the tables of the schemes so far
 abbrev pub invariant-loop-k : goal.invariant-loop-k
 invariant-loop-k l = record {
-  tables : chosen_values l.rows l.tables.items ≡ tables_of_migration l.schema (take l.k (plan_of l.plan)) l.rows;
+  tables : chosen_values l.rows l.tables.items ≡ tables_of_migration l.schema l.names (take l.k (plan_of l.plan)) l.rows;
   schemes : schemes_in l.tables.items ≡ take l.k (scheme_sets l.plan);
   even : All (HasRows l.rows) l.tables.items;
 }

@@ -10,7 +10,7 @@ use Rattle.ddl_text.proofs.DesignLemmas.{design_earlier, design_keys, design_oth
 use Rattle.ddl_text.proofs.designing.design.Goals as goal
 
 pub invariant_of-result : goal.invariant_of-result
-invariant_of-result c = design_earlier c.args.schema.now c.schemes.result.now c.in_ok-tables.tables.items
+invariant_of-result c = design_earlier c.args.schema.now c.args.names.now c.schemes.result.now c.in_ok-tables.tables.items
     c.in_ok-tables.ensures.design
 
 pub returns-clause-keys_hold : goal.returns-clause-keys_hold
@@ -19,7 +19,7 @@ returns-clause-keys_hold c =
     let plan = c.args.plan.now in
     let inside = subst (λ (n : ℕ). All (λ (x : AttrSet). IsSubset (attributes x) (below n)) plan.schemes.items)
     c.requires.universe plan.valid.within in
-    design_keys s c.schemes.result.now c.in_ok-tables.tables.items c.in_ok-tables.ensures.design
+    design_keys s c.args.names.now c.schemes.result.now c.in_ok-tables.tables.items c.in_ok-tables.ensures.design
     (subst (λ (xs : List AttrSet). All (λ (x : AttrSet). IsSubset (attributes x) (below (width_of s))) xs)
     (sym c.schemes.ensures.schemes) inside)
 
@@ -29,10 +29,10 @@ returns-clause-other_keys_hold c =
     let plan = c.args.plan.now in
     let inside = subst (λ (n : ℕ). All (λ (x : AttrSet). IsSubset (attributes x) (below n)) plan.schemes.items)
     c.requires.universe plan.valid.within in
-    design_other_keys s c.schemes.result.now c.in_ok-tables.tables.items c.in_ok-tables.ensures.design
+    design_other_keys s c.args.names.now c.schemes.result.now c.in_ok-tables.tables.items c.in_ok-tables.ensures.design
     (subst (λ (xs : List AttrSet). All (λ (x : AttrSet). IsSubset (attributes x) (below (width_of s))) xs)
     (sym c.schemes.ensures.schemes) inside)
 
 pub returns-clause-references_hold : goal.returns-clause-references_hold
-returns-clause-references_hold c = design_references c.args.schema.now c.schemes.result.now
+returns-clause-references_hold c = design_references c.args.schema.now c.args.names.now c.schemes.result.now
     c.in_ok-tables.tables.items c.in_ok-tables.ensures.design

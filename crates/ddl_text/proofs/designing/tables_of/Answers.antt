@@ -15,6 +15,6 @@ loop-scheme-preserved c =
     let d : AttrSet = record { 0 = 0 } in
     let table = c.in_ok-table.table in
     rw c.in_ok-push.ensures.items
-    (design_more s schemes i d c.loop-scheme.tables.items table c.loop-scheme-test.true c.loop-scheme.invariant
-    (subst (λ (earlier : List TableDesign). IsTableOf s earlier (get_or schemes i d) table) c.deref.ensures.value
+    (design_more s c.args.names.now schemes i d c.loop-scheme.tables.items table c.loop-scheme-test.true c.loop-scheme.invariant
+    (subst (λ (earlier : List TableDesign). IsTableOf s c.args.names.now earlier (get_or schemes i d) table) c.deref.ensures.value
     c.in_ok-table.ensures.table))

@@ -1,8 +1,7 @@
 -- What is left to prove of `of_plan_and_rows`: its clauses `reads` and `response`.
-use Rattle.std.proofs.Common.{inl, inr, ℕ, List, [], ◌∷◌, subst}
-use Rattle.attr_sets.specs.Attributes.{Attributes}
+use Rattle.std.proofs.Common.{inl, inr, ℕ, List, [], ◌∷◌, subst, Option}
 use Rattle.dep_model.specs.Tuples.{Relation}
-use Rattle.plans.specs.Plans.{plan_of}
+use Rattle.named_plans.specs.NamedPlans.{NamedSchemes, named_schemes}
 use Rattle.desk_tables.specs.Overwriting.{MigratesPlanHere}
 use Rattle.desk_inputs.specs.FileKinds.{FileStops, IsFile, WithFile}
 use Rattle.desk_inputs.specs.Plans.{plan_file}
@@ -16,7 +15,7 @@ use Rattle.desk_cli.proofs.tasks.of_plan_and_rows.Goals as goal
 pub returns-in-Err-open_rows-clause-response : goal.returns-in-Err-open_rows-clause-response
 returns-in-Err-open_rows-clause-response g c = λ r shows response is.
     inr (
-      plan_of c.in-Ok.plan,
+      named_schemes c.in-Ok.plan,
       c.in-Ok.ensures.ok r shows.same,
       inl (c.in-Err-open_rows.ensures.exit r
           (Shows-later g.F.FileSource.files g.F.FileSource.faults g.F.FileSource.taken g.F.FileSource.begun c.args.source.now c.open_plan.new.source c.open_rows.new.source r (c.args.planned.now ∷ []) shows c.in-Ok.ensures.files c.in-Ok.ensures.later c.in-Ok.ensures.begins) response is),
@@ -27,20 +26,21 @@ returns-clause-response g c = λ r shows.
     let s = c.args.schema.now in
     let file = c.args.file.now in
     let read = c.args.own.now ∷ c.args.planned.now ∷ file ∷ [] in
-    let plan = plan_of c.in-Ok.plan in
+    let plan = named_schemes c.in-Ok.plan in
     let rows = c.in-Ok-open_rows.rows in
     let result = c.migrate_plan_here.result in
     let Answers : List ℕ → List ℕ → List ℕ → Type 0 =
-    (λ a b d. RespondsAs (MigratesPlanHere s plan (a ∷ b ∷ d ∷ []) rows) result) in
+    (λ a b d. RespondsAs (MigratesPlanHere s plan.names plan.schemes (a ∷ b ∷ d ∷ []) rows) result) in
     let response : Answers c.args.own.now c.args.planned.now file =
     subst (λ (a : List ℕ). Answers a c.args.planned.now file) c.bytes.ensures.bytes
     (subst (λ (b : List ℕ). Answers c.bytes.result.now b file) c.bytes-2.ensures.bytes
     (subst (λ (d : List ℕ). Answers c.bytes.result.now c.bytes-2.result.now d) c.bytes-3.ensures.bytes
-    c.migrate_plan_here.ensures.response)) in
+    (subst (λ (names : List (Option (List ℕ))). RespondsAs (MigratesPlanHere s names plan.schemes (c.bytes.result.now ∷ c.bytes-2.result.now ∷ c.bytes-3.result.now ∷ []) rows) result)
+    c.deref.ensures.value c.migrate_plan_here.ensures.response))) in
     let after = Shows-later g.F.FileSource.files g.F.FileSource.faults g.F.FileSource.taken g.F.FileSource.begun c.args.source.now c.open_plan.new.source c.open_rows.new.source r (c.args.planned.now ∷ []) shows c.in-Ok.ensures.files c.in-Ok.ensures.later c.in-Ok.ensures.begins in
-    With-found (FileStops (plan_file s) r c.args.planned.now) (IsFile (plan_file s) r c.args.planned.now) (λ (plan : List Attributes). WithFile (rows_file s) r file (λ rows. MigratesPlanHere s plan read rows)) plan c.migrate_plan_here.result
+    With-found (FileStops (plan_file s) r c.args.planned.now) (IsFile (plan_file s) r c.args.planned.now) (λ (planned : NamedSchemes). WithFile (rows_file s) r file (λ rows. MigratesPlanHere s planned.names planned.schemes read rows)) plan c.migrate_plan_here.result
     (c.in-Ok.ensures.ok r shows.same)
-    (With-found (FileStops (rows_file s) r file) (IsFile (rows_file s) r file) (λ (rows : Relation). MigratesPlanHere s plan read rows) rows result (c.in-Ok-open_rows.ensures.ok r after.same) response)
+    (With-found (FileStops (rows_file s) r file) (IsFile (rows_file s) r file) (λ (rows : Relation). MigratesPlanHere s plan.names plan.schemes read rows) rows result (c.in-Ok-open_rows.ensures.ok r after.same) response)
 
 pub returns-in-Err-clause-reads : goal.returns-in-Err-clause-reads
 returns-in-Err-clause-reads g c =

@@ -8,14 +8,14 @@ pub returns-in-Err-test_loss : goal.returns-in-Err-test_loss
 returns-in-Err-test_loss c =
     let tables = c.in-Ok in
     let sets = scheme_sets c.args.plan.now in
-    let never = never_missing c.args.schema.now sets tables.tables tables.ensures.sound tables.ensures.never_missing in
+    let never = never_missing c.args.schema.now c.args.names.now sets tables.tables tables.ensures.sound tables.ensures.never_missing in
     record { response = λ response is. inr (never, inl (c.in-Err-test_loss.ensures.exit response is)) }
 
 pub returns : goal.returns
 returns c =
     let tables = c.in-Ok in
     let sets = scheme_sets c.args.plan.now in
-    let never = never_missing c.args.schema.now sets tables.tables tables.ensures.sound tables.ensures.never_missing in
+    let never = never_missing c.args.schema.now c.args.names.now sets tables.tables tables.ensures.sound tables.ensures.never_missing in
     record {
       response = inr (
         never,

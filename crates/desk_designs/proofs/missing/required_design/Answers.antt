@@ -27,6 +27,6 @@ returns-in-Some-clause-exit c = λ response is.
     let finds = subst (λ (t : List TableDesign). FindsMissing (nullable_of s) t (Some c.in-Some.refusal))
     c.tables-2.ensures.tables c.in-Some.ensures.finds in (
       tables,
-      design_of_schemes s (scheme_sets c.args.plan.now) tables c.in_ok-tables.ensures.sound,
+      design_of_schemes s c.args.names.now (scheme_sets c.args.plan.now) tables c.in_ok-tables.ensures.sound,
       (c.in-Some.refusal, finds, c.missing_exit.ensures.says response is),
     )

@@ -5,4 +5,4 @@ use Rattle.desk_designs.proofs.missing.test_missing.Goals as goal
 
 pub returns-in-Ok-clause-ok : goal.returns-in-Ok-clause-ok
 returns-in-Ok-clause-ok c =
-    never_missing c.args.schema.now (scheme_sets c.args.plan.now) c.in-Ok.field-0 c.in-Ok.ensures.sound c.in-Ok.ensures.never_missing
+    never_missing c.args.schema.now c.args.names.now (scheme_sets c.args.plan.now) c.in-Ok.field-0 c.in-Ok.ensures.sound c.in-Ok.ensures.never_missing

@@ -1,5 +1,5 @@
 -- What is left to prove of `script_migration`: its clause `response`.
-use Rattle.std.proofs.Common.{inl, inr}
+use Rattle.std.proofs.Common.{[], inl, inr}
 use Rattle.plans.specs.Plans.{scheme_sets}
 use Rattle.desk_designs.proofs.MissingLemmas.{never_missing}
 use Rattle.desk_designs.proofs.scripts.script_migration.Goals as goal
@@ -24,7 +24,7 @@ returns c =
     let plan = c.in-Ok-plan_in_form in
     let tables = c.in-Ok-required_design in
     let sets = scheme_sets plan.plan in
-    let never = never_missing c.args.schema.now sets tables.tables tables.ensures.sound tables.ensures.never_missing in
+    let never = never_missing c.args.schema.now [] sets tables.tables tables.ensures.sound tables.ensures.never_missing in
     record {
       response = inr (
         c.in-Ok.ensures.ok,

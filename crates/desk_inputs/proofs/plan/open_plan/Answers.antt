@@ -1,9 +1,13 @@
 -- What is left to prove of `open_plan`: its clauses `ok`, `within_limit`, `covers` and `exit`, by
 -- `refusal_stops`.
-use Rattle.std.proofs.Common.{ℕ, List, subst}
-use Rattle.plans.specs.Plans.{plan_of}
+use Rattle.std.proofs.Common.{◌≤◌, ℕ, List, length, ap, sym, subst}
+use Rattle.named_plans.specs.NamedPlans.{named_schemes}
+use Rattle.plans.specs.Plans.{plan_of, IsPlanOver}
+use Rattle.plans.specs.declared.plan.Plan.{Plan}
+use Rattle.dep_model.specs.Projections.{Covers}
+use Rattle.plan_grammar.specs.declared.refusal.TheConstants.{MOST_SCHEMES}
 use Rattle.dep_model.proofs.FailureLemmas.{refused_is}
-use Rattle.dep_model.specs.Schemas.{naming_of, names_of}
+use Rattle.dep_model.specs.Schemas.{naming_of, names_of, width_of}
 use Rattle.schema_printer.specs.Spelling.{printed_names_of}
 use Rattle.plan_grammar.specs.Diagnostics.{RefusesPlan}
 use Rattle.plan_grammar.specs.Meanings.{MeansPlan}
@@ -14,18 +18,29 @@ use Rattle.desk_responses.specs.Responses.{ExitsAs}
 use Rattle.desk_inputs.proofs.KindLemmas.{refusal_stops}
 use Rattle.desk_inputs.proofs.plan.open_plan.Goals as goal
 
-pub returns-in-Ok-read_plan-clause-ok : goal.returns-in-Ok-read_plan-clause-ok
-returns-in-Ok-read_plan-clause-ok g c = λ r same. record {
+pub returns-in_ok-in_order-in-Ok-read_plan-clause-ok : goal.returns-in_ok-in_order-in-Ok-read_plan-clause-ok
+returns-in_ok-in_order-in-Ok-read_plan-clause-ok g c = λ r same. record {
   bytes = c.in-Ok.bytes.items;
   content = c.in-Ok.ensures.ok r same;
-  means = subst (λ (bytes : List ℕ). MeansPlan (naming_of c.args.schema.now) (names_of c.args.schema.now) bytes (plan_of c.in-Ok-read_plan.plan)) c.deref.ensures.value c.in-Ok-read_plan.ensures.ok;
+  means = record {
+    read = named_schemes c.in-Ok-read_plan.plan;
+    means = subst (λ (bytes : List ℕ). MeansPlan (naming_of c.args.schema.now) (names_of c.args.schema.now) bytes (named_schemes c.in-Ok-read_plan.plan)) c.deref.ensures.value c.in-Ok-read_plan.ensures.ok;
+    schemes = ap plan_of c.in_ok-in_order-in-Ok-read_plan.ensures.plan;
+    order = c.in_ok-in_order-in-Ok-read_plan.ensures.order;
+  };
 }
 
-pub returns-in-Ok-read_plan-clause-within_limit : goal.returns-in-Ok-read_plan-clause-within_limit
-returns-in-Ok-read_plan-clause-within_limit g c = c.in-Ok-read_plan.ensures.ok.schemes_fit
+pub returns-in_ok-in_order-in-Ok-read_plan-clause-universe : goal.returns-in_ok-in_order-in-Ok-read_plan-clause-universe
+returns-in_ok-in_order-in-Ok-read_plan-clause-universe g c =
+    subst (λ (plan : Plan). IsPlanOver c.args.schema.now plan) (sym c.in_ok-in_order-in-Ok-read_plan.ensures.plan) c.in-Ok-read_plan.ensures.universe
 
-pub returns-in-Ok-read_plan-clause-covers : goal.returns-in-Ok-read_plan-clause-covers
-returns-in-Ok-read_plan-clause-covers g c = c.in-Ok-read_plan.ensures.ok.covers
+pub returns-in_ok-in_order-in-Ok-read_plan-clause-within_limit : goal.returns-in_ok-in_order-in-Ok-read_plan-clause-within_limit
+returns-in_ok-in_order-in-Ok-read_plan-clause-within_limit g c =
+    subst (λ (plan : Plan). length (plan_of plan) ≤ MOST_SCHEMES) (sym c.in_ok-in_order-in-Ok-read_plan.ensures.plan) c.in-Ok-read_plan.ensures.ok.schemes_fit
+
+pub returns-in_ok-in_order-in-Ok-read_plan-clause-covers : goal.returns-in_ok-in_order-in-Ok-read_plan-clause-covers
+returns-in_ok-in_order-in-Ok-read_plan-clause-covers g c =
+    subst (λ (plan : Plan). Covers (width_of c.args.schema.now) (plan_of plan)) (sym c.in_ok-in_order-in-Ok-read_plan.ensures.plan) c.in-Ok-read_plan.ensures.ok.covers
 
 pub returns-in-Err-Refused-clause-exit : goal.returns-in-Err-Refused-clause-exit
 returns-in-Err-Refused-clause-exit g c = λ r shows.

@@ -13,6 +13,6 @@ returns c =
     let s = c.args.schema.now in
     let plan = plan_of c.args.plan.now in
     record {
-      response = Unless-passed (LossStops s plan) (IsShownLossless s plan) (MigratesRows s plan c.args.rows) c.migrate_rows.result
+      response = Unless-passed (LossStops s plan) (IsShownLossless s plan) (MigratesRows s c.args.names.now plan c.args.rows) c.migrate_rows.result
           c.in-Ok.ensures.ok c.migrate_rows.ensures.response;
     }

@@ -15,6 +15,6 @@ returns c =
     ap (λ (sets : List AttrSet). length sets) c.schemes.ensures.schemes
     ∙ sym (length-map (scheme_sets c.args.plan.now) attributes) in
     record {
-      ok = subst (λ (n : ℕ). IfOk c.test_file_of.result (λ _. IsTableFile n c.args.file.now → ⊥)) count c.test_file_of.ensures.ok;
-      exit = subst (λ (n : ℕ). IfErr c.test_file_of.result (ExitsAs (OverStops n c.args.file.now))) count c.test_file_of.ensures.exit;
+      ok = subst (λ (n : ℕ). IfOk c.test_file_of.result (λ _. IsTableFile c.args.names.now n c.args.file.now → ⊥)) count c.test_file_of.ensures.ok;
+      exit = subst (λ (n : ℕ). IfErr c.test_file_of.result (ExitsAs (OverStops c.args.names.now n c.args.file.now))) count c.test_file_of.ensures.exit;
     }

@@ -4,7 +4,7 @@ use Rattle.desk_tables.proofs.own_folders.folder_of.Goals as goal
 
 pub returns : goal.returns
 returns c = record {
-  folder = λ plan sound. record {
+  folder = λ names plan sound. record {
     named = c.in_ok-from_slice.ensures.items ∙ c.bytes.ensures.bytes;
     tables = c.args.tables.now;
     sound = sound;

@@ -1,6 +1,6 @@
 -- What is left to prove of `migrate_form_into`: its clause `response`, where the design or the folder ends the command
 -- and where none does.
-use Rattle.std.proofs.Common.{List, inl, inr, true, refl}
+use Rattle.std.proofs.Common.{List, [], inl, inr, true, refl}
 use Rattle.std.specs.Prelude.{IsTrue}
 use Rattle.attr_sets.specs.declared.set.AttrSet.{AttrSet}
 use Rattle.dep_model.specs.Plans.{schemes_of}
@@ -29,7 +29,7 @@ pub returns-in-Err-test_folder : goal.returns-in-Err-test_folder
 returns-in-Err-test_folder c =
     let s = c.args.schema.now in
     let sets = scheme_sets c.in-Ok.plan in
-    let never : AreNeverMissing s (schemes_of sets) = (
+    let never : AreNeverMissing s [] (schemes_of sets) = (
       c.in-Ok-required_design.tables,
       record { plan = sets; same = refl; sound = c.in-Ok-required_design.ensures.sound },
       c.in-Ok-required_design.ensures.never_missing,
@@ -50,7 +50,7 @@ returns c =
     let rows = c.args.rows in
     let sets = scheme_sets c.in-Ok.plan in
     let result = c.migrate_rows_into.result in
-    let never : AreNeverMissing s (schemes_of sets) = (
+    let never : AreNeverMissing s [] (schemes_of sets) = (
       c.in-Ok-required_design.tables,
       record { plan = sets; same = refl; sound = c.in-Ok-required_design.ensures.sound },
       c.in-Ok-required_design.ensures.never_missing,
@@ -58,10 +58,10 @@ returns c =
     record {
       response = λ looks look.
           let free = is_free looks folder c.args.is_free c.in-Ok-test_folder.ensures.ok look in
-          let rest = Unless (FolderStops looks folder) (IsTrue (looks folder true)) (MigratesRowsInto s sets folder rows) in
+          let rest = Unless (FolderStops looks folder) (IsTrue (looks folder true)) (MigratesRowsInto s [] sets folder rows) in
           With-found (FormStops s form) (IsPlanInForm s form)
-          (λ (plan : List AttrSet). WithoutMissing s (schemes_of plan) (Unless (FolderStops looks folder) (IsTrue (looks folder true)) (MigratesRowsInto s plan folder rows)))
+          (λ (plan : List AttrSet). WithoutMissing s [] (schemes_of plan) (Unless (FolderStops looks folder) (IsTrue (looks folder true)) (MigratesRowsInto s [] plan folder rows)))
           sets result c.in-Ok.ensures.ok
-          (Unless-passed (MissingStops s (schemes_of sets)) (AreNeverMissing s (schemes_of sets)) rest result never
-          (Unless-passed (FolderStops looks folder) (IsTrue (looks folder true)) (MigratesRowsInto s sets folder rows) result free c.migrate_rows_into.ensures.response));
+          (Unless-passed (MissingStops s [] (schemes_of sets)) (AreNeverMissing s [] (schemes_of sets)) rest result never
+          (Unless-passed (FolderStops looks folder) (IsTrue (looks folder true)) (MigratesRowsInto s [] sets folder rows) result free c.migrate_rows_into.ensures.response));
     }

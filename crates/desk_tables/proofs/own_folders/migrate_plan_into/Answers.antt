@@ -19,7 +19,7 @@ returns-in-Err c = record { response = λ looks look response e. inl (c.in-Err.e
 
 pub returns-in-Err-test_folder : goal.returns-in-Err-test_folder
 returns-in-Err-test_folder c =
-    let never : AreNeverMissing c.args.schema.now (plan_of c.args.plan.now) = (
+    let never : AreNeverMissing c.args.schema.now c.args.names.now (plan_of c.args.plan.now) = (
       c.in-Ok.tables,
       record { plan = scheme_sets c.args.plan.now; same = refl; sound = c.in-Ok.ensures.sound },
       c.in-Ok.ensures.never_missing,
@@ -28,7 +28,7 @@ returns-in-Err-test_folder c =
 
 pub returns-in-Err-test_loss : goal.returns-in-Err-test_loss
 returns-in-Err-test_loss c =
-    let never : AreNeverMissing c.args.schema.now (plan_of c.args.plan.now) = (
+    let never : AreNeverMissing c.args.schema.now c.args.names.now (plan_of c.args.plan.now) = (
       c.in-Ok.tables,
       record { plan = scheme_sets c.args.plan.now; same = refl; sound = c.in-Ok.ensures.sound },
       c.in-Ok.ensures.never_missing,
@@ -51,8 +51,8 @@ returns c =
     let sets = scheme_sets c.args.plan.now in
     let plan = plan_of c.args.plan.now in
     let result = c.migrate_rows_into.result in
-    let rest = MigratesSchemesInto s plan folder rows in
-    let never : AreNeverMissing s plan = (
+    let rest = MigratesSchemesInto s c.args.names.now plan folder rows in
+    let never : AreNeverMissing s c.args.names.now plan = (
       c.in-Ok.tables,
       record { plan = sets; same = refl; sound = c.in-Ok.ensures.sound },
       c.in-Ok.ensures.never_missing,
@@ -61,8 +61,8 @@ returns c =
       response = λ looks look.
           let free = is_free looks folder c.args.is_free c.in-Ok-test_folder.ensures.ok look in
           let lossless = WithoutLoss s plan rest in
-          Unless-passed (MissingStops s plan) (AreNeverMissing s plan) (Unless (FolderStops looks folder) (IsTrue (looks folder true)) lossless) result never
+          Unless-passed (MissingStops s c.args.names.now plan) (AreNeverMissing s c.args.names.now plan) (Unless (FolderStops looks folder) (IsTrue (looks folder true)) lossless) result never
           (Unless-passed (FolderStops looks folder) (IsTrue (looks folder true)) lossless result free
           (Unless-passed (LossStops s plan) (IsShownLossless s plan) rest result c.in-Ok-test_loss.ensures.ok
-          (of_schemes s sets folder rows result c.migrate_rows_into.ensures.response)));
+          (of_schemes s c.args.names.now sets folder rows result c.migrate_rows_into.ensures.response)));
     }

@@ -7,7 +7,7 @@ pub returns-in-Ok : goal.returns-in-Ok
 returns-in-Ok c = record {
   response = (
     own_folder_value c.in_ok-own.own,
-    c.in_ok-own.ensures.folder (scheme_sets c.args.plan.now) c.requires.sound,
+    c.in_ok-own.ensures.folder c.args.names.now (scheme_sets c.args.plan.now) c.requires.sound,
     (response_value c.in-Ok.response, c.in-Ok.ensures.response, c.in_own_folder.ensures.gives),
   );
 }
@@ -16,7 +16,7 @@ pub returns-in-Err-Answered : goal.returns-in-Err-Answered
 returns-in-Err-Answered c = record {
   response = (
     own_folder_value c.in_ok-own.own,
-    c.in_ok-own.ensures.folder (scheme_sets c.args.plan.now) c.requires.sound,
+    c.in_ok-own.ensures.folder c.args.names.now (scheme_sets c.args.plan.now) c.requires.sound,
     (
       response_value c.in-Err-Answered.response,
       c.in-Err-Answered.ensures.response c.in-Err-Answered.response c.in-Err-Answered.field-0-is,

@@ -48,14 +48,14 @@ returns c =
     let form = c.args.form in
     let plan = schemes_of (scheme_sets c.in-Ok.plan) in
     let tables = length plan in
-    let rest = MigratesRows s plan c.args.rows in
+    let rest = MigratesRows s [] plan c.args.rows in
     let result = c.migrate_rows.result in
     let files = c.args.schema_file.now ∷ c.args.rows_file.now ∷ [] in
     record {
       response = With-found (FormStops s form) (IsPlanInForm s form)
-          (λ (sets : List AttrSet). WithoutMissing s (schemes_of sets) (KeepsFiles (length (schemes_of sets)) files (MigratesRows s (schemes_of sets) c.args.rows)))
+          (λ (sets : List AttrSet). WithoutMissing s [] (schemes_of sets) (KeepsFiles [] (length (schemes_of sets)) files (MigratesRows s [] (schemes_of sets) c.args.rows)))
           (scheme_sets c.in-Ok.plan) result c.in-Ok.ensures.ok
-          (Unless-passed (MissingStops s plan) (AreNeverMissing s plan) (KeepsFiles tables files rest) result c.in-Ok-test_missing.ensures.ok
-          (file_kept tables c.args.schema_file.now (c.args.rows_file.now ∷ []) rest result c.in-Ok-test_file.ensures.ok
-          (file_kept tables c.args.rows_file.now [] rest result c.in-Ok-test_file-2.ensures.ok c.migrate_rows.ensures.response)));
+          (Unless-passed (MissingStops s [] plan) (AreNeverMissing s [] plan) (KeepsFiles [] tables files rest) result c.in-Ok-test_missing.ensures.ok
+          (file_kept [] tables c.args.schema_file.now (c.args.rows_file.now ∷ []) rest result c.in-Ok-test_file.ensures.ok
+          (file_kept [] tables c.args.rows_file.now [] rest result c.in-Ok-test_file-2.ensures.ok c.migrate_rows.ensures.response)));
     }

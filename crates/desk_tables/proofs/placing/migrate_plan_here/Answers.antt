@@ -33,14 +33,15 @@ returns-in-Err-test_file-3 c = record {
 pub returns : goal.returns
 returns c =
     let s = c.args.schema.now in
+    let names = c.args.names.now in
     let plan = plan_of c.args.plan.now in
     let tables = length plan in
-    let rest = MigratesPlan s plan c.args.rows in
+    let rest = MigratesPlan s names plan c.args.rows in
     let result = c.migrate_by_plan.result in
     let plan_and_rows = c.args.plan_file.now ∷ c.args.rows_file.now ∷ [] in
     record {
-      response = Unless-passed (MissingStops s plan) (AreNeverMissing s plan) (KeepsFiles tables (c.args.schema_file.now ∷ plan_and_rows) rest) result c.in-Ok.ensures.ok
-          (file_kept tables c.args.schema_file.now plan_and_rows rest result c.in-Ok-test_file.ensures.ok
-          (file_kept tables c.args.plan_file.now (c.args.rows_file.now ∷ []) rest result c.in-Ok-test_file-2.ensures.ok
-          (file_kept tables c.args.rows_file.now [] rest result c.in-Ok-test_file-3.ensures.ok c.migrate_by_plan.ensures.response)));
+      response = Unless-passed (MissingStops s names plan) (AreNeverMissing s names plan) (KeepsFiles names tables (c.args.schema_file.now ∷ plan_and_rows) rest) result c.in-Ok.ensures.ok
+          (file_kept names tables c.args.schema_file.now plan_and_rows rest result c.in-Ok-test_file.ensures.ok
+          (file_kept names tables c.args.plan_file.now (c.args.rows_file.now ∷ []) rest result c.in-Ok-test_file-2.ensures.ok
+          (file_kept names tables c.args.rows_file.now [] rest result c.in-Ok-test_file-3.ensures.ok c.migrate_by_plan.ensures.response)));
     }

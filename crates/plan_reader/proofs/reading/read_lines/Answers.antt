@@ -7,7 +7,7 @@ use Rattle.plan_reader.proofs.ReadingLemmas.{line_refused, last_read, reads_more
 use Rattle.plan_reader.proofs.reading.read_lines.Goals as goal
 
 pub lines-init : goal.lines-init
-lines-init c = record { same = rw c.new-schemes.ensures.items refl; room = omega (arith, c.requires) }
+lines-init c = record { same = rw c.new-draft.ensures.nothing refl; room = omega (arith, c.requires) }
 
 pub returns-in-Err-clause-err : goal.returns-in-Err-clause-err
 returns-in-Err-clause-err c =
