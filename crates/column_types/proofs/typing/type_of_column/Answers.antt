@@ -14,8 +14,8 @@ returns-then-all_have c =
     let all = have_same rows k i c.index-i.result c.index-i-then-all_have.result (omega (arith, within)) (c.if-all_have.ensures.have.0 refl) in
     record {
       column = inr (
-          (λ empty. absurd (true≢false (sym (c.if-all_empty.ensures.empty.1 empty)))),
-          first_found rows k i c.index-i-then-all_have.result (omega (arith, within)) all c.loop-i.invariant.none,
+        (λ empty. absurd (true≢false (sym (c.if-all_empty.ensures.empty.1 empty)))),
+        first_found rows k i c.index-i-then-all_have.result (omega (arith, within)) all c.loop-i.invariant.none,
       );
     }
 
