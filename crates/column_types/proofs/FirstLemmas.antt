@@ -1,9 +1,13 @@
--- The first of the types that are tried is one.
-use Rattle.std.proofs.Common.{inl, inr, ◌≡◌, ◌<◌, ◌≤◌, ◌+◌, ℕ, Some, slice_get, get_or, refl, sym, ap, subst, ◌∙◌, arith}
-use Rattle.std.proofs.lemmas.Option.{slice_get-get_or, get_or_from_slice_get}
+-- The first of the types that are tried is one, and the types of all columns.
+use Rattle.std.proofs.Common.{inl, inr, ◌≡◌, ◌<◌, ◌≤◌, ◌+◌, ℕ, Some, List, [], ◌∷◌, ◌++◌, length, slice_get, get_or, refl, sym, ap, subst, ◌∙◌, arith}
+use Rattle.std.proofs.lemmas.Option.{slice_get-get_or, slice_get_within, get_or_from_slice_get}
 use Rattle.std.proofs.lemmas.Bool.{cases_lt}
-use Rattle.std.proofs.lemmas.List.{get_or_default}
-use Rattle.column_types.specs.FirstTypes.{AllHave, IsFirstType, IsTypeOf, tried_types}
+use Rattle.std.proofs.Math.Seq.{get_or-append_seam}
+use Rattle.std.proofs.lemmas.List.{get_or_default, get_or_append_left, length-append}
+use Rattle.std.proofs.lemmas.List.Sums.{AllPass-from_list_all}
+use Rattle.std.specs.Prelude.{IsTrue}
+use Rattle.column_types.specs.FirstTypes.{AllHave, AreTypesOf, IsFirstType, IsTypeOf, tried_types}
+use Rattle.dep_model.specs.Columns.{is_column_type}
 use Rattle.dep_model.specs.Tuples.{Relation}
 use Rattle.dep_model.specs.declared.column_type.ColumnType.{ColumnType}
 use Rattle.dep_model.specs.declared.column_type.ColumnType.TheVariants.{Text}
@@ -60,3 +64,30 @@ all_texts rows k n past none = none 14 Text (omega (arith, past)) refl (λ i low
 pub have_same : (rows : Relation) (k n : ℕ) (d e : ColumnType) → n < 15 → AllHave rows k (get_or tried_types n d)
     → AllHave rows k (get_or tried_types n e)
 have_same rows k n d e within all = subst (AllHave rows k) (get_or_default tried_types n d e within) all
+
+-- each type that is tried is one that a column may have
+tried_valid : (n : ℕ) (column : ColumnType) → slice_get tried_types n ≡ Some column → IsTrue (is_column_type column)
+tried_valid n column tried =
+    let within = slice_get_within tried_types n column tried in
+    subst (λ (c : ColumnType). IsTrue (is_column_type c)) (get_or_from_slice_get tried_types n column column tried)
+    (AllPass-from_list_all is_column_type tried_types refl n column within)
+
+pub type_valid : (rows : Relation) (k : ℕ) (column : ColumnType) → IsFirstType rows k column → IsTrue (is_column_type column)
+type_valid rows k column first = tried_valid first.at column first.tried
+
+-- ---- the types of all columns
+pub types_more : (rows : Relation) (columns : List ColumnType) (n : ℕ) (column : ColumnType) → length columns ≡ n
+    → AreTypesOf rows columns → IsTypeOf rows n column → AreTypesOf rows (columns ++ column ∷ [])
+types_more rows columns n column count types is k other here =
+    let within = slice_get_within (columns ++ column ∷ []) k other here in
+    let read = get_or_from_slice_get (columns ++ column ∷ []) k other other here in
+    elim (cases_lt k (length columns)) [
+      | inl front ↦
+          let same : get_or columns k other ≡ other = sym (get_or_append_left columns (column ∷ []) other k front) ∙ read in
+          types k other (slice_get-get_or columns k other front ∙ ap Some same)
+      | inr end ↦
+          let at : k ≡ length columns = omega (arith, within, end, length-append columns (column ∷ [])) in
+          let same : column ≡ other =
+          sym (get_or-append_seam columns column [] other) ∙ ap (λ (i : ℕ). get_or (columns ++ column ∷ []) i other) (sym at) ∙ read in
+          subst (λ (i : ℕ). IsTypeOf rows i other) (sym (at ∙ count)) (subst (IsTypeOf rows n) same is)
+    ]

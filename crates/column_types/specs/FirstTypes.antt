@@ -1,5 +1,6 @@
--- Which type a column of given values has: for `type_of_column` and `has_empty`.
-use Rattle.std.specs.Prelude.{◌≡◌, ◌<◌, ◌⊎◌, ℕ, true, Some, List, [], ◌∷◌, length, slice_get}
+-- Which type a column of given values has: for `type_of_column` and the schema of a file.
+use Rattle.std.specs.Prelude.{◌≡◌, ◌<◌, ◌⊎◌, ◌↔◌, ℕ, true, Some, List, [], ◌∷◌, length, slice_get}
+use Rattle.attr_sets.specs.Attributes.{Attributes, IsSubset, below}
 use Rattle.column_values.specs.Values.{FitsColumn}
 use Rattle.dep_model.specs.Tuples.{Relation, value_at}
 use Rattle.dep_model.specs.declared.column_type.ColumnType.{ColumnType}
@@ -40,3 +41,13 @@ pub record IsFirstType (rows : Relation) (k : ℕ) (column : ColumnType) : Type 
 abbrev pub IsTypeOf : Relation → ℕ → ColumnType → Type 0
 IsTypeOf rows k column =
     (AllEmpty rows k × (column ≡ Text)) ⊎ ((AllEmpty rows k → ⊥) × IsFirstType rows k column)
+
+-- the types of the columns of rows
+abbrev pub AreTypesOf : Relation → List ColumnType → Type 0
+AreTypesOf rows columns =
+    (k : ℕ) (column : ColumnType) → slice_get columns k ≡ Some column → IsTypeOf rows k column
+
+-- of n columns of rows, those in which a value is empty
+pub record HaveEmpty (n : ℕ) (rows : Relation) (x : Attributes) : Type 0 where
+  pub within : IsSubset x (below n)
+  pub each : (k : ℕ) → k < n → (x k ≡ true) ↔ HasEmpty rows k

@@ -33,7 +33,7 @@ pub fn all_empty(rows: &Rows, position: usize) -> bool
     true
 }
 
-/// Whether a value of a column is empty. Each row has the column.
+// Whether a value of a column is empty.
 pub fn has_empty(rows: &Rows, position: usize) -> bool
     requires position { All (λ row. position < length row) rows.now }
     ensures empty { IsTrue result ↔ HasEmpty rows.now position }

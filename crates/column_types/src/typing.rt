@@ -1,5 +1,6 @@
-ghost use Rattle.std.specs.Prelude.{◌<◌, All, length};
+ghost use Rattle.std.specs.Prelude.{◌<◌, All, length, IsTrue};
 ghost use Rattle.column_types.specs.FirstTypes.{IsTypeOf};
+ghost use Rattle.dep_model.specs.Columns.{is_column_type};
 
 use crate::columns::{all_empty, all_have};
 use dep_model::ColumnType;
@@ -29,6 +30,7 @@ pub const TRIED: [ColumnType; 15] = [
 pub fn type_of_column(rows: &Rows, position: usize) -> ColumnType
     requires position { All (λ row. position < length row) rows.now }
     ensures column { IsTypeOf rows.now position result }
+    ensures valid { IsTrue (is_column_type result) }
 {
     if all_empty(rows, position) {
         return ColumnType::Text;
