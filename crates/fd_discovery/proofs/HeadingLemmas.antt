@@ -11,10 +11,10 @@ use Rattle.csv.specs.declared.reader.Reader.{Reader}
 use Rattle.csv_rows.specs.Records.{HasLeft, TakesRecord}
 use Rattle.row_store.specs.Rows.{row_at}
 use Rattle.dep_model.specs.Tuples.{Tuple, Relation, IsOver}
-use Rattle.fd_discovery.specs.Headers.{IsColumnHeader, RefusesColumnHeader}
+use Rattle.fd_discovery.specs.Headers.{IsHeaderWithin, RefusesColumnHeader}
 use Rattle.csv_rows.specs.Quotes.{ends_within_quotes, open_record, is_open}
 use Rattle.csv_rows.specs.Records.{records_of}
-use Rattle.fd_discovery.specs.Headings.{is_open_at, FitsRow, RefusesRow, AreRows, RefusesRows, RefusesHeader, RefusesRecords, ReadsNames, RefusesNames, IsHeaded, IsRefusedDiscovery, names_under, rows_under}
+use Rattle.fd_discovery.specs.Headings.{is_open_at, FitsRow, RefusesRow, AreRows, RefusesRows, RefusesHeader, RefusesRecords, ReadsNames, RefusesNames, IsHeadedWithin, IsRefusedWithin, names_under, rows_under}
 use Rattle.fd_discovery.specs.declared.headed_rows.Headed.{Headed}
 use Rattle.fd_discovery.specs.declared.headed_rows.TheConstants.{MOST_HEADED_ROWS}
 use Rattle.dep_model.specs.Failures.{RefusesAs}
@@ -37,49 +37,49 @@ TakesRows-none old new fields b rs is takes left =
     takes rs left
 
 -- the first record is the header
-pub names_read : {T : Type 0} (names : T → List (List ℕ)) (unclosed : Option ℕ) (old new : Reader (Bor (List ℕ))) (fields : List (List ℕ))
+pub names_read : {T : Type 0} (widest : ℕ) (names : T → List (List ℕ)) (unclosed : Option ℕ) (old new : Reader (Bor (List ℕ))) (fields : List (List ℕ))
     (b : Bool) (r : Result T (Failure DiscoverRefusal)) (rs : List (List (List ℕ)))
     → is_open unclosed 1 ≡ false → b ≡ true → TakesRecord b old new fields → HasLeft old rs
-    → IfOk r (λ v. names v ≡ fields) → IfOk r (λ _. IsColumnHeader fields) → IfOk r (λ v. ReadsNames unclosed rs new (names v))
-names_read names unclosed old new fields b (Err e) rs closed is takes left all header = tt
-names_read names unclosed old new fields b (Ok v) rs closed is takes left all header =
+    → IfOk r (λ v. names v ≡ fields) → IfOk r (λ _. IsHeaderWithin widest fields) → IfOk r (λ v. ReadsNames widest unclosed rs new (names v))
+names_read widest names unclosed old new fields b (Err e) rs closed is takes left all header = tt
+names_read widest names unclosed old new fields b (Ok v) rs closed is takes left all header =
     let (more, whole, rest) = TakesRows-one old new fields b rs is takes left in
     record {
       records = more;
       all = whole ∙ ap (λ (f : List (List ℕ)). f ∷ more) (sym all);
       closed = closed;
-      header = subst IsColumnHeader (sym all) header;
+      header = subst (IsHeaderWithin widest) (sym all) header;
       left = rest;
     }
 
 -- a header without an open quote that is refused
-closed_refused : (b : Bool) (header : List (List ℕ)) (e : Failure DiscoverRefusal) → b ≡ false → RefusesAs (RefusesColumnHeader header) e
-    → RefusesAs (RefusesHeader b header) e
-closed_refused b header e closed refused =
-    subst (λ (t : Bool). RefusesAs (RefusesHeader t header) e) (sym closed) refused
+closed_refused : (widest : ℕ) (b : Bool) (header : List (List ℕ)) (e : Failure DiscoverRefusal) → b ≡ false → RefusesAs (RefusesColumnHeader widest header) e
+    → RefusesAs (RefusesHeader widest b header) e
+closed_refused widest b header e closed refused =
+    subst (λ (t : Bool). RefusesAs (RefusesHeader widest t header) e) (sym closed) refused
 
-pub names_refused : {T : Type 0} (unclosed : Option ℕ) (old new : Reader (Bor (List ℕ))) (fields : List (List ℕ)) (b : Bool)
+pub names_refused : {T : Type 0} (widest : ℕ) (unclosed : Option ℕ) (old new : Reader (Bor (List ℕ))) (fields : List (List ℕ)) (b : Bool)
     (r : Result T (Failure DiscoverRefusal)) (rs : List (List (List ℕ)))
     → is_open unclosed 1 ≡ false → b ≡ true → TakesRecord b old new fields → HasLeft old rs
-    → IfErr r (RefusesAs (RefusesColumnHeader fields)) → IfErr r (RefusesAs (RefusesNames unclosed rs))
-names_refused unclosed old new fields b (Ok v) rs closed is takes left refused = tt
-names_refused unclosed old new fields b (Err e) rs closed is takes left refused =
+    → IfErr r (RefusesAs (RefusesColumnHeader widest fields)) → IfErr r (RefusesAs (RefusesNames widest unclosed rs))
+names_refused widest unclosed old new fields b (Ok v) rs closed is takes left refused = tt
+names_refused widest unclosed old new fields b (Err e) rs closed is takes left refused =
     let (more, whole, rest) = TakesRows-one old new fields b rs is takes left in
-    subst (λ (l : List (List (List ℕ))). RefusesAs (RefusesNames unclosed l) e) (sym whole)
-    (closed_refused (is_open unclosed 1) fields e closed refused)
+    subst (λ (l : List (List (List ℕ))). RefusesAs (RefusesNames widest unclosed l) e) (sym whole)
+    (closed_refused widest (is_open unclosed 1) fields e closed refused)
 
-pub open_names : (unclosed : Option ℕ) (old new : Reader (Bor (List ℕ))) (fields : List (List ℕ)) (b : Bool) (rs : List (List (List ℕ)))
+pub open_names : (widest : ℕ) (unclosed : Option ℕ) (old new : Reader (Bor (List ℕ))) (fields : List (List ℕ)) (b : Bool) (rs : List (List (List ℕ)))
     → is_open unclosed 1 ≡ true → b ≡ true → TakesRecord b old new fields → HasLeft old rs
-    → RefusesNames unclosed rs refusal.OpenHeader
-open_names unclosed old new fields b rs opens is takes left =
+    → RefusesNames widest unclosed rs refusal.OpenHeader
+open_names widest unclosed old new fields b rs opens is takes left =
     let (more, whole, rest) = TakesRows-one old new fields b rs is takes left in
-    subst (λ (l : List (List (List ℕ))). RefusesNames unclosed l refusal.OpenHeader) (sym whole)
-    (subst (λ (t : Bool). RefusesHeader t fields refusal.OpenHeader) (sym opens) refl)
+    subst (λ (l : List (List (List ℕ))). RefusesNames widest unclosed l refusal.OpenHeader) (sym whole)
+    (subst (λ (t : Bool). RefusesHeader widest t fields refusal.OpenHeader) (sym opens) refl)
 
-pub no_names : (unclosed : Option ℕ) (old new : Reader (Bor (List ℕ))) (fields : List (List ℕ)) (b : Bool) (rs : List (List (List ℕ)))
-    → b ≡ false → TakesRecord b old new fields → HasLeft old rs → RefusesNames unclosed rs refusal.NoHeader
-no_names unclosed old new fields b rs is takes left =
-    subst (λ (l : List (List (List ℕ))). RefusesNames unclosed l refusal.NoHeader)
+pub no_names : (widest : ℕ) (unclosed : Option ℕ) (old new : Reader (Bor (List ℕ))) (fields : List (List ℕ)) (b : Bool) (rs : List (List (List ℕ)))
+    → b ≡ false → TakesRecord b old new fields → HasLeft old rs → RefusesNames widest unclosed rs refusal.NoHeader
+no_names widest unclosed old new fields b rs is takes left =
+    subst (λ (l : List (List (List ℕ))). RefusesNames widest unclosed l refusal.NoHeader)
     (sym (TakesRows-none old new fields b rs is takes left)) refl
 
 -- records of which the first were taken as rows
@@ -167,22 +167,22 @@ pub over_more : (n : ℕ) (rows : Relation) (t : Tuple) → IsOver n rows → le
 over_more n rows t even fits = All-push (λ (u : Tuple). length u ≡ n) rows t even fits
 
 -- the whole text, where the open record was found
-pub header_refused : (unclosed : Option ℕ) (rs : List (List (List ℕ))) (e : DiscoverRefusal) → RefusesNames unclosed rs e
-    → RefusesRecords unclosed rs e
-header_refused unclosed [] e h = h
-header_refused unclosed (header ∷ records) e h = inl h
+pub header_refused : (widest : ℕ) (unclosed : Option ℕ) (rs : List (List (List ℕ))) (e : DiscoverRefusal) → RefusesNames widest unclosed rs e
+    → RefusesRecords widest unclosed rs e
+header_refused widest unclosed [] e h = h
+header_refused widest unclosed (header ∷ records) e h = inl h
 
-pub rows_refused : (unclosed : Option ℕ) (rs : List (List (List ℕ))) (reader : Reader (Bor (List ℕ))) (names : List (List ℕ)) (n : ℕ)
+pub rows_refused : (widest : ℕ) (unclosed : Option ℕ) (rs : List (List (List ℕ))) (reader : Reader (Bor (List ℕ))) (names : List (List ℕ)) (n : ℕ)
     (e : DiscoverRefusal)
-    → (read : ReadsNames unclosed rs reader names) → n ≡ length names → RefusesRows unclosed n read.records e → RefusesRecords unclosed rs e
-rows_refused unclosed rs reader names n e read count refused =
-    subst (λ (l : List (List (List ℕ))). RefusesRecords unclosed l e) (sym read.all)
+    → (read : ReadsNames widest unclosed rs reader names) → n ≡ length names → RefusesRows unclosed n read.records e → RefusesRecords widest unclosed rs e
+rows_refused widest unclosed rs reader names n e read count refused =
+    subst (λ (l : List (List (List ℕ))). RefusesRecords widest unclosed l e) (sym read.all)
     (inr (read.closed, read.header, subst (λ (m : ℕ). RefusesRows unclosed m read.records e) count refused))
 
-pub refused_text : (text : List ℕ) (unclosed : Option ℕ) (e : DiscoverRefusal) → unclosed ≡ open_record text
-    → RefusesRecords unclosed (records_of text) e → IsRefusedDiscovery text e
-refused_text text unclosed e same refused =
-    subst (λ (o : Option ℕ). RefusesRecords o (records_of text) e) same refused
+pub refused_text : (widest : ℕ) (text : List ℕ) (unclosed : Option ℕ) (e : DiscoverRefusal) → unclosed ≡ open_record text
+    → RefusesRecords widest unclosed (records_of text) e → IsRefusedWithin widest text e
+refused_text widest text unclosed e same refused =
+    subst (λ (o : Option ℕ). RefusesRecords widest o (records_of text) e) same refused
 
 -- where neither the header nor a row is open, the text ends outside of quotes
 ends_outside : (text : List ℕ) (names : List (List ℕ)) (rows : Relation) → records_of text ≡ names ∷ rows
@@ -202,11 +202,11 @@ ends_outside text names rows all header closed = by (ends_within_quotes text) he
           | inr none ↦ absurd (grind (arith, nat_tests, h, count, none))
         ]
 
-pub headed_of : (text : List ℕ) (unclosed : Option ℕ) (reader : Reader (Bor (List ℕ))) (h : Headed) (n : ℕ) → unclosed ≡ open_record text
-    → (read : ReadsNames unclosed (records_of text) reader (names_under h))
+pub headed_of : (widest : ℕ) (text : List ℕ) (unclosed : Option ℕ) (reader : Reader (Bor (List ℕ))) (h : Headed) (n : ℕ) → unclosed ≡ open_record text
+    → (read : ReadsNames widest unclosed (records_of text) reader (names_under h))
     → n ≡ length (names_under h) → rows_under h ≡ read.records → ((i : ℕ) → i < length (rows_under h) → is_open_at unclosed i ≡ false)
-    → IsOver n (rows_under h) → length (rows_under h) ≤ MOST_HEADED_ROWS → IsHeaded text h
-headed_of text unclosed reader h n same read count rows closed even in_limit =
+    → IsOver n (rows_under h) → length (rows_under h) ≤ MOST_HEADED_ROWS → IsHeadedWithin widest text h
+headed_of widest text unclosed reader h n same read count rows closed even in_limit =
     let all : records_of text ≡ names_under h ∷ rows_under h = read.all ∙ ap (λ (l : List (List (List ℕ))). names_under h ∷ l) (sym rows) in
     record {
       all = all;

@@ -4,13 +4,13 @@ use Rattle.std.proofs.lemmas.Bool.{cases_lt, true≢false}
 use Rattle.dep_model.specs.Schemas.{attribute_named}
 use Rattle.dep_model.specs.Tuples.{Relation, IsOver}
 use Rattle.dep_model.specs.Names.{IsName}
-use Rattle.fd_discovery.specs.Headers.{NamesColumn, RefusesColumn, field_at, IsColumnHeader, RefusesField, RefusesColumnHeader}
+use Rattle.fd_discovery.specs.Headers.{NamesColumn, RefusesColumn, field_at, IsHeaderWithin, RefusesField, RefusesColumnHeader}
 use Rattle.csv_rows.specs.Quotes.{open_record, is_open}
 use Rattle.csv_rows.specs.Records.{records_of}
 use Rattle.row_store.specs.Rows.{row_at}
-use Rattle.fd_discovery.specs.Headings.{is_open_at, FitsRow, RefusesRow, RefusesRows, RefusesHeader, RefusesRecords, IsHeaded, IsRefusedDiscovery, names_under, rows_under}
+use Rattle.fd_discovery.specs.Headings.{is_open_at, FitsRow, RefusesRow, RefusesRows, RefusesHeader, RefusesRecords, IsHeadedWithin, IsRefusedWithin, names_under, rows_under}
 use Rattle.fd_discovery.specs.declared.headed_rows.Headed.{Headed}
-use Rattle.fd_discovery.specs.declared.headed_rows.TheConstants.{MOST_HEADED_ROWS, WIDEST_HEADED}
+use Rattle.fd_discovery.specs.declared.headed_rows.TheConstants.{MOST_HEADED_ROWS}
 use Rattle.fd_discovery.specs.declared.refusal.DiscoverRefusal.{DiscoverRefusal}
 use Rattle.fd_discovery.specs.declared.refusal.DiscoverRefusal.TheVariants as refusal
 
@@ -54,8 +54,8 @@ column_same before field column e f p q =
     by (inr (is, good, double)) (inl (also, bad)) = absurd (bad good)
     by (inr (is, good, double)) (inr (also, fine, twice)) = is ∙ sym also
 
-field_same : (header : List (List ℕ)) (e f : DiscoverRefusal) → RefusesField header e → RefusesField header f → e ≡ f
-field_same header e f p q = elim (cases_lt p.at q.at) [
+field_same : (widest : ℕ) (header : List (List ℕ)) (e f : DiscoverRefusal) → RefusesField widest header e → RefusesField widest header f → e ≡ f
+field_same widest header e f p q = elim (cases_lt p.at q.at) [
   | inl before ↦ absurd
       (named_not_refused (take p.at header) (field_at header p.at) (p.at + 1) e (q.before p.at before) p.refused)
   | inr on ↦ elim (cases_lt q.at p.at) [
@@ -69,15 +69,15 @@ field_same header e f p q = elim (cases_lt p.at q.at) [
 ]
 
 -- ---- headers
-header_same : (header : List (List ℕ)) (e f : DiscoverRefusal) → RefusesColumnHeader header e → RefusesColumnHeader header f → e ≡ f
-header_same header e f (inl p) (inl q) = p.0 ∙ sym q.0
-header_same header e f (inl p) (inr q) = absurd (at_most_not_beyond (length header) WIDEST_HEADED q.within_limit p.1)
-header_same header e f (inr p) (inl q) = absurd (at_most_not_beyond (length header) WIDEST_HEADED p.within_limit q.1)
-header_same header e f (inr p) (inr q) = field_same header e f p q
+header_same : (widest : ℕ) (header : List (List ℕ)) (e f : DiscoverRefusal) → RefusesColumnHeader widest header e → RefusesColumnHeader widest header f → e ≡ f
+header_same widest header e f (inl p) (inl q) = p.0 ∙ sym q.0
+header_same widest header e f (inl p) (inr q) = absurd (at_most_not_beyond (length header) widest q.within_limit p.1)
+header_same widest header e f (inr p) (inl q) = absurd (at_most_not_beyond (length header) widest p.within_limit q.1)
+header_same widest header e f (inr p) (inr q) = field_same widest header e f p q
 
-header_not_refused : (header : List (List ℕ)) (e : DiscoverRefusal) → IsColumnHeader header → RefusesColumnHeader header e → ⊥
-header_not_refused header e is (inl p) = at_most_not_beyond (length header) WIDEST_HEADED is.within_limit p.1
-header_not_refused header e is (inr p) =
+header_not_refused : (widest : ℕ) (header : List (List ℕ)) (e : DiscoverRefusal) → IsHeaderWithin widest header → RefusesColumnHeader widest header e → ⊥
+header_not_refused widest header e is (inl p) = at_most_not_beyond (length header) widest is.within_limit p.1
+header_not_refused widest header e is (inr p) =
     named_not_refused (take p.at header) (field_at header p.at) (p.at + 1) e (is.named p.at p.within) p.refused
 
 -- ---- rows
@@ -142,45 +142,45 @@ rows_not_refused n rows e over in_limit p =
     fits_not_refused None n p.at (row_at rows p.at) e (refl, over p.at [] p.within, omega (arith, p.within, in_limit)) p.refused
 
 -- ---- headers that may have an open quote
-header_of_same : (b : Bool) (header : List (List ℕ)) (e f : DiscoverRefusal) → RefusesHeader b header e → RefusesHeader b header f → e ≡ f
-header_of_same true header e f p q = p ∙ sym q
-header_of_same false header e f p q = header_same header e f p q
+header_of_same : (widest : ℕ) (b : Bool) (header : List (List ℕ)) (e f : DiscoverRefusal) → RefusesHeader widest b header e → RefusesHeader widest b header f → e ≡ f
+header_of_same widest true header e f p q = p ∙ sym q
+header_of_same widest false header e f p q = header_same widest header e f p q
 
-closed_header_not_refused : (b : Bool) (header : List (List ℕ)) (e : DiscoverRefusal) → b ≡ false → IsColumnHeader header
-    → RefusesHeader b header e → ⊥
-closed_header_not_refused b header e closed is p =
-    header_not_refused header e is (subst (λ (t : Bool). RefusesHeader t header e) closed p)
+closed_header_not_refused : (widest : ℕ) (b : Bool) (header : List (List ℕ)) (e : DiscoverRefusal) → b ≡ false → IsHeaderWithin widest header
+    → RefusesHeader widest b header e → ⊥
+closed_header_not_refused widest b header e closed is p =
+    header_not_refused widest header e is (subst (λ (t : Bool). RefusesHeader widest t header e) closed p)
 
 -- ---- records
-records_same : (unclosed : Option ℕ) (records : List (List (List ℕ))) (e f : DiscoverRefusal) → RefusesRecords unclosed records e
-    → RefusesRecords unclosed records f → e ≡ f
-records_same unclosed [] e f p q = p ∙ sym q
-records_same unclosed (header ∷ rows) e f (inl p) (inl q) = header_of_same (is_open unclosed 1) header e f p q
-records_same unclosed (header ∷ rows) e f (inl p) (inr q) = absurd (closed_header_not_refused (is_open unclosed 1) header e q.0 q.1 p)
-records_same unclosed (header ∷ rows) e f (inr p) (inl q) = absurd (closed_header_not_refused (is_open unclosed 1) header f p.0 p.1 q)
-records_same unclosed (header ∷ rows) e f (inr p) (inr q) = under_same unclosed (length header) rows e f p.2 q.2
+records_same : (widest : ℕ) (unclosed : Option ℕ) (records : List (List (List ℕ))) (e f : DiscoverRefusal) → RefusesRecords widest unclosed records e
+    → RefusesRecords widest unclosed records f → e ≡ f
+records_same widest unclosed [] e f p q = p ∙ sym q
+records_same widest unclosed (header ∷ rows) e f (inl p) (inl q) = header_of_same widest (is_open unclosed 1) header e f p q
+records_same widest unclosed (header ∷ rows) e f (inl p) (inr q) = absurd (closed_header_not_refused widest (is_open unclosed 1) header e q.0 q.1 p)
+records_same widest unclosed (header ∷ rows) e f (inr p) (inl q) = absurd (closed_header_not_refused widest (is_open unclosed 1) header f p.0 p.1 q)
+records_same widest unclosed (header ∷ rows) e f (inr p) (inr q) = under_same unclosed (length header) rows e f p.2 q.2
 
-pub refused_same : (text : List ℕ) (e f : DiscoverRefusal) → IsRefusedDiscovery text e → IsRefusedDiscovery text f → e ≡ f
-refused_same text e f p q = records_same (open_record text) (records_of text) e f p q
+pub refused_same : (widest : ℕ) (text : List ℕ) (e f : DiscoverRefusal) → IsRefusedWithin widest text e → IsRefusedWithin widest text f → e ≡ f
+refused_same widest text e f p q = records_same widest (open_record text) (records_of text) e f p q
 
-not_refused : (names : List (List ℕ)) (rows : Relation) (e : DiscoverRefusal) → IsColumnHeader names
-    → IsOver (length names) rows → length rows ≤ MOST_HEADED_ROWS → RefusesRecords None (names ∷ rows) e → ⊥
-not_refused names rows e header even in_limit (inl p) = header_not_refused names e header p
-not_refused names rows e header even in_limit (inr p) = rows_not_refused (length names) rows e even in_limit p.2
+not_refused : (widest : ℕ) (names : List (List ℕ)) (rows : Relation) (e : DiscoverRefusal) → IsHeaderWithin widest names
+    → IsOver (length names) rows → length rows ≤ MOST_HEADED_ROWS → RefusesRecords widest None (names ∷ rows) e → ⊥
+not_refused widest names rows e header even in_limit (inl p) = header_not_refused widest names e header p
+not_refused widest names rows e header even in_limit (inr p) = rows_not_refused (length names) rows e even in_limit p.2
 
-pub never_both : (text : List ℕ) (h : Headed) (e : DiscoverRefusal) → IsHeaded text h → IsRefusedDiscovery text e → ⊥
-never_both text h e is p =
+pub never_both : (widest : ℕ) (text : List ℕ) (h : Headed) (e : DiscoverRefusal) → IsHeadedWithin widest text h → IsRefusedWithin widest text e → ⊥
+never_both widest text h e is p =
     let none : open_record text ≡ None = ap (λ (b : Bool). if b then Some (length (records_of text)) else None) is.closed in
-    not_refused (names_under h) (rows_under h) e is.header is.even is.within_limit
-    (subst (λ (rs : List (List (List ℕ))). RefusesRecords None rs e) is.all
-    (subst (λ (o : Option ℕ). RefusesRecords o (records_of text) e) none p))
+    not_refused widest (names_under h) (rows_under h) e is.header is.even is.within_limit
+    (subst (λ (rs : List (List (List ℕ))). RefusesRecords widest None rs e) is.all
+    (subst (λ (o : Option ℕ). RefusesRecords widest o (records_of text) e) none p))
 
-pub names_same : (text : List ℕ) (one other : Headed) → IsHeaded text one → IsHeaded text other
+pub names_same : (widest : ℕ) (text : List ℕ) (one other : Headed) → IsHeadedWithin widest text one → IsHeadedWithin widest text other
     → names_under one ≡ names_under other
-names_same text one other p q =
+names_same widest text one other p q =
     let same : names_under one ∷ rows_under one ≡ names_under other ∷ rows_under other = sym p.all ∙ q.all in cc
 
-pub rows_same : (text : List ℕ) (one other : Headed) → IsHeaded text one → IsHeaded text other
+pub rows_same : (widest : ℕ) (text : List ℕ) (one other : Headed) → IsHeadedWithin widest text one → IsHeadedWithin widest text other
     → rows_under one ≡ rows_under other
-rows_same text one other p q =
+rows_same widest text one other p q =
     let same : names_under one ∷ rows_under one ≡ names_under other ∷ rows_under other = sym p.all ∙ q.all in cc

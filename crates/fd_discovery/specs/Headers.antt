@@ -36,23 +36,27 @@ field_at header i = slice_index_or header i []
 abbrev pub NameColumns : List (List ℕ) → ℕ → Type 0
 NameColumns header n = (i : ℕ) → i < n → NamesColumn (take i header) (field_at header i)
 
--- a header: different names of at most WIDEST_HEADED columns
-pub record IsColumnHeader (header : List (List ℕ)) : Type 0 where
-  pub within_limit : length header ≤ WIDEST_HEADED
+-- a header: different names of at most so many columns
+pub record IsHeaderWithin (widest : ℕ) (header : List (List ℕ)) : Type 0 where
+  pub within_limit : length header ≤ widest
   pub named : NameColumns header (length header)
 
+-- a header of a file whose dependencies are looked for
+abbrev pub IsColumnHeader : List (List ℕ) → Type 0
+IsColumnHeader header = IsHeaderWithin WIDEST_HEADED header
+
 -- the first field that does not name its column is refused so
-pub record RefusesField (header : List (List ℕ)) (e : DiscoverRefusal) : Type 0 where
-  pub within_limit : length header ≤ WIDEST_HEADED
+pub record RefusesField (widest : ℕ) (header : List (List ℕ)) (e : DiscoverRefusal) : Type 0 where
+  pub within_limit : length header ≤ widest
   pub at : ℕ
   pub within : at < length header
   pub before : NameColumns header at
   pub refused : RefusesColumn (take at header) (field_at header at) (at + 1) e
 
 -- why a record is no header: it is too wide, or a field of it is refused
-abbrev pub RefusesColumnHeader : List (List ℕ) → DiscoverRefusal → Type 0
-RefusesColumnHeader header e =
-    ((e ≡ refusal.TooManyColumns) × (WIDEST_HEADED < length header)) ⊎ RefusesField header e
+abbrev pub RefusesColumnHeader : ℕ → List (List ℕ) → DiscoverRefusal → Type 0
+RefusesColumnHeader widest header e =
+    ((e ≡ refusal.TooManyColumns) × (widest < length header)) ⊎ RefusesField widest header e
 
 -- ---- schema texts of these columns
 -- a name stands as it is in a text without a version line: it is a bare name, and no reserved word

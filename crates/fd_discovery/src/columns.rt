@@ -2,10 +2,9 @@ ghost use Rattle.std.specs.Prelude.{◌≡◌, ◌<◌, ◌≤◌, ◌^◌, ℕ,
 ghost use Rattle.std.specs.List.{list_all};
 ghost use Rattle.csv.specs.Records.{fields_of};
 ghost use Rattle.dep_model.specs.Failures.{RefusesAs};
-ghost use Rattle.fd_discovery.specs.Headers.{NamesColumn, RefusesColumn, IsColumnHeader, RefusesColumnHeader, is_plain_name, naming_under};
+ghost use Rattle.fd_discovery.specs.Headers.{NamesColumn, RefusesColumn, IsHeaderWithin, RefusesColumnHeader, is_plain_name, naming_under};
 
 use crate::DiscoverRefusal;
-use crate::headed_rows::WIDEST_HEADED;
 use csv::ByteRecord;
 use csv_rows::field;
 use dep_model::{Failure, Name, Naming, is_bare_name};
@@ -13,16 +12,17 @@ use schema_grammar::Format;
 use std::alloc::Global;
 use tokens::{is_reserved, position_among};
 
-// The names that a header gives its columns.
+// The names that a header gives its columns, which are at most so many.
 pub fn column_names(
     alloc: Global,
+    widest: u8,
     fields: &ByteRecord,
 ) -> Result<Vec<Name>, Failure<DiscoverRefusal>>
     ensures names { IfOk result (λ names. names.items ≡ fields_of fields.now) }
-    ensures header { IfOk result (λ _. IsColumnHeader (fields_of fields.now)) }
-    ensures err { IfErr result (RefusesAs (RefusesColumnHeader (fields_of fields.now))) }
+    ensures header { IfOk result (λ _. IsHeaderWithin widest (fields_of fields.now)) }
+    ensures err { IfErr result (RefusesAs (RefusesColumnHeader widest (fields_of fields.now))) }
 {
-    if fields.len() > WIDEST_HEADED as usize {
+    if fields.len() > widest as usize {
         return Err(Failure::Refused(DiscoverRefusal::TooManyColumns));
     }
     let mut names = Vec::new(alloc);

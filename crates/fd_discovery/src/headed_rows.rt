@@ -3,7 +3,7 @@ ghost use Rattle.csv.specs.Records.{fields_of};
 ghost use Rattle.csv_rows.specs.Records.{HasLeft};
 ghost use Rattle.dep_model.specs.Failures.{RefusesAs};
 ghost use Rattle.dep_model.specs.Tuples.{IsOver};
-ghost use Rattle.fd_discovery.specs.Headings.{IsHeaded, IsRefusedDiscovery, is_open_at, names_under, FitsRow, RefusesRow, RefusesRows, ReadsNames, RefusesNames};
+ghost use Rattle.fd_discovery.specs.Headings.{IsHeadedWithin, IsRefusedWithin, is_open_at, names_under, FitsRow, RefusesRow, RefusesRows, ReadsNames, RefusesNames};
 
 use crate::DiscoverRefusal;
 use crate::columns::column_names;
@@ -28,19 +28,23 @@ pub struct Headed {
     pub rows: Rows,
 }
 
-/// The rows of a CSV text under a header of different names, which may be any names. The records are
+/// The rows of a CSV text under a header of at most so many different names, which may be any names. The records are
 /// those that `csv_rows` reads, after one byte-order mark. Of more than one refusal the first in
 /// the order of `DiscoverRefusal` decides, of the header's fields the first from the left, of the rows
 /// the first from the top; of one row `UnevenRow` comes before `TooManyRows`. But an open quote comes
 /// right after `NoHeader`, and in a row before all else.
-pub fn read_headed(alloc: Global, text: &[u8]) -> Result<Headed, Failure<DiscoverRefusal>>
-    ensures ok { IfOk result (λ headed. IsHeaded text.now headed) }
+pub fn read_headed(
+    alloc: Global,
+    widest: u8,
+    text: &[u8],
+) -> Result<Headed, Failure<DiscoverRefusal>>
+    ensures ok { IfOk result (λ headed. IsHeadedWithin widest text.now headed) }
     ensures any_name { IfOk result (λ headed. 0 < length (names_under headed)) }
-    ensures err { IfErr result (RefusesAs (IsRefusedDiscovery text.now)) }
+    ensures err { IfErr result (RefusesAs (IsRefusedWithin widest text.now)) }
 {
     let unclosed = open_record(text);
     let mut reader = open_reader(alloc, text);
-    let names = match read_names(alloc, unclosed, &mut reader) {
+    let names = match read_names(alloc, widest, unclosed, &mut reader) {
         Ok(names) => names,
         Err(failure) => return Err(failure),
     };
@@ -53,18 +57,19 @@ pub fn read_headed(alloc: Global, text: &[u8]) -> Result<Headed, Failure<Discove
 // The names of the columns.
 fn read_names(
     alloc: Global,
+    widest: u8,
     unclosed: Option<usize>,
     reader: &mut Reader<&[u8]>,
 ) -> Result<Vec<Name>, Failure<DiscoverRefusal>>
     ensures ok { (rs : List (List (List ℕ))) → HasLeft reader.old rs
-        → IfOk result (λ names. ReadsNames unclosed rs reader.new names.items) }
+        → IfOk result (λ names. ReadsNames widest unclosed rs reader.new names.items) }
     ensures err { (rs : List (List (List ℕ))) → HasLeft reader.old rs
-        → IfErr result (RefusesAs (RefusesNames unclosed rs)) }
+        → IfErr result (RefusesAs (RefusesNames widest unclosed rs)) }
 {
     let mut fields = ByteRecord::new(alloc);
     match take_record(reader, &mut fields) {
         Ok(true) if is_open(unclosed, 1) => Err(Failure::Refused(DiscoverRefusal::OpenHeader)),
-        Ok(true) => column_names(alloc, &fields),
+        Ok(true) => column_names(alloc, widest, &fields),
         Ok(false) => Err(Failure::Refused(DiscoverRefusal::NoHeader)),
         Err(_) => Err(Failure::OutOfMemory),
     }

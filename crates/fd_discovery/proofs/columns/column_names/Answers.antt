@@ -24,6 +24,6 @@ loop-i-preserved c =
 
 pub returns-clause-header : goal.returns-clause-header
 returns-clause-header c = record {
-  within_limit = omega (arith, c.if-len.false, c.len.ensures);
+  within_limit = omega (arith, c.if-len-widest.false, c.len.ensures);
   named = λ k low. c.loop-i.invariant.named k (omega (arith, low, c.loop-i-test.false, c.len-i-end.ensures));
 }

@@ -1,0 +1,2 @@
+-- The definitions of column_types.
+pub mod FirstTypes
