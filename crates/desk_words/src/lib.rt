@@ -7,12 +7,15 @@ mod check;
 mod command;
 mod explain;
 mod migrate;
+mod numbers;
 mod persons;
 mod questions;
 mod rows;
+mod rules;
 mod shapes;
 mod tables;
 
 pub use command::{Command, MOST_FILES, parse};
 pub use persons::Persons;
-pub use questions::{PlanQuestion, RowsQuestion, SchemaQuestion, Task};
+pub use questions::{PlanQuestion, RowsQuestion, RulesQuestion, SchemaQuestion, Task};
+pub use rules::{LeftBound, MOST_ON_LEFT};
