@@ -4,7 +4,7 @@ use Rattle.std.specs.Char.{is_ascii_digit}
 use Rattle.std.specs.List.{list_all}
 use Rattle.lexer.specs.Bytes.{number_of}
 use Rattle.sample_rows.specs.declared.rows.TheConstants.{MOST_PERSONS}
-use Rattle.desk_words.specs.declared.rules.TheConstants.{MOST_ON_LEFT}
+use Rattle.desk_words.specs.declared.bounds.TheConstants.{MOST_ON_LEFT}
 
 -- one to so many digits
 unfoldable pub is_short_number : ℕ → List ℕ → Bool

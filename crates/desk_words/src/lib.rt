@@ -3,6 +3,7 @@
 //! `parse` gives the command that words form, by their first words, and none exactly where they form none.
 #![tactic(auto)]
 
+mod bounds;
 mod check;
 mod command;
 mod explain;
@@ -15,7 +16,7 @@ mod rules;
 mod shapes;
 mod tables;
 
+pub use bounds::{LeftBound, MOST_ON_LEFT};
 pub use command::{Command, MOST_FILES, parse};
 pub use persons::Persons;
 pub use questions::{PlanQuestion, RowsQuestion, RulesQuestion, SchemaQuestion, Task};
-pub use rules::{LeftBound, MOST_ON_LEFT};

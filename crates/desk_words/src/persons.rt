@@ -13,7 +13,7 @@ pub struct Persons {
 }
 
 /// A number of one to five digits, from 1 to `MOST_PERSONS`.
-#[tactic(auto, unfolding(crate::specs::Numbers::is_count))]
+#[tactic(auto, using(crate::proofs::NumberLemmas::short_number), unfolding(crate::specs::Numbers::is_count))]
 pub fn count_of(word: &[u8]) -> Option<Persons>
     ensures persons { option_map (λ persons. persons.number) result
         ≡ (if is_count word.now then Some (number_of word.now) else None) }

@@ -1,4 +1,4 @@
-use crate::rules::LeftBound;
+use crate::bounds::LeftBound;
 use desk_outside::Argument;
 use normal_forms::Form;
 
