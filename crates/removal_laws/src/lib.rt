@@ -2,15 +2,17 @@
 //!
 //! Of each group of rows that agree on the left side the largest class stays, which agrees on the right side
 //! too. The laws say that the other rows are a least removal, and that it is enough, and needed, to change as
-//! many (Kivinen and Mannila 1995).
+//! many (Kivinen and Mannila 1995). How many these are is the error of the dependency: rows have one, it is none
+//! exactly where they obey the dependency, and it never grows with the left side.
 #![tactic(auto)]
 
-ghost use Rattle.std.specs.Prelude.{◌≡◌, ℕ, List};
-ghost use Rattle.attr_sets.specs.Attributes.{Attributes, union};
+ghost use Rattle.std.specs.Prelude.{◌≡◌, ◌≤◌, ◌↔◌, ℕ, List};
+ghost use Rattle.attr_sets.specs.Attributes.{Attributes, IsSubset, union};
 ghost use Rattle.csv_rows.specs.Numberings.{AreGroups};
-ghost use Rattle.dep_model.specs.Dependencies.{fd};
+ghost use Rattle.dep_model.specs.Dependencies.{Dependency, Obeys, fd};
 ghost use Rattle.dep_model.specs.Tuples.{Relation, IsOver};
 ghost use Rattle.removal_laws.specs.Classes.{AreLargestClasses, in_chosen};
+ghost use Rattle.removal_laws.specs.Errors.{IsError};
 ghost use Rattle.removal_laws.specs.Removals.{IsLeastChange, IsLeastRemoval};
 
 /// The rows outside the largest class of their group are a least removal.
@@ -25,4 +27,21 @@ pub fn least_change_is_least_removal()
     ensures law { (n : ℕ) (x y : Attributes) (r : Relation) (groups classes chosen : List ℕ) → IsOver n r
         → AreGroups r x groups → AreGroups r (union x y) classes → AreLargestClasses groups classes chosen
         → IsLeastChange n x y r (in_chosen groups classes chosen) }
+{}
+
+/// Rows have one error against a dependency.
+pub fn one_error()
+    ensures law { (n : ℕ) (r : Relation) (d : Dependency) (one other : ℕ)
+        → IsError n r d one → IsError n r d other → one ≡ other }
+{}
+
+/// The error is none exactly where the rows obey the dependency.
+pub fn no_error_where_obeyed()
+    ensures law { (n : ℕ) (r : Relation) (d : Dependency) → IsError n r d 0 ↔ Obeys n d r }
+{}
+
+/// The error of a functional dependency never grows with its left side.
+pub fn error_never_grows()
+    ensures law { (n : ℕ) (r : Relation) (v x y : Attributes) (larger smaller : ℕ) → IsSubset v x
+        → IsError n r (fd v y) larger → IsError n r (fd x y) smaller → smaller ≤ larger }
 {}

@@ -94,7 +94,7 @@ same_kept ds r one other a b =
     same_flag (flag_at one i) (flag_at other i) (λ is. (b.told i within).1 ((a.told i within).0 is)) (λ is. (a.told i within).1 ((b.told i within).0 is)))
 
 -- ---- what the measure counts
-count_all : (x : Attributes) (n : ℕ) → count_below (λ i. not (x i)) n + count_below x n ≡ n
+pub count_all : (x : Attributes) (n : ℕ) → count_below (λ i. not (x i)) n + count_below x n ≡ n
 unfolding count_below
 count_all x zero = refl
 count_all x (suc n) = grind (arith, count_all x n)

@@ -58,7 +58,7 @@ pub fn sort_by_class(
 }
 
 // The least class of each group gives way to the largest, of equally large ones to the least.
-fn choose_largest(owners: &[u32], sizes: &[u32], chosen: &mut Vec<u32>)
+pub fn choose_largest(owners: &[u32], sizes: &[u32], chosen: &mut Vec<u32>)
     requires sizes { length sizes.now ≡ length owners.now }
     requires owners { AreBelow owners.now (length chosen.old.items) }
     requires fits_u32 { length owners.now < 2 ^ 32 }

@@ -5,7 +5,8 @@
 //! equally large ones that of the least first row. A group breaks a multivalued dependency where some
 //! right side and some rest of it do not stand in one row. `measure` counts broken groups, their rows, and
 //! how many rows must change or are missing; `broken_parts` and `broken_rows` list what stands in broken
-//! groups; `kept_rows` are those that no functional dependency removes. All are linear in the rows.
+//! groups; `kept_rows` are those that no functional dependency removes; `error_within` is how many rows must change
+//! for a dependency on one attribute, by the groups of its left side. All are linear in the rows.
 #![tactic(auto)]
 
 mod breach;
@@ -17,6 +18,7 @@ mod laws;
 mod listing;
 mod measuring;
 mod ordering;
+mod within;
 
 pub use breach::{BrokenPart, BrokenRow, Mark, Measure};
 pub use keeping::kept_rows;
@@ -26,3 +28,4 @@ pub use laws::{
 };
 pub use listing::{broken_parts, broken_rows};
 pub use measuring::measure;
+pub use within::error_within;
