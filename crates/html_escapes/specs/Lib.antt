@@ -1,0 +1,2 @@
+-- The definitions of html_escapes: how a text stands within HTML.
+pub mod Escapes
