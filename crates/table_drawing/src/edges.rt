@@ -4,11 +4,11 @@ ghost use Rattle.ddl_text.specs.Designs.{ReferToEarlier};
 ghost use Rattle.table_drawing.specs.Drawing.{edge_text, edges_to, edges_text};
 
 use crate::escapes::add_label;
+use crate::nodes::add_id;
 use ddl_text::TableDesign;
 use dep_model::{OutOfMemory, Schema};
 use schema_printer::{add, add_set};
 use std::alloc::Global;
-use table_names::table_name;
 
 // Adds the edges of these tables.
 pub fn add_edges(
@@ -63,9 +63,9 @@ fn edge_text(
     add_set(&mut key, schema, other.key)?;
     let mut text = Vec::new(alloc);
     add(&mut text, b"  ")?;
-    add(&mut text, table_name(table.number).bytes())?;
+    add_id(&mut text, table)?;
     add(&mut text, b" -> ")?;
-    add(&mut text, table_name(other.number).bytes())?;
+    add_id(&mut text, other)?;
     add(&mut text, b" [label=\"")?;
     add_label(&mut text, &key)?;
     add(&mut text, b"\"];\n")?;

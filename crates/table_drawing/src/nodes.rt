@@ -2,6 +2,7 @@ ghost use Rattle.std.specs.Prelude.{◌≡◌, ◌<◌, ◌++◌, IfOk, OnOk};
 ghost use Rattle.std.specs.List.{flat_map};
 ghost use Rattle.attr_sets.specs.Sets.{attributes};
 ghost use Rattle.dep_model.specs.Schemas.{width_of};
+ghost use Rattle.table_names.specs.TableNames.{table_name};
 ghost use Rattle.table_drawing.specs.Drawing.{marked_text, row_text, table_rows_text, node_text};
 
 use crate::escapes::add_html;
@@ -35,7 +36,7 @@ fn node_text(alloc: Global, schema: &Schema, table: &TableDesign) -> Result<Vec<
 {
     let mut text = Vec::new(alloc);
     add(&mut text, b"  ")?;
-    add(&mut text, table_name(table.number).bytes())?;
+    add_id(&mut text, table)?;
     add(
         &mut text,
         b" [label=<<TABLE BORDER=\"0\" CELLBORDER=\"1\" CELLSPACING=\"0\"><TR><TD BGCOLOR=\"lightgrey\"><B>",
@@ -45,6 +46,13 @@ fn node_text(alloc: Global, schema: &Schema, table: &TableDesign) -> Result<Vec<
     add_rows(alloc, &mut text, schema, table.scheme, table.key)?;
     add(&mut text, b"</TABLE>>];\n")?;
     Ok(text)
+}
+
+/// Adds the name of a node: that of the table's number.
+pub fn add_id(text: &mut Vec<u8>, table: &TableDesign) -> Result<(), OutOfMemory>
+    ensures added { OnOk result (text.new.items ≡ text.old.items ++ table_name table.now.number) }
+{
+    add(text, table_name(table.number).bytes())
 }
 
 // Adds the rows of a scheme, ascending.

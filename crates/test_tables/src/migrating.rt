@@ -47,11 +47,12 @@ fn check(rt: &(impl Alloc<A = Global> + Abort), case: Case) -> Result<(), Fail> 
     assert!(rt; schema.len() <= MOST_TEXT_BYTES);
     let schema = read_schema(alloc, schema.as_bytes()).expect(rt, "a schema");
     assert!(rt; plan.len() <= MOST_PLAN_BYTES);
-    let plan = read_plan(alloc, &schema, plan.as_bytes()).expect(rt, "a plan");
+    let planned = read_plan(alloc, &schema, plan.as_bytes()).expect(rt, "a plan");
+    let plan = &planned.plan;
     let rows = read_rows(alloc, &schema, text.as_bytes()).expect(rt, "rows");
     assert!(rt; rows.len() < 10);
     assert!(rt; plan.schemes().len() < 10);
-    let made = tables(alloc, Hashing::Fixed, &schema, &plan, rows)?;
+    let made = tables(alloc, Hashing::Fixed, &schema, plan, &planned.names, rows)?;
     assert_eq!(rt; made.tables.len(), want.len());
     for (table, want) in made.tables.iter().zip(want.iter()) {
         let line = line_of(alloc, &made.rows, table)?;

@@ -2,7 +2,7 @@ use crate::text_readers::{refusal, schema};
 use dep_model::Failure;
 use plan_reader::{MOST_PLAN_BYTES, PlanRefusal, read_plan};
 use plans::{drop_contained, print_plan};
-use schema_reader::SchemaRefusalKind::{BadName, Expected, ReservedName, UnknownName};
+use schema_reader::SchemaRefusalKind::{BadName, DoubleName, Expected, ReservedName, UnknownName};
 use schema_reader::{SchemaRefusal, What};
 use std::alloc::Global;
 use std::process::Abort;
@@ -18,8 +18,8 @@ fn check_printed(
     let schema = schema(rt, THREE_NAMES);
     assert!(rt; text.len() <= MOST_PLAN_BYTES);
     match read_plan(rt.alloc(), &schema, text) {
-        Ok(plan) => {
-            let again = print_plan(rt.alloc(), &schema, &plan)?;
+        Ok(planned) => {
+            let again = print_plan(rt.alloc(), &schema, &planned.plan)?;
             assert!(rt; again.as_slice() == printed, "{text:?}: {again:?}");
         }
         Err(refusal) => panic!(rt; "{text:?} is refused: {refusal:?}"),
@@ -29,7 +29,11 @@ fn check_printed(
 
 #[test]
 fn plans_are_printed_in_one_form(rt: HostRuntime) -> Result<(), Fail> {
-    let table: [(&[u8], &[u8]); 3] = [
+    let table: [(&[u8], &[u8]); 4] = [
+        (
+            b"table zips : CITY ZIP\nscheme STREET ZIP\n",
+            b"scheme CITY ZIP\nscheme STREET ZIP\n",
+        ),
         (
             b"scheme CITY ZIP\nscheme STREET ZIP\n",
             b"scheme CITY ZIP\nscheme STREET ZIP\n",
@@ -75,7 +79,15 @@ fn a_plan_is_refused_at_its_first_fault(rt: HostRuntime) {
 
 #[test]
 fn a_plan_line_is_refused_at_its_first_fault(rt: HostRuntime) {
-    let table: [(&[u8], SchemaRefusal); 9] = [
+    let table: [(&[u8], SchemaRefusal); 14] = [
+        (b"table", refusal(1, 6, 0, Expected(What::Name))),
+        (b"table T1: CITY", refusal(1, 7, 2, ReservedName)),
+        (
+            b"table a: CITY\ntable A: CITY",
+            refusal(2, 7, 1, DoubleName),
+        ),
+        (b"table a CITY", refusal(1, 9, 4, Expected(What::Colon))),
+        (b"table a: TOWN", refusal(1, 10, 4, UnknownName)),
         (b"\nscheme TOWN", refusal(2, 8, 4, UnknownName)),
         (b"scheme CITY 7", refusal(1, 13, 1, BadName)),
         (b"scheme -> CITY", refusal(1, 8, 2, Expected(What::Name))),
@@ -112,9 +124,9 @@ fn contained_schemes_are_dropped(rt: HostRuntime) -> Result<(), Fail> {
     let most = lines(rt.alloc(), 256)?;
     assert!(rt; most.len() <= MOST_PLAN_BYTES);
     match read_plan(rt.alloc(), &schema, &most) {
-        Ok(plan) => {
-            assert_eq!(rt; plan.schemes().len(), 256);
-            assert_eq!(rt; drop_contained(&schema, plan).schemes().len(), 1);
+        Ok(planned) => {
+            assert_eq!(rt; planned.plan.schemes().len(), 256);
+            assert_eq!(rt; drop_contained(&schema, planned.plan).schemes().len(), 1);
         }
         Err(refusal) => panic!(rt; "refused: {refusal:?}"),
     }

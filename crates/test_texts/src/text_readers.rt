@@ -18,9 +18,9 @@ pub(crate) fn design_of(
     text: &[u8],
 ) -> Result<DesignList, OutOfMemory> {
     assert!(rt; text.len() <= MOST_PLAN_BYTES);
-    let plan = read_plan(rt.alloc(), schema, text).expect(rt, "a plan");
-    assert!(rt; plan.schemes().len() <= MOST_TABLES as usize);
-    design(rt.alloc(), schema, &plan)
+    let planned = read_plan(rt.alloc(), schema, text).expect(rt, "a plan");
+    assert!(rt; planned.plan.schemes().len() <= MOST_TABLES as usize);
+    design(rt.alloc(), schema, &planned.plan, &planned.names)
 }
 
 // A refusal of the span that begins at this line and column.
