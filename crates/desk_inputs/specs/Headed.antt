@@ -1,25 +1,35 @@
 -- Files of rows under names of their own.
 use Rattle.std.specs.Prelude.{ℕ, List, ◌++◌, codes}
 use Rattle.std.specs.Fmt.{decimal}
+use Rattle.attr_sets.specs.declared.set.TheConstants.{MOST_ATTRIBUTES}
 use Rattle.fd_discovery.specs.declared.headed_rows.Headed.{Headed}
+use Rattle.fd_discovery.specs.declared.headed_rows.TheConstants.{WIDEST_HEADED}
 use Rattle.fd_discovery.specs.declared.refusal.DiscoverRefusal.{DiscoverRefusal}
-use Rattle.fd_discovery.specs.Headings.{IsHeaded, IsRefusedDiscovery}
+use Rattle.fd_discovery.specs.Headings.{IsHeadedWithin, IsRefusedWithin}
 use Rattle.fd_discovery.specs.RefusalTexts.{headed_reason_text, headed_refusal_number}
 use Rattle.desk_inputs.specs.declared.rows.TheConstants.{MOST_CSV_BYTES}
 use Rattle.desk_inputs.specs.FileKinds.{FileKind}
 use Rattle.desk_texts.specs.Texts.{line}
 
--- a refusal of a file of rows under names of its own
-abbrev pub headed_refusal_text : List ℕ → DiscoverRefusal → List ℕ
-headed_refusal_text file why =
-    line (codes "refused: discover " ++ decimal (headed_refusal_number why) ++ codes " at " ++ file
+-- a refusal of a file of rows under names of its own, in a command of this word
+abbrev pub headed_refusal_text : List ℕ → List ℕ → DiscoverRefusal → List ℕ
+headed_refusal_text command file why =
+    line (codes "refused: " ++ command ++ codes " " ++ decimal (headed_refusal_number why) ++ codes " at " ++ file
     ++ codes ": " ++ headed_reason_text why)
 
--- rows under names of their own
-abbrev pub headed_file : FileKind Headed DiscoverRefusal
-headed_file = record {
+-- rows under at most so many names of their own, for a command of this word
+abbrev pub headed_file_for : List ℕ → ℕ → FileKind Headed DiscoverRefusal
+headed_file_for command widest = record {
   limit = MOST_CSV_BYTES;
-  means = λ bytes headed. IsHeaded bytes headed;
-  refuses = λ bytes refusal. IsRefusedDiscovery bytes refusal;
-  refusal_text = headed_refusal_text;
+  means = λ bytes headed. IsHeadedWithin widest bytes headed;
+  refuses = λ bytes refusal. IsRefusedWithin widest bytes refusal;
+  refusal_text = headed_refusal_text command;
 }
+
+-- rows whose dependencies are looked for
+abbrev pub headed_file : FileKind Headed DiscoverRefusal
+headed_file = headed_file_for (codes "discover") WIDEST_HEADED
+
+-- rows whose columns are made a schema
+abbrev pub imported_file : FileKind Headed DiscoverRefusal
+imported_file = headed_file_for (codes "import") MOST_ATTRIBUTES

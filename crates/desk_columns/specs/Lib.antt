@@ -1,0 +1,2 @@
+-- The definitions of desk_columns.
+pub mod Imports

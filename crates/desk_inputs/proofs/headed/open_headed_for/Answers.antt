@@ -1,0 +1,25 @@
+-- What is left to prove of `open_headed_for`: its clauses `ok` and `exit`, by `refusal_stops`.
+use Rattle.std.proofs.Common.{ℕ, List, subst}
+use Rattle.fd_discovery.specs.Headings.{IsHeadedWithin, IsRefusedWithin}
+use Rattle.dep_model.proofs.FailureLemmas.{refused_is}
+use Rattle.desk_responses.specs.ResponseValues.{Says}
+use Rattle.desk_inputs.specs.Headed.{headed_file_for, headed_refusal_text}
+use Rattle.desk_responses.specs.declared.status.Status.TheVariants.{Refused}
+use Rattle.desk_responses.specs.Responses.{ExitsAs}
+use Rattle.desk_inputs.proofs.KindLemmas.{refusal_stops}
+use Rattle.desk_inputs.proofs.headed.open_headed_for.Goals as goal
+
+pub returns-in-Ok-read_headed-clause-ok : goal.returns-in-Ok-read_headed-clause-ok
+returns-in-Ok-read_headed-clause-ok g c = λ r same. record {
+  bytes = c.in-Ok.bytes.items;
+  content = c.in-Ok.ensures.ok r same;
+  means = subst (λ (bytes : List ℕ). IsHeadedWithin c.args.widest bytes c.in-Ok-read_headed.headed) c.deref.ensures.value c.in-Ok-read_headed.ensures.ok;
+}
+
+pub returns-in-Err-Refused-clause-exit : goal.returns-in-Err-Refused-clause-exit
+returns-in-Err-Refused-clause-exit g c = λ r shows.
+    let refusal = c.in-Err-Refused.refusal in
+    let refuses = refused_is _ _ _ c.in-Err-Refused.field-0-is c.in-Err-Refused.ensures.err in
+    let refused = subst (λ (bytes : List ℕ). IsRefusedWithin c.args.widest bytes refusal) c.deref.ensures.value refuses in
+    let exits_as = subst (λ (name : List ℕ). ExitsAs (Says Refused (headed_refusal_text c.args.command.now name refusal)) c.headed_refusal_exit.result) c.bytes.ensures.bytes c.headed_refusal_exit.ensures.says in
+    refusal_stops (headed_file_for c.args.command.now c.args.widest) r c.args.name.now c.in-Ok.bytes.items refusal c.headed_refusal_exit.result (c.in-Ok.ensures.ok r shows.same) refused exits_as
