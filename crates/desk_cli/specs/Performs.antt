@@ -14,12 +14,14 @@ use Rattle.desk_covers.specs.CoverReasons.{ExplainsCover}
 use Rattle.desk_covers.specs.Covering.{GivesCover}
 use Rattle.desk_designs.specs.Decompositions.{Splits, SplitsWide}
 use Rattle.desk_designs.specs.Designs.{WritesForm, WritesPlan}
-use Rattle.desk_discovery.specs.Discoveries.{FindsRules}
+use Rattle.desk_discovery.specs.Discoveries.{FindsRules, FindsSmallRules}
+use Rattle.desk_discovery.specs.KeyDiscoveries.{FindsRowKeys}
 use Rattle.desk_derivations.specs.Derivations.{ChecksDerivation}
 use Rattle.desk_designs.specs.Drawings.{DrawsForm, DrawsSchemes}
 use Rattle.desk_discovery.specs.Exhibits.{Exhibits}
 use Rattle.desk_words.specs.Forms as form
-use Rattle.desk_words.specs.Forms.{CommandForm, PlanQuestion, RowsQuestion, SchemaQuestion, Task, form_of}
+use Rattle.desk_words.specs.Forms.{CommandForm, PlanQuestion, RowsQuestion, RulesQuestion, SchemaQuestion, Task, form_of}
+use Rattle.fd_discovery.specs.declared.headed_rows.Headed.{Headed}
 use Rattle.desk_inputs.specs.FileKinds.{WithFile}
 use Rattle.desk_inputs.specs.Headed.{headed_file}
 use Rattle.desk_cli.specs.Help.{help_text, version_text}
@@ -91,6 +93,12 @@ AnswersRows schema rows form.offences = ListsOffences schema rows
 AnswersRows schema rows form.offences_by_row = ListsOffencesByRow schema rows
 AnswersRows schema rows form.kept = KeepsRows schema rows
 
+-- which rules are sought in the rows of a file of this name, under a free header
+unfoldable pub AnswersRules : RulesQuestion → List ℕ → Headed → Allowed
+AnswersRules form.minimal_rules file headed = FindsRules file headed
+AnswersRules (form.small_rules most) file headed = FindsSmallRules most file headed
+AnswersRules form.keys_of_rows file headed = FindsRowKeys file headed
+
 -- the rows of a file are read whatever their values are, and then the rest follows
 unfoldable pub WithValues : Reading → Schema → List ℕ → (Relation → Allowed) → Allowed
 WithValues r schema file rest response =
@@ -128,7 +136,7 @@ Does looks r schema (form.rejoin files) = WithParts r schema files (λ parts. Jo
 -- a command
 unfoldable pub Performs : Looks → Reading → CommandForm → Allowed
 Performs looks r (form.over_schema file task) = WithFile schema_file r file (λ schema. Does looks r schema task)
-Performs looks r (form.discover file) = WithFile headed_file r file (FindsRules file)
+Performs looks r (form.discover question file) = WithFile headed_file r file (AnswersRules question file)
 Performs looks r (form.sample persons) = Samples persons
 Performs looks r form.help = Says Yes help_text
 Performs looks r form.version = Says Yes version_text

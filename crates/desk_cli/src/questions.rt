@@ -4,9 +4,12 @@ ghost use Rattle.std.specs.Prelude.{◌≤◌, ◌<◌, ◌^◌, length};
 ghost use Rattle.dep_model.specs.Projections.{Covers};
 ghost use Rattle.dep_model.specs.Schemas.{width_of};
 ghost use Rattle.dep_model.specs.Tuples.{IsOver};
+ghost use Rattle.fd_discovery.specs.Headers.{IsColumnHeader};
+ghost use Rattle.fd_discovery.specs.Headings.{names_under, rows_under};
+ghost use Rattle.fd_discovery.specs.declared.headed_rows.TheConstants.{MOST_HEADED_ROWS};
 ghost use Rattle.plans.specs.Plans.{IsPlanOver, plan_of};
-ghost use Rattle.desk_words.specs.Commands.{plan_question, rows_question, schema_question};
-ghost use Rattle.desk_cli.specs.Performs.{AnswersPlan, AnswersRows, AnswersSchema};
+ghost use Rattle.desk_words.specs.Commands.{plan_question, rows_question, rules_question, schema_question};
+ghost use Rattle.desk_cli.specs.Performs.{AnswersPlan, AnswersRows, AnswersRules, AnswersSchema};
 ghost use Rattle.desk_responses.specs.Responses.{RespondsAs};
 
 use dep_model::Schema;
@@ -16,14 +19,16 @@ use desk_designs::{
     script_migration_by_plan, split_by_pairs, split_in_form, synthesize_plan, write_form,
     write_plan,
 };
-use desk_discovery::exhibit_relation;
+use desk_discovery::{discover_keys, discover_rules, discover_small_rules, exhibit_relation};
 use desk_implication::{give_basis, give_closure, give_projection, implies};
 use desk_keys::{check_key, explain_keys, list_keys, list_keys_of_plan};
 use desk_measures::{keep_rows, list_offences, list_offences_by_row};
+use desk_outside::Argument;
 use desk_reasons::{explain_split, explain_synthesis};
 use desk_responses::{EarlyExit, Response};
 use desk_tables::check_rows;
-use desk_words::{PlanQuestion, RowsQuestion, SchemaQuestion};
+use desk_words::{PlanQuestion, RowsQuestion, RulesQuestion, SchemaQuestion};
+use fd_discovery::Headed;
 use plan_reader::MOST_SCHEMES;
 use plans::Plan;
 use row_store::{Hashing, Rows};
@@ -104,5 +109,29 @@ pub fn answer_rows(
         RowsQuestion::Offences => list_offences(alloc, hashing, schema, rows),
         RowsQuestion::OffencesByRow => list_offences_by_row(alloc, hashing, schema, rows),
         RowsQuestion::Kept => keep_rows(alloc, hashing, schema, rows),
+    }
+}
+
+/// Answers which rules the rows under a free header obey.
+#[tactic(auto, unfolding(crate::specs::Performs::AnswersRules))]
+pub fn answer_rules(
+    alloc: Global,
+    hashing: Hashing,
+    file: &Argument,
+    headed: Headed,
+    question: RulesQuestion,
+) -> Result<Response, EarlyExit>
+    requires header { IsColumnHeader (names_under headed) }
+    requires any_name { 0 < length (names_under headed) }
+    requires same_width { IsOver (length (names_under headed)) (rows_under headed) }
+    requires within_limit { length (rows_under headed) ≤ MOST_HEADED_ROWS }
+    ensures response { RespondsAs (AnswersRules (rules_question question) file.now headed) result }
+{
+    match question {
+        RulesQuestion::Minimal => discover_rules(alloc, hashing, file, headed),
+        RulesQuestion::Small { most } => {
+            discover_small_rules(alloc, hashing, file, headed, most.number)
+        }
+        RulesQuestion::Keys => discover_keys(alloc, hashing, file, headed),
     }
 }

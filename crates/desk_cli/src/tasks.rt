@@ -2,11 +2,10 @@
 //! question is put to what was read. No other function of this crate reads a file.
 
 ghost use Rattle.std.specs.Prelude.{◌≡◌, ◌≤◌, ◌∷◌, []};
-ghost use Rattle.desk_words.specs.Commands.{plan_question, rows_question, task_form};
+ghost use Rattle.desk_words.specs.Commands.{plan_question, rows_question, rules_question, task_form};
 ghost use Rattle.table_join.specs.Tables.{tables_of};
 ghost use Rattle.desk_implication.specs.Certificates.{ChecksProof};
 ghost use Rattle.desk_covers.specs.CoverChecks.{ChecksCover};
-ghost use Rattle.desk_discovery.specs.Discoveries.{FindsRules};
 ghost use Rattle.desk_inputs.specs.FileKinds.{WithFile};
 ghost use Rattle.desk_inputs.specs.FilesBegun.{BeginsFront};
 ghost use Rattle.desk_inputs.specs.Headed.{headed_file};
@@ -16,7 +15,7 @@ ghost use Rattle.desk_tables.specs.Overwriting.{MigratesHere, MigratesPlanHere};
 ghost use Rattle.desk_tables.specs.OwnFolders.{MigratesInto, MigratesPlanInto};
 ghost use Rattle.desk_inputs.specs.Parts.{WithParts};
 ghost use Rattle.desk_cli.specs.FilesRead.{files_of_task};
-ghost use Rattle.desk_cli.specs.Performs.{AnswersPlan, AnswersRows, Does, WithValues};
+ghost use Rattle.desk_cli.specs.Performs.{AnswersPlan, AnswersRows, AnswersRules, Does, WithValues};
 ghost use Rattle.desk_measures.specs.Measures.{MeasuresRows};
 ghost use Rattle.desk_inputs.specs.Plans.{plan_file};
 ghost use Rattle.desk_inputs.specs.Readings.{Reading, Shows};
@@ -25,11 +24,10 @@ ghost use Rattle.desk_responses.specs.Responses.{RespondsAs};
 ghost use Rattle.desk_inputs.specs.Rows.{rows_file};
 ghost use Rattle.desk_covers.specs.Sameness.{ChecksSame};
 
-use crate::questions::{answer_plan, answer_rows, answer_schema};
+use crate::questions::{answer_plan, answer_rows, answer_rules, answer_schema};
 use dep_model::Schema;
 use desk_covers::{check_cover, check_same};
 use desk_derivations::check_derivation;
-use desk_discovery::discover_rules;
 use desk_implication::check_proof;
 use desk_inputs::{
     open_derivation, open_headed, open_parts, open_plan, open_proof, open_rows, open_schema,
@@ -40,7 +38,7 @@ use desk_responses::{EarlyExit, Response};
 use desk_tables::{
     migrate_form_here, migrate_form_into, migrate_plan_here, migrate_plan_into, rejoin,
 };
-use desk_words::{MOST_FILES, PlanQuestion, RowsQuestion, Task};
+use desk_words::{MOST_FILES, PlanQuestion, RowsQuestion, RulesQuestion, Task};
 use normal_forms::Form;
 use own_folder::FolderMaker;
 use row_store::Hashing;
@@ -438,23 +436,25 @@ fn of_parts<F: FileSource>(
     rejoin(alloc, hashing, schema, &parts)
 }
 
-/// The minimal functional dependencies that the rows of a file obey.
+/// The rules that the rows of a file obey.
 pub fn of_headed<F: FileSource>(
     alloc: Global,
     hashing: Hashing,
     source: &mut F,
     file: &Argument,
+    question: RulesQuestion,
 ) -> Result<Response, EarlyExit>
     ensures files { F.files source.new ≡ F.files source.old }
     ensures later { F.faults source.old ≤ F.faults source.new }
     ensures reads { BeginsFront (file.now ∷ [])
         (F.begun source.old) (F.begun source.new) }
     ensures response { (r : Reading) → Shows F.files F.faults F.taken F.begun source.old source.new r
-        → RespondsAs (WithFile headed_file r file.now (FindsRules file.now)) result }
+        → RespondsAs (WithFile headed_file r file.now
+        (AnswersRules (rules_question question) file.now)) result }
 {
     let headed = match open_headed(alloc, source, file) {
         Ok(headed) => headed,
         Err(exit) => return Err(exit),
     };
-    discover_rules(alloc, hashing, file, headed)
+    answer_rules(alloc, hashing, file, headed, question)
 }

@@ -156,7 +156,9 @@ fn perform<F: FileSource, M: FolderMaker>(
         Command::OverSchema { schema, task } => over_schema(
             alloc, hashing, source, place, schema, task,
         ),
-        Command::Discover { file } => of_headed(alloc, hashing, source, file),
+        Command::Discover { question, file } => {
+            of_headed(alloc, hashing, source, file, question)
+        }
         Command::Sample { persons } => migrate_sample(alloc, hashing, persons),
         Command::Help => help(alloc),
         Command::Version => version(alloc),

@@ -1,4 +1,5 @@
--- The functional dependencies that the rows of a file obey: for `discover`.
+-- The functional dependencies that the rows of a file obey: for `discover`, and for `discover` with a bound on their
+-- left sides.
 use Rattle.std.specs.Prelude.{◌≡◌, ◌<◌, ◌⊎◌, List, [], codes, length, map, replicate, slice_index_or, ℕ, ◌++◌, ◌↔◌, ◌∷◌}
 use Rattle.attr_sets.specs.Attributes.{Attributes, below, none, IsSubset}
 use Rattle.candidate_search.specs.Sides.{IsExceeded}
@@ -15,6 +16,7 @@ use Rattle.fd_discovery.specs.declared.headed_rows.Headed.{Headed}
 use Rattle.fd_discovery.specs.Headers.{naming_under}
 use Rattle.fd_discovery.specs.Headings.{names_under, rows_under}
 use Rattle.fd_discovery.specs.Minimal.{AreAllMinimal}
+use Rattle.fd_search.specs.Small.{AreAllSmall}
 use Rattle.schema_printer.specs.Printing.{words_text, dependency_text, lines_text}
 use Rattle.schema_printer.specs.Spelling.{spelling}
 use Rattle.desk_implication.specs.Projections.{overlong_text}
@@ -68,10 +70,10 @@ pub record AreRulesOf (n : ℕ) (rows : Relation) (ds : List Dependency) : Type 
       → Implies n ds (fd x y) ↔ ObeysFd x y rows
 
 -- there are more columns than those of which all sets are tried, and some evidence of the rows has too many
--- candidates for the left sides of a column
-pub record HasTooManyLeftSides (headed : Headed) (refusal : TooManyLeftSides) : Type 0 where
+-- candidates of at most so many columns for the left sides of a column
+pub record HasTooManyLeftSides (most : ℕ) (headed : Headed) (refusal : TooManyLeftSides) : Type 0 where
   pub wide : WIDEST_TRIED < length (names_under headed)
-  pub exceeded : IsExceeded (length (names_under headed)) (length (names_under headed)) (rows_under headed) refusal
+  pub exceeded : IsExceeded (length (names_under headed)) most (rows_under headed) refusal
 
 -- yes, with these
 abbrev pub GivesRules : Headed → Allowed
@@ -80,11 +82,24 @@ GivesRules headed response =
     × Says Yes (found_text (names_under headed) ds) response
 
 -- refused, with the name of the file and of such a column
-abbrev pub RefusesRules : List ℕ → Headed → Allowed
-RefusesRules file headed response =
-    (refusal : TooManyLeftSides) × HasTooManyLeftSides headed refusal
+abbrev pub RefusesRules : ℕ → List ℕ → Headed → Allowed
+RefusesRules most file headed response =
+    (refusal : TooManyLeftSides) × HasTooManyLeftSides most headed refusal
     × Says Refused (left_sides_text file (names_under headed) refusal.right) response
 
 -- the rules of a file of this name, or the refusal of a column that has too many left sides
 abbrev pub FindsRules : List ℕ → Headed → Allowed
-FindsRules file headed response = GivesRules headed response ⊎ RefusesRules file headed response
+FindsRules file headed response =
+    GivesRules headed response ⊎ RefusesRules (length (names_under headed)) file headed response
+
+-- ---- few attributes on the left
+-- yes, with exactly the minimal dependencies of at most so many attributes on the left, in order
+abbrev pub GivesSmallRules : ℕ → Headed → Allowed
+GivesSmallRules most headed response =
+    (ds : List Dependency) × AreAllSmall (length (names_under headed)) most (rows_under headed) ds
+    × Says Yes (found_text (names_under headed) ds) response
+
+-- these of a file of this name, or the refusal of a column that has too many left sides of so many attributes
+abbrev pub FindsSmallRules : ℕ → List ℕ → Headed → Allowed
+FindsSmallRules most file headed response =
+    GivesSmallRules most headed response ⊎ RefusesRules most file headed response

@@ -1,3 +1,4 @@
 -- The definitions of desk_discovery: a file for each command.
 pub mod Exhibits
 pub mod Discoveries
+pub mod KeyDiscoveries

@@ -79,7 +79,11 @@ fn rules_of(
 }
 
 // Yes, with names and dependencies over them.
-fn rules_response(alloc: Global, names: Vec<Name>, deps: &[Dep]) -> Result<Response, OutOfMemory>
+pub fn rules_response(
+    alloc: Global,
+    names: Vec<Name>,
+    deps: &[Dep],
+) -> Result<Response, OutOfMemory>
     requires header { IsColumnHeader names.items }
     requires within { All (IsDepWithin (below (length names.items))) deps.now }
     requires any_name { 0 < length names.items }
@@ -92,7 +96,7 @@ fn rules_response(alloc: Global, names: Vec<Name>, deps: &[Dep]) -> Result<Respo
 }
 
 // Some evidence of the rows has too many candidates for a column.
-fn left_sides_exit(alloc: Global, file: &Argument, names: &[Name], column: u8) -> EarlyExit
+pub fn left_sides_exit(alloc: Global, file: &Argument, names: &[Name], column: u8) -> EarlyExit
     requires column { column < length names.now }
     ensures says { ExitsAs (Says Status.Refused (left_sides_text file.now names.now column)) result }
 {
@@ -140,7 +144,7 @@ fn rule_lines(alloc: Global, names: Vec<Name>, deps: &[Dep]) -> Result<Vec<u8>, 
 }
 
 // Text columns of these names as a schema without dependencies.
-fn schema_of_columns(alloc: Global, names: Vec<Name>) -> Result<Schema, OutOfMemory>
+pub fn schema_of_columns(alloc: Global, names: Vec<Name>) -> Result<Schema, OutOfMemory>
     requires header { IsColumnHeader names.items }
     requires any_name { 0 < length names.items }
     ensures columns { IfOk result (HasTextColumns names.items) }

@@ -1,11 +1,15 @@
 //! Between dependencies and relations: the relation that exhibits a schema, and what the rows of a file
-//! obey.
+//! obey: their minimal dependencies, those of few attributes on the left, and their minimal keys.
 //!
 //! Each is a pure function of values, with the one clause that its response is allowed.
 #![tactic(auto)]
 
 mod discovering;
 mod exhibits;
+mod keys;
+mod small;
 
 pub use discovering::{WIDEST_TRIED, discover_rules};
 pub use exhibits::{exhibit_relation, multivalued_exit};
+pub use keys::discover_keys;
+pub use small::discover_small_rules;

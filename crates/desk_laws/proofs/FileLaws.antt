@@ -1,5 +1,5 @@
 -- Where the files of `discover` and `rejoin` have their meaning, these commands answer yes or no.
-use Rattle.std.proofs.Common.{◌≡◌, ◌≤◌, ◌<◌, ℕ, true, zero, suc, Some, None, Result, Ok, Err, List, [], ◌∷◌, length, inl, inr, refl, sym, ap, subst, ◌∙◌, arith}
+use Rattle.std.proofs.Common.{◌≡◌, ◌≤◌, ◌<◌, ℕ, true, false, zero, suc, Some, None, Result, Ok, Err, List, [], ◌∷◌, length, inl, inr, refl, sym, ap, subst, ◌∙◌, arith}
 use Rattle.std.specs.Prelude.{codes, slice_get}
 use Rattle.attr_sets.specs.Attributes.{Attributes}
 use Rattle.attr_sets.specs.Sets.{attributes}
@@ -17,8 +17,10 @@ use Rattle.dep_model.specs.Schemas.{names_of, width_of}
 use Rattle.dep_model.specs.Tuples.{Relation}
 use Rattle.dep_model.specs.declared.schema.Schema.{Schema}
 use Rattle.fd_discovery.proofs.UniqueHeaded.{never_both}
-use Rattle.fd_discovery.specs.Headings.{IsRefusedDiscovery}
+use Rattle.fd_discovery.specs.Headings.{IsRefusedDiscovery, names_under, rows_under}
 use Rattle.fd_discovery.specs.declared.headed_rows.Headed.{Headed}
+use Rattle.lexer.specs.Bytes.{number_of}
+use Rattle.row_keys.specs.Keys.{HasTooManyKeys}
 use Rattle.table_join.specs.Answers.{IsWithinLimit}
 use Rattle.table_join.specs.declared.refusal.JoinRefusal.TheVariants.{NotCovered, TooManyRows}
 use Rattle.table_join.specs.Tables.{PartialRelation, table_of_part, tables_of, plan_of_tables}
@@ -26,13 +28,15 @@ use Rattle.desk_outside.specs.Files.{Files}
 use Rattle.desk_tables.specs.declared.rejoining.TheConstants.{MOST_JOINED_ROWS}
 use Rattle.desk_inputs.specs.declared.rows.TheConstants.{MOST_CSV_BYTES}
 use Rattle.desk_responses.specs.ResponseValues.{ResponseValue, Allowed}
-use Rattle.desk_discovery.specs.Discoveries.{FindsRules, HasTooManyLeftSides}
+use Rattle.desk_discovery.specs.Discoveries.{FindsRules, FindsSmallRules, HasTooManyLeftSides}
+use Rattle.desk_discovery.specs.KeyDiscoveries.{FindsRowKeys}
 use Rattle.desk_discovery.specs.declared.discovering.TheConstants.{WIDEST_TRIED}
 use Rattle.desk_inputs.specs.FileKinds.{FileStops, IsFile, WithFile}
 use Rattle.desk_inputs.specs.Headed.{headed_file}
-use Rattle.desk_words.specs.Forms.{form_of, form_over_rows, form_over_schema, schema_and_several, word_alone, are_one_to_64}
+use Rattle.desk_words.specs.Forms.{after_discover, form_of, form_over_rows, form_over_schema, schema_and_several, are_one_to_64}
+use Rattle.desk_words.specs.Numbers.{is_left_bound, is_short_number}
 use Rattle.desk_inputs.specs.Inputs.{schema_file}
-use Rattle.desk_cli.specs.Performs.{Answers, Performs, Does}
+use Rattle.desk_cli.specs.Performs.{Answers, AnswersRules, Performs, Does}
 use Rattle.desk_inputs.specs.Readings.{known_files}
 use Rattle.desk_inputs.specs.Parts.{ArePartFiles, WithParts, part_file}
 use Rattle.desk_tables.specs.Rejoining.{JoinsTables}
@@ -61,31 +65,81 @@ after_headed files name h rest response file go (inr (k, is, more)) =
 
 discover_asks : (files : Files) (file : List ℕ) (looks : Looks) (response : ResponseValue)
     → Answers looks (known_files files) (codes "discover" ∷ file ∷ []) response → WithFile headed_file (known_files files) file (FindsRules file) response
-unfolding form_of word_alone Performs
+unfolding form_of after_discover Performs AnswersRules
 discover_asks files file looks response answered = answered
 
+small_asks : (files : Files) (word file : List ℕ) (looks : Looks) (response : ResponseValue) → is_left_bound word ≡ true
+    → Answers looks (known_files files) (codes "discover" ∷ word ∷ file ∷ []) response
+    → WithFile headed_file (known_files files) file (FindsSmallRules (number_of word) file) response
+unfolding form_of after_discover Performs AnswersRules
+small_asks files word file looks response bounds answered = (rw bounds at answered)
+
+no_bound : is_left_bound (codes "keys") ≡ false
+unfolding is_left_bound is_short_number
+no_bound = refl
+
+keys_ask : (files : Files) (file : List ℕ) (looks : Looks) (response : ResponseValue)
+    → Answers looks (known_files files) (codes "discover" ∷ codes "keys" ∷ file ∷ []) response
+    → WithFile headed_file (known_files files) file (FindsRowKeys file) response
+unfolding form_of after_discover Performs AnswersRules
+keys_ask files file looks response answered = (rw no_bound at answered)
+
 -- a column has too many left sides by names and rows alone
-many_there : (h k : Headed) (refusal : TooManyLeftSides) → names_and_rows k ≡ names_and_rows h
-    → HasTooManyLeftSides k refusal → HasTooManyLeftSides h refusal
-many_there h k refusal same many =
+many_there : (most : ℕ) (h k : Headed) (refusal : TooManyLeftSides) → names_and_rows k ≡ names_and_rows h
+    → HasTooManyLeftSides most k refusal → HasTooManyLeftSides most h refusal
+many_there most h k refusal same many =
     let moved = subst (λ (read : List (List ℕ) × Relation). (WIDEST_TRIED < length read.0)
-    × IsExceeded (length read.0) (length read.0) read.1 refusal) same (many.wide, many.exceeded) in
+    × IsExceeded (length read.0) most read.1 refusal) same (many.wide, many.exceeded) in
     record { wide = moved.0; exceeded = moved.1 }
 
 rules_given : (file : List ℕ) (h k : Headed) (response : ResponseValue)
-    → ((refusal : TooManyLeftSides) → HasTooManyLeftSides h refusal → ⊥) → names_and_rows k ≡ names_and_rows h
-    → FindsRules file k response → IsYesOrNo response.status
+    → ((refusal : TooManyLeftSides) → HasTooManyLeftSides (length (names_under h)) h refusal → ⊥)
+    → names_and_rows k ≡ names_and_rows h → FindsRules file k response → IsYesOrNo response.status
 rules_given file h k response not_many same (inl found) = inl (ap (λ (a : ResponseValue). a.status) found.2)
 rules_given file h k response not_many same (inr (refusal, many, says)) =
-    absurd (not_many refusal (many_there h k refusal same many))
+    absurd (not_many refusal (subst (λ (n : ℕ). HasTooManyLeftSides n h refusal)
+    (ap (λ (read : List (List ℕ) × Relation). length read.0) same)
+    (many_there (length (names_under k)) h k refusal same many)))
+
+small_given : (most : ℕ) (file : List ℕ) (h k : Headed) (response : ResponseValue)
+    → ((refusal : TooManyLeftSides) → HasTooManyLeftSides most h refusal → ⊥)
+    → names_and_rows k ≡ names_and_rows h → FindsSmallRules most file k response → IsYesOrNo response.status
+small_given most file h k response not_many same (inl found) = inl (ap (λ (a : ResponseValue). a.status) found.2)
+small_given most file h k response not_many same (inr (refusal, many, says)) =
+    absurd (not_many refusal (many_there most h k refusal same many))
+
+keys_given : (file : List ℕ) (h k : Headed) (response : ResponseValue)
+    → (HasTooManyKeys (length (names_under h)) (rows_under h) → ⊥)
+    → names_and_rows k ≡ names_and_rows h → FindsRowKeys file k response → IsYesOrNo response.status
+keys_given file h k response not_many same (inl found) = inl (ap (λ (a : ResponseValue). a.status) found.2)
+keys_given file h k response not_many same (inr (many, says)) =
+    absurd (not_many (subst (λ (read : List (List ℕ) × Relation). HasTooManyKeys (length read.0) read.1) same many))
 
 pub discover_answered : (files : Files) (file : List ℕ) (headed : Headed) → IsFile headed_file (known_files files) file headed
-    → ((refusal : TooManyLeftSides) → HasTooManyLeftSides headed refusal → ⊥)
+    → ((refusal : TooManyLeftSides) → HasTooManyLeftSides (length (names_under headed)) headed refusal → ⊥)
     → IsAnswered files (codes "discover" ∷ file ∷ [])
 discover_answered files file headed is not_many looks response answered =
     after_headed files file headed (FindsRules file) response is
     (λ k same found. rules_given file headed k response not_many same found)
     (discover_asks files file looks response answered)
+
+pub discover_small_answered : (files : Files) (word file : List ℕ) (headed : Headed) → is_left_bound word ≡ true
+    → IsFile headed_file (known_files files) file headed
+    → ((refusal : TooManyLeftSides) → HasTooManyLeftSides (number_of word) headed refusal → ⊥)
+    → IsAnswered files (codes "discover" ∷ word ∷ file ∷ [])
+discover_small_answered files word file headed bounds is not_many looks response answered =
+    after_headed files file headed (FindsSmallRules (number_of word) file) response is
+    (λ k same found. small_given (number_of word) file headed k response not_many same found)
+    (small_asks files word file looks response bounds answered)
+
+pub discover_keys_answered : (files : Files) (file : List ℕ) (headed : Headed)
+    → IsFile headed_file (known_files files) file headed
+    → (HasTooManyKeys (length (names_under headed)) (rows_under headed) → ⊥)
+    → IsAnswered files (codes "discover" ∷ codes "keys" ∷ file ∷ [])
+discover_keys_answered files file headed is not_many looks response answered =
+    after_headed files file headed (FindsRowKeys file) response is
+    (λ k same found. keys_given file headed k response not_many same found)
+    (keys_ask files file looks response answered)
 
 -- ---- tables of some columns
 part_alike : (s r : Schema) (text : List ℕ) (rows : Relation) → AreSame s r → PartOf s text (Ok rows)

@@ -1,19 +1,24 @@
 -- Words have one answer over known files, but for the derivation of a goal that is implied and for the refusal of a
--- column that has too many left sides.
+-- search for rules.
 use Rattle.std.proofs.Common.{◌≡◌, ◌≤◌, ◌<◌, ◌⊎◌, ℕ, List, length, Some, None, Option, refl, sym, ap, subst, ◌∙◌, inl, inr, arith}
 use Rattle.std.specs.Prelude.{MatchOption}
+use Rattle.attr_sets.specs.Attributes.{Attributes}
 use Rattle.candidate_search.specs.Sides.{IsExceeded}
 use Rattle.candidate_search.specs.declared.side.TooManyLeftSides.{TooManyLeftSides}
 use Rattle.dep_model.specs.Dependencies.{Dependency}
 use Rattle.dep_model.specs.Tuples.{Relation}
 use Rattle.dep_model.specs.declared.schema.Schema.{Schema}
 use Rattle.desk_outside.specs.Files.{Files}
+use Rattle.fd_discovery.specs.Headings.{names_under}
 use Rattle.fd_discovery.specs.declared.headed_rows.Headed.{Headed}
+use Rattle.fd_search.specs.Small.{AreAllSmall}
+use Rattle.row_keys.specs.Keys.{AreRowKeys, HasTooManyKeys}
 use Rattle.sample_rows.specs.declared.rows.TheConstants.{MOST_PERSONS}
-use Rattle.implication_laws.proofs.OneAnswer.{one_rules_answer}
+use Rattle.implication_laws.proofs.OneAnswer.{one_row_keys_answer, one_rules_answer, one_small_answer}
 use Rattle.plan_laws.proofs.SampleAnswers.{one_sampled}
-use Rattle.desk_cli.specs.Performs.{Answers, Does, Performs}
-use Rattle.desk_discovery.specs.Discoveries.{AreRulesOf, FindsRules, RefusesRules, found_text, left_sides_text}
+use Rattle.desk_cli.specs.Performs.{Answers, AnswersRules, Does, Performs}
+use Rattle.desk_discovery.specs.Discoveries.{AreRulesOf, RefusesRules, found_text, left_sides_text}
+use Rattle.desk_discovery.specs.KeyDiscoveries.{row_keys_text, too_many_row_keys_text}
 use Rattle.desk_discovery.specs.declared.discovering.TheConstants.{WIDEST_TRIED}
 use Rattle.desk_inputs.specs.FileKinds.{IsFile}
 use Rattle.desk_inputs.specs.Headed.{headed_file}
@@ -24,12 +29,12 @@ use Rattle.desk_laws.proofs.OneTask.{after_schema, one_task}
 use Rattle.desk_laws.proofs.OneText.{names_and_rows}
 use Rattle.desk_laws.proofs.SampleWords.{sample_within}
 use Rattle.desk_tables.specs.OwnFolders.{HasOneLook, Looks}
-use Rattle.desk_laws.specs.OneReading.{AskForRules, AskWhatIsDerived, BothDerive}
+use Rattle.desk_laws.specs.OneReading.{AskForRules, AskWhatIsDerived, BothDerive, RefusesSearch}
 use Rattle.desk_responses.specs.ResponseValues.{Allowed, ResponseValue, Says}
 use Rattle.desk_responses.specs.declared.status.Status.TheVariants.{Yes, Refused}
 use Rattle.desk_words.specs.Forms as form
 use Rattle.desk_texts.specs.Texts.{unknown_words_text}
-use Rattle.desk_words.specs.Forms.{CommandForm, Task, form_of}
+use Rattle.desk_words.specs.Forms.{CommandForm, RulesQuestion, Task, form_of}
 
 -- ---- rules of rows
 -- what is said of names and rows alone
@@ -37,24 +42,52 @@ abbrev rules_given : List (List ℕ) × Relation → Allowed
 rules_given read response =
     (ds : List Dependency) × AreRulesOf (length read.0) read.1 ds × Says Yes (found_text read.0 ds) response
 
-abbrev rules_refused : List ℕ → List (List ℕ) × Relation → Allowed
-rules_refused file read response =
+abbrev small_rules_given : ℕ → List (List ℕ) × Relation → Allowed
+small_rules_given most read response =
+    (ds : List Dependency) × AreAllSmall (length read.0) most read.1 ds × Says Yes (found_text read.0 ds) response
+
+abbrev rules_refused : ℕ → List ℕ → List (List ℕ) × Relation → Allowed
+rules_refused most file read response =
     (refusal : TooManyLeftSides) × (WIDEST_TRIED < length read.0)
-    × IsExceeded (length read.0) (length read.0) read.1 refusal
+    × IsExceeded (length read.0) most read.1 refusal
     × Says Refused (left_sides_text file read.0 refusal.right) response
 
-refused_there : (file : List ℕ) (h k : Headed) (response : ResponseValue) → names_and_rows h ≡ names_and_rows k
-    → RefusesRules file h response → RefusesRules file k response
-refused_there file h k response same (refusal, many, says) =
-    let moved = subst (λ (read : List (List ℕ) × Relation). rules_refused file read response) same
+abbrev row_keys_found : List ℕ → List (List ℕ) × Relation → Allowed
+row_keys_found file read response =
+    ((keys : List Attributes) × AreRowKeys (length read.0) read.1 keys × Says Yes (row_keys_text read.0 keys) response)
+    ⊎ (HasTooManyKeys (length read.0) read.1 × Says Refused (too_many_row_keys_text file) response)
+
+refused_there : (most : ℕ) (file : List ℕ) (h k : Headed) (response : ResponseValue) → names_and_rows h ≡ names_and_rows k
+    → RefusesRules most file h response → RefusesRules most file k response
+refused_there most file h k response same (refusal, many, says) =
+    let moved = subst (λ (read : List (List ℕ) × Relation). rules_refused most file read response) same
     (refusal, many.wide, many.exceeded, says) in
     (moved.0, record { wide = moved.1; exceeded = moved.2 }, moved.3)
 
-found_there : (file : List ℕ) (h k : Headed) (response : ResponseValue) → names_and_rows h ≡ names_and_rows k
-    → FindsRules file h response → FindsRules file k response
-found_there file h k response same (inl given) =
+found_there : (question : RulesQuestion) (file : List ℕ) (h k : Headed) (response : ResponseValue)
+    → names_and_rows h ≡ names_and_rows k → AnswersRules question file h response → AnswersRules question file k response
+unfolding AnswersRules
+found_there form.minimal_rules file h k response same (inl given) =
     inl (subst (λ (read : List (List ℕ) × Relation). rules_given read response) same given)
-found_there file h k response same (inr refused) = inr (refused_there file h k response same refused)
+found_there form.minimal_rules file h k response same (inr refused) =
+    inr (subst (λ (n : ℕ). RefusesRules n file k response)
+    (ap (λ (read : List (List ℕ) × Relation). length read.0) same)
+    (refused_there (length (names_under h)) file h k response same refused))
+found_there (form.small_rules most) file h k response same (inl given) =
+    inl (subst (λ (read : List (List ℕ) × Relation). small_rules_given most read response) same given)
+found_there (form.small_rules most) file h k response same (inr refused) =
+    inr (refused_there most file h k response same refused)
+found_there form.keys_of_rows file h k response same found =
+    subst (λ (read : List (List ℕ) × Relation). row_keys_found file read response) same found
+
+-- two answers over one reading
+one_of_rules : (question : RulesQuestion) (file : List ℕ) (k : Headed) (one other : ResponseValue)
+    → AnswersRules question file k one → AnswersRules question file k other
+    → (one ≡ other) ⊎ (RefusesSearch question file k one ⊎ RefusesSearch question file k other)
+unfolding AnswersRules
+one_of_rules form.minimal_rules file k one other first second = one_rules_answer file k one other first second
+one_of_rules (form.small_rules most) file k one other first second = one_small_answer most file k one other first second
+one_of_rules form.keys_of_rows file k one other first second = one_row_keys_answer file k one other first second
 
 -- ---- commands
 -- it is asked of the schema of a file whether it implies a goal, and it does
@@ -66,9 +99,9 @@ IsDerived files command one other =
 -- the rules of a file's rows are asked for, and one answer is the refusal of a column
 abbrev IsRefusedSearch : Files → CommandForm → ResponseValue → ResponseValue → Type 0
 IsRefusedSearch files command one other =
-    (file : List ℕ) × (headed : Headed) × (command ≡ form.discover file)
+    (file : List ℕ) × (question : RulesQuestion) × (headed : Headed) × (command ≡ form.discover question file)
     × IsFile headed_file (known_files files) file headed
-    × (RefusesRules file headed one ⊎ RefusesRules file headed other)
+    × (RefusesSearch question file headed one ⊎ RefusesSearch question file headed other)
 
 abbrev IsFree : Files → CommandForm → ResponseValue → ResponseValue → Type 0
 IsFree files command one other = IsDerived files command one other ⊎ IsRefusedSearch files command one other
@@ -79,12 +112,12 @@ after_one_task : (files : Files) (file : List ℕ) (task : Task) (s : Schema) (o
 after_one_task files file task s one other is (inl same) = inl same
 after_one_task files file task s one other is (inr derive) = inr (inl (file, task, s, refl, is, derive))
 
-after_rules : (files : Files) (file : List ℕ) (k : Headed) (one other : ResponseValue)
+after_rules : (files : Files) (question : RulesQuestion) (file : List ℕ) (k : Headed) (one other : ResponseValue)
     → IsFile headed_file (known_files files) file k
-    → (one ≡ other) ⊎ (RefusesRules file k one ⊎ RefusesRules file k other)
-    → (one ≡ other) ⊎ IsFree files (form.discover file) one other
-after_rules files file k one other is (inl same) = inl same
-after_rules files file k one other is (inr refused) = inr (inr (file, k, refl, is, refused))
+    → (one ≡ other) ⊎ (RefusesSearch question file k one ⊎ RefusesSearch question file k other)
+    → (one ≡ other) ⊎ IsFree files (form.discover question file) one other
+after_rules files question file k one other is (inl same) = inl same
+after_rules files question file k one other is (inr refused) = inr (inr (file, question, k, refl, is, refused))
 
 one_command : (looks : Looks) (files : Files) (command : CommandForm) (one other : ResponseValue) → HasOneLook looks
     → ((persons : ℕ) → command ≡ form.sample persons → persons ≤ MOST_PERSONS)
@@ -97,11 +130,12 @@ one_command looks files (form.over_schema file task) one other single few_person
     (λ s t one other is same first second.
     after_one_task files file task s one other is (one_task looks files s t task one other single same first second))
     one other first second
-one_command looks files (form.discover file) one other single few_persons first second =
-    after_headed files file (λ one other. (one ≡ other) ⊎ IsFree files (form.discover file) one other)
-    (FindsRules file) (λ one other path. inl path)
+one_command looks files (form.discover question file) one other single few_persons first second =
+    after_headed files file (λ one other. (one ≡ other) ⊎ IsFree files (form.discover question file) one other)
+    (AnswersRules question file) (λ one other path. inl path)
     (λ h k a b is same found also.
-    after_rules files file k a b is (one_rules_answer file k a b (found_there file h k a same found) also))
+    after_rules files question file k a b is
+    (one_of_rules question file k a b (found_there question file h k a same found) also))
     one other first second
 one_command looks files (form.sample persons) one other single few_persons first second =
     let few = few_persons persons refl in inl (one_sampled persons (omega (arith, few)) one other first second)
@@ -135,9 +169,10 @@ asked files words one other (inr (command, forms, (inl (file, task, s, is, read,
       read = read;
       derive = derive;
     }))
-asked files words one other (inr (command, forms, (inr (file, headed, is, read, refused)))) =
+asked files words one other (inr (command, forms, (inr (file, question, headed, is, read, refused)))) =
     inr (inr (record {
       file = file;
+      question = question;
       forms = forms ∙ ap (λ (c : CommandForm). Some c) is;
       headed = headed;
       read = read;

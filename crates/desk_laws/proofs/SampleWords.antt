@@ -7,14 +7,14 @@ use Rattle.lexer.specs.Bytes.{number_of}
 use Rattle.normal_forms.specs.declared.forms.Form.{Form}
 use Rattle.sample_rows.specs.declared.rows.TheConstants.{MOST_PERSONS}
 use Rattle.desk_words.specs.Forms as form
-use Rattle.desk_words.specs.Forms.{CommandForm, PlanQuestion, RowsQuestion, SchemaQuestion, Task, after_check, after_check_form, after_ddl, after_draw, after_explain, after_explain_split, after_keys, after_migrate, after_migrate_form, after_migrate_plan, after_offences, after_split, after_sql, after_sql_migrate, are_one_to_64, form_of, form_over_rows, form_over_schema, no_more_arguments, normal_form, persons_alone, schema_alone, schema_and_file, schema_and_plan, schema_and_plan_and_word, schema_and_rows, schema_and_several, schema_and_two, schema_and_word, two_schemas, word_alone}
-use Rattle.desk_words.specs.Numbers.{is_count}
+use Rattle.desk_words.specs.Forms.{CommandForm, PlanQuestion, RowsQuestion, SchemaQuestion, Task, after_check, after_check_form, after_ddl, after_discover, after_draw, after_explain, after_explain_split, after_keys, after_migrate, after_migrate_form, after_migrate_plan, after_offences, after_split, after_sql, after_sql_migrate, are_one_to_64, form_of, form_over_rows, form_over_schema, no_more_arguments, normal_form, persons_alone, schema_alone, schema_and_file, schema_and_plan, schema_and_plan_and_word, schema_and_rows, schema_and_several, schema_and_two, schema_and_word, two_schemas}
+use Rattle.desk_words.specs.Numbers.{is_count, is_left_bound}
 
 -- if a form is that of `sample`, its number is within the limit
 abbrev IsFew : CommandForm → Type 0
 IsFew (form.sample persons) = persons ≤ MOST_PERSONS
 IsFew (form.over_schema file task) = Unit {0}
-IsFew (form.discover file) = Unit {0}
+IsFew (form.discover question file) = Unit {0}
 IsFew form.help = Unit {0}
 IsFew form.version = Unit {0}
 
@@ -96,11 +96,13 @@ few_and_several task [] = tt
 few_and_several task (schema ∷ words) =
     few_if (are_one_to_64 words) (Some (form.over_schema schema (task words))) None tt tt
 
-few_word : (words : List (List ℕ)) → AreFew (word_alone form.discover words)
-unfolding word_alone
-few_word [] = tt
-few_word (a ∷ []) = tt
-few_word (a ∷ b ∷ words) = tt
+few_discover : (words : List (List ℕ)) → AreFew (after_discover words)
+unfolding after_discover
+few_discover [] = tt
+few_discover (a ∷ []) = tt
+few_discover (what ∷ rows ∷ []) =
+    few_if (is_left_bound what) _ _ tt (few_if (bytes_eq what (codes "keys")) _ _ tt tt)
+few_discover (a ∷ b ∷ d ∷ words) = tt
 
 few_help : (words : List (List ℕ)) → AreFew (no_more_arguments form.help words)
 unfolding no_more_arguments
@@ -270,7 +272,7 @@ few_form : (words : List (List ℕ)) → AreFew (form_of words)
 unfolding form_of
 few_form [] = tt
 few_form (verb ∷ rest) =
-    few_if (bytes_eq verb (codes "discover")) _ _ (few_word rest)
+    few_if (bytes_eq verb (codes "discover")) _ _ (few_discover rest)
     (few_if (bytes_eq verb (codes "sample")) _ _ (few_persons rest)
     (few_if (bytes_eq verb (codes "help")) _ _ (few_help rest)
     (few_if (bytes_eq verb (codes "--help")) _ _ (few_help rest)

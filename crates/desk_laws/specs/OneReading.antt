@@ -1,20 +1,22 @@
 -- When a text has one reading, and words one answer: for the laws of `one_answer`. `Desk` does not cite it.
-use Rattle.std.specs.Prelude.{◌≡◌, ◌⊎◌, ℕ, List, Some}
+use Rattle.std.specs.Prelude.{◌≡◌, ◌⊎◌, ℕ, List, Some, length}
 use Rattle.dep_model.specs.Dependencies.{Dependency}
 use Rattle.dep_model.specs.Schemas.{ImpliedBy}
 use Rattle.dep_model.specs.declared.schema.Schema.{Schema}
+use Rattle.fd_discovery.specs.Headings.{names_under}
 use Rattle.fd_discovery.specs.declared.headed_rows.Headed.{Headed}
 use Rattle.implication_laws.specs.OneAnswer.{HasFixedProof}
 use Rattle.desk_arguments.specs.Goals.{IsGoal}
 use Rattle.desk_discovery.specs.Discoveries.{RefusesRules}
+use Rattle.desk_discovery.specs.KeyDiscoveries.{RefusesRowKeys}
 use Rattle.desk_inputs.specs.FileKinds.{IsFile}
 use Rattle.desk_inputs.specs.Headed.{headed_file}
 use Rattle.desk_inputs.specs.Inputs.{schema_file}
 use Rattle.desk_inputs.specs.Readings.{known_files}
 use Rattle.desk_outside.specs.Files.{Files}
-use Rattle.desk_responses.specs.ResponseValues.{ResponseValue}
+use Rattle.desk_responses.specs.ResponseValues.{Allowed, ResponseValue}
 use Rattle.desk_responses.specs.declared.status.Status.TheVariants.{Yes}
-use Rattle.desk_words.specs.Forms.{Task, discover, form_of, implies, of_schema, over_schema}
+use Rattle.desk_words.specs.Forms.{RulesQuestion, Task, discover, form_of, implies, keys_of_rows, minimal_rules, of_schema, over_schema, small_rules}
 
 -- a text means one value at most, or is refused in one way at most, and never both
 pub record HasOneReading {Value Refusal : Type 0} (Means : Value → Type 0) (Refuses : Refusal → Type 0)
@@ -48,11 +50,17 @@ pub record AskWhatIsDerived (files : Files) (words : List (List ℕ)) (one other
   pub read : IsFile schema_file (known_files files) file schema
   pub derive : BothDerive schema task one other
 
--- the words ask for the rules of the rows of a file, and one of the answers is the refusal of a column of it that
--- has too many left sides
+-- the refusal of a search for rules that meets too many candidates: of a column of the file for left sides, or for keys
+abbrev pub RefusesSearch : RulesQuestion → List ℕ → Headed → Allowed
+RefusesSearch minimal_rules file headed = RefusesRules (length (names_under headed)) file headed
+RefusesSearch (small_rules most) file headed = RefusesRules most file headed
+RefusesSearch keys_of_rows file headed = RefusesRowKeys file headed
+
+-- the words ask for rules of the rows of a file, and one of the answers is such a refusal
 pub record AskForRules (files : Files) (words : List (List ℕ)) (one other : ResponseValue) : Type 0 where
   pub file : List ℕ
-  pub forms : form_of words ≡ Some (discover file)
+  pub question : RulesQuestion
+  pub forms : form_of words ≡ Some (discover question file)
   pub headed : Headed
   pub read : IsFile headed_file (known_files files) file headed
-  pub refused : RefusesRules file headed one ⊎ RefusesRules file headed other
+  pub refused : RefusesSearch question file headed one ⊎ RefusesSearch question file headed other

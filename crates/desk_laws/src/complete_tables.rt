@@ -2,7 +2,7 @@
 //! memory (`complete` says it of every call): the laws of the commands on normal forms, plans and
 //! tables.
 
-ghost use Rattle.std.specs.Prelude.{◌≡◌, ◌<◌, ◌≤◌, ℕ, true, List, [], ◌∷◌, codes, All};
+ghost use Rattle.std.specs.Prelude.{◌≡◌, ◌<◌, ◌≤◌, ℕ, true, List, [], ◌∷◌, codes, length, All};
 ghost use Rattle.attr_sets.specs.Attributes.{Attributes};
 ghost use Rattle.armstrong_rel.specs.Refusals.{IsFirstMvd, HasTooManyRows, IsTooWideToExhibit};
 ghost use Rattle.candidate_search.specs.declared.side.TooManyLeftSides.{TooManyLeftSides};
@@ -12,7 +12,10 @@ ghost use Rattle.dep_model.specs.Schemas.{width_of, theory_of};
 ghost use Rattle.dep_model.specs.Tuples.{Relation};
 ghost use Rattle.dep_model.specs.declared.schema.Schema.{Schema};
 ghost use Rattle.fd_discovery.specs.declared.headed_rows.Headed.{Headed};
+ghost use Rattle.fd_discovery.specs.Headings.{names_under, rows_under};
 ghost use Rattle.fd_closure.specs.LeftSides.{IsWide};
+ghost use Rattle.lexer.specs.Bytes.{number_of};
+ghost use Rattle.row_keys.specs.Keys.{HasTooManyKeys};
 ghost use Rattle.normal_forms.specs.declared.forms.Form.{Form};
 ghost use Rattle.normal_forms.specs.declared.forms.Form.TheVariants as forms;
 ghost use Rattle.table_join.specs.Answers.{IsWithinLimit};
@@ -25,7 +28,7 @@ ghost use Rattle.desk_inputs.specs.Headed.{headed_file};
 ghost use Rattle.desk_words.specs.Forms.{are_one_to_64};
 ghost use Rattle.desk_inputs.specs.Inputs.{schema_file};
 ghost use Rattle.desk_designs.specs.Joins.{IsTooLarge};
-ghost use Rattle.desk_words.specs.Numbers.{is_count};
+ghost use Rattle.desk_words.specs.Numbers.{is_count, is_left_bound};
 ghost use Rattle.desk_designs.specs.NormalForms.{form_word};
 ghost use Rattle.desk_inputs.specs.Plans.{plan_file};
 ghost use Rattle.desk_inputs.specs.Readings.{known_files};
@@ -116,11 +119,18 @@ pub fn sample_is_answered()
 {}
 
 /// `discover` is answered where the CSV file has a header that names its columns, and rows under it, and no
-/// evidence of the rows has too many candidates for any column.
+/// evidence of the rows has too many candidates for any column; so with a bound on the left sides, and for keys.
 pub fn discover_is_answered()
     ensures law { (files : Files) (file : List ℕ) (headed : Headed) → IsFile headed_file (known_files files) file headed
-        → ((refusal : TooManyLeftSides) → HasTooManyLeftSides headed refusal → ⊥)
+        → ((refusal : TooManyLeftSides) → HasTooManyLeftSides (length (names_under headed)) headed refusal → ⊥)
         → IsAnswered files (codes "discover" ∷ file ∷ []) }
+    ensures small { (files : Files) (word file : List ℕ) (headed : Headed) → is_left_bound word ≡ true
+        → IsFile headed_file (known_files files) file headed
+        → ((refusal : TooManyLeftSides) → HasTooManyLeftSides (number_of word) headed refusal → ⊥)
+        → IsAnswered files (codes "discover" ∷ word ∷ file ∷ []) }
+    ensures keys { (files : Files) (file : List ℕ) (headed : Headed) → IsFile headed_file (known_files files) file headed
+        → (HasTooManyKeys (length (names_under headed)) (rows_under headed) → ⊥)
+        → IsAnswered files (codes "discover" ∷ codes "keys" ∷ file ∷ []) }
 {}
 
 /// `rejoin` is answered where the schema file means a schema, from one to 64 files are tables, each

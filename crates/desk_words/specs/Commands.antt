@@ -5,6 +5,8 @@ use Rattle.desk_words.specs.declared.questions.PlanQuestion.{PlanQuestion}
 use Rattle.desk_words.specs.declared.questions.PlanQuestion.TheVariants as plan
 use Rattle.desk_words.specs.declared.questions.RowsQuestion.{RowsQuestion}
 use Rattle.desk_words.specs.declared.questions.RowsQuestion.TheVariants as rows
+use Rattle.desk_words.specs.declared.questions.RulesQuestion.{RulesQuestion}
+use Rattle.desk_words.specs.declared.questions.RulesQuestion.TheVariants as rules
 use Rattle.desk_words.specs.declared.questions.SchemaQuestion.{SchemaQuestion}
 use Rattle.desk_words.specs.declared.questions.SchemaQuestion.TheVariants as schema
 use Rattle.desk_words.specs.declared.questions.Task.{Task}
@@ -47,6 +49,11 @@ rows_question rows.Offences = form.offences
 rows_question rows.OffencesByRow = form.offences_by_row
 rows_question rows.Kept = form.kept
 
+abbrev pub rules_question : RulesQuestion → form.RulesQuestion
+rules_question rules.Minimal = form.minimal_rules
+rules_question (rules.Small most) = form.small_rules most.number
+rules_question rules.Keys = form.keys_of_rows
+
 abbrev pub task_form : Task → form.Task
 task_form (task.OfSchema question) = form.of_schema (schema_question question)
 task_form (task.OfPlan plan question) = form.of_plan plan.now (plan_question question)
@@ -64,7 +71,7 @@ task_form (task.Rejoin files) = form.rejoin files.now
 
 abbrev pub command_form : Command → form.CommandForm
 command_form (OverSchema schema task) = form.over_schema schema.now (task_form task)
-command_form (Discover file) = form.discover file.now
+command_form (Discover question file) = form.discover (rules_question question) file.now
 command_form (Sample persons) = form.sample persons.number
 command_form Help = form.help
 command_form Version = form.version

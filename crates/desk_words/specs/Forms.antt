@@ -6,7 +6,7 @@ use Rattle.std.specs.Str.{bytes_eq}
 use Rattle.normal_forms.specs.declared.forms.Form.{Form as NormalForm}
 use Rattle.normal_forms.specs.declared.forms.Form.TheVariants.{Third, Bcnf, Fourth}
 use Rattle.lexer.specs.Bytes.{number_of}
-use Rattle.desk_words.specs.Numbers.{is_count}
+use Rattle.desk_words.specs.Numbers.{is_count, is_left_bound}
 use Rattle.desk_words.specs.declared.command.TheConstants.{MOST_FILES}
 
 -- what is asked of a schema alone, with the words that go with it
@@ -78,6 +78,15 @@ pub data RowsQuestion : Type 0 where
   -- those that break no rule
   kept : RowsQuestion
 
+-- which rules are sought in the rows of a file
+pub data RulesQuestion : Type 0 where
+  -- the minimal functional dependencies
+  minimal_rules : RulesQuestion
+  -- those of at most so many attributes on the left
+  small_rules : ℕ → RulesQuestion
+  -- the minimal keys
+  keys_of_rows : RulesQuestion
+
 -- what is asked of a schema, with the files that are read after its own, in their order
 pub data Task : Type 0 where
   -- a question to it alone
@@ -111,8 +120,8 @@ pub data Task : Type 0 where
 pub data CommandForm : Type 0 where
   -- a schema file, and what is asked of it
   over_schema : List ℕ → Task → CommandForm
-  -- the functional dependencies that the rows of a file obey
-  discover : List ℕ → CommandForm
+  -- the rules that the rows of a file obey
+  discover : RulesQuestion → List ℕ → CommandForm
   -- so many invented persons, as tables in fourth normal form
   sample : ℕ → CommandForm
   -- the commands, in a few lines
@@ -170,11 +179,6 @@ are_one_to_64 words = nat_lt 0 (length words) && nat_le (length words) MOST_FILE
 unfoldable pub schema_and_several : (List (List ℕ) → Task) → List (List ℕ) → Option CommandForm
 schema_and_several task [] = None
 schema_and_several task (schema ∷ words) = if are_one_to_64 words then Some (over_schema schema (task words)) else None
-
--- one word
-unfoldable pub word_alone : (List ℕ → CommandForm) → List (List ℕ) → Option CommandForm
-word_alone form (word ∷ []) = Some (form word)
-word_alone form _ = None
 
 -- no word
 unfoldable pub no_more_arguments : CommandForm → List (List ℕ) → Option CommandForm
@@ -314,6 +318,19 @@ after_draw (what ∷ rest) =
     if bytes_eq what (codes "plan") then schema_and_plan draw_plan rest
     else option_and_then (λ form. schema_alone (draw form) rest) (normal_form what)
 
+-- after `discover`, a word and rows
+abbrev pub discover_after_word : List ℕ → List ℕ → Option CommandForm
+discover_after_word what rows =
+    if is_left_bound what then Some (discover (small_rules (number_of what)) rows)
+    else if bytes_eq what (codes "keys") then Some (discover keys_of_rows rows)
+    else None
+
+-- after `discover`
+unfoldable pub after_discover : List (List ℕ) → Option CommandForm
+after_discover (rows ∷ []) = Some (discover minimal_rules rows)
+after_discover (what ∷ rows ∷ []) = discover_after_word what rows
+after_discover _ = None
+
 -- what is asked of a schema, to the rows of a file
 unfoldable pub form_over_rows : List ℕ → List (List ℕ) → Option CommandForm
 form_over_rows verb rest =
@@ -347,7 +364,7 @@ form_over_schema verb rest =
 unfoldable pub form_of : List (List ℕ) → Option CommandForm
 form_of [] = None
 form_of (verb ∷ rest) =
-    if bytes_eq verb (codes "discover") then word_alone discover rest
+    if bytes_eq verb (codes "discover") then after_discover rest
     else if bytes_eq verb (codes "sample") then persons_alone rest
     else if bytes_eq verb (codes "help") then no_more_arguments help rest
     else if bytes_eq verb (codes "--help") then no_more_arguments help rest

@@ -5,8 +5,9 @@ ghost use Rattle.desk_words.specs.Forms as forms;
 use crate::check::after_check;
 use crate::explain::after_explain;
 use crate::persons::{Persons, count_of};
-use crate::questions::{SchemaQuestion, Task};
+use crate::questions::{RulesQuestion, SchemaQuestion, Task};
 use crate::rows::over_rows;
+use crate::rules::after_discover;
 use crate::shapes::{no_more_arguments, over, schema_alone};
 use crate::tables::{after_ddl, after_draw, after_keys, after_split, after_sql};
 use desk_outside::Argument;
@@ -22,8 +23,9 @@ pub enum Command<'a> {
         schema: &'a Argument,
         task: Task<'a>,
     },
-    /// The functional dependencies that the rows of a file obey.
+    /// The rules that the rows of a file obey.
     Discover {
+        question: RulesQuestion,
         file: &'a Argument,
     },
     /// So many invented persons, as tables in fourth normal form.
@@ -37,7 +39,7 @@ pub enum Command<'a> {
 }
 
 /// The command that the words form, if they form one.
-#[tactic(auto, unfolding(crate::specs::Forms::form_of, crate::specs::Forms::word_alone))]
+#[tactic(auto, unfolding(crate::specs::Forms::form_of))]
 pub fn parse(words: &[Argument]) -> Option<Command<'_>>
     ensures form { option_map command_form result ≡ forms.form_of words.now }
 {
@@ -45,10 +47,7 @@ pub fn parse(words: &[Argument]) -> Option<Command<'_>>
         return None;
     };
     if verb.bytes() == b"discover".as_slice() {
-        let [file] = rest else {
-            return None;
-        };
-        return Some(Command::Discover { file });
+        return after_discover(rest);
     }
     if verb.bytes() == b"sample".as_slice() {
         return after_sample(rest);

@@ -3,16 +3,20 @@
 //! `parse` gives the command that words form, by their first words, and none exactly where they form none.
 #![tactic(auto)]
 
+mod bounds;
 mod check;
 mod command;
 mod explain;
 mod migrate;
+mod numbers;
 mod persons;
 mod questions;
 mod rows;
+mod rules;
 mod shapes;
 mod tables;
 
+pub use bounds::{LeftBound, MOST_ON_LEFT};
 pub use command::{Command, MOST_FILES, parse};
 pub use persons::Persons;
-pub use questions::{PlanQuestion, RowsQuestion, SchemaQuestion, Task};
+pub use questions::{PlanQuestion, RowsQuestion, RulesQuestion, SchemaQuestion, Task};

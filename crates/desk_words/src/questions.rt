@@ -1,3 +1,4 @@
+use crate::bounds::LeftBound;
 use desk_outside::Argument;
 use normal_forms::Form;
 
@@ -74,6 +75,17 @@ pub enum RowsQuestion {
     OffencesByRow,
     /// Those that break no rule.
     Kept,
+}
+
+/// Which rules are sought in the rows of a file.
+#[derive(Clone, Copy, Debug)]
+pub enum RulesQuestion {
+    /// The minimal functional dependencies.
+    Minimal,
+    /// Those of few attributes on the left.
+    Small { most: LeftBound },
+    /// The minimal keys.
+    Keys,
 }
 
 /// What is asked of a schema, with the files that are read after its own, in their order.

@@ -15,7 +15,7 @@ use Rattle.attr_sets.specs.Attributes.{Attributes, IsBefore, only}
 use Rattle.attr_sets.specs.Sets.{attributes}
 use Rattle.attr_sets.specs.declared.set.AttrSet.{AttrSet}
 use Rattle.attr_sets.specs.declared.set.TheConstants.{MOST_ATTRIBUTES}
-use Rattle.attr_sets.proofs.AttributesLemmas.{attributes-at_number, count_below-le}
+use Rattle.attr_sets.proofs.AttributesLemmas.{attributes-at_number}
 use Rattle.attr_sets.proofs.OrderLemmas.{IsBefore-irrefl, before_from_lt}
 use Rattle.dep_model.specs.Dependencies.{fd}
 use Rattle.dep_model.specs.Tuples.{Relation}
@@ -25,14 +25,15 @@ use Rattle.candidate_laws.proofs.CountLemmas.{first_pairs, later_pairs}
 use Rattle.candidate_laws.proofs.StandingLemmas.{Contains-nil}
 use Rattle.candidate_search.specs.Sides.{HasMinimal, rights_of}
 use Rattle.candidate_search.specs.declared.side.Side.{Side}
-use Rattle.fd_discovery.specs.Minimal.{AreAllMinimal, IsMinimalFd, IsMinimalWithin, Precedes}
+use Rattle.fd_discovery.specs.Minimal.{IsMinimalWithin, Precedes}
 use Rattle.fd_search.specs.Listing.{HasNumber, fd_of, pairs_of}
+use Rattle.fd_search.specs.Small.{AreAllSmall, IsSmallFd, IsSmallWithin}
 
 abbrev pub Pair : Type 0
 Pair = AttrSet × ℕ
 
-abbrev IsMinimalPair : ℕ → Relation → Pair → Type 0
-IsMinimalPair n r p = IsMinimalWithin n r (attributes p.0) p.1
+abbrev IsSmallPair : ℕ → ℕ → Relation → Pair → Type 0
+IsSmallPair n most r p = IsSmallWithin n most r (attributes p.0) p.1
 
 -- two pairs have not both one left side and one attribute
 abbrev AreApart : Pair → Pair → Type 0
@@ -60,7 +61,7 @@ flat_map_member {X} {Y} f (z ∷ xs) y listed =
           (x, Contains-later z xs x within, has)
     ]
 
-all_from_contains : {X : Type 0} (P : X → Type 0) (xs : List X) → ((x : X) → Contains xs x → P x) → All P xs
+pub all_from_contains : {X : Type 0} (P : X → Type 0) (xs : List X) → ((x : X) → Contains xs x → P x) → All P xs
 all_from_contains P xs each i d l = each (get_or xs i d) (Contains-get_or xs i d l)
 
 no_pairs : {X : Type 0} (R : X → X → Type 0) → AllPairs R []
@@ -114,12 +115,13 @@ range_has n k l = (k, omega (arith, l, length-range_with_len 0 n), get_or-range_
 
 -- ---- the left sides of all attributes
 -- one side
-side_minimal : (n : ℕ) (r : Relation) (side : Side) → HasMinimal n n r side → (p : Pair) → Contains (pairs_of side) p
-    → IsMinimalPair n r p × (p.1 ≡ side.right)
-side_minimal n r side has p listed =
+side_small : (n most : ℕ) (r : Relation) (side : Side) → HasMinimal n most r side → (p : Pair)
+    → Contains (pairs_of side) p → IsSmallPair n most r p × (p.1 ≡ side.right)
+side_small n most r side has p listed =
     let (left, within, is) = map-member (λ (x : AttrSet). (x, side.right)) side.lefts.items p listed in
     let m = (has.minimal.exactly (attributes left)).0 (Contains-map attributes side.lefts.items left within) in
-    (subst (IsMinimalPair n r) is m.0, sym (ap (λ (q : Pair). q.1) is))
+    let small : IsSmallPair n most r (left, side.right) = record { minimal = m.0; within_limit = m.1 } in
+    (subst (IsSmallPair n most r) is small, sym (ap (λ (q : Pair). q.1) is))
 
 side_apart : (lefts : List AttrSet) (a : ℕ) → AllPairs IsBefore (map attributes lefts)
     → AllPairs AreApart (map (λ left. (left, a)) lefts)
@@ -132,40 +134,40 @@ side_apart (x ∷ xs) a ascending =
     (side_apart xs a (later_pairs IsBefore (attributes x) (map attributes xs) ascending))
 
 -- all sides
-pairs_minimal : (n : ℕ) (r : Relation) (sides : List Side) → All (HasMinimal n n r) sides
-    → All (IsMinimalPair n r) (flat_map pairs_of sides)
-pairs_minimal n r sides are = all_from_contains (IsMinimalPair n r) (flat_map pairs_of sides) (λ p listed.
+pairs_small : (n most : ℕ) (r : Relation) (sides : List Side) → All (HasMinimal n most r) sides
+    → All (IsSmallPair n most r) (flat_map pairs_of sides)
+pairs_small n most r sides are = all_from_contains (IsSmallPair n most r) (flat_map pairs_of sides) (λ p listed.
     let (side, within, has) = flat_map_member pairs_of sides p listed in
-    (side_minimal n r side (All-contains (HasMinimal n n r) sides side are within) p has).0)
+    (side_small n most r side (All-contains (HasMinimal n most r) sides side are within) p has).0)
 
-pairs_all : (n : ℕ) (r : Relation) (sides : List Side) (x : Attributes) (a : ℕ) → All (HasMinimal n n r) sides
-    → rights_of sides ≡ range_with_len 0 n → IsMinimalWithin n r x a
+pairs_all : (n most : ℕ) (r : Relation) (sides : List Side) (x : Attributes) (a : ℕ) → All (HasMinimal n most r) sides
+    → rights_of sides ≡ range_with_len 0 n → IsSmallWithin n most r x a
     → (p : Pair) × Contains (flat_map pairs_of sides) p × (fd_of p ≡ fd x (only a))
-pairs_all n r sides x a are rights minimal =
+pairs_all n most r sides x a are rights small =
     let (side, within, right) = map-member (λ (s : Side). s.right) sides a
-    (subst (λ (ks : List ℕ). Contains ks a) (sym rights) (range_has n a minimal.right)) in
-    let has = All-contains (HasMinimal n n r) sides side are within in
+    (subst (λ (ks : List ℕ). Contains ks a) (sym rights) (range_has n a small.minimal.right)) in
+    let has = All-contains (HasMinimal n most r) sides side are within in
     let (left, listed, is) = map-member attributes side.lefts.items x ((has.minimal.exactly x).1
-    (subst (IsMinimalWithin n r x) (sym right) minimal, count_below-le n x)) in (
+    (subst (IsMinimalWithin n r x) (sym right) small.minimal, small.within_limit)) in (
       (left, side.right),
       flat_map_has pairs_of sides side (left, side.right) within
           (Contains-map (λ (s : AttrSet). (s, side.right)) side.lefts.items left listed),
       ap (λ (v : Attributes). fd v (only side.right)) is ∙ ap (λ (k : ℕ). fd x (only k)) right,
     )
 
-pairs_apart : (n : ℕ) (r : Relation) (sides : List Side) → All (HasMinimal n n r) sides
+pairs_apart : (n most : ℕ) (r : Relation) (sides : List Side) → All (HasMinimal n most r) sides
     → AllPairs (λ a b. a < b) (rights_of sides) → AllPairs AreApart (flat_map pairs_of sides)
-pairs_apart n r [] are ascend = no_pairs AreApart
-pairs_apart n r (side ∷ sides) are ascend =
-    let has = All-head (HasMinimal n n r) side sides are in
-    let rest = All-tail (HasMinimal n n r) side sides are in
+pairs_apart n most r [] are ascend = no_pairs AreApart
+pairs_apart n most r (side ∷ sides) are ascend =
+    let has = All-head (HasMinimal n most r) side sides are in
+    let rest = All-tail (HasMinimal n most r) side sides are in
     subst (AllPairs AreApart) (sym (flat_map-cons pairs_of side sides))
     (pairs_append AreApart (pairs_of side) (flat_map pairs_of sides) (side_apart side.lefts.items side.right has.minimal.ascending)
-    (pairs_apart n r sides rest (later_pairs (λ (a b : ℕ). a < b) side.right (rights_of sides) ascend))
+    (pairs_apart n most r sides rest (later_pairs (λ (a b : ℕ). a < b) side.right (rights_of sides) ascend))
     (λ p q here there same equal.
     let (other, within, holds) = flat_map_member pairs_of sides q there in
-    let p_right = (side_minimal n r side has p here).1 in
-    let q_right = (side_minimal n r other (All-contains (HasMinimal n n r) sides other rest within) q holds).1 in
+    let p_right = (side_small n most r side has p here).1 in
+    let q_right = (side_small n most r other (All-contains (HasMinimal n most r) sides other rest within) q holds).1 in
     let less : side.right < other.right = first_pairs (λ (a b : ℕ). a < b) side.right (rights_of sides) other.right ascend
     (Contains-map (λ (s : Side). s.right) sides other within) in
     omega (arith, less, p_right, q_right, equal)))
@@ -236,14 +238,14 @@ pair_precedes x y apart fits x_low y_low rises = elim (cases_order x.0.0 y.0.0) 
   ]
 ]
 
-module _ (n : ℕ) (r : Relation) (sides : List Side) (pairs sorted : List Pair) (n_in : n ≤ MOST_ATTRIBUTES)
-    (are : All (HasMinimal n n r) sides) (is : pairs ≡ flat_map pairs_of sides) (moved : IsPermutation pairs sorted) where
-  minimal_pairs : All (IsMinimalPair n r) sorted
-  minimal_pairs = All-permutation (IsMinimalPair n r) pairs sorted moved
-      (subst (All (IsMinimalPair n r)) (sym is) (pairs_minimal n r sides are))
+module _ (n most : ℕ) (r : Relation) (sides : List Side) (pairs sorted : List Pair) (n_in : n ≤ MOST_ATTRIBUTES)
+    (are : All (HasMinimal n most r) sides) (is : pairs ≡ flat_map pairs_of sides) (moved : IsPermutation pairs sorted) where
+  small_pairs : All (IsSmallPair n most r) sorted
+  small_pairs = All-permutation (IsSmallPair n most r) pairs sorted moved
+      (subst (All (IsSmallPair n most r)) (sym is) (pairs_small n most r sides are))
 
   pub low_pairs : All (λ p. p.1 < MOST_ATTRIBUTES) sorted
-  low_pairs i d l = omega (arith, (minimal_pairs i d l).right, n_in)
+  low_pairs i d l = omega (arith, (small_pairs i d l).minimal.right, n_in)
 
   module _ (rights : rights_of sides ≡ range_with_len 0 n) (numbers : All HasNumber pairs)
       (in_order : IsSortedBy (λ (x y : Pair). is_lt (ordering_then (nat_cmp x.0.0 y.0.0) (nat_cmp x.1 y.1))) sorted) where
@@ -253,18 +255,18 @@ module _ (n : ℕ) (r : Relation) (sides : List Side) (pairs sorted : List Pair)
         subst (AllPairs (λ (a b : ℕ). a < b)) (sym rights) (range_ascends n) in
         let apart : AllPairs AreApart sorted =
         AllPairs-permutation AreApart (λ x y other same equal. other (sym same) (sym equal)) pairs sorted moved
-        (subst (AllPairs AreApart) (sym is) (pairs_apart n r sides are ascend)) in
+        (subst (AllPairs AreApart) (sym is) (pairs_apart n most r sides are ascend)) in
         let here : i < length sorted = omega (arith, before, l) in
         pair_precedes (get_or sorted i d) (get_or sorted j d) (apart i j d before l)
         (All-permutation HasNumber pairs sorted moved numbers j d l) (low_pairs i d here) (low_pairs j d l)
         (keys_rise sorted low_pairs in_order i j d (omega (arith, before)) l)
 
-    pub all_in_order : AreAllMinimal n r (map fd_of sorted)
+    pub all_in_order : AreAllSmall n most r (map fd_of sorted)
     all_in_order = record {
-      each = All-map (IsMinimalFd n r) fd_of sorted
-          (λ i d l. let p = get_or sorted i d in (attributes p.0, p.1, refl, minimal_pairs i d l));
-      all = λ x a minimal.
-          let (p, listed, same) = pairs_all n r sides x a are rights minimal in
+      each = All-map (IsSmallFd n most r) fd_of sorted
+          (λ i d l. let p = get_or sorted i d in (attributes p.0, p.1, refl, small_pairs i d l));
+      all = λ x a small.
+          let (p, listed, same) = pairs_all n most r sides x a are rights small in
           subst (Contains (map fd_of sorted)) same (Contains-map fd_of sorted p
           (Contains-permutation pairs sorted p moved (subst (λ (ps : List Pair). Contains ps p) (sym is) listed)));
       ascending = pairs_map Precedes fd_of sorted precede;

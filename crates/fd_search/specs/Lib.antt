@@ -1,2 +1,4 @@
--- The definitions of fd_search: left sides with their attributes, in one list.
+-- The definitions of fd_search: minimal dependencies of few attributes on the left, and left sides with their
+-- attributes in one list.
+pub mod Small
 pub mod Listing

@@ -4,8 +4,8 @@ ghost use Rattle.attr_sets.specs.declared.set.TheConstants.{MOST_ATTRIBUTES};
 ghost use Rattle.candidate_search.specs.Sides.{HasMinimal, rights_of};
 ghost use Rattle.dep_model.specs.Deps.{dependencies_of};
 ghost use Rattle.dep_model.specs.Tuples.{Relation};
-ghost use Rattle.fd_discovery.specs.Minimal.{AreAllMinimal};
 ghost use Rattle.fd_search.specs.Listing.{HasNumber, fd_of, pairs_of};
+ghost use Rattle.fd_search.specs.Small.{AreAllSmall};
 
 use attr_sets::AttrSet;
 use candidate_search::Side;
@@ -13,12 +13,12 @@ use dep_model::{Dep, OutOfMemory};
 use std::alloc::Global;
 
 // The dependencies of these sides, by left side ascending, and for one left side by attribute ascending.
-pub fn in_order(alloc: Global, width: u8, sides: &[Side]) -> Result<Vec<Dep>, OutOfMemory>
+pub fn in_order(alloc: Global, width: u8, most: u8, sides: &[Side]) -> Result<Vec<Dep>, OutOfMemory>
     requires width { width ≤ MOST_ATTRIBUTES }
-    requires sides { (r : Relation) × All (HasMinimal width width r) sides.now }
-    ensures minimal { (r : Relation) → All (HasMinimal width width r) sides.now
+    requires sides { (r : Relation) × All (HasMinimal width most r) sides.now }
+    ensures small { (r : Relation) → All (HasMinimal width most r) sides.now
         → rights_of sides.now ≡ range_with_len 0 width
-        → IfOk result (λ found. AreAllMinimal width r (dependencies_of found.items)) }
+        → IfOk result (λ found. AreAllSmall width most r (dependencies_of found.items)) }
 {
     let mut pairs = left_sides(alloc, sides)?;
     pairs.sort()?;

@@ -9,6 +9,7 @@ ghost use Rattle.dep_model.specs.Failures.{RefusesAs};
 ghost use Rattle.dep_model.specs.Implication.{Implies};
 ghost use Rattle.dep_model.specs.Tuples.{IsOver};
 ghost use Rattle.fd_discovery.specs.Minimal.{AreAllMinimal};
+ghost use Rattle.fd_search.specs.Small.{AreAllSmall};
 
 use crate::listing::in_order;
 use candidate_search::{TooManyLeftSides, minimal_left_sides};
@@ -36,10 +37,30 @@ pub fn minimal_dependencies(
     ensures within { IfOk result (λ found. All (IsDepWithin (below width)) found.items) }
     ensures refusal { IfErr result (RefusesAs (IsExceeded width width rows.now)) }
 {
+    let found = small_dependencies(alloc, hashing, width, width, rows)?;
+    Ok(found)
+}
+
+/// Those of at most `most` attributes on the left.
+pub fn small_dependencies(
+    alloc: Global,
+    hashing: Hashing,
+    width: u8,
+    most: u8,
+    rows: &Rows,
+) -> Result<Vec<Dep>, Failure<TooManyLeftSides>>
+    requires width { width ≤ MOST_ATTRIBUTES }
+    requires most { most ≤ MOST_ATTRIBUTES }
+    requires over { IsOver width rows.now }
+    requires fits_u32 { length rows.now < 2 ^ 32 }
+    ensures small { IfOk result (λ found. AreAllSmall width most rows.now (dependencies_of found.items)) }
+    ensures within { IfOk result (λ found. All (IsDepWithin (below width)) found.items) }
+    ensures refusal { IfErr result (RefusesAs (IsExceeded width most rows.now)) }
+{
     let codes = Interned::intern(alloc, hashing, width, rows)?;
     let rights = columns(alloc, width)?;
-    let sides = minimal_left_sides(alloc, &codes, width, width, &rights, &[])?;
-    Ok(in_order(alloc, width, &sides)?)
+    let sides = minimal_left_sides(alloc, &codes, width, most, &rights, &[])?;
+    Ok(in_order(alloc, width, most, &sides)?)
 }
 
 // The columns below `width`, ascending.

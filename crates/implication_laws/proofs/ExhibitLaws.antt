@@ -126,7 +126,7 @@ rules_same schema rows ds example rules r = (
 
 found_alike : (schema : Schema) (rows : Relation) (file : List ℕ) (headed : Headed) (found : ResponseValue)
     → IsExample schema rows → names_under headed ≡ names_of schema → rows_under headed ≡ rows
-    → FindsRules file headed found → RefusesRules file headed found
+    → FindsRules file headed found → RefusesRules (length (names_under headed)) file headed found
     ⊎ ((ds : List Dependency) × Says Yes (found_text (names_of schema) ds) found × AnswersAlikeWith schema ds)
 found_alike schema rows file headed found example names read (inr refused) = inl refused
 found_alike schema rows file headed found example names read (inl (ds, rules, says)) = inr (
@@ -140,7 +140,7 @@ found_alike schema rows file headed found example names read (inl (ds, rules, sa
 pub rules_alike : (schema : Schema) (shown : ResponseValue) → Exhibits schema shown → shown.status ≡ Yes
     → (rows : Relation) × Says Yes (rows_text (names_of schema) rows) shown
     × ((file : List ℕ) (headed : Headed) (found : ResponseValue) → names_under headed ≡ names_of schema
-    → rows_under headed ≡ rows → FindsRules file headed found → RefusesRules file headed found
+    → rows_under headed ≡ rows → FindsRules file headed found → RefusesRules (length (names_under headed)) file headed found
     ⊎ ((ds : List Dependency) × Says Yes (found_text (names_of schema) ds) found × AnswersAlikeWith schema ds))
 rules_alike schema shown exhibits says_yes =
     let (rows, example, says) = shown_example schema shown exhibits says_yes in

@@ -45,7 +45,8 @@ use Rattle.desk_texts.specs.Texts.{line, set_line, goal_refusal_text, set_refusa
 use Rattle.desk_implication.specs.Bases.{TellsBasis, GivesBasis, blocks_text}
 use Rattle.desk_implication.specs.Certificates.{Checked, ChecksProof}
 use Rattle.desk_covers.specs.Covering.{GivesCover}
-use Rattle.desk_discovery.specs.Discoveries.{FindsRules, GivesRules, RefusesRules, found_text}
+use Rattle.desk_discovery.specs.Discoveries.{FindsRules, FindsSmallRules, GivesRules, GivesSmallRules, RefusesRules, found_text}
+use Rattle.desk_discovery.specs.KeyDiscoveries.{FindsRowKeys, GivesRowKeys, RefusesRowKeys, row_keys_text}
 use Rattle.desk_discovery.specs.declared.discovering.TheConstants.{WIDEST_TRIED}
 use Rattle.desk_discovery.specs.Exhibits.{Exhibits, IsExample, multivalued_text}
 use Rattle.desk_arguments.specs.Goals.{GoalStops, IsGoal, SetStops, IsSetText, WithGoal}
@@ -57,7 +58,7 @@ use Rattle.implication_laws.proofs.GoalLemmas.{one_goal, goal_goes}
 use Rattle.implication_laws.proofs.OneBasis.{one_closed, one_blocks}
 use Rattle.implication_laws.proofs.OneCover.{one_whole_cover}
 use Rattle.implication_laws.proofs.OneKey.{one_keys, before_one_way, ascends, each_key, key_listed}
-use Rattle.implication_laws.proofs.OneList.{one_differences, one_rules}
+use Rattle.implication_laws.proofs.OneList.{one_differences, one_row_keys, one_rules, one_small_rules}
 use Rattle.implication_laws.proofs.OrderedLists.{no_longer}
 use Rattle.implication_laws.proofs.StepLaws.{same_says, With-one, Unless-one, same_texts}
 use Rattle.shown_rows.specs.Shown.{shown_relation}
@@ -303,17 +304,53 @@ one_rules_given headed one other (ds, rules, says) (es, also, said) =
     (one_rules (length (names_under headed)) (rows_under headed) ds es rules.minimal also.minimal))
 
 pub one_rules_answer : (file : List ℕ) (headed : Headed) (one other : ResponseValue) → FindsRules file headed one
-    → FindsRules file headed other → (one ≡ other) ⊎ (RefusesRules file headed one ⊎ RefusesRules file headed other)
+    → FindsRules file headed other → (one ≡ other) ⊎ (RefusesRules (length (names_under headed)) file headed one
+    ⊎ RefusesRules (length (names_under headed)) file headed other)
 one_rules_answer file headed one other (inl first) (inl second) = inl (one_rules_given headed one other first second)
 one_rules_answer file headed one other (inl first) (inr second) = inr (inr second)
 one_rules_answer file headed one other (inr first) second = inr (inl first)
 
-few_not_refused : (file : List ℕ) (headed : Headed) (response : ResponseValue) → length (names_under headed) ≤ WIDEST_TRIED
-    → RefusesRules file headed response → ⊥
-few_not_refused file headed response few (refusal, many, says) = absurd (omega (arith, few, many.wide))
+few_not_refused : (most : ℕ) (file : List ℕ) (headed : Headed) (response : ResponseValue)
+    → length (names_under headed) ≤ WIDEST_TRIED → RefusesRules most file headed response → ⊥
+few_not_refused most file headed response few (refusal, many, says) = absurd (omega (arith, few, many.wide))
 
 pub few_rules_answer : (file : List ℕ) (headed : Headed) → length (names_under headed) ≤ WIDEST_TRIED
     → AllowsOne (FindsRules file headed)
 few_rules_answer file headed few one other (inl first) (inl second) = one_rules_given headed one other first second
-few_rules_answer file headed few one other (inl first) (inr second) = absurd (few_not_refused file headed other few second)
-few_rules_answer file headed few one other (inr first) second = absurd (few_not_refused file headed one few first)
+few_rules_answer file headed few one other (inl first) (inr second) = absurd (few_not_refused (length (names_under headed)) file headed other few second)
+few_rules_answer file headed few one other (inr first) second = absurd (few_not_refused (length (names_under headed)) file headed one few first)
+
+-- ---- few attributes on the left
+one_small_given : (most : ℕ) (headed : Headed) → AllowsOne (GivesSmallRules most headed)
+one_small_given most headed one other (ds, rules, says) (es, also, said) =
+    same_says Yes _ _ one other says said
+    (ap (found_text (names_under headed))
+    (one_small_rules (length (names_under headed)) most (rows_under headed) ds es rules also))
+
+pub one_small_answer : (most : ℕ) (file : List ℕ) (headed : Headed) (one other : ResponseValue)
+    → FindsSmallRules most file headed one → FindsSmallRules most file headed other
+    → (one ≡ other) ⊎ (RefusesRules most file headed one ⊎ RefusesRules most file headed other)
+one_small_answer most file headed one other (inl first) (inl second) = inl (one_small_given most headed one other first second)
+one_small_answer most file headed one other (inl first) (inr second) = inr (inr second)
+one_small_answer most file headed one other (inr first) second = inr (inl first)
+
+pub few_small_answer : (most : ℕ) (file : List ℕ) (headed : Headed) → length (names_under headed) ≤ WIDEST_TRIED
+    → AllowsOne (FindsSmallRules most file headed)
+few_small_answer most file headed few one other (inl first) (inl second) = one_small_given most headed one other first second
+few_small_answer most file headed few one other (inl first) (inr second) =
+    absurd (few_not_refused most file headed other few second)
+few_small_answer most file headed few one other (inr first) second = absurd (few_not_refused most file headed one few first)
+
+-- ---- keys of rows
+one_row_keys_given : (headed : Headed) → AllowsOne (GivesRowKeys headed)
+one_row_keys_given headed one other (keys, are, says) (others, also, said) =
+    same_says Yes _ _ one other says said
+    (ap (row_keys_text (names_under headed))
+    (one_row_keys (length (names_under headed)) (rows_under headed) keys others are also))
+
+pub one_row_keys_answer : (file : List ℕ) (headed : Headed) (one other : ResponseValue)
+    → FindsRowKeys file headed one → FindsRowKeys file headed other
+    → (one ≡ other) ⊎ (RefusesRowKeys file headed one ⊎ RefusesRowKeys file headed other)
+one_row_keys_answer file headed one other (inl first) (inl second) = inl (one_row_keys_given headed one other first second)
+one_row_keys_answer file headed one other (inl first) (inr second) = inr (inr second)
+one_row_keys_answer file headed one other (inr first) second = inr (inl first)

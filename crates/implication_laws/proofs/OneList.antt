@@ -1,4 +1,4 @@
--- There is one list of differences, and one of minimal functional dependencies.
+-- There is one list of differences, one of minimal functional dependencies, and one of keys of rows.
 use Rattle.std.proofs.Common.{◌≡◌, ◌<◌, ℕ, List, sym, subst, inl, inr, ⊎_elim, arith}
 use Rattle.std.specs.Prelude.{Contains}
 use Rattle.std.proofs.lemmas.List.Elements.{All-contains}
@@ -8,6 +8,8 @@ use Rattle.dep_model.specs.Dependencies.{Dependency, left_of, right_of}
 use Rattle.dep_model.specs.Tuples.{Relation}
 use Rattle.dep_model.specs.declared.schema.Schema.{Schema}
 use Rattle.fd_discovery.specs.Minimal.{AreAllMinimal, IsMinimalFd, Precedes}
+use Rattle.fd_search.specs.Small.{AreAllSmall, IsSmallFd}
+use Rattle.row_keys.specs.Keys.{AreRowKeys, IsRowKey}
 use Rattle.schema_match.specs.Differences.{AreDifferences}
 use Rattle.implication_laws.proofs.OrderedLists.{HoldsAll, IsOneWay, one_ordered_list}
 
@@ -54,3 +56,32 @@ one_rules n rows one other first second =
     first.each second.each
     first.ascending second.ascending (rules_held n rows one other first second)
     (rules_held n rows other one second first)
+
+small_held : (n most : ℕ) (rows : Relation) (one other : List Dependency) → AreAllSmall n most rows one
+    → AreAllSmall n most rows other → HoldsAll one other
+small_held n most rows one other first second d has =
+    let (x, a, is, small) = All-contains (IsSmallFd n most rows) one d first.each has in
+    subst (λ (e : Dependency). Contains other e) (sym is) (second.all x a small)
+
+pub one_small_rules : (n most : ℕ) (rows : Relation) (one other : List Dependency) → AreAllSmall n most rows one
+    → AreAllSmall n most rows other → one ≡ other
+one_small_rules n most rows one other first second =
+    one_ordered_list (IsSmallFd n most rows) Precedes one other (precedes_one_way (IsSmallFd n most rows))
+    first.each second.each
+    first.ascending second.ascending (small_held n most rows one other first second)
+    (small_held n most rows other one second first)
+
+-- ---- keys of rows
+before_one_way : (P : Attributes → Type 0) → IsOneWay P IsBefore
+before_one_way P x y x_is y_is there back = IsBefore-irrefl x (IsBefore-trans x y x there back)
+
+row_keys_held : (n : ℕ) (rows : Relation) (one other : List Attributes) → AreRowKeys n rows one
+    → AreRowKeys n rows other → HoldsAll one other
+row_keys_held n rows one other first second x has = second.all x (All-contains (IsRowKey n rows) one x first.each has)
+
+pub one_row_keys : (n : ℕ) (rows : Relation) (one other : List Attributes) → AreRowKeys n rows one
+    → AreRowKeys n rows other → one ≡ other
+one_row_keys n rows one other first second =
+    one_ordered_list (IsRowKey n rows) IsBefore one other (before_one_way (IsRowKey n rows)) first.each second.each
+    first.ascending second.ascending (row_keys_held n rows one other first second)
+    (row_keys_held n rows other one second first)

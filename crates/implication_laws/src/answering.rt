@@ -14,7 +14,8 @@ ghost use Rattle.desk_covers.specs.CoverChecks.{ChecksCover};
 ghost use Rattle.desk_covers.specs.CoverReasons.{ExplainsCover};
 ghost use Rattle.desk_covers.specs.Covering.{GivesCover};
 ghost use Rattle.desk_derivations.specs.Derivations.{ChecksDerivation};
-ghost use Rattle.desk_discovery.specs.Discoveries.{FindsRules, RefusesRules};
+ghost use Rattle.desk_discovery.specs.Discoveries.{FindsRules, FindsSmallRules, RefusesRules};
+ghost use Rattle.desk_discovery.specs.KeyDiscoveries.{FindsRowKeys, RefusesRowKeys};
 ghost use Rattle.desk_discovery.specs.declared.discovering.TheConstants.{WIDEST_TRIED};
 ghost use Rattle.desk_discovery.specs.Exhibits.{Exhibits};
 ghost use Rattle.desk_arguments.specs.Goals.{IsGoal};
@@ -106,7 +107,24 @@ pub fn check_same_has_one_answer()
 pub fn discover_has_one_answer()
     ensures law { (file : List ℕ) (headed : Headed) (one other : ResponseValue)
         → FindsRules file headed one → FindsRules file headed other
-        → (one ≡ other) ⊎ (RefusesRules file headed one ⊎ RefusesRules file headed other) }
+        → (one ≡ other) ⊎ (RefusesRules (length (names_under headed)) file headed one
+        ⊎ RefusesRules (length (names_under headed)) file headed other) }
     ensures few { (file : List ℕ) (headed : Headed) → length (names_under headed) ≤ WIDEST_TRIED
         → AllowsOne (FindsRules file headed) }
+{}
+
+/// The same with a bound on the left sides.
+pub fn discover_small_has_one_answer()
+    ensures law { (most : ℕ) (file : List ℕ) (headed : Headed) (one other : ResponseValue)
+        → FindsSmallRules most file headed one → FindsSmallRules most file headed other
+        → (one ≡ other) ⊎ (RefusesRules most file headed one ⊎ RefusesRules most file headed other) }
+    ensures few { (most : ℕ) (file : List ℕ) (headed : Headed) → length (names_under headed) ≤ WIDEST_TRIED
+        → AllowsOne (FindsSmallRules most file headed) }
+{}
+
+/// Any two answers of `discover keys` are equal, or one of them is the refusal of too many keys.
+pub fn discover_keys_has_one_answer()
+    ensures law { (file : List ℕ) (headed : Headed) (one other : ResponseValue)
+        → FindsRowKeys file headed one → FindsRowKeys file headed other
+        → (one ≡ other) ⊎ (RefusesRowKeys file headed one ⊎ RefusesRowKeys file headed other) }
 {}

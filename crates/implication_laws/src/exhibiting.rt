@@ -1,6 +1,6 @@
 //! Laws of the relation that `exhibit` prints.
 
-ghost use Rattle.std.specs.Prelude.{◌≡◌, ◌⊎◌, ◌↔◌, ℕ, true, List};
+ghost use Rattle.std.specs.Prelude.{◌≡◌, ◌⊎◌, ◌↔◌, ℕ, true, List, length};
 ghost use Rattle.csv_text.specs.Rows.{rows_text};
 ghost use Rattle.dep_model.specs.Dependencies.{Dependency, Obeys, is_fd};
 ghost use Rattle.dep_model.specs.Schemas.{names_of, width_of, LegalFor};
@@ -39,7 +39,7 @@ pub fn rules_of_exhibits_are_answered_alike()
         → (rows : Relation) × Says Yes (rows_text (names_of schema) rows) shown
         × ((file : List ℕ) (headed : Headed) (found : ResponseValue) → names_under headed ≡ names_of schema
         → rows_under headed ≡ rows → FindsRules file headed found
-        → RefusesRules file headed found
+        → RefusesRules (length (names_under headed)) file headed found
         ⊎ ((ds : List Dependency) × Says Yes (found_text (names_of schema) ds) found
         × AnswersAlikeWith schema ds)) }
 {}

@@ -1,57 +1,18 @@
--- What is left to prove of `minimal_dependencies`: what its calls require, and its clauses `minimal`,
--- `implied` and `within`, by `ListLemmas` and `FoundLemmas`.
-use Rattle.std.proofs.Common.{◌≡◌, ◌<◌, ℕ, ap, ◌∙◌, arith}
-use Rattle.std.specs.Prelude.{All}
-use Rattle.std.specs.List.{range_with_len}
-use Rattle.std.proofs.lemmas.List.Elements.{All-same}
-use Rattle.attr_sets.specs.Attributes.{below}
-use Rattle.candidate_search.specs.Sides.{AreCoded, HasMinimal, rights_of}
-use Rattle.dep_model.specs.Dependencies.{IsWithin}
+-- What is left to prove of `minimal_dependencies`: its clauses `minimal` and `implied`, by `SmallLemmas` and
+-- `FoundLemmas`.
+use Rattle.std.proofs.Common.{◌≡◌, ℕ}
 use Rattle.dep_model.specs.Deps.{dependencies_of}
-use Rattle.dep_model.proofs.DepLemmas.{dependencies_all-to}
-use Rattle.fd_discovery.proofs.SearchLemmas.{all_within, implied_by_rows}
+use Rattle.fd_discovery.proofs.SearchLemmas.{implied_by_rows}
 use Rattle.fd_search.proofs.FoundLemmas.{found_all}
-use Rattle.fd_search.proofs.ListLemmas.{range_within}
+use Rattle.fd_search.proofs.SmallLemmas.{all_minimal}
 use Rattle.fd_search.proofs.searching.minimal_dependencies.Goals as goal
-use Rattle.fd_search.proofs.searching.minimal_dependencies.Goals.{After-deref-2}
-
--- the sides, once they are found
-coded : (c : After-deref-2) → AreCoded c.args.width c.args.rows.now c.in_ok-codes.codes
-coded c = record { over = c.requires.over; interned = c.in_ok-codes.ensures.codes }
-
-minimal_sides : (c : After-deref-2) → All (HasMinimal c.args.width c.args.width c.args.rows.now) c.deref-2.result.now
-minimal_sides c =
-    All-same (HasMinimal c.args.width c.args.width c.args.rows.now) c.deref-2.result.now c.in_ok-sides.sides.items
-    c.deref-2.ensures.value (c.in_ok-sides.ensures.minimal c.args.rows.now (coded c) (λ i d l. absurd (omega (arith, l))))
-
-sides_rights : (c : After-deref-2) → rights_of c.deref-2.result.now ≡ range_with_len 0 c.args.width
-sides_rights c = ap rights_of c.deref-2.ensures.value ∙ c.in_ok-sides.ensures.rights ∙ c.deref.ensures.value
-    ∙ c.in_ok-rights.ensures.columns
-
-pub minimal_left_sides-requires-clause-rights : goal.minimal_left_sides-requires-clause-rights
-minimal_left_sides-requires-clause-rights c =
-    All-same (λ (k : ℕ). k < c.args.width) c.deref.result.now (range_with_len 0 c.args.width)
-    (c.deref.ensures.value ∙ c.in_ok-rights.ensures.columns) (range_within c.args.width)
-
-pub in_order-requires-clause-sides : goal.in_order-requires-clause-sides
-in_order-requires-clause-sides c =
-    (c.args.rows.now, minimal_sides (goal.at.in_order-requires-clause-sides c).After-deref-2)
 
 pub returns-clause-minimal : goal.returns-clause-minimal
 returns-clause-minimal c =
-    let at = (goal.at.returns-clause-minimal c).After-deref-2 in
-    c.in_ok-in_order.ensures.minimal c.args.rows.now (minimal_sides at) (sides_rights at)
+    all_minimal c.args.width c.args.rows.now (dependencies_of c.in_ok-found.found.items) c.in_ok-found.ensures.small
 
 pub returns-clause-implied : goal.returns-clause-implied
 returns-clause-implied c =
-    let ds = dependencies_of c.in_ok-in_order.field-0.items in
-    let at = (goal.at.returns-clause-implied c).After-deref-2 in
+    let ds = dependencies_of c.in_ok-found.found.items in
     implied_by_rows c.args.width c.args.rows.now ds (found_all c.args.width c.args.rows.now ds
-    (c.in_ok-in_order.ensures.minimal c.args.rows.now (minimal_sides at) (sides_rights at))) c.requires.over
-
-pub returns-clause-within : goal.returns-clause-within
-returns-clause-within c =
-    let at = (goal.at.returns-clause-within c).After-deref-2 in
-    dependencies_all-to (IsWithin (below c.args.width)) c.in_ok-in_order.field-0.items
-    (all_within c.args.width c.args.rows.now (dependencies_of c.in_ok-in_order.field-0.items)
-    (c.in_ok-in_order.ensures.minimal c.args.rows.now (minimal_sides at) (sides_rights at)))
+    (all_minimal c.args.width c.args.rows.now ds c.in_ok-found.ensures.small)) c.requires.over

@@ -1,0 +1,35 @@
+-- What is left to prove of `discover_small_rules`: what `rules_response` requires, and its clause `response` where rules are
+-- found.
+use Rattle.std.proofs.Common.{◌≡◌, ℕ, List, length, inl, sym, subst, arith}
+use Rattle.std.specs.Prelude.{All}
+use Rattle.attr_sets.specs.Attributes.{below}
+use Rattle.dep_model.specs.Deps.{dependencies_of, IsDepWithin}
+use Rattle.dep_model.specs.declared.dep.Dep.{Dep}
+use Rattle.fd_discovery.specs.Headings.{names_under, rows_under}
+use Rattle.fd_search.specs.Small.{AreAllSmall}
+use Rattle.desk_responses.specs.ResponseValues.{Says}
+use Rattle.desk_responses.specs.Responses.{response_value}
+use Rattle.desk_responses.specs.declared.status.Status.TheVariants.{Yes}
+use Rattle.desk_discovery.specs.Discoveries.{found_text}
+use Rattle.desk_discovery.proofs.small.discover_small_rules.Goals as goal
+
+pub rules_response-requires-clause-within : goal.rules_response-requires-clause-within
+rules_response-requires-clause-within c =
+    let width : c.len.result ≡ length c.args.headed.names.items = omega (arith, c.len.ensures, c.args.headed.names.ok) in
+    subst (λ (ds : List Dep). All (IsDepWithin (below (length c.args.headed.names.items))) ds) (sym c.deref.ensures.value)
+    (subst (λ (n : ℕ). All (IsDepWithin (below n)) c.in-Ok.deps.items) width c.in-Ok.ensures.within)
+
+pub returns-in-Ok : goal.returns-in-Ok
+returns-in-Ok c =
+    let h = c.args.headed in
+    let ds = dependencies_of c.in-Ok.deps.items in
+    let width : c.len.result ≡ length h.names.items = omega (arith, c.len.ensures, c.args.headed.names.ok) in
+    let response = response_value c.in_ok-rules_response-in-Ok.field-0 in
+    record {
+      response = inl (
+        ds,
+        subst (λ (n : ℕ). AreAllSmall n c.args.most (rows_under h) ds) width c.in-Ok.ensures.small,
+        subst (λ (deps : List Dep). Says Yes (found_text (names_under h) (dependencies_of deps)) response)
+            c.deref.ensures.value c.in_ok-rules_response-in-Ok.ensures.says,
+      );
+    }

@@ -1,0 +1,73 @@
+ghost use Rattle.std.specs.Prelude.{◌≤◌, ◌<◌, length, All, IfOk, IfErr};
+ghost use Rattle.attr_sets.specs.Attributes.{below};
+ghost use Rattle.attr_sets.specs.declared.set.TheConstants.{MOST_ATTRIBUTES};
+ghost use Rattle.candidate_search.specs.Sides.{IsExceeded};
+ghost use Rattle.dep_model.specs.Deps.{dependencies_of, IsDepWithin};
+ghost use Rattle.dep_model.specs.Failures.{RefusesAs};
+ghost use Rattle.dep_model.specs.Tuples.{IsOver};
+ghost use Rattle.fd_discovery.specs.Headers.{IsColumnHeader};
+ghost use Rattle.fd_discovery.specs.Headings.{names_under, rows_under};
+ghost use Rattle.fd_discovery.specs.declared.headed_rows.TheConstants.{MOST_HEADED_ROWS, WIDEST_HEADED};
+ghost use Rattle.fd_search.specs.Small.{AreAllSmall};
+ghost use Rattle.desk_discovery.specs.Discoveries.{FindsSmallRules};
+ghost use Rattle.desk_discovery.specs.declared.discovering.TheConstants.{WIDEST_TRIED};
+ghost use Rattle.desk_responses.specs.Responses.{RespondsAs};
+
+use crate::discovering::{WIDEST_TRIED, left_sides_exit, rules_response};
+use candidate_search::TooManyLeftSides;
+use dep_model::{Dep, Failure};
+use desk_outside::Argument;
+use desk_responses::{EarlyExit, Response};
+use fd_discovery::{Headed, discover};
+use fd_search::{few_on_the_left, small_dependencies};
+use row_store::{Hashing, Rows};
+use std::alloc::Global;
+
+/// The minimal functional dependencies of rows that have at most `most` attributes on the left, under the
+/// names of their columns.
+pub fn discover_small_rules(
+    alloc: Global,
+    hashing: Hashing,
+    file: &Argument,
+    headed: Headed,
+    most: u8,
+) -> Result<Response, EarlyExit>
+    requires most { most ≤ MOST_ATTRIBUTES }
+    requires header { IsColumnHeader (names_under headed) }
+    requires any_name { 0 < length (names_under headed) }
+    requires same_width { IsOver (length (names_under headed)) (rows_under headed) }
+    requires within_limit { length (rows_under headed) ≤ MOST_HEADED_ROWS }
+    ensures response { RespondsAs (FindsSmallRules most file.now headed) result }
+{
+    let Headed { names, rows } = headed;
+    match small_rules_of(alloc, hashing, names.len() as u8, most, &rows) {
+        Ok(deps) => Ok(rules_response(alloc, names, &deps)?),
+        Err(Failure::Refused(refusal)) => Err(left_sides_exit(alloc, file, &names, refusal.right)),
+        Err(Failure::OutOfMemory) => Err(EarlyExit::OutOfMemory),
+    }
+}
+
+// Those dependencies: of few columns all sets are tried.
+fn small_rules_of(
+    alloc: Global,
+    hashing: Hashing,
+    width: u8,
+    most: u8,
+    rows: &Rows,
+) -> Result<Vec<Dep>, Failure<TooManyLeftSides>>
+    requires width { width ≤ WIDEST_HEADED }
+    requires most { most ≤ MOST_ATTRIBUTES }
+    requires over { IsOver width rows.now }
+    requires within_limit { length rows.now ≤ MOST_HEADED_ROWS }
+    ensures small { IfOk result (λ found. AreAllSmall width most rows.now (dependencies_of found.items)) }
+    ensures within { IfOk result (λ found. All (IsDepWithin (below width)) found.items) }
+    ensures wide { IfErr result (RefusesAs (λ _. WIDEST_TRIED < width)) }
+    ensures refusal { IfErr result (RefusesAs (IsExceeded width most rows.now)) }
+{
+    if width <= WIDEST_TRIED {
+        let all = discover(alloc, hashing, width, rows)?;
+        let few = few_on_the_left(alloc, most, &all)?;
+        return Ok(few);
+    }
+    small_dependencies(alloc, hashing, width, most, rows)
+}

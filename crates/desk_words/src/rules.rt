@@ -1,0 +1,44 @@
+//! The words after `discover`.
+
+ghost use Rattle.std.specs.Prelude.{◌≡◌, Some, option_map};
+ghost use Rattle.desk_words.specs.Commands.{command_form, rules_question};
+ghost use Rattle.desk_words.specs.Forms as forms;
+
+use crate::bounds::left_bound_of;
+use crate::command::Command;
+use crate::questions::RulesQuestion;
+use desk_outside::Argument;
+
+/// After `discover`.
+#[tactic(auto, unfolding(crate::specs::Forms::after_discover))]
+pub fn after_discover(words: &[Argument]) -> Option<Command<'_>>
+    ensures form { option_map command_form result ≡ forms.after_discover words.now }
+{
+    match words {
+        [file] => rules_of(RulesQuestion::Minimal, file),
+        [what, file] => after_discover_word(what, file),
+        _ => None,
+    }
+}
+
+// After `discover`, a word and rows.
+fn after_discover_word<'a>(what: &Argument, file: &'a Argument) -> Option<Command<'a>>
+    ensures form { option_map command_form result ≡ forms.discover_after_word what.now file.now }
+{
+    match left_bound_of(what.bytes()) {
+        Some(most) => return rules_of(RulesQuestion::Small { most }, file),
+        None => {}
+    }
+    if what.bytes() == b"keys".as_slice() {
+        return rules_of(RulesQuestion::Keys, file);
+    }
+    None
+}
+
+// What is asked of the rows of a file alone.
+fn rules_of(question: RulesQuestion, file: &Argument) -> Option<Command<'_>>
+    ensures form { option_map command_form result
+        ≡ Some (forms.discover (rules_question question) file.now) }
+{
+    Some(Command::Discover { question, file })
+}

@@ -1,0 +1,2 @@
+mod WholeLemmas
+pub mod KeyLemmas

@@ -1,0 +1,52 @@
+ghost use Rattle.std.specs.Prelude.{◌≡◌, ◌<◌, ◌^◌, length, slice_index_or, IfOk, IfErr};
+ghost use Rattle.attr_sets.specs.declared.set.TheConstants.{MOST_ATTRIBUTES};
+ghost use Rattle.candidate_search.specs.declared.side.Side.{Side};
+ghost use Rattle.dep_model.specs.Failures.{RefusesAs};
+ghost use Rattle.dep_model.specs.Plans.{schemes_of};
+ghost use Rattle.dep_model.specs.Tuples.{IsOver};
+ghost use Rattle.row_keys.specs.Keys.{AreRowKeys, HasTooManyKeys};
+
+use crate::whole::with_whole_rows;
+use attr_sets::AttrSet;
+use candidate_search::{Side, minimal_left_sides};
+use csv_rows::Interned;
+use dep_model::Failure;
+use row_store::{Hashing, Rows};
+use std::alloc::Global;
+
+/// Some evidence of the rows has more candidates for keys than are kept.
+#[derive(Clone, Copy, Debug, PartialEq, Eq, Hash, Drop)]
+pub struct TooManyKeys;
+
+/// All minimal keys of rows of `width` columns, in the order of sets; or, where evidence of the rows has too
+/// many candidates, a refusal. Rows that are equal count once.
+pub fn row_keys(
+    alloc: Global,
+    hashing: Hashing,
+    width: u8,
+    rows: &Rows,
+) -> Result<Vec<AttrSet>, Failure<TooManyKeys>>
+    requires width { width < MOST_ATTRIBUTES }
+    requires over { IsOver width rows.now }
+    requires fits_u32 { length rows.now < 2 ^ 32 }
+    ensures keys { IfOk result (λ keys. AreRowKeys width rows.now (schemes_of keys.items)) }
+    ensures refusal { IfErr result (RefusesAs (λ _. HasTooManyKeys width rows.now)) }
+{
+    let whole = with_whole_rows(alloc, rows)?;
+    let codes = Interned::intern(alloc, hashing, width + 1, &whole)?;
+    let rights = [width];
+    match minimal_left_sides(alloc, &codes, width + 1, width, &rights, &[]) {
+        Ok(sides) => Ok(lefts_of_first(sides)),
+        Err(Failure::Refused(_)) => Err(Failure::Refused(TooManyKeys)),
+        Err(Failure::OutOfMemory) => Err(Failure::OutOfMemory),
+    }
+}
+
+// The left sides of the first attribute.
+fn lefts_of_first(sides: Vec<Side>) -> Vec<AttrSet>
+    requires some { 0 < length sides.items }
+    ensures lefts { (d : Side) → result ≡ (slice_index_or sides.items 0 d).lefts }
+{
+    let mut sides = sides;
+    sides.swap_remove(0).lefts
+}
