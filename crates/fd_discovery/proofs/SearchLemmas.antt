@@ -18,7 +18,7 @@ use Rattle.fd_discovery.specs.Searching.{IsListedFrom, AreUndetermined, IsTried,
 use Rattle.fd_discovery.proofs.GivenLemmas.{given_still, given_now, given_cases, given_more}
 
 -- ---- the order of attributes and of sets
-pub only_before : (a b : ℕ) → a < b → IsBefore (only a) (only b)
+only_before : (a b : ℕ) → a < b → IsBefore (only a) (only b)
 only_before a b less = (
   b,
   grind (arith, nat_tests, less),
@@ -28,23 +28,23 @@ only_before a b less = (
 )
 
 -- x is the same as y or comes before it
-abbrev pub IsUpTo : Attributes → Attributes → Type 0
+abbrev IsUpTo : Attributes → Attributes → Type 0
 IsUpTo x y = (x ≡ y) ⊎ IsBefore x y
 
-pub up_to_before : (x y z : Attributes) → IsUpTo x y → IsBefore y z → IsBefore x z
+up_to_before : (x y z : Attributes) → IsUpTo x y → IsBefore y z → IsBefore x z
 up_to_before x y z up before = elim up [
   | inl same ↦ subst (λ (v : Attributes). IsBefore v z) (sym same) before
   | inr earlier ↦ IsBefore-trans x y z earlier before
 ]
 
-pub before_up_to : (x y z : Attributes) → IsBefore x y → IsUpTo y z → IsBefore x z
+before_up_to : (x y z : Attributes) → IsBefore x y → IsUpTo y z → IsBefore x z
 before_up_to x y z before up = elim up [
   | inl same ↦ subst (λ (v : Attributes). IsBefore x v) same before
   | inr earlier ↦ IsBefore-trans x y z before earlier
 ]
 
 -- a subset is the same or comes before
-pub subset_up_to : (n : ℕ) (x y : Attributes) → IsSubset y (below n) → IsSubset x y → IsUpTo x y
+subset_up_to : (n : ℕ) (x y : Attributes) → IsSubset y (below n) → IsSubset x y → IsUpTo x y
 subset_up_to n x y low inside = elim (tell_before n x y (λ k m. low k (inside k m)) low) [
   | inl same ↦ inl same
   | inr other ↦ elim other [
@@ -236,7 +236,7 @@ module _ (n bound i : ℕ) (set : Attributes) (set_in : IsSubset set (below n)) 
         omega (arith, at)
   ]
 
-  pub before_in : IsSubset (union set (below i)) (below n)
+  before_in : IsSubset (union set (below i)) (below n)
   before_in k m = elim (cases_Bool (set k)) [
     | inl member ↦ set_in k member
     | inr out ↦
@@ -275,7 +275,7 @@ module _ (n bound i : ℕ) (set : Attributes) (set_in : IsSubset set (below n)) 
     | inr other ↦ elim other [ inl low ↦ grind (arith, nat_tests, low) | inr high ↦ grind (arith, nat_tests, high) ]
   ])
 
-  pub top_in : IsSubset (union set (below (i + 1))) (below n)
+  top_in : IsSubset (union set (below (i + 1))) (below n)
   top_in k m = elim (cases_Bool (set k)) [
     | inl member ↦ set_in k member
     | inr out ↦

@@ -22,4 +22,3 @@ pub use discovering::discover;
 pub use headed_rows::{Headed, MOST_HEADED_ROWS, WIDEST_HEADED, read_headed};
 pub use laws::one_reading;
 pub use refusal::DiscoverRefusal;
-pub use searching::attributes_not_given;

@@ -1,30 +1,26 @@
 -- What was tried: from one place in the order of sets and right sides to a later one.
-use Rattle.std.proofs.Common.{inl, inr, ◌≡◌, ◌≢◌, ◌<◌, ◌≤◌, ◌+◌, ◌⊎◌, ◌==◌, ◌||◌, nat_lt, ℕ, Bool, true, false, List, [], ◌∷◌, ◌++◌, length, get_or, refl, sym, ap, subst, ◌∙◌, arith}
-use Rattle.std.specs.Prelude.{All, AllPairs, Contains}
-use Rattle.std.proofs.lemmas.Bool.{cases_lt, cases_Bool, cases_eq, cases_order, true≢false, ltb-true, eqb-true}
+use Rattle.std.proofs.Common.{inl, inr, ◌≡◌, ◌<◌, ◌≤◌, ◌+◌, ◌⊎◌, ◌||◌, nat_lt, ℕ, Bool, true, false, List, ◌++◌, length, get_or, sym, ap, subst, ◌∙◌, arith}
+use Rattle.std.specs.Prelude.{Contains}
+use Rattle.std.proofs.lemmas.Bool.{cases_lt, cases_Bool, cases_order, true≢false, ltb-true, eqb-true}
 use Rattle.std.proofs.lemmas.Bool.Decides.{nat_tests}
 use Rattle.std.proofs.lemmas.List.{get_or_append_left, length-append, map-append}
-use Rattle.std.proofs.lemmas.List.Elements.{All-push, All-weaker, All-cons, All-contains}
-use Rattle.std.proofs.lemmas.List.Kept.{AllPairs-cons}
-use Rattle.std.proofs.lemmas.List.Quantifiers.{all_pairs_push}
+use Rattle.std.proofs.lemmas.List.Elements.{All-weaker}
 use Rattle.attr_sets.specs.Attributes.{Attributes, IsSubset, IsEmpty, IsBefore, IsNextSubset, below, count_below, only, union}
-use Rattle.attr_sets.proofs.AttributesLemmas.{count_below-lt, count_below-union_only, count_below-within, same_from_within, same_at}
+use Rattle.attr_sets.proofs.AttributesLemmas.{count_below-lt, count_below-union_only, count_below-within, same_at}
 use Rattle.attr_sets.proofs.OrderLemmas.{IsBefore-trans, tell_before, next_subset-before}
 use Rattle.csv_rows.specs.Numberings.{number_at}
 use Rattle.dep_model.specs.Tuples.{Relation}
 use Rattle.dep_model.specs.Dependencies.{Dependency, fd, left_of, right_of}
 use Rattle.dep_model.specs.Deps.{dependencies_of, dependency_of}
 use Rattle.dep_model.specs.declared.dep.Dep.{Dep}
-use Rattle.dep_model.proofs.ListLemmas.{Contains-head, Contains-later}
-use Rattle.fd_discovery.specs.Minimal.{Precedes}
 use Rattle.fd_discovery.specs.Searching.{AreUndetermined, IsListedFrom, IsTried}
-use Rattle.fd_discovery.proofs.GivenLemmas.{given_more, given_now, given_still}
-use Rattle.fd_discovery.proofs.SearchLemmas.{IsUpTo, before_in, before_up_to, larger_above, larger_filled, larger_in, larger_next, only_before, subset_up_to, top_in, up_to_before}
-use Rattle.near_rules.specs.NearRules.{AreErrors, ExceedsTried, IsMinimalNear, IsNear, MustBeTried}
-use Rattle.near_rules.specs.Searching.{AreFoundBefore, AreTriedFor, IsExceeded, IsFoundBefore, IsSoughtNear}
+use Rattle.fd_discovery.proofs.GivenLemmas.{given_more}
+use Rattle.fd_discovery.proofs.SearchLemmas.{larger_above, larger_filled, larger_in, larger_next}
+use Rattle.near_rules.proofs.OrderLemmas.{IsUpTo, before_up_to, filled_in, subset_up_to, up_to_before}
+use Rattle.near_rules.specs.NearRules.{IsMinimalNear, MustBeTried}
+use Rattle.near_rules.specs.Searching.{AreFoundBefore, AreTriedFor, IsFoundBefore}
 use Rattle.near_rules.specs.declared.found.Found.{Found}
 use Rattle.near_rules.specs.declared.found.Sought.{Sought}
-use Rattle.near_rules.specs.declared.found.TheConstants.{MOST_TRIED}
 
 -- ---- the order
 tried_more : (y x : Attributes) (a b : ℕ) → IsTried y a x b → IsTried y (a + 1) x b
@@ -225,7 +221,7 @@ module _ (s : Sought) (r : Relation) where
     filled = larger_filled s.width bound i set set_in above bound_in i_in larger is
 
     up : IsUpTo larger last
-    up = subset_up_to s.width larger last (top_in s.width bound i set set_in above bound_in i_in larger is)
+    up = subset_up_to s.width larger last (filled_in s.width (i + 1) set set_in (omega (arith, i_in, bound_in)))
         (λ k m. sym (same_at filled k) ∙ ap (λ (b : Bool). b || nat_lt k i) m)
 
     -- the set with i comes next
@@ -248,7 +244,7 @@ module _ (s : Sought) (r : Relation) where
             → x a ≡ false → IsTried larger 0 x a → IsTried first s.rights x a ⊎ IsPassedOver found x a
         out x a x_in few a_in lacks tried = inl (elim tried [
           | inl before ↦ elim (next_subset-before s.width (below s.width) first larger x (λ k m. m)
-              (before_in s.width bound i set set_in above bound_in i_in larger is) next x_in before) [
+              (filled_in s.width i set set_in (omega (arith, i_in, bound_in))) next x_in before) [
             | inl same ↦ inr (same, a_in)
             | inr before_first ↦ inl before_first
           ]
@@ -308,16 +304,8 @@ module _ (s : Sought) (r : Relation) where
       advance set (union set (below bound)) s.rights s.rights found old (λ x a a_in. moved x a) out
       (λ d h. (h.0, h.1, h.2, h.3, moved h.0 h.1 h.4))
     where
-      whole_in : IsSubset (union set (below bound)) (below s.width)
-      whole_in k m = elim (cases_Bool (set k)) [
-        | inl member ↦ set_in k member
-        | inr out_of ↦
-            let low : k < bound = ltb-true k bound (sym (ap (λ (b : Bool). b || nat_lt k bound) out_of) ∙ m) in
-            grind (arith, nat_tests, low, bound_in)
-      ]
-
       whole : IsUpTo set (union set (below bound))
-      whole = subset_up_to s.width set (union set (below bound)) whole_in (λ k m. ap (λ (b : Bool). b || nat_lt k bound) m)
+      whole = subset_up_to s.width set (union set (below bound)) (filled_in s.width bound set set_in bound_in) (λ k m. ap (λ (b : Bool). b || nat_lt k bound) m)
 
       moved : (x : Attributes) (a : ℕ) → IsTried set s.rights x a → IsTried (union set (below bound)) s.rights x a
       moved x a tried = elim tried [

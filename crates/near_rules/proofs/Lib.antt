@@ -1,2 +1,4 @@
+pub mod OrderLemmas
 pub mod FrontLemmas
 pub mod RightLemmas
+pub mod WholeLemmas

@@ -1,14 +1,14 @@
 -- One right side of a set is tried: it is counted, and added where it is near.
-use Rattle.std.proofs.Common.{inl, inr, ◌≡◌, ◌≢◌, ◌<◌, ◌≤◌, ◌+◌, ◌⊎◌, ◌==◌, ℕ, true, false, List, [], ◌∷◌, ◌++◌, length, get_or, set, refl, sym, ap, subst, ◌∙◌, arith}
+use Rattle.std.proofs.Common.{inl, inr, ◌≡◌, ◌≢◌, ◌<◌, ◌≤◌, ◌+◌, ℕ, List, [], ◌∷◌, ◌++◌, length, get_or, set, refl, sym, ap, subst, ◌∙◌, arith}
 use Rattle.std.specs.Prelude.{All, AllPairs, Contains}
 use Rattle.std.proofs.lemmas.Bool.{cases_lt, cases_eq, true≢false}
 use Rattle.std.proofs.lemmas.Bool.Decides.{nat_tests}
 use Rattle.std.proofs.lemmas.Grind.{get_or-set_at}
 use Rattle.std.proofs.lemmas.List.{get_or-set_other, length-set}
-use Rattle.std.proofs.lemmas.List.Elements.{All-contains, All-cons, All-push, All-weaker}
+use Rattle.std.proofs.lemmas.List.Elements.{All-cons, All-push, All-weaker}
 use Rattle.std.proofs.lemmas.List.Kept.{AllPairs-cons}
 use Rattle.std.proofs.lemmas.List.Quantifiers.{all_pairs_push}
-use Rattle.attr_sets.specs.Attributes.{Attributes, IsSubset, IsBefore, below, count_below, only}
+use Rattle.attr_sets.specs.Attributes.{Attributes, only}
 use Rattle.attr_sets.proofs.AttributesLemmas.{same_at}
 use Rattle.csv_rows.specs.Numberings.{number_at}
 use Rattle.dep_model.specs.Tuples.{Relation}
@@ -18,9 +18,9 @@ use Rattle.dep_model.proofs.ListLemmas.{Contains-head, Contains-later}
 use Rattle.fd_discovery.specs.Minimal.{Precedes}
 use Rattle.fd_discovery.specs.Searching.{IsListedFrom, IsTried}
 use Rattle.fd_discovery.proofs.GivenLemmas.{given_now, given_still}
-use Rattle.fd_discovery.proofs.SearchLemmas.{only_before}
+use Rattle.near_rules.proofs.OrderLemmas.{only_before}
 use Rattle.removal_laws.specs.Errors.{IsError}
-use Rattle.near_rules.specs.NearRules.{AreErrors, ExceedsTried, IsNear, MustBeTried}
+use Rattle.near_rules.specs.NearRules.{AreErrors, ExceedsTried, MustBeTried}
 use Rattle.near_rules.specs.Searching.{AreFoundBefore, AreTriedFor, IsFoundBefore, IsSoughtNear}
 use Rattle.near_rules.specs.declared.found.Found.{Found}
 use Rattle.near_rules.specs.declared.found.Sought.{Sought}

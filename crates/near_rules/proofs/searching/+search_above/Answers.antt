@@ -1,17 +1,16 @@
 -- What is left to prove of `search_above`: its clauses, what its calls require, and that the invariant of its loop
 -- holds at first and stays, by `FrontLemmas`.
-use Rattle.std.proofs.Common.{◌≡◌, ◌<◌, ◌≤◌, ◌+◌, ◌||◌, nat_lt, ℕ, Bool, true, sym, ap, subst, ◌∙◌, arith}
+use Rattle.std.proofs.Common.{◌≡◌, ◌+◌, ℕ, true, sym, ap, subst, ◌∙◌, arith}
 use mathlib.Core.Path.{fun_ext}
 use Rattle.std.proofs.lemmas.Bool.Decides.{nat_tests}
 use Rattle.std.proofs.lemmas.Result.{err_from_is_err_and}
-use Rattle.attr_sets.specs.Attributes.{Attributes, below, count_below, only, union}
+use Rattle.attr_sets.specs.Attributes.{Attributes, below, count_below, union}
 use Rattle.attr_sets.specs.Sets.{attributes}
 use Rattle.attr_sets.specs.declared.set.TheConstants.{MOST_ATTRIBUTES}
 use Rattle.attr_sets.proofs.AttributesLemmas.{count_below-low}
 use Rattle.csv_rows.proofs.NumberingLemmas.{same_groups}
 use Rattle.dep_model.specs.Deps.{dependencies_of}
 use Rattle.dep_model.specs.Tuples.{Relation}
-use Rattle.dep_model.specs.declared.dep.Dep.{Dep}
 use Rattle.fd_discovery.specs.Searching.{AreUndetermined}
 use Rattle.fd_discovery.proofs.SearchLemmas.{larger_above, larger_in}
 use Rattle.near_rules.specs.Searching.{AreFoundBefore, AreGrouped, AreSought}
@@ -148,10 +147,10 @@ loop-attribute-preserved t c =
             found = λ r sought grouped before.
                 subst (AreFoundBefore s r (union set (below (i + 1))) s.rights) (sym w.found-is)
                 (past_larger s r c.args.bound i set c.requires.set c.requires.above c.requires.bound c.loop-attribute-test.true larger
-                c.with-larger.ensures.members c.loop-attribute.found (attributes c.attributes_not_given-wanted.result)
+                c.with-larger.ensures.members c.loop-attribute.found (attributes c.rights_to_try-wanted.result)
                 (at r (c.loop-attribute.invariant.found r sought grouped before))
-                (subst (λ (ds : _). AreUndetermined s.rights (dependencies_of ds) larger (attributes c.attributes_not_given-wanted.result))
-                c.deref.ensures.value c.attributes_not_given-wanted.ensures.rest)
+                (subst (λ (ds : _). AreUndetermined s.rights (dependencies_of ds) larger (attributes c.rights_to_try-wanted.result))
+                c.deref.ensures.value c.rights_to_try-wanted.ensures.rest)
                 (c.is_empty.ensures.empty.0 yes));
           }
     ]

@@ -1,11 +1,11 @@
 -- What is left to prove of `try_right`: its clauses `found` and `refusal`, by `RightLemmas`.
-use Rattle.std.proofs.Common.{◌≡◌, ◌<◌, ◌≤◌, ◌+◌, ◌++◌, ◌∷◌, [], ℕ, List, length, refl, slice_set, sym, ap, subst, ◌∙◌, arith}
+use Rattle.std.proofs.Common.{◌≡◌, ◌<◌, ◌+◌, ◌++◌, ◌∷◌, [], ℕ, length, refl, slice_set, ap, ◌∙◌, arith}
 use Rattle.std.proofs.lemmas.List.{map-append}
 use Rattle.attr_sets.specs.Attributes.{Attributes, only}
 use Rattle.attr_sets.specs.Sets.{attributes}
 use Rattle.csv_rows.specs.Numberings.{number_at}
 use Rattle.csv_rows.proofs.NumberingLemmas.{same_default}
-use Rattle.dep_model.specs.Dependencies.{Dependency, fd}
+use Rattle.dep_model.specs.Dependencies.{fd}
 use Rattle.dep_model.specs.Deps.{dependencies_of, dependency_of}
 use Rattle.near_rules.specs.declared.found.TheConstants.{MOST_TRIED}
 use Rattle.removal_laws.proofs.ErrorLemmas.{same_error}

@@ -1,11 +1,11 @@
 -- What is left to prove of `try_set`: that the invariant of its loop stays, and its clauses, by `FrontLemmas`.
-use Rattle.std.proofs.Common.{◌≡◌, ◌<◌, ◌≤◌, ◌+◌, ◌++◌, ℕ, List, Vec, Global, true, false, sym, ap, subst, ◌∙◌, arith}
+use Rattle.std.proofs.Common.{◌≡◌, ◌+◌, ◌++◌, ℕ, List, true, false, sym, ap, subst, ◌∙◌, arith}
 use Rattle.std.proofs.lemmas.List.{append_assoc}
 use Rattle.std.proofs.lemmas.Result.{err_from_is_err_and}
 use Rattle.attr_sets.specs.Attributes.{Attributes}
 use Rattle.attr_sets.specs.Sets.{attributes}
 use Rattle.dep_model.specs.declared.dep.Dep.{Dep}
-use Rattle.near_rules.specs.Searching.{AreFoundBefore, AreGrouped, AreSought}
+use Rattle.near_rules.specs.Searching.{AreFoundBefore}
 use Rattle.near_rules.specs.declared.found.Found.{Found}
 use Rattle.near_rules.specs.declared.found.Sought.{Sought}
 use Rattle.near_rules.proofs.FrontLemmas.{kept_listed, passed, unwanted, wanted_must}

@@ -3,7 +3,7 @@ use Rattle.std.proofs.Common.{◌≡◌, ◌<◌, not, ℕ, true, List, length, 
 use Rattle.std.proofs.lemmas.Bool.{eqb-true, lt-ltb}
 use Rattle.std.proofs.lemmas.List.{length-map}
 use Rattle.std.specs.Prelude.{All}
-use Rattle.attr_sets.specs.Attributes.{Attributes, IsSubset, below, count_below, only, union}
+use Rattle.attr_sets.specs.Attributes.{Attributes, count_below, only, union}
 use Rattle.attr_sets.specs.Sets.{attributes}
 use Rattle.attr_sets.proofs.AttributesLemmas.{same_at}
 use Rattle.csv_rows.specs.Interning.{IsInterned, firsts_of, groups_of, width_of_rows}
@@ -16,7 +16,7 @@ use Rattle.removal_laws.proofs.LargestLemmas.{least}
 use Rattle.removal_laws.proofs.StayingLemmas.{count_staying}
 use Rattle.removal_laws.specs.Classes.{in_chosen}
 use Rattle.removal_laws.specs.Errors.{IsError}
-use Rattle.removal_laws.specs.Removals.{Positions, rows_at}
+use Rattle.removal_laws.specs.Removals.{Positions}
 use Rattle.row_measures.specs.Broken.{AreChosen, rows_outside}
 use Rattle.row_measures.specs.ByClass.{AreLargestBelow}
 use Rattle.row_measures.proofs.ChosenLemmas.{are_chosen, leaders_first}
