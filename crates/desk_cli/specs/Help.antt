@@ -50,6 +50,7 @@ help_text =
     ++ line (codes "desk sample N                         the tables of N invented persons")
     ++ line (codes "desk discover CSV                     "
     ++ codes "the functional dependencies that the rows in CSV obey")
+    ++ line (codes "desk import csv CSV                   a schema of the columns of CSV, to go on from")
     ++ line (codes "desk rejoin SCHEMA CSV..              the join of the tables in files")
     ++ line (codes "desk sql check SCHEMA TABLE           "
     ++ codes "queries for the rows of TABLE in a database that break each rule")

@@ -1,8 +1,9 @@
--- Where the files of `discover` and `rejoin` have their meaning, these commands answer yes or no.
+-- Where the files of `discover`, `import csv` and `rejoin` have their meaning, these commands answer yes or no.
 use Rattle.std.proofs.Common.{◌≡◌, ◌≤◌, ◌<◌, ℕ, true, zero, suc, Some, None, Result, Ok, Err, List, [], ◌∷◌, length, inl, inr, refl, sym, ap, subst, ◌∙◌, arith}
 use Rattle.std.specs.Prelude.{codes, slice_get}
 use Rattle.attr_sets.specs.Attributes.{Attributes}
 use Rattle.attr_sets.specs.Sets.{attributes}
+use Rattle.attr_sets.specs.declared.set.TheConstants.{MOST_ATTRIBUTES}
 use Rattle.candidate_search.specs.Sides.{IsExceeded}
 use Rattle.candidate_search.specs.declared.side.TooManyLeftSides.{TooManyLeftSides}
 use Rattle.csv_rows.specs.Columns.{with_columns, columns_of_header}
@@ -17,8 +18,9 @@ use Rattle.dep_model.specs.Schemas.{names_of, width_of}
 use Rattle.dep_model.specs.Tuples.{Relation}
 use Rattle.dep_model.specs.declared.schema.Schema.{Schema}
 use Rattle.fd_discovery.proofs.UniqueHeaded.{never_both}
-use Rattle.fd_discovery.specs.Headings.{IsRefusedDiscovery}
+use Rattle.fd_discovery.specs.Headings.{IsRefusedWithin}
 use Rattle.fd_discovery.specs.declared.headed_rows.Headed.{Headed}
+use Rattle.fd_discovery.specs.declared.headed_rows.TheConstants.{WIDEST_HEADED}
 use Rattle.table_join.specs.Answers.{IsWithinLimit}
 use Rattle.table_join.specs.declared.refusal.JoinRefusal.TheVariants.{NotCovered, TooManyRows}
 use Rattle.table_join.specs.Tables.{PartialRelation, table_of_part, tables_of, plan_of_tables}
@@ -26,11 +28,12 @@ use Rattle.desk_outside.specs.Files.{Files}
 use Rattle.desk_tables.specs.declared.rejoining.TheConstants.{MOST_JOINED_ROWS}
 use Rattle.desk_inputs.specs.declared.rows.TheConstants.{MOST_CSV_BYTES}
 use Rattle.desk_responses.specs.ResponseValues.{ResponseValue, Allowed}
+use Rattle.desk_columns.specs.Imports.{ImportsColumns}
 use Rattle.desk_discovery.specs.Discoveries.{FindsRules, HasTooManyLeftSides}
 use Rattle.desk_discovery.specs.declared.discovering.TheConstants.{WIDEST_TRIED}
 use Rattle.desk_inputs.specs.FileKinds.{FileStops, IsFile, WithFile}
-use Rattle.desk_inputs.specs.Headed.{headed_file}
-use Rattle.desk_words.specs.Forms.{form_of, form_over_rows, form_over_schema, schema_and_several, word_alone, are_one_to_64}
+use Rattle.desk_inputs.specs.Headed.{headed_file, headed_file_for, imported_file}
+use Rattle.desk_words.specs.Forms.{after_import, form_of, form_over_rows, form_over_schema, schema_and_several, word_alone, are_one_to_64}
 use Rattle.desk_inputs.specs.Inputs.{schema_file}
 use Rattle.desk_cli.specs.Performs.{Answers, Performs, Does}
 use Rattle.desk_inputs.specs.Readings.{known_files}
@@ -44,19 +47,19 @@ use Rattle.desk_laws.proofs.StopLemmas.{one_content, file_goes}
 use Rattle.desk_tables.specs.OwnFolders.{Looks}
 
 -- ---- rows under a free header
-after_headed : (files : Files) (name : List ℕ) (h : Headed) (rest : Headed → Allowed) (response : ResponseValue)
-    → IsFile headed_file (known_files files) name h
+after_headed : (files : Files) (command : List ℕ) (widest : ℕ) (name : List ℕ) (h : Headed) (rest : Headed → Allowed) (response : ResponseValue)
+    → IsFile (headed_file_for command widest) (known_files files) name h
     → ((k : Headed) → names_and_rows k ≡ names_and_rows h → rest k response → IsYesOrNo response.status)
-    → WithFile headed_file (known_files files) name rest response → IsYesOrNo response.status
-after_headed files name h rest response file go (inl (inl exit)) =
+    → WithFile (headed_file_for command widest) (known_files files) name rest response → IsYesOrNo response.status
+after_headed files command widest name h rest response file go (inl (inl exit)) =
     absurd (file_goes files name file.bytes MOST_CSV_BYTES response file.content.0 file.content.1 exit)
-after_headed files name h rest response file go (inl (inr (why, is, says))) =
-    let here : IsRefusedDiscovery file.bytes why =
-    subst (λ (b : List ℕ). IsRefusedDiscovery b why)
+after_headed files command widest name h rest response file go (inl (inr (why, is, says))) =
+    let here : IsRefusedWithin widest file.bytes why =
+    subst (λ (b : List ℕ). IsRefusedWithin widest b why)
     (one_content files name is.bytes file.bytes is.content.0 file.content.0) is.refused in
-    absurd (never_both file.bytes h why file.means here)
-after_headed files name h rest response file go (inr (k, is, more)) =
-    go k (one_view files name headed_file names_and_rows MeansNamesAndRows headed_text_once
+    absurd (never_both widest file.bytes h why file.means here)
+after_headed files command widest name h rest response file go (inr (k, is, more)) =
+    go k (one_view files name (headed_file_for command widest) names_and_rows (MeansNamesAndRows widest) (headed_text_once widest)
     (λ text h means. (h, means, refl)) k h is file) more
 
 discover_asks : (files : Files) (file : List ℕ) (looks : Looks) (response : ResponseValue)
@@ -83,9 +86,22 @@ pub discover_answered : (files : Files) (file : List ℕ) (headed : Headed) → 
     → ((refusal : TooManyLeftSides) → HasTooManyLeftSides headed refusal → ⊥)
     → IsAnswered files (codes "discover" ∷ file ∷ [])
 discover_answered files file headed is not_many looks response answered =
-    after_headed files file headed (FindsRules file) response is
+    after_headed files (codes "discover") WIDEST_HEADED file headed (FindsRules file) response is
     (λ k same found. rules_given file headed k response not_many same found)
     (discover_asks files file looks response answered)
+
+import_asks : (files : Files) (file : List ℕ) (looks : Looks) (response : ResponseValue)
+    → Answers looks (known_files files) (codes "import" ∷ codes "csv" ∷ file ∷ []) response
+    → WithFile imported_file (known_files files) file ImportsColumns response
+unfolding form_of after_import word_alone Performs
+import_asks files file looks response answered = answered
+
+pub import_answered : (files : Files) (file : List ℕ) (headed : Headed) → IsFile imported_file (known_files files) file headed
+    → IsAnswered files (codes "import" ∷ codes "csv" ∷ file ∷ [])
+import_answered files file headed is looks response answered =
+    after_headed files (codes "import") MOST_ATTRIBUTES file headed ImportsColumns response is
+    (λ k same found. inl (ap (λ (a : ResponseValue). a.status) found.2))
+    (import_asks files file looks response answered)
 
 -- ---- tables of some columns
 part_alike : (s r : Schema) (text : List ℕ) (rows : Relation) → AreSame s r → PartOf s text (Ok rows)
