@@ -23,7 +23,8 @@ use Rattle.desk_words.specs.Forms as form
 use Rattle.desk_words.specs.Forms.{CommandForm, PlanQuestion, RowsQuestion, RulesQuestion, SchemaQuestion, Task, form_of}
 use Rattle.fd_discovery.specs.declared.headed_rows.Headed.{Headed}
 use Rattle.desk_inputs.specs.FileKinds.{WithFile}
-use Rattle.desk_inputs.specs.Headed.{headed_file}
+use Rattle.desk_columns.specs.Imports.{ImportsColumns}
+use Rattle.desk_inputs.specs.Headed.{headed_file, imported_file}
 use Rattle.desk_cli.specs.Help.{help_text, version_text}
 use Rattle.desk_implication.specs.Implication.{DecidesGoal}
 use Rattle.desk_inputs.specs.Inputs.{derivation_file, proof_file, schema_file}
@@ -138,6 +139,7 @@ Does looks r schema (form.rejoin files) = WithParts r schema files (λ parts. Jo
 unfoldable pub Performs : Looks → Reading → CommandForm → Allowed
 Performs looks r (form.over_schema file task) = WithFile schema_file r file (λ schema. Does looks r schema task)
 Performs looks r (form.discover question file) = WithFile headed_file r file (AnswersRules question file)
+Performs looks r (form.import_csv file) = WithFile imported_file r file ImportsColumns
 Performs looks r (form.sample persons) = Samples persons
 Performs looks r form.help = Says Yes help_text
 Performs looks r form.version = Says Yes version_text

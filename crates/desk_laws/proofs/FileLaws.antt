@@ -1,8 +1,9 @@
--- Where the files of `discover` and `rejoin` have their meaning, these commands answer yes or no.
+-- Where the files of `discover`, `import csv` and `rejoin` have their meaning, these commands answer yes or no.
 use Rattle.std.proofs.Common.{◌≡◌, ◌≤◌, ◌<◌, ℕ, true, false, zero, suc, Some, None, Result, Ok, Err, List, [], ◌∷◌, length, inl, inr, refl, sym, ap, subst, ◌∙◌, arith}
 use Rattle.std.specs.Prelude.{codes, slice_get}
 use Rattle.attr_sets.specs.Attributes.{Attributes}
 use Rattle.attr_sets.specs.Sets.{attributes}
+use Rattle.attr_sets.specs.declared.set.TheConstants.{MOST_ATTRIBUTES}
 use Rattle.candidate_search.specs.Sides.{IsExceeded}
 use Rattle.candidate_search.specs.declared.side.TooManyLeftSides.{TooManyLeftSides}
 use Rattle.csv_rows.specs.Columns.{with_columns, columns_of_header}
@@ -17,10 +18,11 @@ use Rattle.dep_model.specs.Schemas.{names_of, width_of}
 use Rattle.dep_model.specs.Tuples.{Relation}
 use Rattle.dep_model.specs.declared.schema.Schema.{Schema}
 use Rattle.fd_discovery.proofs.UniqueHeaded.{never_both}
-use Rattle.fd_discovery.specs.Headings.{IsRefusedDiscovery, names_under, rows_under}
+use Rattle.fd_discovery.specs.Headings.{IsRefusedDiscovery, names_under, rows_under, IsRefusedWithin}
 use Rattle.fd_discovery.specs.declared.headed_rows.Headed.{Headed}
 use Rattle.lexer.specs.Bytes.{number_of}
 use Rattle.row_keys.specs.Keys.{HasTooManyKeys}
+use Rattle.fd_discovery.specs.declared.headed_rows.TheConstants.{WIDEST_HEADED}
 use Rattle.table_join.specs.Answers.{IsWithinLimit}
 use Rattle.table_join.specs.declared.refusal.JoinRefusal.TheVariants.{NotCovered, TooManyRows}
 use Rattle.table_join.specs.Tables.{PartialRelation, table_of_part, tables_of, plan_of_tables}
@@ -32,9 +34,10 @@ use Rattle.desk_discovery.specs.Discoveries.{FindsRules, FindsSmallRules, HasToo
 use Rattle.desk_discovery.specs.KeyDiscoveries.{FindsRowKeys}
 use Rattle.desk_discovery.specs.declared.discovering.TheConstants.{WIDEST_TRIED}
 use Rattle.desk_inputs.specs.FileKinds.{FileStops, IsFile, WithFile}
-use Rattle.desk_inputs.specs.Headed.{headed_file}
-use Rattle.desk_words.specs.Forms.{after_discover, form_of, form_over_rows, form_over_schema, schema_and_several, are_one_to_64}
+use Rattle.desk_inputs.specs.Headed.{headed_file, headed_file_for, imported_file}
+use Rattle.desk_words.specs.Forms.{after_discover, form_of, form_over_rows, form_over_schema, schema_and_several, are_one_to_64, after_import, word_alone}
 use Rattle.desk_words.specs.Numbers.{is_left_bound, is_short_number}
+use Rattle.desk_columns.specs.Imports.{ImportsColumns}
 use Rattle.desk_inputs.specs.Inputs.{schema_file}
 use Rattle.desk_cli.specs.Performs.{Answers, AnswersRules, Performs, Does}
 use Rattle.desk_inputs.specs.Readings.{known_files}
@@ -48,19 +51,19 @@ use Rattle.desk_laws.proofs.StopLemmas.{one_content, file_goes}
 use Rattle.desk_tables.specs.OwnFolders.{Looks}
 
 -- ---- rows under a free header
-after_headed : (files : Files) (name : List ℕ) (h : Headed) (rest : Headed → Allowed) (response : ResponseValue)
-    → IsFile headed_file (known_files files) name h
+after_headed : (files : Files) (command : List ℕ) (widest : ℕ) (name : List ℕ) (h : Headed) (rest : Headed → Allowed) (response : ResponseValue)
+    → IsFile (headed_file_for command widest) (known_files files) name h
     → ((k : Headed) → names_and_rows k ≡ names_and_rows h → rest k response → IsYesOrNo response.status)
-    → WithFile headed_file (known_files files) name rest response → IsYesOrNo response.status
-after_headed files name h rest response file go (inl (inl exit)) =
+    → WithFile (headed_file_for command widest) (known_files files) name rest response → IsYesOrNo response.status
+after_headed files command widest name h rest response file go (inl (inl exit)) =
     absurd (file_goes files name file.bytes MOST_CSV_BYTES response file.content.0 file.content.1 exit)
-after_headed files name h rest response file go (inl (inr (why, is, says))) =
-    let here : IsRefusedDiscovery file.bytes why =
-    subst (λ (b : List ℕ). IsRefusedDiscovery b why)
+after_headed files command widest name h rest response file go (inl (inr (why, is, says))) =
+    let here : IsRefusedWithin widest file.bytes why =
+    subst (λ (b : List ℕ). IsRefusedWithin widest b why)
     (one_content files name is.bytes file.bytes is.content.0 file.content.0) is.refused in
-    absurd (never_both file.bytes h why file.means here)
-after_headed files name h rest response file go (inr (k, is, more)) =
-    go k (one_view files name headed_file names_and_rows MeansNamesAndRows headed_text_once
+    absurd (never_both widest file.bytes h why file.means here)
+after_headed files command widest name h rest response file go (inr (k, is, more)) =
+    go k (one_view files name (headed_file_for command widest) names_and_rows (MeansNamesAndRows widest) (headed_text_once widest)
     (λ text h means. (h, means, refl)) k h is file) more
 
 discover_asks : (files : Files) (file : List ℕ) (looks : Looks) (response : ResponseValue)
@@ -119,7 +122,7 @@ pub discover_answered : (files : Files) (file : List ℕ) (headed : Headed) → 
     → ((refusal : TooManyLeftSides) → HasTooManyLeftSides (length (names_under headed)) headed refusal → ⊥)
     → IsAnswered files (codes "discover" ∷ file ∷ [])
 discover_answered files file headed is not_many looks response answered =
-    after_headed files file headed (FindsRules file) response is
+    after_headed files (codes "discover") WIDEST_HEADED file headed (FindsRules file) response is
     (λ k same found. rules_given file headed k response not_many same found)
     (discover_asks files file looks response answered)
 
@@ -128,7 +131,7 @@ pub discover_small_answered : (files : Files) (word file : List ℕ) (headed : H
     → ((refusal : TooManyLeftSides) → HasTooManyLeftSides (number_of word) headed refusal → ⊥)
     → IsAnswered files (codes "discover" ∷ word ∷ file ∷ [])
 discover_small_answered files word file headed bounds is not_many looks response answered =
-    after_headed files file headed (FindsSmallRules (number_of word) file) response is
+    after_headed files (codes "discover") WIDEST_HEADED file headed (FindsSmallRules (number_of word) file) response is
     (λ k same found. small_given (number_of word) file headed k response not_many same found)
     (small_asks files word file looks response bounds answered)
 
@@ -137,9 +140,22 @@ pub discover_keys_answered : (files : Files) (file : List ℕ) (headed : Headed)
     → (HasTooManyKeys (length (names_under headed)) (rows_under headed) → ⊥)
     → IsAnswered files (codes "discover" ∷ codes "keys" ∷ file ∷ [])
 discover_keys_answered files file headed is not_many looks response answered =
-    after_headed files file headed (FindsRowKeys file) response is
+    after_headed files (codes "discover") WIDEST_HEADED file headed (FindsRowKeys file) response is
     (λ k same found. keys_given file headed k response not_many same found)
     (keys_ask files file looks response answered)
+
+import_asks : (files : Files) (file : List ℕ) (looks : Looks) (response : ResponseValue)
+    → Answers looks (known_files files) (codes "import" ∷ codes "csv" ∷ file ∷ []) response
+    → WithFile imported_file (known_files files) file ImportsColumns response
+unfolding form_of after_import word_alone Performs
+import_asks files file looks response answered = answered
+
+pub import_answered : (files : Files) (file : List ℕ) (headed : Headed) → IsFile imported_file (known_files files) file headed
+    → IsAnswered files (codes "import" ∷ codes "csv" ∷ file ∷ [])
+import_answered files file headed is looks response answered =
+    after_headed files (codes "import") MOST_ATTRIBUTES file headed ImportsColumns response is
+    (λ k same found. inl (ap (λ (a : ResponseValue). a.status) found.2))
+    (import_asks files file looks response answered)
 
 -- ---- tables of some columns
 part_alike : (s r : Schema) (text : List ℕ) (rows : Relation) → AreSame s r → PartOf s text (Ok rows)

@@ -25,7 +25,7 @@ use Rattle.desk_inputs.specs.Readings.{Reading, known_files}
 use Rattle.desk_responses.specs.ResponseValues.{ResponseValue, Allowed}
 use Rattle.csv_rows.specs.Reading.{RowsOf}
 use Rattle.desk_inputs.specs.FileKinds.{FileStops, IsFile, WithFile}
-use Rattle.desk_inputs.specs.Headed.{headed_file}
+use Rattle.desk_inputs.specs.Headed.{headed_file_for}
 use Rattle.desk_inputs.specs.Inputs.{derivation_file, proof_file, schema_file}
 use Rattle.desk_inputs.specs.Parts.{ArePartFiles, PartsStop, WithParts, part_file}
 use Rattle.desk_inputs.specs.Plans.{MeansTables, plan_file}
@@ -95,25 +95,25 @@ module _ (files : Files) where
       each d one other first (subst (λ (e : Dependency). rest e other) (sym same) second))
 
   -- what is said of any two answers: of equal ones, and of those on values that have the same names and rows
-  pub after_headed : (name : List ℕ) (C : ResponseValue → ResponseValue → Type 0) (rest : Headed → Allowed)
+  pub after_headed : (command : List ℕ) (widest : ℕ) (name : List ℕ) (C : ResponseValue → ResponseValue → Type 0) (rest : Headed → Allowed)
       → ((one other : ResponseValue) → one ≡ other → C one other)
-      → ((h k : Headed) (one other : ResponseValue) → IsFile headed_file known name k
+      → ((h k : Headed) (one other : ResponseValue) → IsFile (headed_file_for command widest) known name k
       → names_and_rows h ≡ names_and_rows k → rest h one → rest k other → C one other)
-      → (one other : ResponseValue) → WithFile headed_file known name rest one
-      → WithFile headed_file known name rest other → C one other
-  after_headed name C rest by_path alike one other (inl stops) (inl also) =
+      → (one other : ResponseValue) → WithFile (headed_file_for command widest) known name rest one
+      → WithFile (headed_file_for command widest) known name rest other → C one other
+  after_headed command widest name C rest by_path alike one other (inl stops) (inl also) =
       by_path one other
-      (one_stop files name headed_file names_and_rows MeansNamesAndRows headed_text_once
+      (one_stop files name (headed_file_for command widest) names_and_rows (MeansNamesAndRows widest) (headed_text_once widest)
       (λ text h means. (h, means, refl)) one other stops also)
-  after_headed name C rest by_path alike one other (inl stops) (inr (k, is, remains)) =
-      absurd (goes files name headed_file names_and_rows MeansNamesAndRows headed_text_once
+  after_headed command widest name C rest by_path alike one other (inl stops) (inr (k, is, remains)) =
+      absurd (goes files name (headed_file_for command widest) names_and_rows (MeansNamesAndRows widest) (headed_text_once widest)
       (λ text h means. (h, means, refl)) k one is stops)
-  after_headed name C rest by_path alike one other (inr (h, is, rests)) (inl stops) =
-      absurd (goes files name headed_file names_and_rows MeansNamesAndRows headed_text_once
+  after_headed command widest name C rest by_path alike one other (inr (h, is, rests)) (inl stops) =
+      absurd (goes files name (headed_file_for command widest) names_and_rows (MeansNamesAndRows widest) (headed_text_once widest)
       (λ text h means. (h, means, refl)) h other is stops)
-  after_headed name C rest by_path alike one other (inr (h, is, rests)) (inr (k, also, remains)) =
+  after_headed command widest name C rest by_path alike one other (inr (h, is, rests)) (inr (k, also, remains)) =
       alike h k one other also
-      (one_view files name headed_file names_and_rows MeansNamesAndRows headed_text_once
+      (one_view files name (headed_file_for command widest) names_and_rows (MeansNamesAndRows widest) (headed_text_once widest)
       (λ text h means. (h, means, refl)) h k is also) rests remains
 
   -- ---- several files

@@ -7,7 +7,7 @@ use Rattle.lexer.specs.Bytes.{number_of}
 use Rattle.normal_forms.specs.declared.forms.Form.{Form}
 use Rattle.sample_rows.specs.declared.rows.TheConstants.{MOST_PERSONS}
 use Rattle.desk_words.specs.Forms as form
-use Rattle.desk_words.specs.Forms.{CommandForm, PlanQuestion, RowsQuestion, SchemaQuestion, Task, after_check, after_check_form, after_ddl, after_discover, after_draw, after_explain, after_explain_split, after_keys, after_migrate, after_migrate_form, after_migrate_plan, after_offences, after_split, after_sql, after_sql_migrate, are_one_to_64, form_of, form_over_rows, form_over_schema, no_more_arguments, normal_form, persons_alone, schema_alone, schema_and_file, schema_and_plan, schema_and_plan_and_word, schema_and_rows, schema_and_several, schema_and_two, schema_and_word, two_schemas}
+use Rattle.desk_words.specs.Forms.{CommandForm, PlanQuestion, RowsQuestion, SchemaQuestion, Task, after_check, after_check_form, after_ddl, after_discover, after_draw, after_explain, after_explain_split, after_keys, after_migrate, after_migrate_form, after_migrate_plan, after_offences, after_split, after_sql, after_sql_migrate, are_one_to_64, form_of, form_over_rows, form_over_schema, no_more_arguments, normal_form, persons_alone, schema_alone, schema_and_file, schema_and_plan, schema_and_plan_and_word, schema_and_rows, schema_and_several, schema_and_two, schema_and_word, two_schemas, after_import, word_alone}
 use Rattle.desk_words.specs.Numbers.{is_count, is_left_bound}
 
 -- if a form is that of `sample`, its number is within the limit
@@ -15,6 +15,7 @@ abbrev IsFew : CommandForm → Type 0
 IsFew (form.sample persons) = persons ≤ MOST_PERSONS
 IsFew (form.over_schema file task) = Unit {0}
 IsFew (form.discover question file) = Unit {0}
+IsFew (form.import_csv file) = Unit {0}
 IsFew form.help = Unit {0}
 IsFew form.version = Unit {0}
 
@@ -103,6 +104,12 @@ few_discover (a ∷ []) = tt
 few_discover (what ∷ rows ∷ []) =
     few_if (is_left_bound what) _ _ tt (few_if (bytes_eq what (codes "keys")) _ _ tt tt)
 few_discover (a ∷ b ∷ d ∷ words) = tt
+
+few_imported : (words : List (List ℕ)) → AreFew (word_alone form.import_csv words)
+unfolding word_alone
+few_imported [] = tt
+few_imported (a ∷ []) = tt
+few_imported (a ∷ b ∷ words) = tt
 
 few_help : (words : List (List ℕ)) → AreFew (no_more_arguments form.help words)
 unfolding no_more_arguments
@@ -250,6 +257,11 @@ few_draw (what ∷ rest) =
     few_if (bytes_eq what (codes "plan")) _ _ (few_and_plan form.draw_plan rest)
     (few_then _ (normal_form what) (λ normal. few_alone (form.draw normal) rest))
 
+few_import : (words : List (List ℕ)) → AreFew (after_import words)
+unfolding after_import
+few_import [] = tt
+few_import (what ∷ rest) = few_if (bytes_eq what (codes "csv")) _ _ (few_imported rest) tt
+
 few_over_schema : (verb : List ℕ) (rest : List (List ℕ)) → AreFew (form_over_schema verb rest)
 unfolding form_over_schema
 few_over_schema verb rest =
@@ -273,11 +285,12 @@ unfolding form_of
 few_form [] = tt
 few_form (verb ∷ rest) =
     few_if (bytes_eq verb (codes "discover")) _ _ (few_discover rest)
+    (few_if (bytes_eq verb (codes "import")) _ _ (few_import rest)
     (few_if (bytes_eq verb (codes "sample")) _ _ (few_persons rest)
     (few_if (bytes_eq verb (codes "help")) _ _ (few_help rest)
     (few_if (bytes_eq verb (codes "--help")) _ _ (few_help rest)
     (few_if (bytes_eq verb (codes "-h")) _ _ (few_help rest)
-    (few_if (bytes_eq verb (codes "--version")) _ _ (few_version rest) (few_over_schema verb rest))))))
+    (few_if (bytes_eq verb (codes "--version")) _ _ (few_version rest) (few_over_schema verb rest)))))))
 
 pub sample_within : (words : List (List ℕ)) (persons : ℕ) → form_of words ≡ Some (form.sample persons)
     → persons ≤ MOST_PERSONS

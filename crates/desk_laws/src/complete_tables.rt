@@ -25,7 +25,7 @@ ghost use Rattle.desk_outside.specs.Files.{Files};
 ghost use Rattle.desk_discovery.specs.Discoveries.{HasTooManyLeftSides};
 ghost use Rattle.desk_tables.specs.declared.rejoining.TheConstants.{MOST_JOINED_ROWS};
 ghost use Rattle.desk_inputs.specs.FileKinds.{IsFile};
-ghost use Rattle.desk_inputs.specs.Headed.{headed_file};
+ghost use Rattle.desk_inputs.specs.Headed.{headed_file, imported_file};
 ghost use Rattle.desk_words.specs.Forms.{are_one_to_64};
 ghost use Rattle.desk_inputs.specs.Inputs.{schema_file};
 ghost use Rattle.desk_designs.specs.Joins.{IsTooLarge};
@@ -132,6 +132,13 @@ pub fn discover_is_answered()
     ensures keys { (files : Files) (file : List ℕ) (headed : Headed) → IsFile headed_file (known_files files) file headed
         → (HasTooManyKeys (length (names_under headed)) (rows_under headed) → ⊥)
         → IsAnswered files (codes "discover" ∷ codes "keys" ∷ file ∷ []) }
+{}
+
+/// `import csv` is answered where the CSV file has a header that names its columns, and rows under it.
+pub fn import_csv_is_answered()
+    ensures law { (files : Files) (file : List ℕ) (headed : Headed)
+        → IsFile imported_file (known_files files) file headed
+        → IsAnswered files (codes "import" ∷ codes "csv" ∷ file ∷ []) }
 {}
 
 /// `rejoin` is answered where the schema file means a schema, from one to 64 files are tables, each

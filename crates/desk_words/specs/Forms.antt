@@ -122,6 +122,8 @@ pub data CommandForm : Type 0 where
   over_schema : List ℕ → Task → CommandForm
   -- the rules that the rows of a file obey
   discover : RulesQuestion → List ℕ → CommandForm
+  -- a schema of the columns of a file of rows
+  import_csv : List ℕ → CommandForm
   -- so many invented persons, as tables in fourth normal form
   sample : ℕ → CommandForm
   -- the commands, in a few lines
@@ -360,11 +362,17 @@ form_over_schema verb rest =
     else if bytes_eq verb (codes "draw") then after_draw rest
     else form_over_rows verb rest
 
+-- after `import`
+unfoldable pub after_import : List (List ℕ) → Option CommandForm
+after_import [] = None
+after_import (what ∷ rest) = if bytes_eq what (codes "csv") then word_alone import_csv rest else None
+
 -- the command that the words form, if they form one
 unfoldable pub form_of : List (List ℕ) → Option CommandForm
 form_of [] = None
 form_of (verb ∷ rest) =
     if bytes_eq verb (codes "discover") then after_discover rest
+    else if bytes_eq verb (codes "import") then after_import rest
     else if bytes_eq verb (codes "sample") then persons_alone rest
     else if bytes_eq verb (codes "help") then no_more_arguments help rest
     else if bytes_eq verb (codes "--help") then no_more_arguments help rest

@@ -28,6 +28,10 @@ pub enum Command<'a> {
         question: RulesQuestion,
         file: &'a Argument,
     },
+    /// A schema of the columns of a file of rows.
+    ImportCsv {
+        file: &'a Argument,
+    },
     /// So many invented persons, as tables in fourth normal form.
     Sample {
         persons: Persons,
@@ -49,6 +53,9 @@ pub fn parse(words: &[Argument]) -> Option<Command<'_>>
     if verb.bytes() == b"discover".as_slice() {
         return after_discover(rest);
     }
+    if verb.bytes() == b"import".as_slice() {
+        return after_import(rest);
+    }
     if verb.bytes() == b"sample".as_slice() {
         return after_sample(rest);
     }
@@ -60,6 +67,23 @@ pub fn parse(words: &[Argument]) -> Option<Command<'_>>
         return no_more_arguments(Command::Version, rest);
     }
     over_schema(verb, rest)
+}
+
+// Of what kind the file is, and the file.
+#[tactic(auto, unfolding(crate::specs::Forms::after_import, crate::specs::Forms::word_alone))]
+fn after_import(words: &[Argument]) -> Option<Command<'_>>
+    ensures form { option_map command_form result ≡ forms.after_import words.now }
+{
+    let [kind, rest @ ..] = words else {
+        return None;
+    };
+    if kind.bytes() != b"csv".as_slice() {
+        return None;
+    }
+    let [file] = rest else {
+        return None;
+    };
+    Some(Command::ImportCsv { file })
 }
 
 // How many persons, and no word more.
