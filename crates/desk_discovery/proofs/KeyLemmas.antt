@@ -5,7 +5,7 @@ use Rattle.attr_sets.specs.Attributes.{Attributes}
 use Rattle.attr_sets.specs.Sets.{attributes}
 use Rattle.attr_sets.specs.declared.set.AttrSet.{AttrSet}
 use Rattle.dep_model.specs.Plans.{schemes_of}
-use Rattle.dep_model.specs.Schemas.{naming_of, names_of}
+use Rattle.dep_model.specs.Schemas.{names_of}
 use Rattle.dep_model.specs.declared.naming.Naming.{Naming}
 use Rattle.dep_model.specs.declared.schema.Schema.{Schema}
 use Rattle.fd_discovery.specs.Headers.{naming_under}

@@ -11,6 +11,7 @@ use Rattle.fd_discovery.specs.Minimal.{AreAllMinimal, IsMinimalFd, Precedes}
 use Rattle.fd_search.specs.Small.{AreAllSmall, IsSmallFd}
 use Rattle.row_keys.specs.Keys.{AreRowKeys, IsRowKey}
 use Rattle.schema_match.specs.Differences.{AreDifferences}
+use Rattle.implication_laws.proofs.OneKey.{before_one_way}
 use Rattle.implication_laws.proofs.OrderedLists.{HoldsAll, IsOneWay, one_ordered_list}
 
 -- ---- differences
@@ -72,9 +73,6 @@ one_small_rules n most rows one other first second =
     (small_held n most rows other one second first)
 
 -- ---- keys of rows
-before_one_way : (P : Attributes → Type 0) → IsOneWay P IsBefore
-before_one_way P x y x_is y_is there back = IsBefore-irrefl x (IsBefore-trans x y x there back)
-
 row_keys_held : (n : ℕ) (rows : Relation) (one other : List Attributes) → AreRowKeys n rows one
     → AreRowKeys n rows other → HoldsAll one other
 row_keys_held n rows one other first second x has = second.all x (All-contains (IsRowKey n rows) one x first.each has)

@@ -1,9 +1,9 @@
 -- What is left to prove of `discover_keys`: its clause `response`, where keys are found and where they are too many.
-use Rattle.std.proofs.Common.{◌≡◌, ℕ, List, length, inl, inr, subst, arith}
+use Rattle.std.proofs.Common.{◌≡◌, ℕ, List, length, inl, subst, arith}
 use Rattle.attr_sets.specs.declared.set.AttrSet.{AttrSet}
 use Rattle.dep_model.specs.Plans.{schemes_of}
 use Rattle.fd_discovery.specs.Headings.{names_under, rows_under}
-use Rattle.row_keys.specs.Keys.{AreRowKeys, HasTooManyKeys}
+use Rattle.row_keys.specs.Keys.{AreRowKeys}
 use Rattle.desk_responses.specs.ResponseValues.{Says}
 use Rattle.desk_responses.specs.Responses.{response_value}
 use Rattle.desk_responses.specs.declared.status.Status.TheVariants.{Yes}
