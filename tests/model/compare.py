@@ -562,7 +562,8 @@ def f_discover(m):
     if m.r.random() < .1:
         names[m.r.randrange(n)] = m.r.choice(("scheme", "a", "1x", "", "Version", "x" * 32, "b_", "integer", "x" * 64, "Unit price", 'a"b', "\x7f"))
     rows = m.rows(s, m.r.choice((2, 4, 8, 12)), 0)
-    return ["discover", "r"], {"r": m.csv(names, rows, noise=.1)}
+    words = m.r.choice((["discover"], ["discover"], ["discover", "keys"], ["discover", str(m.r.randint(0, 5))], ["discover", m.r.choice(("02", "00", "16", "64", "65", "007"))]))
+    return words + ["r"], {"r": m.csv(names, rows, noise=.1)}
 
 
 def f_rejoin(m):
