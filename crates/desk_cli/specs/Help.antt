@@ -53,6 +53,8 @@ help_text =
     ++ line (codes "desk discover K CSV                   those with at most K attributes on the left")
     ++ line (codes "desk discover keys CSV                "
     ++ codes "the minimal sets of columns on which no two different rows agree")
+    ++ line (codes "desk discover near N K CSV            "
+    ++ codes "those that hold once at most N rows change, with at most K attributes on the left")
     ++ line (codes "desk import csv CSV                   a schema of the columns of CSV, to go on from")
     ++ line (codes "desk rejoin SCHEMA CSV..              the join of the tables in files")
     ++ line (codes "desk sql check SCHEMA TABLE           "

@@ -14,6 +14,7 @@ use Rattle.desk_covers.specs.CoverReasons.{ExplainsCover}
 use Rattle.desk_covers.specs.Covering.{GivesCover}
 use Rattle.desk_designs.specs.Decompositions.{Splits, SplitsWide}
 use Rattle.desk_designs.specs.Designs.{WritesForm, WritesPlan}
+use Rattle.desk_discovery.specs.NearDiscoveries.{FindsNearRules}
 use Rattle.desk_discovery.specs.Discoveries.{FindsRules, FindsSmallRules}
 use Rattle.desk_discovery.specs.KeyDiscoveries.{FindsRowKeys}
 use Rattle.desk_derivations.specs.Derivations.{ChecksDerivation}
@@ -99,6 +100,7 @@ unfoldable pub AnswersRules : RulesQuestion → List ℕ → Headed → Allowed
 AnswersRules form.minimal_rules file headed = FindsRules file headed
 AnswersRules (form.small_rules most) file headed = FindsSmallRules most file headed
 AnswersRules form.keys_of_rows file headed = FindsRowKeys file headed
+AnswersRules (form.near_rules limit most) file headed = FindsNearRules limit most file headed
 
 -- the rows of a file are read whatever their values are, and then the rest follows
 unfoldable pub WithValues : Reading → Schema → List ℕ → (Relation → Allowed) → Allowed

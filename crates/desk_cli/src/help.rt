@@ -41,6 +41,7 @@ desk sample N                         the tables of N invented persons
 desk discover CSV                     the functional dependencies that the rows in CSV obey
 desk discover K CSV                   those with at most K attributes on the left
 desk discover keys CSV                the minimal sets of columns on which no two different rows agree
+desk discover near N K CSV            those that hold once at most N rows change, with at most K attributes on the left
 desk import csv CSV                   a schema of the columns of CSV, to go on from
 desk rejoin SCHEMA CSV..              the join of the tables in files
 desk sql check SCHEMA TABLE           queries for the rows of TABLE in a database that break each rule

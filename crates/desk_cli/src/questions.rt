@@ -20,7 +20,9 @@ use desk_designs::{
     script_migration_by_plan, split_by_pairs, split_in_form, synthesize_plan, write_form,
     write_plan,
 };
-use desk_discovery::{discover_keys, discover_rules, discover_small_rules, exhibit_relation};
+use desk_discovery::{
+    discover_keys, discover_near_rules, discover_rules, discover_small_rules, exhibit_relation,
+};
 use desk_implication::{give_basis, give_closure, give_projection, implies};
 use desk_keys::{check_key, explain_keys, list_keys, list_keys_of_plan};
 use desk_measures::{keep_rows, list_offences, list_offences_by_row};
@@ -138,5 +140,8 @@ pub fn answer_rules(
             discover_small_rules(alloc, hashing, file, headed, most.number)
         }
         RulesQuestion::Keys => discover_keys(alloc, hashing, file, headed),
+        RulesQuestion::Near { limit, most } => {
+            discover_near_rules(alloc, hashing, file, headed, limit, most.number)
+        }
     }
 }

@@ -2,3 +2,4 @@
 pub mod Exhibits
 pub mod Discoveries
 pub mod KeyDiscoveries
+pub mod NearDiscoveries

@@ -1,5 +1,5 @@
 //! Between dependencies and relations: the relation that exhibits a schema, and what the rows of a file
-//! obey: their minimal dependencies, those of few attributes on the left, and their minimal keys.
+//! obey: their minimal dependencies, those of few attributes on the left, those that nearly hold, and their minimal keys.
 //!
 //! Each is a pure function of values, with the one clause that its response is allowed.
 #![tactic(auto)]
@@ -7,9 +7,11 @@
 mod discovering;
 mod exhibits;
 mod keys;
+mod near;
 mod small;
 
 pub use discovering::{WIDEST_TRIED, discover_rules};
 pub use exhibits::{exhibit_relation, multivalued_exit};
 pub use keys::discover_keys;
+pub use near::discover_near_rules;
 pub use small::discover_small_rules;

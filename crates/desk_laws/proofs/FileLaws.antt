@@ -21,6 +21,7 @@ use Rattle.fd_discovery.proofs.UniqueHeaded.{never_both}
 use Rattle.fd_discovery.specs.Headings.{IsRefusedDiscovery, names_under, rows_under, IsRefusedWithin}
 use Rattle.fd_discovery.specs.declared.headed_rows.Headed.{Headed}
 use Rattle.lexer.specs.Bytes.{number_of}
+use Rattle.near_rules.specs.NearRules.{IsFirstExceeded, IsTriedWhole}
 use Rattle.row_keys.specs.Keys.{HasTooManyKeys}
 use Rattle.fd_discovery.specs.declared.headed_rows.TheConstants.{WIDEST_HEADED}
 use Rattle.table_join.specs.Answers.{IsWithinLimit}
@@ -31,12 +32,13 @@ use Rattle.desk_tables.specs.declared.rejoining.TheConstants.{MOST_JOINED_ROWS}
 use Rattle.desk_inputs.specs.declared.rows.TheConstants.{MOST_CSV_BYTES}
 use Rattle.desk_responses.specs.ResponseValues.{ResponseValue, Allowed}
 use Rattle.desk_discovery.specs.Discoveries.{FindsRules, FindsSmallRules, HasTooManyLeftSides}
+use Rattle.desk_discovery.specs.NearDiscoveries.{FindsNearRules}
 use Rattle.desk_discovery.specs.KeyDiscoveries.{FindsRowKeys}
 use Rattle.desk_discovery.specs.declared.discovering.TheConstants.{WIDEST_TRIED}
 use Rattle.desk_inputs.specs.FileKinds.{FileStops, IsFile, WithFile}
 use Rattle.desk_inputs.specs.Headed.{headed_file, headed_file_for, imported_file}
 use Rattle.desk_words.specs.Forms.{after_discover, form_of, form_over_rows, form_over_schema, schema_and_several, are_one_to_64, after_import, word_alone}
-use Rattle.desk_words.specs.Numbers.{is_left_bound, is_short_number}
+use Rattle.desk_words.specs.Numbers.{is_left_bound, is_short_number, is_row_bound}
 use Rattle.desk_columns.specs.Imports.{ImportsColumns}
 use Rattle.desk_inputs.specs.Inputs.{schema_file}
 use Rattle.desk_cli.specs.Performs.{Answers, AnswersRules, Performs, Does}
@@ -117,6 +119,32 @@ keys_given : (file : List ℕ) (h k : Headed) (response : ResponseValue)
 keys_given file h k response not_many same (inl found) = inl (ap (λ (a : ResponseValue). a.status) found.2)
 keys_given file h k response not_many same (inr (many, says)) =
     absurd (not_many (subst (λ (read : List (List ℕ) × Relation). HasTooManyKeys (length read.0) read.1) same many))
+
+near_asks : (files : Files) (limit most file : List ℕ) (looks : Looks) (response : ResponseValue) → is_row_bound limit ≡ true
+    → is_left_bound most ≡ true
+    → Answers looks (known_files files) (codes "discover" ∷ codes "near" ∷ limit ∷ most ∷ file ∷ []) response
+    → WithFile headed_file (known_files files) file (FindsNearRules (number_of limit) (number_of most) file) response
+unfolding form_of after_discover Performs AnswersRules
+near_asks files limit most file looks response rows bounds answered = (rw (rows, bounds) at answered)
+
+near_given : (limit most : ℕ) (file : List ℕ) (h k : Headed) (response : ResponseValue)
+    → IsTriedWhole (length (names_under h)) most limit (rows_under h)
+    → names_and_rows k ≡ names_and_rows h → FindsNearRules limit most file k response → IsYesOrNo response.status
+near_given limit most file h k response whole same (inl (ds, errors, rules, tried, says)) =
+    inl (ap (λ (a : ResponseValue). a.status) says)
+near_given limit most file h k response whole same (inr (refusal, is, says)) =
+    let there : IsFirstExceeded (length (names_under h)) most limit (rows_under h) refusal =
+    subst (λ (read : List (List ℕ) × Relation). IsFirstExceeded (length read.0) most limit read.1 refusal) same is in
+    absurd (whole refusal.right there.right there.exceeds)
+
+pub discover_near_answered : (files : Files) (limit most file : List ℕ) (headed : Headed) → is_row_bound limit ≡ true
+    → is_left_bound most ≡ true → IsFile headed_file (known_files files) file headed
+    → IsTriedWhole (length (names_under headed)) (number_of most) (number_of limit) (rows_under headed)
+    → IsAnswered files (codes "discover" ∷ codes "near" ∷ limit ∷ most ∷ file ∷ [])
+discover_near_answered files limit most file headed rows bounds is whole looks response answered =
+    after_headed files (codes "discover") WIDEST_HEADED file headed (FindsNearRules (number_of limit) (number_of most) file) response is
+    (λ k same found. near_given (number_of limit) (number_of most) file headed k response whole same found)
+    (near_asks files limit most file looks response rows bounds answered)
 
 pub discover_answered : (files : Files) (file : List ℕ) (headed : Headed) → IsFile headed_file (known_files files) file headed
     → ((refusal : TooManyLeftSides) → HasTooManyLeftSides (length (names_under headed)) headed refusal → ⊥)

@@ -12,14 +12,17 @@ use Rattle.desk_outside.specs.Files.{Files}
 use Rattle.fd_discovery.specs.Headings.{names_under}
 use Rattle.fd_discovery.specs.declared.headed_rows.Headed.{Headed}
 use Rattle.fd_search.specs.Small.{AreAllSmall}
+use Rattle.near_rules.specs.NearRules.{AreNearRules, IsFirstExceeded, IsTriedWhole}
+use Rattle.near_rules.specs.declared.found.TooManyTried.{TooManyTried}
 use Rattle.row_keys.specs.Keys.{AreRowKeys, HasTooManyKeys}
 use Rattle.attr_sets.specs.declared.set.TheConstants.{MOST_ATTRIBUTES}
 use Rattle.fd_discovery.specs.declared.headed_rows.TheConstants.{WIDEST_HEADED}
 use Rattle.sample_rows.specs.declared.rows.TheConstants.{MOST_PERSONS}
-use Rattle.implication_laws.proofs.OneAnswer.{one_row_keys_answer, one_rules_answer, one_small_answer}
+use Rattle.implication_laws.proofs.OneAnswer.{one_near_answer, one_row_keys_answer, one_rules_answer, one_small_answer}
 use Rattle.plan_laws.proofs.SampleAnswers.{one_sampled}
 use Rattle.desk_cli.specs.Performs.{Answers, AnswersRules, Does, Performs}
 use Rattle.desk_discovery.specs.Discoveries.{AreRulesOf, RefusesRules, found_text, left_sides_text}
+use Rattle.desk_discovery.specs.NearDiscoveries.{near_text}
 use Rattle.desk_discovery.specs.KeyDiscoveries.{row_keys_text, too_many_row_keys_text}
 use Rattle.desk_discovery.specs.declared.discovering.TheConstants.{WIDEST_TRIED}
 use Rattle.desk_inputs.specs.FileKinds.{IsFile}
@@ -61,6 +64,13 @@ row_keys_found file read response =
     ((keys : List Attributes) × AreRowKeys (length read.0) read.1 keys × Says Yes (row_keys_text read.0 keys) response)
     ⊎ (HasTooManyKeys (length read.0) read.1 × Says Refused (too_many_row_keys_text file) response)
 
+abbrev near_found : ℕ → ℕ → List ℕ → List (List ℕ) × Relation → Allowed
+near_found limit most file read response =
+    ((ds : List Dependency) × (errors : List ℕ) × AreNearRules (length read.0) most limit read.1 ds errors
+    × IsTriedWhole (length read.0) most limit read.1 × Says Yes (near_text read.0 ds errors) response)
+    ⊎ ((refusal : TooManyTried) × IsFirstExceeded (length read.0) most limit read.1 refusal
+    × Says Refused (left_sides_text file read.0 refusal.right) response)
+
 refused_there : (most : ℕ) (file : List ℕ) (h k : Headed) (response : ResponseValue) → names_and_rows h ≡ names_and_rows k
     → RefusesRules most file h response → RefusesRules most file k response
 refused_there most file h k response same (refusal, many, says) =
@@ -83,6 +93,8 @@ found_there (form.small_rules most) file h k response same (inr refused) =
     inr (refused_there most file h k response same refused)
 found_there form.keys_of_rows file h k response same found =
     subst (λ (read : List (List ℕ) × Relation). row_keys_found file read response) same found
+found_there (form.near_rules limit most) file h k response same found =
+    subst (λ (read : List (List ℕ) × Relation). near_found limit most file read response) same found
 
 -- two answers over one reading
 one_of_rules : (question : RulesQuestion) (file : List ℕ) (k : Headed) (one other : ResponseValue)
@@ -92,6 +104,7 @@ unfolding AnswersRules
 one_of_rules form.minimal_rules file k one other first second = one_rules_answer file k one other first second
 one_of_rules (form.small_rules most) file k one other first second = one_small_answer most file k one other first second
 one_of_rules form.keys_of_rows file k one other first second = one_row_keys_answer file k one other first second
+one_of_rules (form.near_rules limit most) file k one other first second = inl (one_near_answer limit most file k one other first second)
 
 -- ---- commands
 -- it is asked of the schema of a file whether it implies a goal, and it does

@@ -1,5 +1,5 @@
 -- Words that form `sample` name a number of persons within the limit.
-use Rattle.std.proofs.Common.{◌≡◌, ◌≤◌, ℕ, Bool, true, false, List, [], ◌∷◌, Option, Some, None, subst, if◌then◌else◌, codes}
+use Rattle.std.proofs.Common.{◌≡◌, ◌≤◌, ◌&&◌, ℕ, Bool, true, false, List, [], ◌∷◌, Option, Some, None, subst, if◌then◌else◌, codes}
 use Rattle.std.proofs.lemmas.Bool.{and_parts, cond_both, leb-true}
 use Rattle.std.specs.Option.{option_and_then}
 use Rattle.std.specs.Str.{bytes_eq}
@@ -8,7 +8,7 @@ use Rattle.normal_forms.specs.declared.forms.Form.{Form}
 use Rattle.sample_rows.specs.declared.rows.TheConstants.{MOST_PERSONS}
 use Rattle.desk_words.specs.Forms as form
 use Rattle.desk_words.specs.Forms.{CommandForm, PlanQuestion, RowsQuestion, SchemaQuestion, Task, after_check, after_check_form, after_ddl, after_discover, after_draw, after_explain, after_explain_split, after_keys, after_migrate, after_migrate_form, after_migrate_plan, after_offences, after_split, after_sql, after_sql_migrate, are_one_to_64, form_of, form_over_rows, form_over_schema, no_more_arguments, normal_form, persons_alone, schema_alone, schema_and_file, schema_and_plan, schema_and_plan_and_word, schema_and_rows, schema_and_several, schema_and_two, schema_and_word, two_schemas, after_import, word_alone}
-use Rattle.desk_words.specs.Numbers.{is_count, is_left_bound}
+use Rattle.desk_words.specs.Numbers.{is_count, is_left_bound, is_row_bound}
 
 -- if a form is that of `sample`, its number is within the limit
 abbrev IsFew : CommandForm → Type 0
@@ -103,7 +103,10 @@ few_discover [] = tt
 few_discover (a ∷ []) = tt
 few_discover (what ∷ rows ∷ []) =
     few_if (is_left_bound what) _ _ tt (few_if (bytes_eq what (codes "keys")) _ _ tt tt)
-few_discover (a ∷ b ∷ d ∷ words) = tt
+few_discover (a ∷ b ∷ d ∷ []) = tt
+few_discover (what ∷ limit ∷ most ∷ rows ∷ []) =
+    few_if (bytes_eq what (codes "near") && (is_row_bound limit && is_left_bound most)) _ _ tt tt
+few_discover (a ∷ b ∷ d ∷ e ∷ f ∷ words) = tt
 
 few_imported : (words : List (List ℕ)) → AreFew (word_alone form.import_csv words)
 unfolding word_alone

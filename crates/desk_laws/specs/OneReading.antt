@@ -16,7 +16,7 @@ use Rattle.desk_inputs.specs.Readings.{known_files}
 use Rattle.desk_outside.specs.Files.{Files}
 use Rattle.desk_responses.specs.ResponseValues.{Allowed, ResponseValue}
 use Rattle.desk_responses.specs.declared.status.Status.TheVariants.{Yes}
-use Rattle.desk_words.specs.Forms.{RulesQuestion, Task, discover, form_of, implies, keys_of_rows, minimal_rules, of_schema, over_schema, small_rules}
+use Rattle.desk_words.specs.Forms.{RulesQuestion, Task, discover, form_of, implies, keys_of_rows, minimal_rules, near_rules, of_schema, over_schema, small_rules}
 
 -- a text means one value at most, or is refused in one way at most, and never both
 pub record HasOneReading {Value Refusal : Type 0} (Means : Value → Type 0) (Refuses : Refusal → Type 0)
@@ -55,6 +55,7 @@ abbrev pub RefusesSearch : RulesQuestion → List ℕ → Headed → Allowed
 RefusesSearch minimal_rules file headed = RefusesRules (length (names_under headed)) file headed
 RefusesSearch (small_rules most) file headed = RefusesRules most file headed
 RefusesSearch keys_of_rows file headed = RefusesRowKeys file headed
+RefusesSearch (near_rules limit most) file headed = λ _. ⊥
 
 -- the words ask for rules of the rows of a file, and one of the answers is such a refusal
 pub record AskForRules (files : Files) (words : List (List ℕ)) (one other : ResponseValue) : Type 0 where

@@ -22,6 +22,7 @@ ghost use Rattle.table_join.specs.Answers.{IsWithinLimit};
 ghost use Rattle.table_join.specs.Tables.{tables_of, plan_of_tables};
 ghost use Rattle.named_plans.specs.NamedPlans.{NamedSchemes};
 ghost use Rattle.desk_outside.specs.Files.{Files};
+ghost use Rattle.near_rules.specs.NearRules.{IsTriedWhole};
 ghost use Rattle.desk_discovery.specs.Discoveries.{HasTooManyLeftSides};
 ghost use Rattle.desk_tables.specs.declared.rejoining.TheConstants.{MOST_JOINED_ROWS};
 ghost use Rattle.desk_inputs.specs.FileKinds.{IsFile};
@@ -29,7 +30,7 @@ ghost use Rattle.desk_inputs.specs.Headed.{headed_file, imported_file};
 ghost use Rattle.desk_words.specs.Forms.{are_one_to_64};
 ghost use Rattle.desk_inputs.specs.Inputs.{schema_file};
 ghost use Rattle.desk_designs.specs.Joins.{IsTooLarge};
-ghost use Rattle.desk_words.specs.Numbers.{is_count, is_left_bound};
+ghost use Rattle.desk_words.specs.Numbers.{is_count, is_left_bound, is_row_bound};
 ghost use Rattle.desk_designs.specs.NormalForms.{form_word};
 ghost use Rattle.desk_inputs.specs.Plans.{plan_file};
 ghost use Rattle.desk_inputs.specs.Readings.{known_files};
@@ -133,6 +134,16 @@ pub fn discover_is_answered()
         → (HasTooManyKeys (length (names_under headed)) (rows_under headed) → ⊥)
         → IsAnswered files (codes "discover" ∷ codes "keys" ∷ file ∷ []) }
 {}
+
+/// `discover near` is answered where the CSV file has a header that names its columns, and rows under it, and for
+/// no column too many sets must be tried.
+pub fn discover_near_is_answered()
+    ensures law { (files : Files) (limit most file : List ℕ) (headed : Headed) → is_row_bound limit ≡ true
+        → is_left_bound most ≡ true → IsFile headed_file (known_files files) file headed
+        → IsTriedWhole (length (names_under headed)) (number_of most) (number_of limit) (rows_under headed)
+        → IsAnswered files (codes "discover" ∷ codes "near" ∷ limit ∷ most ∷ file ∷ []) }
+{
+}
 
 /// `import csv` is answered where the CSV file has a header that names its columns, and rows under it.
 pub fn import_csv_is_answered()

@@ -53,6 +53,7 @@ abbrev pub rules_question : RulesQuestion → form.RulesQuestion
 rules_question rules.Minimal = form.minimal_rules
 rules_question (rules.Small most) = form.small_rules most.number
 rules_question rules.Keys = form.keys_of_rows
+rules_question (rules.Near limit most) = form.near_rules limit most.number
 
 abbrev pub task_form : Task → form.Task
 task_form (task.OfSchema question) = form.of_schema (schema_question question)

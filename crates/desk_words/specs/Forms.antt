@@ -6,7 +6,7 @@ use Rattle.std.specs.Str.{bytes_eq}
 use Rattle.normal_forms.specs.declared.forms.Form.{Form as NormalForm}
 use Rattle.normal_forms.specs.declared.forms.Form.TheVariants.{Third, Bcnf, Fourth}
 use Rattle.lexer.specs.Bytes.{number_of}
-use Rattle.desk_words.specs.Numbers.{is_count, is_left_bound}
+use Rattle.desk_words.specs.Numbers.{is_count, is_left_bound, is_row_bound}
 use Rattle.desk_words.specs.declared.command.TheConstants.{MOST_FILES}
 
 -- what is asked of a schema alone, with the words that go with it
@@ -86,6 +86,8 @@ pub data RulesQuestion : Type 0 where
   small_rules : ℕ → RulesQuestion
   -- the minimal keys
   keys_of_rows : RulesQuestion
+  -- those that hold but for so many rows, of so many attributes on the left
+  near_rules : ℕ → ℕ → RulesQuestion
 
 -- what is asked of a schema, with the files that are read after its own, in their order
 pub data Task : Type 0 where
@@ -327,10 +329,18 @@ discover_after_word what rows =
     else if bytes_eq what (codes "keys") then Some (discover keys_of_rows rows)
     else None
 
+-- after `discover`, a word, two numbers and rows
+abbrev pub discover_after_numbers : List ℕ → List ℕ → List ℕ → List ℕ → Option CommandForm
+discover_after_numbers what limit most rows =
+    if bytes_eq what (codes "near") && (is_row_bound limit && is_left_bound most)
+    then Some (discover (near_rules (number_of limit) (number_of most)) rows)
+    else None
+
 -- after `discover`
 unfoldable pub after_discover : List (List ℕ) → Option CommandForm
 after_discover (rows ∷ []) = Some (discover minimal_rules rows)
 after_discover (what ∷ rows ∷ []) = discover_after_word what rows
+after_discover (what ∷ limit ∷ most ∷ rows ∷ []) = discover_after_numbers what limit most rows
 after_discover _ = None
 
 -- what is asked of a schema, to the rows of a file

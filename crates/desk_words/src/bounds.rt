@@ -1,6 +1,6 @@
 ghost use Rattle.std.specs.Prelude.{◌≡◌, ◌≤◌, if◌then◌else◌, Some, None, option_map};
 ghost use Rattle.lexer.specs.Bytes.{number_of};
-ghost use Rattle.desk_words.specs.Numbers.{is_left_bound};
+ghost use Rattle.desk_words.specs.Numbers.{is_left_bound, is_row_bound};
 ghost use Rattle.desk_words.specs.declared.bounds.TheConstants.{MOST_ON_LEFT};
 
 use crate::numbers::{is_short_number, value_of};
@@ -31,4 +31,16 @@ pub fn left_bound_of(word: &[u8]) -> Option<LeftBound>
     Some(LeftBound {
         number: number as u8,
     })
+}
+
+/// A number of one to seven digits.
+#[tactic(auto, using(crate::proofs::NumberLemmas::short_number), unfolding(crate::specs::Numbers::is_row_bound))]
+pub fn row_bound_of(word: &[u8]) -> Option<u32>
+    ensures bound { result ≡ (if is_row_bound word.now then Some (number_of word.now) else None) }
+{
+    if is_short_number(word, 7) {
+        Some(value_of(word))
+    } else {
+        None
+    }
 }

@@ -86,6 +86,8 @@ pub enum RulesQuestion {
     Small { most: LeftBound },
     /// The minimal keys.
     Keys,
+    /// Those that hold but for so many rows, of few attributes on the left.
+    Near { limit: u32, most: LeftBound },
 }
 
 /// What is asked of a schema, with the files that are read after its own, in their order.

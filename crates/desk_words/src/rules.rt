@@ -4,7 +4,7 @@ ghost use Rattle.std.specs.Prelude.{◌≡◌, Some, option_map};
 ghost use Rattle.desk_words.specs.Commands.{command_form, rules_question};
 ghost use Rattle.desk_words.specs.Forms as forms;
 
-use crate::bounds::left_bound_of;
+use crate::bounds::{left_bound_of, row_bound_of};
 use crate::command::Command;
 use crate::questions::RulesQuestion;
 use desk_outside::Argument;
@@ -17,6 +17,26 @@ pub fn after_discover(words: &[Argument]) -> Option<Command<'_>>
     match words {
         [file] => rules_of(RulesQuestion::Minimal, file),
         [what, file] => after_discover_word(what, file),
+        [what, limit, most, file] => after_near(what, limit, most, file),
+        _ => None,
+    }
+}
+
+// After `discover`, a word, two numbers and rows.
+fn after_near<'a>(
+    what: &Argument,
+    limit: &Argument,
+    most: &Argument,
+    file: &'a Argument,
+) -> Option<Command<'a>>
+    ensures form { option_map command_form result
+        ≡ forms.discover_after_numbers what.now limit.now most.now file.now }
+{
+    if what.bytes() != b"near".as_slice() {
+        return None;
+    }
+    match (row_bound_of(limit.bytes()), left_bound_of(most.bytes())) {
+        (Some(limit), Some(most)) => rules_of(RulesQuestion::Near { limit, most }, file),
         _ => None,
     }
 }

@@ -1,7 +1,7 @@
 -- The commands on implication have one answer each, but for the derivation of a goal.
 use Rattle.std.proofs.Common.{◌≡◌, ◌+◌, ◌<◌, ◌≤◌, ◌⊎◌, ℕ, true, false, List, ◌++◌, length, take, get_or, sym, ap, subst, ◌∙◌, inl, inr, Ok, Err, Result, arith}
 use Rattle.std.specs.Prelude.{codes, Contains}
-use Rattle.std.proofs.lemmas.Bool.{true≢false, cases_lt}
+use Rattle.std.proofs.lemmas.Bool.{cases_order, true≢false, cases_lt}
 use Rattle.std.proofs.lemmas.List.{length-map, length-take-le, get_or-take}
 use Rattle.std.proofs.lemmas.List.Elements.{All-contains}
 use Rattle.std.proofs.lemmas.Option.{slice_get_within, get_or_from_slice_get}
@@ -45,7 +45,10 @@ use Rattle.desk_texts.specs.Texts.{line, set_line, goal_refusal_text, set_refusa
 use Rattle.desk_implication.specs.Bases.{TellsBasis, GivesBasis, blocks_text}
 use Rattle.desk_implication.specs.Certificates.{Checked, ChecksProof}
 use Rattle.desk_covers.specs.Covering.{GivesCover}
-use Rattle.desk_discovery.specs.Discoveries.{FindsRules, FindsSmallRules, GivesRules, GivesSmallRules, RefusesRules, found_text}
+use Rattle.desk_discovery.specs.Discoveries.{FindsRules, FindsSmallRules, GivesRules, GivesSmallRules, RefusesRules, found_text, left_sides_text}
+use Rattle.near_rules.specs.NearRules.{IsFirstExceeded}
+use Rattle.near_rules.specs.declared.found.TooManyTried.{TooManyTried}
+use Rattle.desk_discovery.specs.NearDiscoveries.{FindsNearRules, near_text}
 use Rattle.desk_discovery.specs.KeyDiscoveries.{FindsRowKeys, GivesRowKeys, RefusesRowKeys, row_keys_text}
 use Rattle.desk_discovery.specs.declared.discovering.TheConstants.{WIDEST_TRIED}
 use Rattle.desk_discovery.specs.Exhibits.{Exhibits, IsExample, multivalued_text}
@@ -58,7 +61,7 @@ use Rattle.implication_laws.proofs.GoalLemmas.{one_goal, goal_goes}
 use Rattle.implication_laws.proofs.OneBasis.{one_closed, one_blocks}
 use Rattle.implication_laws.proofs.OneCover.{one_whole_cover}
 use Rattle.implication_laws.proofs.OneKey.{one_keys, before_one_way, ascends, each_key, key_listed}
-use Rattle.implication_laws.proofs.OneList.{one_differences, one_row_keys, one_rules, one_small_rules}
+use Rattle.implication_laws.proofs.OneList.{one_differences, one_near_rules, one_row_keys, one_rules, one_small_rules}
 use Rattle.implication_laws.proofs.OrderedLists.{no_longer}
 use Rattle.implication_laws.proofs.StepLaws.{same_says, With-one, Unless-one, same_texts}
 use Rattle.shown_rows.specs.Shown.{shown_relation}
@@ -354,3 +357,27 @@ pub one_row_keys_answer : (file : List ℕ) (headed : Headed) (one other : Respo
 one_row_keys_answer file headed one other (inl first) (inl second) = inl (one_row_keys_given headed one other first second)
 one_row_keys_answer file headed one other (inl first) (inr second) = inr (inr second)
 one_row_keys_answer file headed one other (inr first) second = inr (inl first)
+
+-- ---- dependencies that nearly hold
+same_first : (n most limit : ℕ) (rows : Relation) (p q : TooManyTried) → IsFirstExceeded n most limit rows p
+    → IsFirstExceeded n most limit rows q → p.right ≡ q.right
+same_first n most limit rows p q one other = elim (cases_order p.right q.right) [
+  | inl same ↦ same
+  | inr apart ↦ elim apart [
+    | inl less ↦ absurd (other.first p.right less one.exceeds)
+    | inr more ↦ absurd (one.first q.right more other.exceeds)
+  ]
+]
+
+pub one_near_answer : (limit most : ℕ) (file : List ℕ) (headed : Headed) → AllowsOne (FindsNearRules limit most file headed)
+one_near_answer limit most file headed one other (inl (ds, es, rules, whole, says)) (inl (fs, gs, also, too, said)) =
+    let same = one_near_rules (length (names_under headed)) most limit (rows_under headed) ds fs es gs rules also in
+    same_says Yes _ _ one other says said
+    (ap (λ (l : List Dependency). near_text (names_under headed) l es) same.0 ∙ ap (near_text (names_under headed) fs) same.1)
+one_near_answer limit most file headed one other (inl (ds, es, rules, whole, says)) (inr (refusal, is, said)) =
+    absurd (whole refusal.right is.right is.exceeds)
+one_near_answer limit most file headed one other (inr (refusal, is, says)) (inl (ds, es, rules, whole, said)) =
+    absurd (whole refusal.right is.right is.exceeds)
+one_near_answer limit most file headed one other (inr (p, is, says)) (inr (q, also, said)) =
+    same_says Refused _ _ one other says said
+    (ap (left_sides_text file (names_under headed)) (same_first (length (names_under headed)) most limit (rows_under headed) p q is also))

@@ -1,4 +1,5 @@
--- There is one list of differences, one of minimal functional dependencies, and one of keys of rows.
+-- There is one list of differences, one of minimal functional dependencies, one of those that nearly hold, and one of
+-- keys of rows.
 use Rattle.std.proofs.Common.{◌≡◌, ◌<◌, ℕ, List, sym, subst, inl, inr, ⊎_elim, arith}
 use Rattle.std.specs.Prelude.{Contains}
 use Rattle.std.proofs.lemmas.List.Elements.{All-contains}
@@ -9,6 +10,8 @@ use Rattle.dep_model.specs.Tuples.{Relation}
 use Rattle.dep_model.specs.declared.schema.Schema.{Schema}
 use Rattle.fd_discovery.specs.Minimal.{AreAllMinimal, IsMinimalFd, Precedes}
 use Rattle.fd_search.specs.Small.{AreAllSmall, IsSmallFd}
+use Rattle.near_rules.specs.NearRules.{AreErrors, AreNearRules, IsNearFd}
+use Rattle.near_rules.proofs.RightLemmas.{same_errors}
 use Rattle.row_keys.specs.Keys.{AreRowKeys, IsRowKey}
 use Rattle.schema_match.specs.Differences.{AreDifferences}
 use Rattle.implication_laws.proofs.OneKey.{before_one_way}
@@ -71,6 +74,22 @@ one_small_rules n most rows one other first second =
     first.each second.each
     first.ascending second.ascending (small_held n most rows one other first second)
     (small_held n most rows other one second first)
+
+-- ---- dependencies that nearly hold
+near_held : (n most limit : ℕ) (rows : Relation) (one other : List Dependency) (es fs : List ℕ) → AreNearRules n most limit rows one es
+    → AreNearRules n most limit rows other fs → HoldsAll one other
+near_held n most limit rows one other es fs first second d has =
+    let (x, a, is, near) = All-contains (IsNearFd n most limit rows) one d first.each has in
+    subst (λ (e : Dependency). Contains other e) (sym is) (second.all x a near)
+
+pub one_near_rules : (n most limit : ℕ) (rows : Relation) (one other : List Dependency) (es fs : List ℕ)
+    → AreNearRules n most limit rows one es → AreNearRules n most limit rows other fs → (one ≡ other) × (es ≡ fs)
+one_near_rules n most limit rows one other es fs first second =
+    let same : one ≡ other = one_ordered_list (IsNearFd n most limit rows) Precedes one other (precedes_one_way (IsNearFd n most limit rows))
+    first.each second.each
+    first.ascending second.ascending (near_held n most limit rows one other es fs first second)
+    (near_held n most limit rows other one fs es second first) in
+    (same, same_errors n rows other es fs (subst (λ (ds : List Dependency). AreErrors n rows ds es) same first.numbers) second.numbers)
 
 -- ---- keys of rows
 row_keys_held : (n : ℕ) (rows : Relation) (one other : List Attributes) → AreRowKeys n rows one

@@ -15,6 +15,7 @@ ghost use Rattle.desk_covers.specs.CoverReasons.{ExplainsCover};
 ghost use Rattle.desk_covers.specs.Covering.{GivesCover};
 ghost use Rattle.desk_derivations.specs.Derivations.{ChecksDerivation};
 ghost use Rattle.desk_discovery.specs.Discoveries.{FindsRules, FindsSmallRules, RefusesRules};
+ghost use Rattle.desk_discovery.specs.NearDiscoveries.{FindsNearRules};
 ghost use Rattle.desk_discovery.specs.KeyDiscoveries.{FindsRowKeys, RefusesRowKeys};
 ghost use Rattle.desk_discovery.specs.declared.discovering.TheConstants.{WIDEST_TRIED};
 ghost use Rattle.desk_discovery.specs.Exhibits.{Exhibits};
@@ -127,4 +128,9 @@ pub fn discover_keys_has_one_answer()
     ensures law { (file : List ℕ) (headed : Headed) (one other : ResponseValue)
         → FindsRowKeys file headed one → FindsRowKeys file headed other
         → (one ≡ other) ⊎ (RefusesRowKeys file headed one ⊎ RefusesRowKeys file headed other) }
+{}
+
+/// `discover near` has one answer.
+pub fn discover_near_has_one_answer()
+    ensures law { (limit most : ℕ) (file : List ℕ) (headed : Headed) → AllowsOne (FindsNearRules limit most file headed) }
 {}

@@ -20,6 +20,7 @@ use Rattle.fd_discovery.specs.Searching.{IsListedFrom, IsTried}
 use Rattle.fd_discovery.proofs.GivenLemmas.{given_now, given_still}
 use Rattle.near_rules.proofs.OrderLemmas.{only_before}
 use Rattle.removal_laws.specs.Errors.{IsError}
+use Rattle.removal_laws.proofs.ErrorLemmas.{same_error}
 use Rattle.near_rules.specs.NearRules.{AreErrors, ExceedsTried, MustBeTried}
 use Rattle.near_rules.specs.Searching.{AreFoundBefore, AreTriedFor, IsFoundBefore, IsSoughtNear}
 use Rattle.near_rules.specs.declared.found.Found.{Found}
@@ -32,6 +33,24 @@ errors_push n r [] [] d e are is = (is, are)
 errors_push n r [] (f ∷ es) d e are is = absurd are
 errors_push n r (c ∷ ds) [] d e are is = absurd are
 errors_push n r (c ∷ ds) (f ∷ es) d e are is = (are.0, errors_push n r ds es d e are.1 is)
+
+-- there is one list of errors
+pub same_errors : (n : ℕ) (r : Relation) (ds : List Dependency) (one other : List ℕ) → AreErrors n r ds one → AreErrors n r ds other
+    → one ≡ other
+same_errors n r [] [] [] first second = refl
+same_errors n r [] [] (e ∷ es) first second = absurd second
+same_errors n r [] (e ∷ es) other first second = absurd first
+same_errors n r (d ∷ ds) [] other first second = absurd first
+same_errors n r (d ∷ ds) (e ∷ es) [] first second = absurd second
+same_errors n r (d ∷ ds) (e ∷ es) (f ∷ fs) first second =
+    ap (λ (g : ℕ). g ∷ es) (same_error n r d e f first.0 second.0) ∙ ap (λ (l : List ℕ). f ∷ l) (same_errors n r ds es fs first.1 second.1)
+
+-- there are as many as dependencies
+pub errors_even : (n : ℕ) (r : Relation) (ds : List Dependency) (es : List ℕ) → AreErrors n r ds es → length es ≡ length ds
+errors_even n r [] [] are = refl
+errors_even n r [] (e ∷ es) are = absurd are
+errors_even n r (d ∷ ds) [] are = absurd are
+errors_even n r (d ∷ ds) (e ∷ es) are = omega (arith, errors_even n r ds es are.1)
 
 module _ (s : Sought) (r : Relation) (y : Attributes) (a : ℕ) where
   abbrev Must : Attributes → ℕ → Type 0

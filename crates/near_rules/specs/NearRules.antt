@@ -51,7 +51,11 @@ pub record ExceedsTried (n most limit : ℕ) (r : Relation) (a : ℕ) : Type 0 w
   pub differ : AllPairs (λ x y. x ≢ y) sets
   pub more : MOST_TRIED < length sets
 
--- the attribute that is named is the first of which that holds
+-- for no attribute more sets have to be tried than are
+abbrev pub IsTriedWhole : ℕ → ℕ → ℕ → Relation → Type 0
+IsTriedWhole n most limit r = (a : ℕ) → a < n → ExceedsTried n most limit r a → ⊥
+
+-- the attribute that is named is the first of which more have to be
 pub record IsFirstExceeded (n most limit : ℕ) (r : Relation) (refusal : TooManyTried) : Type 0 where
   pub right : refusal.right < n
   pub exceeds : ExceedsTried n most limit r refusal.right

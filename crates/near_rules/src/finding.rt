@@ -4,7 +4,7 @@ ghost use Rattle.attr_sets.specs.declared.set.TheConstants.{MOST_ATTRIBUTES};
 ghost use Rattle.dep_model.specs.Deps.{IsDepWithin, dependencies_of};
 ghost use Rattle.dep_model.specs.Failures.{RefusesAs};
 ghost use Rattle.dep_model.specs.Tuples.{IsOver, Relation};
-ghost use Rattle.near_rules.specs.NearRules.{AreNearRules, ExceedsTried, IsFirstExceeded};
+ghost use Rattle.near_rules.specs.NearRules.{AreNearRules, ExceedsTried, IsFirstExceeded, IsTriedWhole};
 ghost use Rattle.near_rules.specs.Searching.{AreFoundUpTo, AreSought, IsExceeded};
 
 use crate::found::{Found, NearRules, Sought, TooManyTried};
@@ -34,9 +34,9 @@ pub fn near_rules(
     requires fits_u32 { length rows.now < 2 ^ 32 }
     ensures rules { IfOk result (λ found.
         AreNearRules width most limit rows.now (dependencies_of found.deps.items) found.errors.items) }
+    ensures one_each { IfOk result (λ found. length found.errors.items ≡ length found.deps.items) }
     ensures within { IfOk result (λ found. All (IsDepWithin (below width)) found.deps.items) }
-    ensures answered { IfOk result (λ _.
-        (a : ℕ) → a < width → ExceedsTried width most limit rows.now a → ⊥) }
+    ensures answered { IfOk result (λ _. IsTriedWhole width most limit rows.now) }
     ensures refusal { IfErr result (RefusesAs (IsFirstExceeded width most limit rows.now)) }
 {
     let codes = Interned::intern(alloc, hashing, width, rows)?;

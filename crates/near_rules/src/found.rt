@@ -15,7 +15,7 @@ pub struct TooManyTried {
 #[derive(Debug, Drop)]
 pub struct NearRules {
     pub deps: Vec<Dep>,
-    pub errors: Vec<u64>,
+    pub errors: Vec<u32>,
 }
 
 // In which rows is searched, for which attributes, from left sides of how many columns, and up to which error.
@@ -32,6 +32,6 @@ pub struct Sought {
 #[derive(Debug, Drop)]
 pub struct Found {
     pub deps: Vec<Dep>,
-    pub errors: Vec<u64>,
+    pub errors: Vec<u32>,
     pub tried: Vec<u32>,
 }

@@ -118,7 +118,7 @@ fn try_right(
             lhs: set,
             rhs: AttrSet::single(attribute),
         })?;
-        found.errors.push(error)?;
+        found.errors.push(error as u32)?;
     }
     Ok(())
 }

@@ -1,10 +1,13 @@
 -- What is left to prove of `near_rules`: its clauses where the search answers, by `WholeLemmas`.
-use Rattle.std.proofs.Common.{refl, arith}
+use Rattle.std.proofs.Common.{◌∙◌, refl, arith}
 use Rattle.attr_sets.specs.Attributes.{below}
 use Rattle.dep_model.specs.Dependencies.{IsWithin}
 use Rattle.dep_model.proofs.DepLemmas.{dependencies_all-to}
 use Rattle.near_rules.specs.Searching.{AreFoundBefore, AreSought}
 use Rattle.near_rules.specs.declared.found.Sought.{Sought}
+use Rattle.dep_model.specs.Deps.{dependencies_of, dependency_of}
+use Rattle.std.proofs.lemmas.List.{length-map}
+use Rattle.near_rules.proofs.RightLemmas.{errors_even}
 use Rattle.near_rules.proofs.WholeLemmas.{all_rules, none_exceeds, rules_within}
 use Rattle.near_rules.proofs.finding.near_rules.Goals as goal
 use Rattle.near_rules.proofs.finding.near_rules.Goals.{In-Ok}
@@ -25,6 +28,13 @@ unfolding sought
 returns-in-Ok-clause-rules c =
     let at = (goal.at.returns-in-Ok-clause-rules c).In-Ok in
     all_rules (sought at) c.args.rows.now c.in-Ok.found (found at) refl
+
+pub returns-in-Ok-clause-one_each : goal.returns-in-Ok-clause-one_each
+unfolding sought
+returns-in-Ok-clause-one_each c =
+    let at = (goal.at.returns-in-Ok-clause-one_each c).In-Ok in
+    errors_even c.args.width c.args.rows.now (dependencies_of c.in-Ok.found.deps.items) c.in-Ok.found.errors.items (found at).errors
+    ∙ length-map c.in-Ok.found.deps.items dependency_of
 
 pub returns-in-Ok-clause-within : goal.returns-in-Ok-clause-within
 unfolding sought
