@@ -143,3 +143,25 @@ dotted_is (b ∷ bytes) =
 pub quoted_is : (bytes : List ℕ) → quoted_table bytes ≡ 34 ∷ (flat_map byte_between_quotes bytes ++ 34 ∷ [])
 unfolding quoted_table
 quoted_is bytes = dotted_is bytes
+
+-- ---- the last part
+last_of_more : (part other : List ℕ) (parts : List (List ℕ)) → last_of (part ∷ other ∷ parts) ≡ last_of (other ∷ parts)
+last_of_more part other parts =
+    let e : suc (suc (length parts)) - 1 ≡ suc (suc (length parts) - 1) = omega arith in
+    ap (λ (i : ℕ). slice_index_or (part ∷ other ∷ parts) i []) e
+
+-- it is all of a name without a dot
+pub last_here : (bytes : List ℕ) (n : ℕ) → n ≡ position_or_len is_dot bytes → length bytes ≤ n
+    → bytes ≡ last_of (dotted_parts bytes)
+last_here bytes n e whole =
+    sym (ap last_of (no_dot bytes (omega (arith, e, whole, within_length bytes))))
+
+-- and that of what stands after the first dot
+pub last_later : (bytes : List ℕ) (n : ℕ) → n ≡ position_or_len is_dot bytes → n < length bytes
+    → last_of (dotted_parts (drop (n + 1) bytes)) ≡ last_of (dotted_parts bytes)
+last_later bytes n e lt =
+    let first = first_part (drop (n + 1) bytes) in
+    ap last_of first.2
+    ∙ sym (ap last_of (at_dot bytes n e lt)
+    ∙ ap (λ (parts : List (List ℕ)). last_of (take n bytes ∷ parts)) first.2
+    ∙ last_of_more (take n bytes) first.0 first.1)

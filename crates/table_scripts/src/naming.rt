@@ -37,7 +37,7 @@ pub fn last_part(bytes: &[u8]) -> &[u8]
     let mut rest = bytes;
     loop {
         let end = part_end(rest);
-        if end == rest.len() {
+        if end >= rest.len() {
             return rest;
         }
         rest = &rest[end + 1..];
