@@ -566,6 +566,31 @@ def f_discover(m):
     return words + ["r"], {"r": m.csv(names, rows, noise=.1)}
 
 
+# for each type values on both sides of its edge
+EDGES = [b"0", b"-0", b"7", b"-7", b"07", b"9223372036854775807", b"9223372036854775808", b"-9223372036854775808", b"-9223372036854775809",
+         b"+1", b"1.5", b"-1.5", b"1.50", b"0.00", b"-0.00", b"-0.01", b"00.10", b".50", b"1.", b"999999999999999", b"1234567890123.45",
+         b"12345678901234.56", b"999999.123456789", b"9999999.123456789", b"1.1234567890", b"2024-02-29", b"2023-02-29", b"2024-02-30",
+         b"1900-02-29", b"2000-02-29", b"0000-01-01", b"0001-01-01", b"9999-12-31", b"2024-13-01", b"2024-04-31", b"2024-1-1",
+         b"2024-02-29 23:59:59", b"2024-02-29 24:00:00", b"2024-02-29 23:59:60", b"2024-02-29 00:00:00.5", b"2024-02-29 00:00:00.50",
+         b"2024-02-29 00:00:00.123456", b"2024-02-29 00:00:00.1234567", b"2024-02-29 00:00:00.", b"2024-02-29T00:00:00",
+         b"00000000-0000-0000-0000-00000000000a", b"00000000-0000-0000-0000-00000000000A", b"0000000-00000-0000-0000-00000000000a",
+         b"a", b" 1", b"1 ", b"\xff"]
+LIKE = [[b"0", b"7", b"-7", b"12"], [b"1.50", b"-0.01", b"0.00"], [b"1.5", b"-2.0"], [b"2024-02-29", b"0001-01-01"],
+        [b"2024-02-29 00:00:00", b"2024-02-29 00:00:00.5"], [b"00000000-0000-0000-0000-00000000000a"], [b"a", b"b c"]]
+
+
+def f_import_csv(m):
+    r = m.r
+    n = r.randint(1, 6) if r.random() < .95 else r.randint(126, 130)
+    names = r.sample(r.choice((NAMES, STRANGE)), n) if n <= 6 else [f"a{i}" for i in range(n)]
+    if r.random() < .1:
+        names[r.randrange(n)] = r.choice(("scheme", "a", "1x", "", "Version", "x" * 64, "Unit price", "\x7f", names[0]))
+    columns = [r.choice(LIKE) for _ in names]
+    odd = r.choice((0, 0, .05, .3))
+    rows = [[b"" if r.random() < .08 else r.choice(EDGES) if r.random() < odd else r.choice(c) for c in columns] for _ in range(r.randint(0, 6))]
+    return ["import", "csv", "r"], {"r": m.csv(names, rows, noise=.15)}
+
+
 def f_rejoin(m):
     r = m.r
     s = m.schema(1, 5)
@@ -662,7 +687,7 @@ def f_sql(m):
 
 
 ALL_WORDS = ["implies", "keys", "cover", "synthesize", "split", "bcnf", "4nf", "3nf", "wide-bcnf", "ddl", "plan", "check", "proof", "join", "form",
-             "rows", "same", "keeps", "migrate", "sample", "exhibit", "discover", "rejoin", "basis", "closure", "project", "key", "explain", "sql", "draw", "measure", "offences", "kept", "into", "help", "--help", "-h", "--version",
+             "rows", "same", "keeps", "migrate", "sample", "exhibit", "discover", "import", "csv", "rejoin", "basis", "closure", "project", "key", "explain", "sql", "draw", "measure", "offences", "kept", "into", "help", "--help", "-h", "--version",
              "s", "p", "r", "A -> B", "1", "missing", "", "Keys", "table"]
 
 
