@@ -184,6 +184,11 @@ unfoldable pub schema_and_several : (List (List ℕ) → Task) → List (List �
 schema_and_several task [] = None
 schema_and_several task (schema ∷ words) = if are_one_to_64 words then Some (over_schema schema (task words)) else None
 
+-- one word
+unfoldable pub word_alone : (List ℕ → CommandForm) → List (List ℕ) → Option CommandForm
+word_alone form (word ∷ []) = Some (form word)
+word_alone form _ = None
+
 -- no word
 unfoldable pub no_more_arguments : CommandForm → List (List ℕ) → Option CommandForm
 no_more_arguments form [] = Some form
