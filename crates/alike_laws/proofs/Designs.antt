@@ -54,7 +54,7 @@ use Rattle.migrate_laws.specs.Moved.{HasMoved}
 use Rattle.sql_names.specs.Names.{quoted_name}
 use Rattle.sql_syntax.specs.Syntax.{Query, attribute}
 use Rattle.sql_syntax.specs.Statements.{Element, column_of, unique_key, Statement, remark, begin, commit, create_table, create_from, create_view, script_text}
-use Rattle.table_drawing.specs.Drawing.{drawing_text, edge_text, node_text, row_text}
+use Rattle.table_drawing.specs.Drawing.{node_head, drawing_text, edge_text, node_text, row_text}
 use Rattle.table_queries.specs.Meanings.{IsGiven, GivesNone}
 use Rattle.table_queries.specs.Queries.{breaches_of, rows_of}
 use Rattle.table_scripts.specs.Checking.{breaches_text, check_text, missing_text, rule_text, rules_text, value_text}
@@ -279,7 +279,7 @@ module _ (s : Schema) (f : Frame s) where
 
   -- ---- `draw`
   drawing_moved : (tables : List TableDesign) → drawing_text s tables ≡ drawing_text built tables
-  unfolding node_text edge_text row_text printed_names_of
+  unfolding node_text node_head edge_text row_text printed_names_of
   drawing_moved tables = refl
 
   tables_drawn_moved : (names : GivenNames) (plan : List AttrSet) (response : ResponseValue) → DrawsTables s names plan response

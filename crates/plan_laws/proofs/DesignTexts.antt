@@ -12,7 +12,7 @@ use Rattle.ddl_text.specs.Ddl.{column_elements, comment, ddl_text, element_lines
 use Rattle.ddl_text.specs.Designs.{known_keys}
 use Rattle.ddl_text.specs.declared.table.TableDesign.{TableDesign}
 use Rattle.sql_names.specs.Names.{quoted_name}
-use Rattle.table_drawing.specs.Drawing.{node_text, edge_text, edges_text, drawing_text}
+use Rattle.table_drawing.specs.Drawing.{node_head, node_text, edge_text, edges_text, drawing_text}
 use Rattle.plan_laws.specs.SameDesigns.{IsSameTable, AreSameTables}
 
 -- ---- texts of tables
@@ -107,7 +107,7 @@ ddl_same s one other same =
 
 -- ---- pictures
 node_same : (s : Schema) (t u : TableDesign) → IsSameTable t u → node_text s t ≡ node_text s u
-unfolding node_text
+unfolding node_text node_head
 node_same s t u same = simp (same.number, same.name, same.key, same.columns)
 
 edge_same : (s : Schema) (t u : TableDesign) → IsSameTable t u → (v w : TableDesign) → IsSameTable v w

@@ -43,13 +43,17 @@ row_text s key k =
 abbrev pub table_rows_text : Schema → Attributes → Attributes → List ℕ
 table_rows_text s scheme key = flat_map (row_text s key) (members_below (width_of s) scheme)
 
--- the node of a table, after its number: its name, and a row for each attribute
-unfoldable pub node_text : Schema → TableDesign → List ℕ
-node_text s table =
+-- a node by the number of a table, as far as the row of its name
+unfoldable pub node_head : TableDesign → List ℕ
+node_head table =
     codes "  " ++ table_name table.number
     ++ codes " [label=<<TABLE BORDER=\"0\" CELLBORDER=\"1\" CELLSPACING=\"0\"><TR><TD BGCOLOR=\"lightgrey\"><B>"
-    ++ table.name ++ codes "</B></TD></TR>" ++ table_rows_text s (attributes table.scheme) (attributes table.key)
-    ++ codes "</TABLE>>];\n"
+    ++ table.name ++ codes "</B></TD></TR>"
+
+-- the node of a table: its name, and a row for each attribute
+unfoldable pub node_text : Schema → TableDesign → List ℕ
+node_text s table =
+    node_head table ++ table_rows_text s (attributes table.scheme) (attributes table.key) ++ codes "</TABLE>>];\n"
 
 -- the edge from a table to another, with the key of that one
 unfoldable pub edge_text : Schema → TableDesign → TableDesign → List ℕ

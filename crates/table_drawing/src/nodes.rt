@@ -3,7 +3,7 @@ ghost use Rattle.std.specs.List.{flat_map};
 ghost use Rattle.attr_sets.specs.Sets.{attributes};
 ghost use Rattle.dep_model.specs.Schemas.{width_of};
 ghost use Rattle.table_names.specs.TableNames.{table_name};
-ghost use Rattle.table_drawing.specs.Drawing.{marked_text, row_text, table_rows_text, node_text};
+ghost use Rattle.table_drawing.specs.Drawing.{marked_text, row_text, table_rows_text, node_head, node_text};
 
 use crate::escapes::add_html;
 use attr_sets::AttrSet;
@@ -34,6 +34,17 @@ pub fn add_nodes(
 fn node_text(alloc: Global, schema: &Schema, table: &TableDesign) -> Result<Vec<u8>, OutOfMemory>
     ensures text { IfOk result (λ text. text.items ≡ node_text schema.now table.now) }
 {
+    let mut text = node_head(alloc, table)?;
+    add_rows(alloc, &mut text, schema, table.scheme, table.key)?;
+    add(&mut text, b"</TABLE>>];\n")?;
+    Ok(text)
+}
+
+// The node of a table, as far as the row of its name.
+#[tactic(auto, unfolding(crate::specs::Drawing::node_head))]
+fn node_head(alloc: Global, table: &TableDesign) -> Result<Vec<u8>, OutOfMemory>
+    ensures text { IfOk result (λ text. text.items ≡ node_head table.now) }
+{
     let mut text = Vec::new(alloc);
     add(&mut text, b"  ")?;
     add_id(&mut text, table)?;
@@ -43,8 +54,6 @@ fn node_text(alloc: Global, schema: &Schema, table: &TableDesign) -> Result<Vec<
     )?;
     add(&mut text, table.name.bytes())?;
     add(&mut text, b"</B></TD></TR>")?;
-    add_rows(alloc, &mut text, schema, table.scheme, table.key)?;
-    add(&mut text, b"</TABLE>>];\n")?;
     Ok(text)
 }
 
