@@ -18,8 +18,8 @@ use Rattle.desk_responses.specs.Responses.{ExitsAs}
 use Rattle.desk_inputs.proofs.KindLemmas.{refusal_stops}
 use Rattle.desk_inputs.proofs.plan.open_plan.Goals as goal
 
-pub returns-in_ok-in_order-in-Ok-read_plan-clause-ok : goal.returns-in_ok-in_order-in-Ok-read_plan-clause-ok
-returns-in_ok-in_order-in-Ok-read_plan-clause-ok g c = λ r same. record {
+pub returns-in-Ok-read_plan-clause-ok : goal.returns-in-Ok-read_plan-clause-ok
+returns-in-Ok-read_plan-clause-ok g c = λ r same. record {
   bytes = c.in-Ok.bytes.items;
   content = c.in-Ok.ensures.ok r same;
   means = record {
@@ -30,16 +30,16 @@ returns-in_ok-in_order-in-Ok-read_plan-clause-ok g c = λ r same. record {
   };
 }
 
-pub returns-in_ok-in_order-in-Ok-read_plan-clause-universe : goal.returns-in_ok-in_order-in-Ok-read_plan-clause-universe
-returns-in_ok-in_order-in-Ok-read_plan-clause-universe g c =
+pub returns-in-Ok-read_plan-clause-universe : goal.returns-in-Ok-read_plan-clause-universe
+returns-in-Ok-read_plan-clause-universe g c =
     subst (λ (plan : Plan). IsPlanOver c.args.schema.now plan) (sym c.in_ok-in_order-in-Ok-read_plan.ensures.plan) c.in-Ok-read_plan.ensures.universe
 
-pub returns-in_ok-in_order-in-Ok-read_plan-clause-within_limit : goal.returns-in_ok-in_order-in-Ok-read_plan-clause-within_limit
-returns-in_ok-in_order-in-Ok-read_plan-clause-within_limit g c =
+pub returns-in-Ok-read_plan-clause-within_limit : goal.returns-in-Ok-read_plan-clause-within_limit
+returns-in-Ok-read_plan-clause-within_limit g c =
     subst (λ (plan : Plan). length (plan_of plan) ≤ MOST_SCHEMES) (sym c.in_ok-in_order-in-Ok-read_plan.ensures.plan) c.in-Ok-read_plan.ensures.ok.schemes_fit
 
-pub returns-in_ok-in_order-in-Ok-read_plan-clause-covers : goal.returns-in_ok-in_order-in-Ok-read_plan-clause-covers
-returns-in_ok-in_order-in-Ok-read_plan-clause-covers g c =
+pub returns-in-Ok-read_plan-clause-covers : goal.returns-in-Ok-read_plan-clause-covers
+returns-in-Ok-read_plan-clause-covers g c =
     subst (λ (plan : Plan). Covers (width_of c.args.schema.now) (plan_of plan)) (sym c.in_ok-in_order-in-Ok-read_plan.ensures.plan) c.in-Ok-read_plan.ensures.ok.covers
 
 pub returns-in-Err-Refused-clause-exit : goal.returns-in-Err-Refused-clause-exit
