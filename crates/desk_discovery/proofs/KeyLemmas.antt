@@ -22,7 +22,7 @@ flat_mapped f (key ∷ keys) =
     flat_map-cons (λ k. f (attributes k)) key keys ∙ ap (λ (t : List ℕ). f (attributes key) ++ t) (flat_mapped f keys)
     ∙ sym (flat_map-cons f (attributes key) (schemes_of keys))
 
-names_printed : (names : List (List ℕ)) (s : Schema) → HasTextColumns names s
+pub names_printed : (names : List (List ℕ)) (s : Schema) → HasTextColumns names s
     → printed_names_of s ≡ map (spelling (naming_under names)) names
 unfolding printed_names_of
 names_printed names s has =

@@ -1,3 +1,4 @@
 pub mod RuleLemmas
 mod ExhibitLemmas
 mod KeyLemmas
+mod NearLemmas

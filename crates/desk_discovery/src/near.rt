@@ -46,7 +46,11 @@ pub fn discover_near_rules(
 }
 
 // Yes, with names and what is found over them.
-fn near_response(alloc: Global, names: Vec<Name>, found: &NearRules) -> Result<Response, OutOfMemory>
+fn near_response(
+    alloc: Global,
+    names: Vec<Name>,
+    found: &NearRules,
+) -> Result<Response, OutOfMemory>
     requires header { IsColumnHeader names.items }
     requires one_each { length found.now.errors.items ≡ length found.now.deps.items }
     requires any_name { 0 < length names.items }
@@ -90,5 +94,6 @@ fn add_change(alloc: Global, text: &mut Vec<u8>, error: u32) -> Result<(), OutOf
     }
     add(text, b" # ")?;
     add_number(text, alloc, error)?;
-    add(text, b" must change")
+    add(text, b" must change")?;
+    Ok(())
 }
