@@ -1,7 +1,7 @@
 -- Words have one answer over known files, but for the derivation of a goal that is implied and for the refusal of a
 -- search for rules.
 use Rattle.std.proofs.Common.{◌≡◌, ◌≤◌, ◌<◌, ◌⊎◌, ℕ, List, length, Some, None, Option, refl, sym, ap, subst, ◌∙◌, inl, inr, arith}
-use Rattle.std.specs.Prelude.{MatchOption}
+use Rattle.std.specs.Prelude.{codes, MatchOption}
 use Rattle.attr_sets.specs.Attributes.{Attributes}
 use Rattle.candidate_search.specs.Sides.{IsExceeded}
 use Rattle.candidate_search.specs.declared.side.TooManyLeftSides.{TooManyLeftSides}
