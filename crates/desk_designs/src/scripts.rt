@@ -103,11 +103,7 @@ fn test_name(alloc: Global, name: &Argument) -> Result<(), EarlyExit>
 }
 
 // Whether the last part of a word is none of these names.
-fn test_other_name(
-    alloc: Global,
-    names: &[Option<Name>],
-    name: &Argument,
-) -> Result<(), EarlyExit>
+fn test_other_name(alloc: Global, names: &[Option<Name>], name: &Argument) -> Result<(), EarlyExit>
     ensures ok { IfOk result (λ _. list_any (is_given (last_of (dotted_parts name.now))) names.now ≡ false) }
     ensures exit { IfErr result (ExitsAs (MetNameStops names.now name.now)) }
 {

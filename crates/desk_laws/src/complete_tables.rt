@@ -142,8 +142,7 @@ pub fn discover_near_is_answered()
         → is_left_bound most ≡ true → IsFile headed_file (known_files files) file headed
         → IsTriedWhole (length (names_under headed)) (number_of most) (number_of limit) (rows_under headed)
         → IsAnswered files (codes "discover" ∷ codes "near" ∷ limit ∷ most ∷ file ∷ []) }
-{
-}
+{}
 
 /// `import csv` is answered where the CSV file has a header that names its columns, and rows under it.
 pub fn import_csv_is_answered()

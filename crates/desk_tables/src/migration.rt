@@ -70,14 +70,7 @@ pub fn migrate_rows(
         Ok(()) => {}
         Err(exit) => return Err(exit),
     }
-    Ok(tables_response(
-        alloc,
-        hashing,
-        schema,
-        plan,
-        names,
-        rows,
-    )?)
+    Ok(tables_response(alloc, hashing, schema, plan, names, rows)?)
 }
 
 // Legal rows as the tables of a plan.

@@ -53,16 +53,7 @@ pub fn migrate_form_into(
         Ok(()) => {}
         Err(exit) => return Err(exit),
     }
-    migrate_rows_into(
-        alloc,
-        hashing,
-        schema,
-        &plan,
-        &[],
-        &tables,
-        folder,
-        rows,
-    )
+    migrate_rows_into(alloc, hashing, schema, &plan, &[], &tables, folder, rows)
 }
 
 /// Rows as tables of a plan, where it loses nothing, in a folder of their own; `is_free` is the answer to a
@@ -97,16 +88,7 @@ pub fn migrate_plan_into(
         Ok(()) => {}
         Err(exit) => return Err(exit),
     }
-    migrate_rows_into(
-        alloc,
-        hashing,
-        schema,
-        plan,
-        names,
-        &tables,
-        folder,
-        rows,
-    )
+    migrate_rows_into(alloc, hashing, schema, plan, names, &tables, folder, rows)
 }
 
 // Rows as tables of a plan that loses nothing, if they are legal, in a folder of their own.

@@ -35,10 +35,15 @@ pub kept_listed : (old more new : List Dep) → new ≡ old ++ more → (x : Att
 kept_listed old more new is x a (k, d, l, at, gives) = (
   k,
   d,
-  omega (arith, l, ap (λ (ds : List Dep). length (dependencies_of ds)) is, ap length (map-append dependency_of old more),
-  length-append (dependencies_of old) (dependencies_of more)),
+  omega (
+    arith,
+    l,
+    ap (λ (ds : List Dep). length (dependencies_of ds)) is,
+    ap length (map-append dependency_of old more),
+    length-append (dependencies_of old) (dependencies_of more),
+  ),
   ap (λ (ds : List Dep). get_or (dependencies_of ds) k d) is ∙ ap (λ (es : List Dependency). get_or es k d) (map-append dependency_of old more)
-  ∙ get_or_append_left (dependencies_of old) (dependencies_of more) d k l ∙ at,
+      ∙ get_or_append_left (dependencies_of old) (dependencies_of more) d k l ∙ at,
   gives,
 )
 
@@ -245,9 +250,9 @@ module _ (s : Sought) (r : Relation) where
         out x a x_in few a_in lacks tried = inl (elim tried [
           | inl before ↦ elim (next_subset-before s.width (below s.width) first larger x (λ k m. m)
               (filled_in s.width i set set_in (omega (arith, i_in, bound_in))) next x_in before) [
-            | inl same ↦ inr (same, a_in)
-            | inr before_first ↦ inl before_first
-          ]
+                | inl same ↦ inr (same, a_in)
+                | inr before_first ↦ inl before_first
+              ]
           | inr same ↦ absurd (omega (arith, same.1))
         ])
 
@@ -284,8 +289,12 @@ module _ (s : Sought) (r : Relation) where
 
     -- the set with i has one column more
     pub larger_few : count_below set s.width < s.most → count_below larger s.width ≤ s.most
-    larger_few room = omega (arith, room, ap (λ (v : Attributes). count_below v s.width) is,
-        count_below-union_only s.width set i (omega (arith, i_in, bound_in)) lacks)
+    larger_few room = omega (
+      arith,
+      room,
+      ap (λ (v : Attributes). count_below v s.width) is,
+      count_below-union_only s.width set i (omega (arith, i_in, bound_in)) lacks,
+    )
       where
         lacks : set i ≡ false
         lacks = elim (cases_Bool (set i)) [
@@ -324,7 +333,12 @@ module _ (s : Sought) (r : Relation) where
           | inl before ↦ inl before
           | inr after ↦
               let holds = holds_after bound set x above after (elim tried [ inl before ↦ inr before | inr same ↦ inl same.0 ]) in
-              absurd (omega (arith, few, full, count_below-lt s.width set x after.0 holds
-              (ltb-true after.0 s.width (x_in after.0 after.2)) after.1 after.2))
+              absurd (omega (
+                arith,
+                few,
+                full,
+                count_below-lt s.width set x after.0 holds
+                    (ltb-true after.0 s.width (x_in after.0 after.2)) after.1 after.2,
+              ))
         ]
       ])

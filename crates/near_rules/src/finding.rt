@@ -91,7 +91,14 @@ fn search(alloc: Global, sought: &Sought) -> Result<Found, Failure<TooManyTried>
     let none = AttrSet::empty();
     let groups = Groups::by_agreement(alloc, &sought.codes, none)?;
     let mut found = nothing_found(alloc, sought.rights)?;
-    try_set(alloc, sought, &groups, none, AttrSet::full(sought.rights), &mut found)?;
+    try_set(
+        alloc,
+        sought,
+        &groups,
+        none,
+        AttrSet::full(sought.rights),
+        &mut found,
+    )?;
     search_above(alloc, sought, &groups, none, sought.width, &mut found)?;
     Ok(found)
 }

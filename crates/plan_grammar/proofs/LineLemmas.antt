@@ -250,15 +250,22 @@ lines_after naming names number tables line lines more (Ok whole) read fit =
     ⊎_elim
     (λ blank. record {
       others = fit.others;
-      means = inl (has_tokens (lex_line naming line) [] blank.0 read.ended,
-          subst (λ (earlier : NamedSchemes). MeansTableLines naming names earlier.names lines fit.others) blank.1 fit.means);
+      means = inl (
+        has_tokens (lex_line naming line) [] blank.0 read.ended,
+        subst (λ (earlier : NamedSchemes). MeansTableLines naming names earlier.names lines fit.others) blank.1 fit.means,
+      );
       added = fit.added ∙ ap (λ (earlier : NamedSchemes). with_tables earlier fit.others) blank.1;
       within_limit = λ within_limit. fit.within_limit (subst (λ (earlier : NamedSchemes). length earlier.names ≤ MOST_SCHEMES) (sym blank.1) within_limit);
     })
     (λ adds. record {
       others = led_by_table adds.table fit.others;
-      means = inr (adds.table, fit.others, record { marks = (lex_line naming line).marks; tokens = has_tokens (lex_line naming line) (lex_line naming line).marks refl read.ended; is_line = adds.line },
-          subst (λ (earlier : NamedSchemes). MeansTableLines naming names earlier.names lines fit.others) adds.added fit.means, refl);
+      means = inr (
+        adds.table,
+        fit.others,
+        record { marks = (lex_line naming line).marks; tokens = has_tokens (lex_line naming line) (lex_line naming line).marks refl read.ended; is_line = adds.line },
+        subst (λ (earlier : NamedSchemes). MeansTableLines naming names earlier.names lines fit.others) adds.added fit.means,
+        refl,
+      );
       added = fit.added ∙ ap (λ (earlier : NamedSchemes). with_tables earlier fit.others) adds.added ∙ one_after tables fit.others adds.table;
       within_limit = λ within_limit. fit.within_limit (subst (λ (earlier : NamedSchemes). length earlier.names ≤ MOST_SCHEMES) (sym adds.added) (omega (arith, length_push tables.names adds.table.name, adds.room)));
     })

@@ -23,8 +23,8 @@ use crate::words::{is_table, line_mode, opens_line};
 use attr_sets::{AttrSet, MOST_ATTRIBUTES};
 use dep_model::{Failure, Name, Schema};
 use lexer::{Token, TokenKind, Word, cut_line, without_mark};
-use plan_grammar::{MOST_SCHEMES, PlanRefusal};
 use named_plans::NamedPlan;
+use plan_grammar::{MOST_SCHEMES, PlanRefusal};
 use plans::Plan;
 use schema_grammar::{Format, SchemaRefusal, SchemaRefusalKind, What};
 use std::alloc::Global;
@@ -61,11 +61,7 @@ pub fn read_plan(
 }
 
 // Reads the lines of a text.
-fn read_lines(
-    alloc: Global,
-    schema: &Schema,
-    text: &[u8],
-) -> Result<Draft, Failure<PlanRefusal>>
+fn read_lines(alloc: Global, schema: &Schema, text: &[u8]) -> Result<Draft, Failure<PlanRefusal>>
     requires { length text.now ≤ MOST_PLAN_BYTES }
     ensures ok { IfOk result (λ draft. read_table_lines (naming_of schema.now) (names_of schema.now) 1 no_tables
         (line_texts text.now)

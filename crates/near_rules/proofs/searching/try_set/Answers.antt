@@ -38,7 +38,7 @@ loop-attribute-preserved c =
             kept = (
               more ++ added,
               ap (λ (f : Found). f.deps.items) w.found-is ∙ is ∙ ap (λ (l : List Dep). l ++ added) kept
-              ∙ append_assoc c.args.found.now.deps.items more added,
+                  ∙ append_assoc c.args.found.now.deps.items more added,
             );
           }
       | else-contains w ↦
