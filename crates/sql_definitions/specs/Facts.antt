@@ -1,0 +1,75 @@
+-- What is known of a table while its SQL is read, and how reading goes on: for all that reads statements.
+use Rattle.std.specs.Prelude.{◌≡◌, ℕ, ◌<◌, ◌≤◌, ◌==◌, Bool, true, false, nat_lt, Option, Some, None, Result, Ok, Err, List, [], ◌∷◌, ◌++◌, length, map, All, AllPairs, IsTrue, if◌then◌else◌}
+use Rattle.std.specs.List.{list_any}
+use Rattle.attr_sets.specs.declared.set.TheConstants.{MOST_ATTRIBUTES}
+use Rattle.dep_model.specs.declared.failure.Failure.{Failure}
+use Rattle.dep_model.specs.declared.failure.Failure.TheVariants.{Refused, OutOfMemory}
+use Rattle.dep_model.specs.declared.schema.TheConstants.{MOST_DEPENDENCIES}
+use Rattle.dep_model.specs.Columns.{is_column_type}
+use Rattle.dep_model.specs.Names.{same_name}
+use Rattle.sql_definitions.specs.declared.definition.Column.{Column}
+use Rattle.sql_definitions.specs.declared.definition.Part.{Part}
+use Rattle.sql_definitions.specs.declared.refusal.Reason.{Reason}
+use Rattle.sql_definitions.specs.declared.refusal.Reason.TheVariants as reason
+use Rattle.sql_definitions.specs.declared.refusal.Refusal.{Refusal}
+
+-- a key that is stated, by PRIMARY KEY or not, with its columns
+pub record StatedKey : Type 0 where
+  pub primary : Bool
+  pub parts : List Part
+
+-- a statement creates the table; its columns; the keys that are stated; and the words after its columns bind each
+-- PRIMARY KEY
+pub record Facts : Type 0 where
+  pub found : Bool
+  pub columns : List Column
+  pub keys : List StatedKey
+  pub binds : Bool
+
+abbrev pub no_facts : Facts
+no_facts = record { found = false; columns = []; keys = []; binds = false }
+
+abbrev pub with_column : Facts → Column → Facts
+with_column f column = record { found = f.found; columns = f.columns ++ column ∷ []; keys = f.keys; binds = f.binds }
+
+abbrev pub with_key : Facts → Bool → List Part → Facts
+with_key f primary parts = record {
+  found = f.found;
+  columns = f.columns;
+  keys = f.keys ++ record { primary = primary; parts = parts } ∷ [];
+  binds = f.binds;
+}
+
+abbrev pub as_found : Facts → Facts
+as_found f = record { found = true; columns = f.columns; keys = f.keys; binds = f.binds }
+
+abbrev pub with_binding : Facts → Bool → Facts
+with_binding f binds = record { found = f.found; columns = f.columns; keys = f.keys; binds = binds }
+
+-- the columns can be those of a schema: not too many, with different names and types of columns
+pub record AreColumns (columns : List Column) : Type 0 where
+  pub within_limit : length columns ≤ MOST_ATTRIBUTES
+  pub names_differ : AllPairs (λ a b. same_name a b ≡ false) (map (λ c. c.name) columns)
+  pub types : All (λ c. IsTrue (is_column_type c.kind)) columns
+
+-- what reading comes to: the facts then known, or a refusal
+abbrev pub Outcome : Type 0
+Outcome = Result Facts Refusal
+
+abbrev pub refused : {T : Type 0} → Reason → ℕ → Result T Refusal
+refused reason place = Err (record { reason = reason; place = place })
+
+abbrev pub then_read : {T : Type 0} → Result T Refusal → (T → Outcome) → Outcome
+then_read (Err refusal) next = Err refusal
+then_read (Ok value) next = next value
+
+-- a key is stated, where there are not too many, by the word at a place
+abbrev pub state_key : Bool → ℕ → List Part → Facts → Outcome
+state_key primary place parts f =
+    if nat_lt (length f.keys) MOST_DEPENDENCIES then Ok (with_key f primary parts)
+    else refused reason.TooManyDependencies place
+
+-- a call answers with what a definition says, or memory ran out
+abbrev pub Fails : {T : Type 0} → Failure Refusal → Result T Refusal → Type 0
+Fails (Refused refusal) said = said ≡ Err refusal
+Fails OutOfMemory said = Unit {0}
