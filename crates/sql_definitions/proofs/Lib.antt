@@ -1,1 +1,3 @@
 -- The lemmas of sql_definitions.
+mod NameLemmas
+mod ColumnLemmas

@@ -6,11 +6,9 @@ use Rattle.dep_model.specs.Names.{same_name}
 use Rattle.sql_lexemes.specs.declared.dialect.Dialect.{Dialect}
 use Rattle.sql_lexemes.specs.Lexemes.{Lexed}
 use Rattle.sql_lexemes.specs.Statements.{is_word, is_mark, begins_with}
-use Rattle.sql_definitions.specs.declared.definition.Column.{Column}
-use Rattle.sql_definitions.specs.declared.definition.Part.{Part}
 use Rattle.sql_definitions.specs.declared.refusal.Reason.TheVariants as reason
 use Rattle.sql_definitions.specs.declared.refusal.Refusal.{Refusal}
-use Rattle.sql_definitions.specs.Facts.{Facts, Outcome, refused, then_read, state_key, with_column}
+use Rattle.sql_definitions.specs.Facts.{Facts, StatedColumn, StatedPart, Outcome, refused, then_read, state_key, with_column}
 use Rattle.sql_definitions.specs.Lists.{name_of, read_list}
 use Rattle.sql_definitions.specs.Names.{name_text, is_name}
 use Rattle.sql_definitions.specs.Types.{column_type, type_text, is_serial, is_outside}
@@ -82,7 +80,7 @@ says_not_null (l ∷ ls) =
     ((is_outside l && is_word (codes "not") l) && begins_with (codes "null") ls) || says_not_null ls
 
 -- the key that a lexeme of a column states, if it states one: outside brackets PRIMARY before KEY, or UNIQUE
-abbrev pub key_at : Part → Lexed → List Lexed → Facts → Outcome
+abbrev pub key_at : StatedPart → Lexed → List Lexed → Facts → Outcome
 key_at part l after f =
     if not (is_outside l) then Ok f
     else if is_word (codes "unique") l then state_key false l.place (part ∷ []) f
@@ -90,12 +88,12 @@ key_at part l after f =
     else Ok f
 
 -- the keys that a column states of itself, in their order
-unfoldable pub column_keys : Part → List Lexed → Facts → Outcome
+unfoldable pub column_keys : StatedPart → List Lexed → Facts → Outcome
 column_keys part [] f = Ok f
 column_keys part (l ∷ ls) f = then_read (key_at part l ls f) (column_keys part ls)
 
 -- the column of this name, of the lexemes of its type and of what follows
-abbrev pub column_of : Dialect → List ℕ → List Lexed → List Lexed → Column
+abbrev pub column_of : Dialect → List ℕ → List Lexed → List Lexed → StatedColumn
 column_of d name type rest = record {
   name = name;
   kind = column_type d type;
@@ -103,7 +101,7 @@ column_of d name type rest = record {
   is_integer = bytes_eq (type_text true type) (codes "integer");
 }
 
-abbrev pub is_taken : List Column → List ℕ → Bool
+abbrev pub is_taken : List StatedColumn → List ℕ → Bool
 is_taken columns name = list_any (λ c. same_name c.name name) columns
 
 -- a column of this name, which stands at a place, with what follows the name
@@ -113,7 +111,7 @@ named_column d place lexemes f (Some name) =
     if is_taken f.columns name then refused reason.NameDeclaredTwice place
     else if nat_lt (length f.columns) MOST_ATTRIBUTES
     then column_keys (record { place = place; name = Some name }) (drop (type_length lexemes) lexemes)
-        (with_column f (column_of d name (take (type_length lexemes) lexemes) (drop (type_length lexemes) lexemes)))
+    (with_column f (column_of d name (take (type_length lexemes) lexemes) (drop (type_length lexemes) lexemes)))
     else refused reason.TooManyAttributes place
 
 -- a column: a name, and what follows

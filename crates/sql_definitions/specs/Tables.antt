@@ -5,12 +5,11 @@ use Rattle.dep_model.specs.Names.{same_name}
 use Rattle.sql_lexemes.specs.declared.dialect.Dialect.{Dialect}
 use Rattle.sql_lexemes.specs.Lexemes.{Lexed}
 use Rattle.sql_lexemes.specs.Statements.{is_word, is_mark, is_a_word, begins_with}
-use Rattle.sql_definitions.specs.declared.definition.Part.{Part}
 use Rattle.sql_definitions.specs.declared.refusal.Reason.{Reason}
 use Rattle.sql_definitions.specs.declared.refusal.Reason.TheVariants as reason
 use Rattle.sql_definitions.specs.declared.refusal.Refusal.{Refusal}
 use Rattle.sql_definitions.specs.Elements.{element, key_constraint, after_constraint, is_one_of}
-use Rattle.sql_definitions.specs.Facts.{Facts, Outcome, refused, then_read, state_key, as_found, with_binding}
+use Rattle.sql_definitions.specs.Facts.{Facts, StatedColumn, StatedPart, Outcome, refused, then_read, state_key, as_found, with_binding}
 use Rattle.sql_definitions.specs.Lists.{list_parts, closes_list}
 use Rattle.sql_definitions.specs.Names.{name_text, is_name}
 use Rattle.sql_definitions.specs.Wanted.{TableName}
@@ -113,6 +112,11 @@ binding_words = codes "rowid" ∷ codes "strict" ∷ []
 abbrev pub binds_keys : List Lexed → Bool
 binds_keys lexemes = list_any (is_one_of binding_words) lexemes
 
+-- the bracket that closes the table stands at the front
+abbrev pub closes_table : List Lexed → Bool
+closes_table [] = false
+closes_table (l ∷ ls) = closes_list 0 l
+
 -- a table is closed at a place, with these lexemes after it: a table without a column is none
 abbrev pub closed_table : ℕ → List Lexed → Facts → Outcome
 closed_table place tail f =
@@ -171,7 +175,7 @@ is_name_wanted reason.ExpectedName = true
 is_name_wanted other = false
 
 -- the key of a unique index, by its list: one in which a part begins with no name is passed over
-abbrev pub index_key : ℕ → Result (List Part) Refusal → Facts → Outcome
+abbrev pub index_key : ℕ → Result (List StatedPart) Refusal → Facts → Outcome
 index_key place (Ok parts) f = state_key false place parts f
 index_key place (Err refusal) f = if is_name_wanted refusal.reason then Ok f else Err refusal
 

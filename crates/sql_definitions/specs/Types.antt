@@ -89,8 +89,8 @@ scaled precision (Some scale) =
 
 -- the scale in a type of one word with `(P)` or `(P, S)` after it
 abbrev pub decimal_type : List Lexed → Option ColumnType
-decimal_type (word ∷ open ∷ p ∷ close ∷ []) = scaled (number_in p.kind p.text) (Some 0)
-decimal_type (word ∷ open ∷ p ∷ comma ∷ s ∷ close ∷ []) =
+decimal_type (word ∷ left ∷ p ∷ right ∷ []) = scaled (number_in p.kind p.text) (Some 0)
+decimal_type (word ∷ left ∷ p ∷ comma ∷ s ∷ right ∷ []) =
     if is_mark 44 comma then scaled (number_in p.kind p.text) (number_in s.kind s.text) else None
 decimal_type lexemes = None
 

@@ -1,6 +1,6 @@
 //! The statements that add a key to the table or make a unique index over it.
 
-ghost use Rattle.std.specs.Prelude.{◌≡◌, ◌&&◌, length, option_map, codes, IfErr, Ok, OnOk};
+ghost use Rattle.std.specs.Prelude.{◌≡◌, ◌≤◌, ◌&&◌, length, option_map, codes, IfErr, Ok, OnOk};
 ghost use Rattle.std.specs.List.{list_any, position_or_len};
 ghost use Rattle.sql_lexemes.specs.Statements.{is_a_word, is_mark, is_word};
 ghost use Rattle.sql_definitions.specs.Facts.{Fails};
@@ -143,7 +143,15 @@ pub fn index_statement(
         return Ok(());
     };
     if is_word(first, b"create") && is_word(second, b"unique") && is_word(third, b"index") {
-        unique_index(alloc, dialect, wanted, end, second.place(), rest, definition)
+        unique_index(
+            alloc,
+            dialect,
+            wanted,
+            end,
+            second.place(),
+            rest,
+            definition,
+        )
     } else {
         Ok(())
     }

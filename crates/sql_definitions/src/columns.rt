@@ -1,6 +1,6 @@
 //! The columns of a table.
 
-ghost use Rattle.std.specs.Prelude.{◌≡◌, ◌≤◌, length, IfErr, IfOk, IsTrue, Ok, OnOk, Some};
+ghost use Rattle.std.specs.Prelude.{◌≡◌, ◌≤◌, ◌∷◌, [], length, IfErr, IfOk, IsTrue, Ok, OnOk, Some};
 ghost use Rattle.dep_model.specs.Columns.{is_column_type};
 ghost use Rattle.std.specs.List.{list_any};
 ghost use Rattle.sql_definitions.specs.Facts.{Fails};
@@ -60,18 +60,14 @@ fn named_column(
     let (own, after) = rest.split_at(type_length(rest));
     let column = column_of(alloc, dialect, name, own, after)?;
     definition.add_column(column)?;
-    let part = Part {
-        place,
-        name: Some(name),
-    };
-    column_keys(alloc, part, after, definition)
+    column_keys(alloc, place, name, after, definition)
 }
 
 // Whether an earlier column has this name.
 fn is_taken(columns: &[Column], name: &Name) -> bool
     ensures taken { result ≡ is_taken columns.now name.now }
 {
-    columns.iter().any(|column| column.name.is_same(name))
+    columns.iter().any(|column| column.name().is_same(name))
 }
 
 // How many lexemes the type has at the front.
@@ -121,12 +117,8 @@ fn column_of(
     let text = type_text(alloc, own)?;
     let kind = column_type(alloc, dialect, own, &text)?;
     let never_missing = is_serial(dialect, &text) || says_not_null(after);
-    Ok(Column {
-        name,
-        kind,
-        never_missing,
-        is_integer: text.as_slice() == b"integer".as_slice(),
-    })
+    let is_integer = text.as_slice() == b"integer".as_slice();
+    Ok(Column::new(name, kind, never_missing, is_integer))
 }
 
 // Whether NOT and NULL stand next to each other outside brackets.
@@ -148,16 +140,17 @@ fn says_not_null(lexemes: &[Lexeme<'_>]) -> bool
 #[tactic(auto, unfolding(crate::specs::Elements::column_keys))]
 fn column_keys(
     alloc: Global,
-    part: Part,
+    place: usize,
+    name: Name,
     lexemes: &[Lexeme<'_>],
     definition: &mut Definition,
 ) -> Result<(), Failure<Refusal>>
-    ensures ok { OnOk result (column_keys part lexemes.now definition.old ≡ Ok definition.new) }
-    ensures err { IfErr result (λ failure. Fails failure (column_keys part lexemes.now definition.old)) }
+    ensures ok { OnOk result (column_keys (record { place = place; name = Some name }) lexemes.now definition.old ≡ Ok definition.new) }
+    ensures err { IfErr result (λ failure. Fails failure (column_keys (record { place = place; name = Some name }) lexemes.now definition.old)) }
 {
     let mut rest = lexemes;
     while let [lexeme, after @ ..] = rest {
-        key_at(alloc, part, lexeme, after, definition)?;
+        key_at(alloc, place, name, lexeme, after, definition)?;
         rest = after;
     }
     Ok(())
@@ -166,23 +159,33 @@ fn column_keys(
 // States the key that a lexeme of a column states, if it states one.
 fn key_at(
     alloc: Global,
-    part: Part,
+    place: usize,
+    name: Name,
     lexeme: &Lexeme<'_>,
     after: &[Lexeme<'_>],
     definition: &mut Definition,
 ) -> Result<(), Failure<Refusal>>
-    ensures ok { OnOk result (key_at part lexeme.now after.now definition.old ≡ Ok definition.new) }
-    ensures err { IfErr result (λ failure. Fails failure (key_at part lexeme.now after.now definition.old)) }
+    ensures ok { OnOk result (key_at (record { place = place; name = Some name }) lexeme.now after.now definition.old ≡ Ok definition.new) }
+    ensures err { IfErr result (λ failure. Fails failure (key_at (record { place = place; name = Some name }) lexeme.now after.now definition.old)) }
 {
     if !is_outside(lexeme) {
         Ok(())
     } else if is_word(lexeme, b"unique") {
-        let parts = Vec::from_slice(alloc, &[part])?;
+        let parts = single(alloc, place, name)?;
         definition.state_key(false, lexeme.place(), parts)
     } else if is_word(lexeme, b"primary") && begins_with(after, b"key") {
-        let parts = Vec::from_slice(alloc, &[part])?;
+        let parts = single(alloc, place, name)?;
         definition.state_key(true, lexeme.place(), parts)
     } else {
         Ok(())
     }
+}
+
+// A key of one column.
+fn single(alloc: Global, place: usize, name: Name) -> Result<Vec<Part>, OutOfMemory>
+    ensures parts { IfOk result (λ parts. parts.items ≡ record { place = place; name = Some name } ∷ []) }
+{
+    let mut parts = Vec::new(alloc);
+    parts.push(Part::new(place, Some(name)))?;
+    Ok(parts)
 }

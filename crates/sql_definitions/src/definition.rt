@@ -1,4 +1,4 @@
-ghost use Rattle.std.specs.Prelude.{◌≡◌, ◌<◌, ◌≤◌, List, length, All, IsTrue, OnOk, IfErr, false};
+ghost use Rattle.std.specs.Prelude.{◌≡◌, ◌<◌, length, All, IsTrue, OnOk, IfErr, Ok, false};
 ghost use Rattle.attr_sets.specs.declared.set.TheConstants.{MOST_ATTRIBUTES};
 ghost use Rattle.dep_model.specs.Columns.{is_column_type};
 ghost use Rattle.dep_model.specs.Failures.{RefusesAs};
@@ -11,22 +11,106 @@ use std::alloc::Global;
 use std::marker::Model;
 
 /// A column.
-#[derive(Clone, Copy, Debug)]
+#[derive(Drop)]
 pub struct Column {
-    pub name: Name,
-    /// The type of its values.
-    pub kind: ColumnType,
-    /// It says itself that no value is missing.
-    pub never_missing: bool,
-    /// The text of its type is `integer`.
-    pub is_integer: bool,
+    name: Name,
+    kind: ColumnType,
+    never_missing: bool,
+    is_integer: bool,
 }
 
-/// A column of a key, where its name is one of a schema, and its place.
-#[derive(Clone, Copy, Debug)]
+impl Model for Column {
+    ghost use Rattle.sql_definitions.specs.Facts.{StatedColumn};
+
+    ghost Value = { StatedColumn };
+
+    ghost view = { λ c. record {
+      name = c.name;
+      kind = c.kind;
+      never_missing = c.never_missing;
+      is_integer = c.is_integer;
+    } };
+}
+
+impl Column {
+    /// A column of this name and type, that says itself whether no value is missing, and whether the text
+    /// of its type is `integer`.
+    pub fn new(name: Name, kind: ColumnType, never_missing: bool, is_integer: bool) -> Column
+        ensures column { result ≡ record { name = name; kind = kind; never_missing = never_missing; is_integer = is_integer } }
+    {
+        Column {
+            name,
+            kind,
+            never_missing,
+            is_integer,
+        }
+    }
+
+    /// Its name.
+    pub fn name(&self) -> &Name
+        ensures name { result.now ≡ self.now.name }
+    {
+        &self.name
+    }
+
+    /// The type of its values.
+    pub fn kind(&self) -> ColumnType
+        ensures kind { result ≡ self.now.kind }
+    {
+        self.kind
+    }
+
+    /// Whether it says itself that no value is missing.
+    pub fn is_never_missing(&self) -> bool
+        ensures never_missing { result ≡ self.now.never_missing }
+    {
+        self.never_missing
+    }
+
+    /// Whether the text of its type is `integer`.
+    pub fn is_integer(&self) -> bool
+        ensures integer { result ≡ self.now.is_integer }
+    {
+        self.is_integer
+    }
+}
+
+/// A column of a key: its place, and its name, where it is one of a schema.
+#[derive(Drop)]
 pub struct Part {
-    pub place: usize,
-    pub name: Option<Name>,
+    place: usize,
+    name: Option<Name>,
+}
+
+impl Model for Part {
+    ghost use Rattle.sql_definitions.specs.Facts.{StatedPart};
+
+    ghost Value = { StatedPart };
+
+    ghost view = { λ p. record { place = p.place; name = p.name } };
+}
+
+impl Part {
+    /// A column of a key.
+    pub fn new(place: usize, name: Option<Name>) -> Part
+        ensures part { result ≡ record { place = place; name = name } }
+    {
+        Part { place, name }
+    }
+
+    /// Its place.
+    pub fn place(&self) -> usize
+        ensures place { result ≡ self.now.place }
+    {
+        self.place
+    }
+
+    /// Its name, where it is one of a schema.
+    pub fn name(&self) -> Option<Name>
+        ensures name { result ≡ self.now.name }
+    {
+        self.name
+    }
 }
 
 /// A key that is stated, by PRIMARY KEY or not.
@@ -154,8 +238,8 @@ impl Definition {
         place: usize,
         parts: Vec<Part>,
     ) -> Result<(), Failure<Refusal>>
-        ensures ok { OnOk result (state_key primary place parts.entry.items self.old ≡ Ok self.new) }
-        ensures err { IfErr result (λ failure. Fails failure (state_key primary place parts.entry.items self.old)) }
+        ensures ok { OnOk result (state_key primary place parts.items self.old ≡ Ok self.new) }
+        ensures err { IfErr result (λ failure. Fails failure (state_key primary place parts.items self.old)) }
     {
         if self.keys.len() >= MOST_DEPENDENCIES {
             return Err(Failure::Refused(Refusal {

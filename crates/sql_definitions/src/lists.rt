@@ -85,10 +85,7 @@ fn part_of(alloc: Global, dialect: Dialect, lexeme: &Lexeme<'_>) -> Result<Part,
     ensures part { IfOk result (λ part. part ≡ part_of dialect lexeme.now) }
 {
     let text = name_text(alloc, dialect, lexeme)?;
-    Ok(Part {
-        place: lexeme.place(),
-        name: name_of(&text),
-    })
+    Ok(Part::new(lexeme.place(), name_of(&text)))
 }
 
 /// Bytes, where they are the name of an attribute.

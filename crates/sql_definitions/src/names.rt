@@ -1,4 +1,5 @@
-ghost use Rattle.std.specs.Prelude.{◌≡◌, ◌++◌, false, map, IfOk};
+ghost use Rattle.std.specs.Prelude.{◌≡◌, false, if◌then◌else◌, IfOk};
+ghost use Rattle.sql_lexemes.specs.Pieces.{is_postgres};
 ghost use Rattle.sql_definitions.specs.Names.{inner, is_name, is_named, lower, lower_text, name_text, undoubled, unquoted};
 
 use dep_model::OutOfMemory;
@@ -36,8 +37,10 @@ pub fn lower_text(alloc: Global, text: &[u8]) -> Result<Vec<u8>, OutOfMemory>
     ensures text { IfOk result (λ lower. lower.items ≡ lower_text text.now) }
 {
     let mut name = Vec::new(alloc);
-    for byte in text {
+    let mut rest = text;
+    while let [byte, left @ ..] = rest {
         name.push(lower(*byte))?;
+        rest = left;
     }
     Ok(name)
 }

@@ -4,7 +4,7 @@ ghost use Rattle.std.specs.Prelude.{◌≡◌, ◌≤◌, length, option_map, If
 ghost use Rattle.std.specs.List.{list_any};
 ghost use Rattle.sql_definitions.specs.Elements.{is_one_of};
 ghost use Rattle.sql_definitions.specs.Facts.{Fails};
-ghost use Rattle.sql_definitions.specs.Tables.{after_create, binding_words, after_word, binds_keys, closed_table, create_table, element_length, elements, ends_element, open_table, past_if_not_exists, past_temporary, place_of, temporary_words};
+ghost use Rattle.sql_definitions.specs.Tables.{after_create, binding_words, after_word, binds_keys, closed_table, closes_table, create_table, element_length, elements, ends_element, open_table, past_if_not_exists, past_temporary, place_of, temporary_words};
 
 use crate::definition::Definition;
 use crate::elements::element;
@@ -31,7 +31,11 @@ pub fn after_word<'s, 'a>(lexemes: &'s [Lexeme<'a>], word: &[u8]) -> Option<&'s 
     let [first, rest @ ..] = lexemes else {
         return None;
     };
-    if is_word(first, word) { Some(rest) } else { None }
+    if is_word(first, word) {
+        Some(rest)
+    } else {
+        None
+    }
 }
 
 fn past_temporary<'s, 'a>(lexemes: &'s [Lexeme<'a>]) -> &'s [Lexeme<'a>]
@@ -135,15 +139,26 @@ fn elements(
             Ok(()) => {}
             Err(failure) => return Err(failure),
         }
-        let [stop, left @ ..] = after else {
+        if after.is_empty() {
             return Err(refused(Reason::ExpectedCommaOrBracket, end));
-        };
-        if closes_list(0, stop) {
-            return close_table(stop.place(), left, definition);
+        }
+        let (stop, left) = after.split_at(1);
+        if closes_table(stop) {
+            return close_table(place_of(end, stop), left, definition);
         }
         rest = left;
     }
     Err(refused(Reason::ExpectedName, end))
+}
+
+// Whether the bracket that closes the table stands at the front.
+fn closes_table(lexemes: &[Lexeme<'_>]) -> bool
+    ensures exact { result ≡ closes_table lexemes.now }
+{
+    match lexemes {
+        [] => false,
+        [first, ..] => closes_list(0, first),
+    }
 }
 
 // A table is closed at this place, and these are the lexemes after it: a table without a column is none.

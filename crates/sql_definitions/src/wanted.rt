@@ -26,9 +26,9 @@ impl<'a> Model for Wanted<'a> {
     ghost Value = { TableName };
 
     ghost view = { λ w. record {
-        last = w.last.now;
-        middle = option_map (λ part. part.now) w.middle;
-        outer = option_map (λ part. part.now) w.outer
+      last = w.last.now;
+      middle = option_map (λ part. part.now) w.middle;
+      outer = option_map (λ part. part.now) w.outer;
     } };
 }
 
@@ -38,27 +38,31 @@ pub fn wanted_table(bytes: &[u8]) -> Option<Wanted<'_>>
 {
     let end = part_length(bytes);
     if end == bytes.len() {
-        return wanted(bytes, None, None);
+        return named_by(bytes, None, None);
     }
     let (first, rest) = bytes.split_at(end);
     let rest = rest.split_at(1).1;
     let end = part_length(rest);
     if end == rest.len() {
-        return wanted(rest, Some(first), None);
+        return named_by(rest, Some(first), None);
     }
     let (second, rest) = rest.split_at(end);
     let third = rest.split_at(1).1;
     if part_length(third) == third.len() {
-        wanted(third, Some(second), Some(first))
+        named_by(third, Some(second), Some(first))
     } else {
         None
     }
 }
 
 // A table's name of these parts, of which none may be empty.
-fn wanted<'a>(last: &'a [u8], middle: Option<&'a [u8]>, outer: Option<&'a [u8]>) -> Option<Wanted<'a>>
-    ensures wanted { result ≡ named_by last.now (option_map (λ part. part.now) middle)
-        (option_map (λ part. part.now) outer) }
+fn named_by<'a>(
+    last: &'a [u8],
+    middle: Option<&'a [u8]>,
+    outer: Option<&'a [u8]>,
+) -> Option<Wanted<'a>>
+    ensures wanted { result ≡ named_by last.now (option_map (λ part. part.now) middle.entry)
+        (option_map (λ part. part.now) outer.entry) }
 {
     if last.is_empty() || is_empty_part(middle) || is_empty_part(outer) {
         None
@@ -72,7 +76,7 @@ fn wanted<'a>(last: &'a [u8], middle: Option<&'a [u8]>, outer: Option<&'a [u8]>)
 }
 
 fn is_empty_part(part: Option<&[u8]>) -> bool
-    ensures exact { result ≡ is_empty_part (option_map (λ part. part.now) part) }
+    ensures exact { result ≡ is_empty_part (option_map (λ part. part.now) part.entry) }
 {
     match part {
         Some(bytes) => bytes.is_empty(),
@@ -132,9 +136,24 @@ pub fn is_meant(
     ensures exact { IfOk result (λ meant. meant ≡ is_meant dialect wanted.now lexemes.now) }
 {
     let count = name_length(lexemes);
-    let last = is_named_so(alloc, dialect, wanted.last, part_from_end(lexemes, count, 1))?;
-    let middle = is_wanted_part(alloc, dialect, wanted.middle, part_from_end(lexemes, count, 3))?;
-    let outer = is_wanted_part(alloc, dialect, wanted.outer, part_from_end(lexemes, count, 5))?;
+    let last = is_named_so(
+        alloc,
+        dialect,
+        wanted.last,
+        part_from_end(lexemes, count, 1),
+    )?;
+    let middle = is_wanted_part(
+        alloc,
+        dialect,
+        wanted.middle,
+        part_from_end(lexemes, count, 3),
+    )?;
+    let outer = is_wanted_part(
+        alloc,
+        dialect,
+        wanted.outer,
+        part_from_end(lexemes, count, 5),
+    )?;
     Ok(last && middle && outer)
 }
 
@@ -160,7 +179,7 @@ fn is_wanted_part(
     wanted: Option<&[u8]>,
     lexeme: Option<&Lexeme<'_>>,
 ) -> Result<bool, OutOfMemory>
-    ensures exact { IfOk result (λ is. is ≡ is_wanted_part dialect (option_map (λ part. part.now) wanted) (option_map (λ l. l.now) lexeme)) }
+    ensures exact { IfOk result (λ is. is ≡ is_wanted_part dialect (option_map (λ part. part.now) wanted.entry) (option_map (λ l. l.now) lexeme.entry)) }
 {
     match wanted {
         None => Ok(true),
@@ -175,7 +194,7 @@ fn is_named_so(
     wanted: &[u8],
     lexeme: Option<&Lexeme<'_>>,
 ) -> Result<bool, OutOfMemory>
-    ensures exact { IfOk result (λ is. is ≡ is_named_so dialect wanted.now (option_map (λ l. l.now) lexeme)) }
+    ensures exact { IfOk result (λ is. is ≡ is_named_so dialect wanted.now (option_map (λ l. l.now) lexeme.entry)) }
 {
     let Some(lexeme) = lexeme else {
         return Ok(false);
