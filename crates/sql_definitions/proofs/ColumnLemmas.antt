@@ -1,5 +1,5 @@
 -- One column more, of another name, leaves columns that can be those of a schema.
-use Rattle.std.proofs.Common.{◌≡◌, ◌<◌, ◌+◌, ◌++◌, ◌∷◌, [], ℕ, zero, suc, false, List, length, get_or, arith, length-append}
+use Rattle.std.proofs.Common.{◌≡◌, ◌<◌, ◌+◌, ◌++◌, ◌∷◌, [], zero, suc, false, List, length, arith, length-append}
 use Rattle.std.specs.Prelude.{All, IsTrue}
 use Rattle.std.proofs.lemmas.List.Elements.{All-get_or, All-append}
 use Rattle.std.proofs.lemmas.List.Quantifiers.{all_pairs_push}

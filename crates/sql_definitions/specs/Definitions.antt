@@ -1,12 +1,11 @@
 -- What the SQL of a text says of a table: for `read_definition`, and for all that stands on it.
-use Rattle.std.specs.Prelude.{ℕ, ◌==◌, Bool, true, false, not, ◌&&◌, nat_lt, Option, Some, None, Result, Ok, Err, List, [], ◌∷◌, if◌then◌else◌}
+use Rattle.std.specs.Prelude.{ℕ, nat_lt, Option, Some, None, Ok, Err, List, [], ◌∷◌, if◌then◌else◌}
 use Rattle.sql_lexemes.specs.declared.dialect.Dialect.{Dialect}
 use Rattle.sql_lexemes.specs.declared.piece.Flaw.{Flaw}
 use Rattle.sql_lexemes.specs.declared.piece.Flaw.TheVariants as flaw
 use Rattle.sql_lexemes.specs.Statements.{Stated, statements_of}
 use Rattle.sql_definitions.specs.declared.refusal.Reason.{Reason}
 use Rattle.sql_definitions.specs.declared.refusal.Reason.TheVariants as reason
-use Rattle.sql_definitions.specs.declared.refusal.Refusal.{Refusal}
 use Rattle.sql_definitions.specs.Facts.{Facts, Outcome, refused, then_read, no_facts}
 use Rattle.sql_definitions.specs.Tables.{read_lexemes}
 use Rattle.sql_definitions.specs.Wanted.{TableName}

@@ -1,13 +1,12 @@
 -- The elements between the brackets of CREATE TABLE: columns, and what states a key.
-use Rattle.std.specs.Prelude.{ℕ, ◌+◌, ◌==◌, Bool, true, false, not, ◌&&◌, ◌||◌, nat_lt, Option, Some, None, Result, Ok, Err, List, [], ◌∷◌, ◌++◌, length, take, drop, codes, bytes_eq, if◌then◌else◌}
+use Rattle.std.specs.Prelude.{ℕ, Bool, true, false, not, ◌&&◌, ◌||◌, nat_lt, Option, Some, None, Ok, List, [], ◌∷◌, length, take, drop, codes, bytes_eq, if◌then◌else◌}
 use Rattle.std.specs.List.{list_any, position_or_len}
 use Rattle.attr_sets.specs.declared.set.TheConstants.{MOST_ATTRIBUTES}
 use Rattle.dep_model.specs.Names.{same_name}
 use Rattle.sql_lexemes.specs.declared.dialect.Dialect.{Dialect}
 use Rattle.sql_lexemes.specs.Lexemes.{Lexed}
-use Rattle.sql_lexemes.specs.Statements.{is_word, is_mark, begins_with}
+use Rattle.sql_lexemes.specs.Statements.{is_word, begins_with}
 use Rattle.sql_definitions.specs.declared.refusal.Reason.TheVariants as reason
-use Rattle.sql_definitions.specs.declared.refusal.Refusal.{Refusal}
 use Rattle.sql_definitions.specs.Facts.{Facts, StatedColumn, StatedPart, Outcome, refused, then_read, state_key, with_column}
 use Rattle.sql_definitions.specs.Lists.{name_of, read_list}
 use Rattle.sql_definitions.specs.Names.{name_text, is_name}

@@ -1,6 +1,5 @@
 -- What is known of a table while its SQL is read, and how reading goes on: for all that reads statements.
-use Rattle.std.specs.Prelude.{◌≡◌, ℕ, ◌<◌, ◌≤◌, ◌==◌, Bool, true, false, nat_lt, Option, Some, None, Result, Ok, Err, List, [], ◌∷◌, ◌++◌, length, All, AllPairs, IsTrue, if◌then◌else◌}
-use Rattle.std.specs.List.{list_any}
+use Rattle.std.specs.Prelude.{◌≡◌, ℕ, ◌≤◌, Bool, true, false, nat_lt, Option, Result, Ok, Err, List, [], ◌∷◌, ◌++◌, length, All, AllPairs, IsTrue, if◌then◌else◌}
 use Rattle.attr_sets.specs.declared.set.TheConstants.{MOST_ATTRIBUTES}
 use Rattle.dep_model.specs.declared.failure.Failure.{Failure}
 use Rattle.dep_model.specs.declared.failure.Failure.TheVariants.{Refused, OutOfMemory}

@@ -1,9 +1,9 @@
 -- Lists of columns in brackets: for the keys of a table.
-use Rattle.std.specs.Prelude.{ℕ, ◌+◌, ◌==◌, Bool, true, false, ◌&&◌, Option, Some, None, Result, Ok, Err, List, [], ◌∷◌, ◌++◌, if◌then◌else◌}
+use Rattle.std.specs.Prelude.{ℕ, ◌+◌, ◌==◌, Bool, true, false, ◌&&◌, Option, Some, None, Result, Ok, List, [], ◌∷◌, ◌++◌, if◌then◌else◌}
 use Rattle.lexer.specs.Quotes as quotes
 use Rattle.sql_lexemes.specs.declared.dialect.Dialect.{Dialect}
 use Rattle.sql_lexemes.specs.Lexemes.{Lexed}
-use Rattle.sql_lexemes.specs.Statements.{is_word, is_mark}
+use Rattle.sql_lexemes.specs.Statements.{is_mark}
 use Rattle.sql_definitions.specs.declared.refusal.Reason.TheVariants as reason
 use Rattle.sql_definitions.specs.declared.refusal.Refusal.{Refusal}
 use Rattle.sql_definitions.specs.Facts.{StatedPart, refused}

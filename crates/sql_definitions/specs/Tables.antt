@@ -1,15 +1,15 @@
 -- The statements that create a table, add a key to it or make a unique index over it: for the definition of a table.
-use Rattle.std.specs.Prelude.{ℕ, ◌+◌, ◌-◌, ◌==◌, ◌≤◌, zero, suc, nat_le, Bool, true, false, not, ◌&&◌, ◌||◌, Option, Some, None, option_and_then, option_map, Result, Ok, Err, List, [], ◌∷◌, ◌++◌, length, take, drop, codes, position, slice_get, if◌then◌else◌}
+use Rattle.std.specs.Prelude.{ℕ, ◌+◌, ◌-◌, ◌==◌, zero, suc, nat_le, Bool, true, false, not, ◌&&◌, ◌||◌, Option, Some, None, option_and_then, option_map, Result, Ok, Err, List, [], ◌∷◌, length, take, drop, codes, slice_get, if◌then◌else◌}
 use Rattle.std.specs.List.{list_any, position_or_len}
 use Rattle.dep_model.specs.Names.{same_name}
 use Rattle.sql_lexemes.specs.declared.dialect.Dialect.{Dialect}
 use Rattle.sql_lexemes.specs.Lexemes.{Lexed}
-use Rattle.sql_lexemes.specs.Statements.{is_word, is_mark, is_a_word, begins_with}
+use Rattle.sql_lexemes.specs.Statements.{is_word, is_mark, is_a_word}
 use Rattle.sql_definitions.specs.declared.refusal.Reason.{Reason}
 use Rattle.sql_definitions.specs.declared.refusal.Reason.TheVariants as reason
 use Rattle.sql_definitions.specs.declared.refusal.Refusal.{Refusal}
 use Rattle.sql_definitions.specs.Elements.{element, key_constraint, after_constraint, is_one_of}
-use Rattle.sql_definitions.specs.Facts.{Facts, StatedColumn, StatedPart, Outcome, refused, then_read, state_key, as_found, with_binding}
+use Rattle.sql_definitions.specs.Facts.{Facts, StatedPart, Outcome, refused, then_read, state_key, as_found, with_binding}
 use Rattle.sql_definitions.specs.Lists.{list_parts, closes_list}
 use Rattle.sql_definitions.specs.Names.{name_text, is_name}
 use Rattle.sql_definitions.specs.Wanted.{TableName}

@@ -132,9 +132,11 @@ fn elements(
     ensures ok { OnOk result (elements dialect end 0 lexemes.now definition.old ≡ Ok definition.new) }
     ensures err { IfErr result (λ failure. Fails failure (elements dialect end 0 lexemes.now definition.old)) }
 {
-    let mut rest = lexemes;
-    'elements: while !rest.is_empty() {
-        let (own, after) = rest.split_at(element_length(rest));
+    let mut at = 0;
+    'elements: while at < lexemes.len() {
+        let rest = lexemes.split_at(at).1;
+        let length = element_length(rest);
+        let (own, after) = rest.split_at(length);
         match element(alloc, dialect, place_of(end, after), own, definition) {
             Ok(()) => {}
             Err(failure) => return Err(failure),
@@ -146,7 +148,7 @@ fn elements(
         if closes_table(stop) {
             return close_table(place_of(end, stop), left, definition);
         }
-        rest = left;
+        at += length + 1;
     }
     Err(refused(Reason::ExpectedName, end))
 }
