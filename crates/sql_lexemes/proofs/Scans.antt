@@ -1,13 +1,12 @@
 -- One piece at a time leads through the statements of a text.
-use Rattle.std.proofs.Common.{◌≡◌, ◌≤◌, ◌+◌, ℕ, zero, suc, Bool, true, false, List, [], ◌∷◌, length, take, drop, slice_index_or, cond, ◌-◌, ◌&&◌, bytes_eq, arith, ap, sym, ◌∙◌, refl}
+use Rattle.std.proofs.Common.{◌≡◌, ◌≤◌, ◌+◌, ℕ, zero, suc, Bool, true, false, List, [], ◌∷◌, length, take, drop, slice_index_or, cond, ◌&&◌, bytes_eq, arith, ap, sym, ◌∙◌, refl}
 use Rattle.std.proofs.lemmas.List.{drop-drop}
 use Rattle.sql_lexemes.specs.declared.dialect.Dialect.{Dialect}
 use Rattle.sql_lexemes.specs.declared.lexeme.LexemeKind.{LexemeKind}
 use Rattle.sql_lexemes.specs.declared.piece.Flaw.{Flaw}
 use Rattle.sql_lexemes.specs.declared.piece.Piece.TheVariants as piece
-use Rattle.sql_lexemes.specs.Lexemes.{Lexed}
 use Rattle.sql_lexemes.specs.Pieces.{front_piece}
-use Rattle.sql_lexemes.specs.Statements.{Scan, Stated, statements_after, after_gap, after_lexeme, lexeme_in, ends_statement, stated, stated_until, scan_from, before_statement, data_after, depth_after, depth_around, is_mark, is_a_mark}
+use Rattle.sql_lexemes.specs.Statements.{Scan, statements_after, after_gap, after_lexeme, lexeme_in, ends_statement, stated, stated_until, scan_from, before_statement, data_after, depth_after, depth_around, is_mark, is_a_mark}
 
 -- what is left of a text after some pieces, in this scan
 pub record IsScanned (d : Dialect) (first : Scan) (text : List ℕ) (s : Scan) (rest : List ℕ) : Type 0 where

@@ -1,5 +1,5 @@
 -- What stands at the front of a SQL text: for the statements of a text.
-use Rattle.std.specs.Prelude.{ℕ, ◌+◌, ◌==◌, ◌≤◌, Bool, true, false, ◌&&◌, Option, Some, None, List, [], ◌∷◌, length, take, drop, position, nat_eq, if◌then◌else◌}
+use Rattle.std.specs.Prelude.{ℕ, ◌+◌, ◌==◌, ◌≤◌, Bool, true, false, ◌&&◌, Option, Some, None, List, [], ◌∷◌, take, drop, position, nat_eq, if◌then◌else◌}
 use Rattle.std.specs.Char.{is_ascii_digit}
 use Rattle.std.specs.List.{starts_with, prefix_len, position_or_len}
 use Rattle.sql_lexemes.specs.declared.dialect.Dialect.{Dialect}
@@ -7,7 +7,7 @@ use Rattle.sql_lexemes.specs.declared.dialect.Dialect.TheVariants.{Sqlite, Postg
 use Rattle.sql_lexemes.specs.declared.lexeme.LexemeKind.{LexemeKind}
 use Rattle.sql_lexemes.specs.declared.lexeme.LexemeKind.TheVariants as kind
 use Rattle.sql_lexemes.specs.declared.piece.Before.{Before}
-use Rattle.sql_lexemes.specs.declared.piece.Before.TheVariants.{LineStart, WordE, Other}
+use Rattle.sql_lexemes.specs.declared.piece.Before.TheVariants.{LineStart, WordE}
 use Rattle.sql_lexemes.specs.declared.piece.Flaw.TheVariants as flaw
 use Rattle.sql_lexemes.specs.declared.piece.Piece.{Piece}
 use Rattle.sql_lexemes.specs.declared.piece.Piece.TheVariants as piece

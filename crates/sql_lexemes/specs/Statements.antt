@@ -1,6 +1,5 @@
 -- The statements of a SQL text: for `cut_statement`, and for all that reads statements.
-use Rattle.std.specs.Prelude.{◌≡◌, ℕ, ◌+◌, ◌-◌, ◌==◌, ◌<◌, ◌≤◌, zero, suc, Bool, true, false, ◌&&◌, nat_lt, Option, Some, None, List, [], ◌∷◌, ◌++◌, length, take, drop, codes, bytes_eq, if◌then◌else◌}
-use Rattle.std.specs.List.{slice_split, position_or_len}
+use Rattle.std.specs.Prelude.{◌≡◌, ℕ, ◌+◌, ◌-◌, ◌==◌, ◌<◌, zero, suc, Bool, true, false, ◌&&◌, Option, Some, None, List, [], ◌∷◌, ◌++◌, length, take, drop, codes, bytes_eq, if◌then◌else◌}
 use Rattle.dep_model.specs.Names.{same_name}
 use Rattle.sql_lexemes.specs.declared.dialect.Dialect.{Dialect}
 use Rattle.sql_lexemes.specs.declared.lexeme.LexemeKind.{LexemeKind}
@@ -10,7 +9,6 @@ use Rattle.sql_lexemes.specs.declared.piece.Before.TheVariants.{LineStart, WordE
 use Rattle.sql_lexemes.specs.declared.piece.Flaw.{Flaw}
 use Rattle.sql_lexemes.specs.declared.piece.Piece.{Piece}
 use Rattle.sql_lexemes.specs.declared.piece.Piece.TheVariants as piece
-use Rattle.sql_lexemes.specs.Bytes.{is_line_feed}
 use Rattle.sql_lexemes.specs.Lexemes.{Lexed}
 use Rattle.sql_lexemes.specs.Pieces.{front_piece, is_postgres}
 use Rattle.sql_lexemes.specs.declared.data.Line.{Line}
