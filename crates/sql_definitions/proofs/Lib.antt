@@ -1,0 +1,5 @@
+-- The lemmas of sql_definitions.
+mod NameLemmas
+mod ColumnLemmas
+mod ReadingLemmas
+mod WantedLemmas

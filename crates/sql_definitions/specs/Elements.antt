@@ -1,0 +1,127 @@
+-- The elements between the brackets of CREATE TABLE: columns, and what states a key.
+use Rattle.std.specs.Prelude.{ℕ, Bool, true, false, not, ◌&&◌, ◌||◌, nat_lt, Option, Some, None, Ok, List, [], ◌∷◌, length, take, drop, codes, bytes_eq, if◌then◌else◌}
+use Rattle.std.specs.List.{list_any, position_or_len}
+use Rattle.attr_sets.specs.declared.set.TheConstants.{MOST_ATTRIBUTES}
+use Rattle.dep_model.specs.Names.{same_name}
+use Rattle.sql_lexemes.specs.declared.dialect.Dialect.{Dialect}
+use Rattle.sql_lexemes.specs.Lexemes.{Lexed}
+use Rattle.sql_lexemes.specs.Statements.{is_word, begins_with}
+use Rattle.sql_definitions.specs.declared.refusal.Reason.TheVariants as reason
+use Rattle.sql_definitions.specs.Facts.{Facts, StatedColumn, StatedPart, Outcome, refused, then_read, state_key, with_column}
+use Rattle.sql_definitions.specs.Lists.{name_of, read_list}
+use Rattle.sql_definitions.specs.Names.{name_text, is_name}
+use Rattle.sql_definitions.specs.Types.{column_type, type_text, is_serial, is_outside}
+
+-- NULLS DISTINCT or NULLS NOT DISTINCT is left off
+abbrev pub past_nulls : List Lexed → List Lexed
+past_nulls (a ∷ b ∷ ls) =
+    if is_word (codes "nulls") a && is_word (codes "distinct") b then ls
+    else if (is_word (codes "nulls") a && is_word (codes "not") b) && begins_with (codes "distinct") ls
+    then drop 1 ls
+    else a ∷ b ∷ ls
+past_nulls lexemes = lexemes
+
+-- a key by a list; the element ends at a place, and the word that states the key stands at another
+abbrev pub key_by_list : Dialect → ℕ → Bool → ℕ → List Lexed → Facts → Outcome
+key_by_list d end primary place lexemes f =
+    then_read (read_list d end lexemes) (λ parts. state_key primary place parts f)
+
+-- what follows the word PRIMARY, which stands at a place
+abbrev pub primary_key : Dialect → ℕ → ℕ → List Lexed → Facts → Outcome
+primary_key d end place [] f = refused reason.ExpectedKey end
+primary_key d end place (l ∷ ls) f =
+    if is_word (codes "key") l then key_by_list d end true place ls f else refused reason.ExpectedKey l.place
+
+-- PRIMARY KEY or UNIQUE with a list states a key; anything else is passed over
+abbrev pub key_constraint : Dialect → ℕ → List Lexed → Facts → Outcome
+key_constraint d end [] f = Ok f
+key_constraint d end (l ∷ ls) f =
+    if is_word (codes "primary") l then primary_key d end l.place ls f
+    else if is_word (codes "unique") l then key_by_list d end false l.place (past_nulls ls) f
+    else Ok f
+
+-- LIKE stands where a name is expected
+abbrev pub constraint : Dialect → ℕ → List Lexed → Facts → Outcome
+constraint d end [] f = Ok f
+constraint d end (l ∷ ls) f =
+    if is_word (codes "like") l then refused reason.ExpectedName l.place else key_constraint d end (l ∷ ls) f
+
+-- after the word CONSTRAINT a name is left off, and then the rest is read
+abbrev pub after_constraint : ℕ → List Lexed → (List Lexed → Outcome) → Outcome
+after_constraint end [] rest = refused reason.ExpectedName end
+after_constraint end (l ∷ ls) rest = if is_name l then rest ls else refused reason.ExpectedName l.place
+
+-- the words that begin an element which is no column
+abbrev pub constraint_words : List (List ℕ)
+constraint_words =
+    codes "primary" ∷ codes "unique" ∷ codes "foreign" ∷ codes "check" ∷ codes "exclude" ∷ codes "like" ∷ []
+
+-- the words that end the type of a column
+abbrev pub ending_words : List (List ℕ)
+ending_words =
+    codes "constraint" ∷ codes "not" ∷ codes "null" ∷ codes "primary" ∷ codes "unique" ∷ codes "default" ∷ codes "check"
+    ∷ codes "collate" ∷ codes "references" ∷ codes "generated" ∷ codes "as" ∷ []
+
+abbrev pub is_one_of : List (List ℕ) → Lexed → Bool
+is_one_of words l = list_any (λ word. is_word word l) words
+
+abbrev pub ends_type : Lexed → Bool
+ends_type l = is_outside l && is_one_of ending_words l
+
+-- how many lexemes the type has at the front
+abbrev pub type_length : List Lexed → ℕ
+type_length lexemes = position_or_len ends_type lexemes
+
+-- NOT and NULL stand next to each other outside brackets
+unfoldable pub says_not_null : List Lexed → Bool
+says_not_null [] = false
+says_not_null (l ∷ ls) =
+    ((is_outside l && is_word (codes "not") l) && begins_with (codes "null") ls) || says_not_null ls
+
+-- the key that a lexeme of a column states, if it states one: outside brackets PRIMARY before KEY, or UNIQUE
+abbrev pub key_at : StatedPart → Lexed → List Lexed → Facts → Outcome
+key_at part l after f =
+    if not (is_outside l) then Ok f
+    else if is_word (codes "unique") l then state_key false l.place (part ∷ []) f
+    else if is_word (codes "primary") l && begins_with (codes "key") after then state_key true l.place (part ∷ []) f
+    else Ok f
+
+-- the keys that a column states of itself, in their order
+unfoldable pub column_keys : StatedPart → List Lexed → Facts → Outcome
+column_keys part [] f = Ok f
+column_keys part (l ∷ ls) f = then_read (key_at part l ls f) (column_keys part ls)
+
+-- the column of this name, of the lexemes of its type and of what follows
+abbrev pub column_of : Dialect → List ℕ → List Lexed → List Lexed → StatedColumn
+column_of d name type rest = record {
+  name = name;
+  kind = column_type d type;
+  never_missing = is_serial d (type_text true type) || says_not_null rest;
+  is_integer = bytes_eq (type_text true type) (codes "integer");
+}
+
+abbrev pub is_taken : List StatedColumn → List ℕ → Bool
+is_taken columns name = list_any (λ c. same_name c.name name) columns
+
+-- a column of this name, which stands at a place, with what follows the name
+abbrev pub named_column : Dialect → ℕ → List Lexed → Facts → Option (List ℕ) → Outcome
+named_column d place lexemes f None = refused reason.BadName place
+named_column d place lexemes f (Some name) =
+    if is_taken f.columns name then refused reason.NameDeclaredTwice place
+    else if nat_lt (length f.columns) MOST_ATTRIBUTES
+    then column_keys (record { place = place; name = Some name }) (drop (type_length lexemes) lexemes)
+    (with_column f (column_of d name (take (type_length lexemes) lexemes) (drop (type_length lexemes) lexemes)))
+    else refused reason.TooManyAttributes place
+
+-- a column: a name, and what follows
+abbrev pub column : Dialect → Lexed → List Lexed → Facts → Outcome
+column d l ls f =
+    if is_name l then named_column d l.place ls f (name_of (name_text d l)) else refused reason.ExpectedName l.place
+
+-- an element, which ends at a place
+unfoldable pub element : Dialect → ℕ → List Lexed → Facts → Outcome
+element d end [] f = refused reason.ExpectedName end
+element d end (l ∷ ls) f =
+    if is_word (codes "constraint") l then after_constraint end ls (λ rest. constraint d end rest f)
+    else if is_one_of constraint_words l then constraint d end (l ∷ ls) f
+    else column d l ls f

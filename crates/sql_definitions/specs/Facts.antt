@@ -1,0 +1,85 @@
+-- What is known of a table while its SQL is read, and how reading goes on: for all that reads statements.
+use Rattle.std.specs.Prelude.{◌≡◌, ℕ, ◌≤◌, Bool, true, false, nat_lt, Option, Result, Ok, Err, List, [], ◌∷◌, ◌++◌, length, All, AllPairs, IsTrue, if◌then◌else◌}
+use Rattle.attr_sets.specs.declared.set.TheConstants.{MOST_ATTRIBUTES}
+use Rattle.dep_model.specs.declared.failure.Failure.{Failure}
+use Rattle.dep_model.specs.declared.failure.Failure.TheVariants.{Refused, OutOfMemory}
+use Rattle.dep_model.specs.declared.schema.TheConstants.{MOST_DEPENDENCIES}
+use Rattle.dep_model.specs.Columns.{is_column_type}
+use Rattle.dep_model.specs.Names.{same_name}
+use Rattle.dep_model.specs.declared.column_type.ColumnType.{ColumnType}
+use Rattle.sql_definitions.specs.declared.refusal.Reason.{Reason}
+use Rattle.sql_definitions.specs.declared.refusal.Reason.TheVariants as reason
+use Rattle.sql_definitions.specs.declared.refusal.Refusal.{Refusal}
+
+-- a column: its name and type; it says itself that no value is missing; the text of its type is `integer`
+pub record StatedColumn : Type 0 where
+  pub name : List ℕ
+  pub kind : ColumnType
+  pub never_missing : Bool
+  pub is_integer : Bool
+
+-- a column of a key: its place, and its name, where it is one of a schema
+pub record StatedPart : Type 0 where
+  pub place : ℕ
+  pub name : Option (List ℕ)
+
+-- a key that is stated, by PRIMARY KEY or not, with its columns
+pub record StatedKey : Type 0 where
+  pub primary : Bool
+  pub parts : List StatedPart
+
+-- a statement creates the table; its columns; the keys that are stated; and the words after its columns bind each
+-- PRIMARY KEY
+pub record Facts : Type 0 where
+  pub found : Bool
+  pub columns : List StatedColumn
+  pub keys : List StatedKey
+  pub binds : Bool
+
+abbrev pub no_facts : Facts
+no_facts = record { found = false; columns = []; keys = []; binds = false }
+
+abbrev pub with_column : Facts → StatedColumn → Facts
+with_column f column = record { found = f.found; columns = f.columns ++ column ∷ []; keys = f.keys; binds = f.binds }
+
+abbrev pub with_key : Facts → Bool → List StatedPart → Facts
+with_key f primary parts = record {
+  found = f.found;
+  columns = f.columns;
+  keys = f.keys ++ record { primary = primary; parts = parts } ∷ [];
+  binds = f.binds;
+}
+
+abbrev pub as_found : Facts → Facts
+as_found f = record { found = true; columns = f.columns; keys = f.keys; binds = f.binds }
+
+abbrev pub with_binding : Facts → Bool → Facts
+with_binding f binds = record { found = f.found; columns = f.columns; keys = f.keys; binds = binds }
+
+-- the columns can be those of a schema: not too many, with different names and types of columns
+pub record AreColumns (columns : List StatedColumn) : Type 0 where
+  pub within_limit : length columns ≤ MOST_ATTRIBUTES
+  pub names_differ : AllPairs (λ a b. same_name a.name b.name ≡ false) columns
+  pub types : All (λ c. IsTrue (is_column_type c.kind)) columns
+
+-- what reading comes to: the facts then known, or a refusal
+abbrev pub Outcome : Type 0
+Outcome = Result Facts Refusal
+
+abbrev pub refused : {T : Type 0} → Reason → ℕ → Result T Refusal
+refused reason place = Err (record { reason = reason; place = place })
+
+abbrev pub then_read : {T : Type 0} → Result T Refusal → (T → Outcome) → Outcome
+then_read (Err refusal) next = Err refusal
+then_read (Ok value) next = next value
+
+-- a key is stated, where there are not too many, by the word at a place
+abbrev pub state_key : Bool → ℕ → List StatedPart → Facts → Outcome
+state_key primary place parts f =
+    if nat_lt (length f.keys) MOST_DEPENDENCIES then Ok (with_key f primary parts)
+    else refused reason.TooManyDependencies place
+
+-- a call answers with what a definition says, or memory ran out
+abbrev pub Fails : {T : Type 0} → Failure Refusal → Result T Refusal → Type 0
+Fails (Refused refusal) said = said ≡ Err refusal
+Fails OutOfMemory said = Unit {0}

@@ -1,0 +1,2 @@
+-- The lemmas of sql_lexemes.
+mod Scans
