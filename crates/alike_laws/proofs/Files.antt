@@ -140,7 +140,9 @@ module _ (s : Schema) (f : Frame s) where
       → (response : ResponseValue) → WithFile (plan_file s) r name rest response
       → WithFile (plan_file built) r name after response
   unfolding printed_names_of
-  with_plan_file_moved r name rest after moves response (inl stops) = inl stops
+  with_plan_file_moved r name rest after moves response (inl (inl stops)) = inl (inl stops)
+  with_plan_file_moved r name rest after moves response (inl (inr (why, is, says))) =
+      inl (inr (why, record { bytes = is.bytes; content = is.content; refused = is.refused }, says))
   with_plan_file_moved r name rest after moves response (inr (plan, is, answers)) =
       inr (
         plan,

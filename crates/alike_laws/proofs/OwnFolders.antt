@@ -1,5 +1,5 @@
 -- The answers of `migrate` into a folder of its own move to a schema that is built again.
-use Rattle.std.proofs.Common.{ℕ, true, List, inl, inr, ◌∙◌}
+use Rattle.std.proofs.Common.{ℕ, true, List, [], inl, inr, ◌∙◌}
 use Rattle.std.specs.Prelude.{IsTrue}
 use Rattle.attr_sets.specs.Attributes.{Attributes}
 use Rattle.attr_sets.specs.declared.set.AttrSet.{AttrSet}

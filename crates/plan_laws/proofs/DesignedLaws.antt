@@ -29,6 +29,10 @@ pub tables_length : (s : Schema) (names : GivenNames) (rows : Relation) (number 
 tables_length s names rows number [] = refl
 tables_length s names rows number (x ∷ plan) = ap (λ (k : ℕ). suc k) (tables_length s names rows (number + 1) plan)
 
+-- the name of a table, counted from the first
+pub from_zero : (names : GivenNames) (k : ℕ) → name_of_table names (0 + k) ≡ name_of_table names k
+from_zero names k = let same : 0 + k ≡ k = omega arith in ap (name_of_table names) same
+
 pub table_at : (s : Schema) (names : GivenNames) (rows : Relation) (number : ℕ) (plan : List Attributes) (k : ℕ)
     (x : Attributes) (d : TableValue)
     → k < length plan → get_or (tables_from s names rows number plan) k d ≡ table_of s names rows (number + k) (get_or plan k x)
@@ -88,7 +92,9 @@ module _ (s : Schema) (names : GivenNames) (plan : List AttrSet) (designs : List
   designed = record {
     one_each = same_length;
     each = λ k design table at here. record {
-      name = ap (λ (t : TableValue). t.name) (value_at k design table at here) ∙ sym (same_name k design at);
+      name =
+          ap (λ (t : TableValue). t.name) (value_at k design table at here) ∙ from_zero names k
+          ∙ sym (same_name k design at);
       columns = ap (λ (t : TableValue). t.columns) (value_at k design table at here);
     };
   }

@@ -19,7 +19,7 @@ use Rattle.named_plans.specs.NamedPlans.{ApartFrom, AreApart, IsOwnName}
 use Rattle.named_tables.specs.Tables.{TableValue}
 use Rattle.table_names.specs.TableNames.{GivenNames, is_numbered, is_taken, name_of_table, table_name}
 use Rattle.desk_tables.specs.Migrations.{AreTablesOf}
-use Rattle.plan_laws.proofs.DesignedLaws.{tables_length, table_at}
+use Rattle.plan_laws.proofs.DesignedLaws.{from_zero, tables_length, table_at}
 
 names_apart : (m n : ℕ) → m < 2 ^ 64 → n < 2 ^ 64 → table_name m ≡ table_name n → m ≡ n
 names_apart m n first second same =
@@ -110,6 +110,7 @@ names_differ s names plan rows tables apart are short i j d less within = λ sam
         (ap (λ (l : List TableValue). get_or l k d) are.projections
         ∙ table_at s names rows 0 are.ordered k (below 0) d
         (omega (arith, lt, ap length are.projections, tables_length s names rows 0 are.ordered)))
+        ∙ from_zero names k
 
 pub none_given : AreApart []
 none_given = record { apart = λ i j d less within. absurd (omega (arith, within)); own = λ i d within. absurd (omega (arith, within)) }

@@ -7,6 +7,7 @@ ghost use Rattle.dep_model.specs.declared.schema.Schema.{Schema};
 ghost use Rattle.normal_forms.specs.declared.forms.Form.{Form};
 ghost use Rattle.sample_rows.specs.declared.rows.TheConstants.{MOST_PERSONS};
 ghost use Rattle.table_join.specs.Tables.{PartialRelation};
+ghost use Rattle.table_names.specs.TableNames.{GivenNames};
 ghost use Rattle.implication_laws.specs.OneAnswer.{AllowsOne};
 ghost use Rattle.desk_designs.specs.Decompositions.{Splits, SplitsWide};
 ghost use Rattle.desk_designs.specs.Designs.{WritesForm, WritesPlan};
@@ -35,13 +36,15 @@ pub fn one_answer_of_plan_reasons()
 /// `ddl` has one answer to a schema and a form, and to a schema and a plan.
 pub fn one_answer_of_ddl()
     ensures form { (schema : Schema) (form : Form) → AllowsOne (WritesForm schema form) }
-    ensures plan { (schema : Schema) (plan : List Attributes) → AllowsOne (WritesPlan schema plan) }
+    ensures plan { (schema : Schema) (names : GivenNames) (plan : List Attributes)
+        → AllowsOne (WritesPlan schema names plan) }
 {}
 
 /// `draw` has one answer to a schema and a form, and to a schema and a plan.
 pub fn one_answer_of_draw()
     ensures form { (schema : Schema) (form : Form) → AllowsOne (DrawsForm schema form) }
-    ensures plan { (schema : Schema) (plan : List Attributes) → AllowsOne (DrawsSchemes schema plan) }
+    ensures plan { (schema : Schema) (names : GivenNames) (plan : List Attributes)
+        → AllowsOne (DrawsSchemes schema names plan) }
 {}
 
 /// `sql check` has one answer to a schema and a name.
@@ -52,8 +55,8 @@ pub fn one_answer_of_sql_check()
 /// `sql migrate` has one answer to a schema, a form or a plan, and a name.
 pub fn one_answer_of_sql_migrate()
     ensures form { (schema : Schema) (form : Form) (name : List ℕ) → AllowsOne (ScriptsMigration schema form name) }
-    ensures plan { (schema : Schema) (plan : List Attributes) (name : List ℕ)
-        → AllowsOne (ScriptsMigrationByPlan schema plan name) }
+    ensures plan { (schema : Schema) (names : GivenNames) (plan : List Attributes) (name : List ℕ)
+        → AllowsOne (ScriptsMigrationByPlan schema names plan name) }
 {}
 
 /// `check rows` has one answer to a schema and rows.
@@ -63,24 +66,24 @@ pub fn one_answer_of_check_rows()
 
 /// `migrate` has one answer, text and tables, to a schema, a plan and rows.
 pub fn one_answer_of_migrate()
-    ensures law { (schema : Schema) (plan : List Attributes) (rows : Relation)
-        → AllowsOne (MigratesPlan schema plan rows) }
+    ensures law { (schema : Schema) (names : GivenNames) (plan : List Attributes) (rows : Relation)
+        → AllowsOne (MigratesPlan schema names plan rows) }
 {}
 
 /// The same where no file that is read may be written over.
 pub fn one_answer_of_migrate_here()
     ensures form { (schema : Schema) (form : Form) (files : List (List ℕ)) (rows : Relation)
         → AllowsOne (MigratesHere schema form files rows) }
-    ensures plan { (schema : Schema) (plan : List Attributes) (files : List (List ℕ)) (rows : Relation)
-        → AllowsOne (MigratesPlanHere schema plan files rows) }
+    ensures plan { (schema : Schema) (names : GivenNames) (plan : List Attributes) (files : List (List ℕ))
+        (rows : Relation) → AllowsOne (MigratesPlanHere schema names plan files rows) }
 {}
 
 /// The same into a folder of its own, where a look at a name has one answer.
 pub fn one_answer_of_migrate_into()
     ensures form { (looks : Looks) (schema : Schema) (form : Form) (name : List ℕ) (rows : Relation)
         → HasOneLook looks → AllowsOne (MigratesInto looks schema form name rows) }
-    ensures plan { (looks : Looks) (schema : Schema) (plan : List Attributes) (name : List ℕ) (rows : Relation)
-        → HasOneLook looks → AllowsOne (MigratesPlanInto looks schema plan name rows) }
+    ensures plan { (looks : Looks) (schema : Schema) (names : GivenNames) (plan : List Attributes) (name : List ℕ)
+        (rows : Relation) → HasOneLook looks → AllowsOne (MigratesPlanInto looks schema names plan name rows) }
 {}
 
 /// `sample` has one answer, text and tables, to a number of persons.

@@ -1,6 +1,6 @@
 //! The tables that `migrate` makes are those that `ddl` creates.
 
-ghost use Rattle.std.specs.Prelude.{◌≡◌, ◌≢◌, ◌<◌, ◌^◌, List, length, AllPairs};
+ghost use Rattle.std.specs.Prelude.{◌≡◌, ◌≢◌, ◌<◌, ◌^◌, List, [], length, AllPairs};
 ghost use Rattle.attr_sets.specs.Attributes.{Attributes};
 ghost use Rattle.attr_sets.specs.declared.set.AttrSet.{AttrSet};
 ghost use Rattle.dep_model.specs.Plans.{schemes_of};
@@ -8,8 +8,10 @@ ghost use Rattle.dep_model.specs.Schemas.{LegalFor};
 ghost use Rattle.dep_model.specs.Tuples.{Relation};
 ghost use Rattle.dep_model.specs.declared.schema.Schema.{Schema};
 ghost use Rattle.ddl_text.specs.declared.table.TableDesign.{TableDesign};
+ghost use Rattle.named_plans.specs.NamedPlans.{AreApart};
 ghost use Rattle.named_tables.specs.Tables.{TableValue};
 ghost use Rattle.normal_forms.specs.declared.forms.Form.{Form};
+ghost use Rattle.table_names.specs.TableNames.{GivenNames};
 ghost use Rattle.desk_designs.specs.Decompositions.{IsPlanInForm};
 ghost use Rattle.desk_designs.specs.Designs.{IsSoundDesign};
 ghost use Rattle.desk_tables.specs.Migrations.{AreTablesOf};
@@ -18,38 +20,42 @@ ghost use Rattle.plan_laws.specs.Designed.{AreDesignedAs, KeysHoldIn, OtherKeysH
 /// The tables that `migrate` makes of a plan are those that `ddl` creates for it, with their names and
 /// columns, in the same order.
 pub fn migrated_tables_are_designed()
-    ensures law { (schema : Schema) (plan : List AttrSet) (designs : List TableDesign) (rows : Relation)
-        (tables : List TableValue) → IsSoundDesign schema plan designs
-        → AreTablesOf schema (schemes_of plan) rows tables → AreDesignedAs schema designs tables }
+    ensures law { (schema : Schema) (names : GivenNames) (plan : List AttrSet) (designs : List TableDesign)
+        (rows : Relation) (tables : List TableValue) → IsSoundDesign schema names plan designs
+        → AreTablesOf schema names (schemes_of plan) rows tables → AreDesignedAs schema designs tables }
 {}
 
 /// In the tables that `migrate` makes of legal rows, the keys and references hold that `ddl` states.
 pub fn migrated_tables_obey_the_design()
-    ensures keys { (schema : Schema) (plan : List AttrSet) (designs : List TableDesign) (rows : Relation)
-        (tables : List TableValue) → IsSoundDesign schema plan designs
-        → AreTablesOf schema (schemes_of plan) rows tables → LegalFor schema rows
+    ensures keys { (schema : Schema) (names : GivenNames) (plan : List AttrSet) (designs : List TableDesign)
+        (rows : Relation) (tables : List TableValue) → IsSoundDesign schema names plan designs
+        → AreTablesOf schema names (schemes_of plan) rows tables → LegalFor schema rows
         → KeysHoldIn designs tables }
-    ensures other_keys { (schema : Schema) (plan : List AttrSet) (designs : List TableDesign) (rows : Relation)
-        (tables : List TableValue) → IsSoundDesign schema plan designs
-        → AreTablesOf schema (schemes_of plan) rows tables → LegalFor schema rows
+    ensures other_keys { (schema : Schema) (names : GivenNames) (plan : List AttrSet) (designs : List TableDesign)
+        (rows : Relation) (tables : List TableValue) → IsSoundDesign schema names plan designs
+        → AreTablesOf schema names (schemes_of plan) rows tables → LegalFor schema rows
         → OtherKeysHoldIn designs tables }
-    ensures references { (schema : Schema) (plan : List AttrSet) (designs : List TableDesign) (rows : Relation)
-        (tables : List TableValue) → IsSoundDesign schema plan designs
-        → AreTablesOf schema (schemes_of plan) rows tables → LegalFor schema rows
+    ensures references { (schema : Schema) (names : GivenNames) (plan : List AttrSet) (designs : List TableDesign)
+        (rows : Relation) (tables : List TableValue) → IsSoundDesign schema names plan designs
+        → AreTablesOf schema names (schemes_of plan) rows tables → LegalFor schema rows
         → ReferencesHoldIn designs tables }
 {}
 
 /// The tables that `migrate` makes of a normal form are those that `ddl` creates for that form.
 pub fn tables_of_a_form_are_designed()
-    ensures law { (schema : Schema) (form : Form) (plan other : List AttrSet) (designs : List TableDesign)
-        (rows : Relation) (tables : List TableValue) → IsPlanInForm schema form plan
-        → IsPlanInForm schema form other → IsSoundDesign schema plan designs
-        → AreTablesOf schema (schemes_of other) rows tables → AreDesignedAs schema designs tables }
+    ensures law { (schema : Schema) (names : GivenNames) (form : Form) (plan other : List AttrSet)
+        (designs : List TableDesign) (rows : Relation) (tables : List TableValue) → IsPlanInForm schema form plan
+        → IsPlanInForm schema form other → IsSoundDesign schema names plan designs
+        → AreTablesOf schema names (schemes_of other) rows tables → AreDesignedAs schema designs tables }
 {}
 
-/// The tables that `migrate` makes have different names; so a destination that had none has all of them.
+/// The tables that `migrate` makes have different names, by their numbers or given apart from one another; so a
+/// destination that had none has all of them.
 pub fn migrated_tables_have_different_names()
-    ensures law { (schema : Schema) (plan : List Attributes) (rows : Relation) (tables : List TableValue)
-        → AreTablesOf schema plan rows tables → length tables < 2 ^ 64
+    ensures numbered { (schema : Schema) (plan : List Attributes) (rows : Relation) (tables : List TableValue)
+        → AreTablesOf schema [] plan rows tables → length tables < 2 ^ 64
         → AllPairs (λ one other. one.name ≢ other.name) tables }
+    ensures given { (schema : Schema) (names : GivenNames) (plan : List Attributes) (rows : Relation)
+        (tables : List TableValue) → AreApart names → AreTablesOf schema names plan rows tables
+        → length tables < 2 ^ 64 → AllPairs (λ one other. one.name ≢ other.name) tables }
 {}

@@ -7,6 +7,7 @@ ghost use Rattle.dep_model.specs.Tuples.{Relation};
 ghost use Rattle.dep_model.specs.declared.schema.Schema.{Schema};
 ghost use Rattle.named_tables.specs.Tables.{TableValue};
 ghost use Rattle.table_join.specs.Tables.{PartialRelation};
+ghost use Rattle.table_names.specs.TableNames.{GivenNames};
 ghost use Rattle.desk_designs.specs.Joins.{LosesNothing};
 ghost use Rattle.desk_tables.specs.Migrations.{AreTablesOf};
 ghost use Rattle.plan_laws.specs.Rejoined.{GivesTheRows, HaveRowsOf, HaveRowsInAnyOrder};
@@ -14,16 +15,16 @@ ghost use Rattle.plan_laws.specs.Rejoined.{GivesTheRows, HaveRowsOf, HaveRowsInA
 /// Of the tables that `migrate` makes of legal rows by a plan that loses nothing, `rejoin` gives the rows, each
 /// once, or refuses a join of too many.
 pub fn migrated_tables_are_rejoined()
-    ensures law { (schema : Schema) (plan : List Attributes) (rows : Relation) (tables : List TableValue)
-        (parts : List PartialRelation) → LosesNothing schema plan → LegalFor schema rows
-        → AreTablesOf schema plan rows tables → HaveRowsOf schema plan tables parts
+    ensures law { (schema : Schema) (names : GivenNames) (plan : List Attributes) (rows : Relation)
+        (tables : List TableValue) (parts : List PartialRelation) → LosesNothing schema plan → LegalFor schema rows
+        → AreTablesOf schema names plan rows tables → HaveRowsOf schema plan tables parts
         → GivesTheRows schema parts rows }
 {}
 
 /// The same holds of those tables in any other order, and where some of them are given more than once.
 pub fn tables_are_rejoined_in_any_order()
-    ensures law { (schema : Schema) (plan : List Attributes) (rows : Relation) (tables : List TableValue)
-        (parts : List PartialRelation) → LosesNothing schema plan → LegalFor schema rows
-        → AreTablesOf schema plan rows tables → HaveRowsInAnyOrder schema plan tables parts
+    ensures law { (schema : Schema) (names : GivenNames) (plan : List Attributes) (rows : Relation)
+        (tables : List TableValue) (parts : List PartialRelation) → LosesNothing schema plan → LegalFor schema rows
+        → AreTablesOf schema names plan rows tables → HaveRowsInAnyOrder schema plan tables parts
         → GivesTheRows schema parts rows }
 {}

@@ -10,6 +10,7 @@ ghost use Rattle.dep_model.specs.declared.schema.Schema.{Schema};
 ghost use Rattle.ddl_text.specs.declared.table.TableDesign.{TableDesign};
 ghost use Rattle.normal_forms.specs.declared.forms.Form.{Form};
 ghost use Rattle.normal_forms.specs.declared.forms.Form.TheVariants as forms;
+ghost use Rattle.table_names.specs.TableNames.{GivenNames};
 ghost use Rattle.desk_designs.specs.Decompositions.{IsPlanInForm, IsSplitInForm, IsWideSplit};
 ghost use Rattle.desk_designs.specs.Designs.{IsSoundDesign};
 ghost use Rattle.desk_designs.specs.Joins.{JudgesJoin};
@@ -33,12 +34,12 @@ pub fn one_plan_in_form()
         → IsPlanInForm schema form other → schemes_of plan ≡ schemes_of other }
 {}
 
-/// A plan has one design: any two have the same names, columns, keys, other keys and references, table by
+/// A plan with names has one design: any two have the same names, columns, keys, other keys and references, table by
 /// table.
 pub fn one_design_of_a_plan()
-    ensures law { (schema : Schema) (plan others : List AttrSet) (one other : List TableDesign)
-        → schemes_of plan ≡ schemes_of others → IsSoundDesign schema plan one
-        → IsSoundDesign schema others other → AreSameTables one other }
+    ensures law { (schema : Schema) (names : GivenNames) (plan others : List AttrSet) (one other : List TableDesign)
+        → schemes_of plan ≡ schemes_of others → IsSoundDesign schema names plan one
+        → IsSoundDesign schema names others other → AreSameTables one other }
 {}
 
 /// `synthesize` has one answer to a schema.
