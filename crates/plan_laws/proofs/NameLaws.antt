@@ -17,7 +17,7 @@ use Rattle.dep_model.specs.Tuples.{Relation}
 use Rattle.dep_model.specs.declared.schema.Schema.{Schema}
 use Rattle.named_plans.specs.NamedPlans.{ApartFrom, AreApart, IsOwnName}
 use Rattle.named_tables.specs.Tables.{TableValue}
-use Rattle.table_names.specs.TableNames.{GivenNames, is_numbered, is_taken, name_of_table, table_name}
+use Rattle.table_names.specs.TableNames.{GivenNames, is_taken, name_of_table, table_name}
 use Rattle.desk_tables.specs.Migrations.{AreTablesOf}
 use Rattle.plan_laws.proofs.DesignedLaws.{from_zero, tables_length, table_at}
 
