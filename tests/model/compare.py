@@ -563,6 +563,8 @@ def f_discover(m):
         names[m.r.randrange(n)] = m.r.choice(("scheme", "a", "1x", "", "Version", "x" * 32, "b_", "integer", "x" * 64, "Unit price", 'a"b', "\x7f"))
     rows = m.rows(s, m.r.choice((2, 4, 8, 12)), 0)
     words = m.r.choice((["discover"], ["discover"], ["discover", "keys"], ["discover", str(m.r.randint(0, 5))], ["discover", m.r.choice(("02", "00", "16", "64", "65", "007"))]))
+    if n <= 6 and m.r.random() < .3:
+        words = ["discover", "near", str(m.r.choice((0, 1, 1, 2, 3, "01", 12345678))), str(m.r.choice((1, 2, 3, 6, 0)))]
     return words + ["r"], {"r": m.csv(names, rows, noise=.1)}
 
 
