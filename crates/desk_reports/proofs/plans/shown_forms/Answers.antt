@@ -1,0 +1,20 @@
+-- What is left to prove of `shown_forms`: its clause, piece by piece.
+use Rattle.std.proofs.Common.{ℕ, List, ◌++◌, ap, ◌∙◌}
+use Rattle.desk_reports.proofs.plans.shown_forms.Goals as goal
+
+pub returns : goal.returns
+returns c = record {
+  shown = (
+    c.in_ok-third.third.items,
+    c.in_ok-back.back.items,
+    c.in_ok-third.ensures.shown,
+    (
+      c.in_ok-bcnf.bcnf.items,
+      c.in_ok-fourth.fourth.items,
+      c.in_ok-bcnf.ensures.shown,
+      c.in_ok-fourth.ensures.shown,
+      c.in_ok-back.ensures.text ∙ ap (λ (t : List ℕ). c.in_ok-bcnf.bcnf.items ++ t) c.deref.ensures.value,
+    ),
+    c.in_ok-text.ensures.text ∙ ap (λ (t : List ℕ). c.in_ok-third.third.items ++ t) c.deref-2.ensures.value,
+  );
+}

@@ -1,0 +1,57 @@
+-- The section of a page on the normal forms of the universe of a schema.
+use Rattle.std.specs.Prelude.{◌⊎◌, ℕ, List, [], ◌∷◌, ◌++◌, codes}
+use Rattle.attr_sets.specs.Attributes.{Attributes}
+use Rattle.dep_model.specs.Dependencies.{Dependency, fd}
+use Rattle.dep_model.specs.Schemas.{theory_of, universe_of, width_of}
+use Rattle.dep_model.specs.declared.schema.Schema.{Schema}
+use Rattle.fd_closure.specs.LeftSides.{IsWide}
+use Rattle.html_pages.specs.Pages.{title_with_words}
+use Rattle.normal_forms.specs.Chosen.{IsChosenViolation, IsInForm}
+use Rattle.normal_forms.specs.declared.forms.Form.{Form}
+use Rattle.normal_forms.specs.declared.forms.Form.TheVariants.{Third, Bcnf, Fourth}
+use Rattle.schema_printer.specs.Printing.{dependency_text}
+use Rattle.schema_printer.specs.Spelling.{printed_names_of}
+use Rattle.desk_designs.specs.NormalForms.{JudgesForm, violation_of}
+use Rattle.desk_implication.specs.Implication.{DecidesGoal}
+use Rattle.desk_reports.specs.Pieces.{Folds, Just, Opens, Section, Shown, Then}
+
+-- the name of a normal form, at the start of a title
+abbrev pub form_title : Form → List ℕ
+form_title Third = codes "Third normal form"
+form_title Bcnf = codes "Boyce-Codd normal form"
+form_title Fourth = codes "Fourth normal form"
+
+-- a dependency, as a goal of a schema
+abbrev pub goal_text : Schema → Dependency → List ℕ
+goal_text s d = dependency_text (printed_names_of s) d
+
+-- whether the dependency that violates the form is implied
+abbrev pub ShowsWhy : List ℕ → Schema → Form → Attributes → Attributes → Shown
+ShowsWhy file s form x y = Folds
+    (title_with_words (codes "Why")
+    (codes "implies " ++ file ++ codes " \"" ++ goal_text s (violation_of form x y) ++ codes "\""))
+    (DecidesGoal s (goal_text s (violation_of form x y)))
+
+-- whether its left side determines all attributes
+abbrev pub ShowsTwice : Schema → Attributes → Shown
+ShowsTwice s x = Folds (codes "Two rows that store it twice") (DecidesGoal s (goal_text s (fd x (universe_of s))))
+
+-- why the universe is not in the form, where that is violated; nothing where it is not, or the universe is too wide
+-- to be tested
+abbrev pub ShowsViolation : List ℕ → Schema → Form → Shown
+ShowsViolation file s form text =
+    ((IsWide (theory_of s) (universe_of s) ⊎ IsInForm (width_of s) (theory_of s) form (universe_of s))
+    × Just [] text)
+    ⊎ ((IsWide (theory_of s) (universe_of s) → ⊥)
+    × ((x : Attributes) × (y : Attributes)
+    × IsChosenViolation (width_of s) (theory_of s) form (universe_of s) x y
+    × Then (ShowsWhy file s form x y) (ShowsTwice s x) text))
+
+-- whether the universe is in the form, and why it is not
+abbrev pub ShowsForm : List ℕ → Schema → Form → Shown
+ShowsForm file s form =
+    Then (Opens (form_title form) (JudgesForm s form (universe_of s ∷ []))) (ShowsViolation file s form)
+
+abbrev pub FormsSection : List ℕ → Schema → Shown
+FormsSection file s = Section (codes "Normal forms")
+    (Then (ShowsForm file s Third) (Then (ShowsForm file s Bcnf) (ShowsForm file s Fourth)))

@@ -1,0 +1,118 @@
+//! The section on the dependencies.
+
+ghost use Rattle.std.specs.Prelude.{◌≡◌, ◌↔◌, ◌<◌, ◌≤◌, length, All, IfOk, IsTrue};
+ghost use Rattle.attr_sets.specs.Attributes.{below};
+ghost use Rattle.attr_sets.specs.declared.set.TheConstants.{MOST_ATTRIBUTES};
+ghost use Rattle.dep_model.specs.Deps.{dependencies_of, dependency_of, IsDepWithin};
+ghost use Rattle.dep_model.specs.Implication.{Implies};
+ghost use Rattle.dep_model.specs.Schemas.{deps_of};
+ghost use Rattle.desk_reports.specs.Pieces.{EachBelow};
+ghost use Rattle.desk_reports.specs.Rules.{FollowsFromOthers, RulesSection, ShowsRule, ShowsRules, follows_mark, rule_text};
+
+use crate::pieces::both;
+use dep_basis::{Decision, decide_by};
+use dep_model::{Dep, OutOfMemory, Schema};
+use desk_responses::{put_dep, put_line};
+use html_escapes::add_html;
+use html_pages::section;
+use schema_printer::add;
+use std::alloc::Global;
+
+/// The section on the dependencies of a schema.
+pub fn rules_section(alloc: Global, schema: &Schema) -> Result<Vec<u8>, OutOfMemory>
+    ensures section { IfOk result (λ text. RulesSection schema.now text.items) }
+{
+    let pieces = rules_list(alloc, schema)?;
+    let text = section(alloc, b"Rules", &pieces)?;
+    Ok(text)
+}
+
+// Each dependency, in the order of the file.
+fn rules_list(alloc: Global, schema: &Schema) -> Result<Vec<u8>, OutOfMemory>
+    ensures rules { IfOk result (λ text. ShowsRules schema.now text.items) }
+{
+    let front = Vec::from_slice(alloc, b"<ul>\n")?;
+    let rules = rules(alloc, schema)?;
+    let back = both(rules, b"</ul>\n")?;
+    let text = both(front, &back)?;
+    Ok(text)
+}
+
+// The same, one after the other.
+fn rules(alloc: Global, schema: &Schema) -> Result<Vec<u8>, OutOfMemory>
+    ensures rules { IfOk result
+        (λ text. EachBelow (length (deps_of schema.now)) (ShowsRule schema.now) text.items) }
+{
+    let mut text = Vec::new(alloc);
+    for k in 0..schema.deps().len() {
+        let rule = rule(alloc, schema, k)?;
+        add(&mut text, &rule)?;
+    }
+    Ok(text)
+}
+
+// A dependency, which says whether it follows from the others.
+fn rule(alloc: Global, schema: &Schema, k: usize) -> Result<Vec<u8>, OutOfMemory>
+    requires position { k < length (deps_of schema.now) }
+    ensures rule { IfOk result (λ text. ShowsRule schema.now k text.items) }
+{
+    let follows = follows_from_others(alloc, schema, k)?;
+    let text = rule_line(alloc, schema, k, follows)?;
+    Ok(text)
+}
+
+// Whether the dependency at a position follows from the others.
+fn follows_from_others(alloc: Global, schema: &Schema, k: usize) -> Result<bool, OutOfMemory>
+    requires position { k < length (deps_of schema.now) }
+    ensures follows { IfOk result (λ follows. IsTrue follows ↔ FollowsFromOthers schema.now k) }
+{
+    let mut others = Vec::from_slice(alloc, schema.deps())?;
+    let dep = others.remove(k);
+    Ok(is_implied(&others, schema.width(), dep))
+}
+
+// Whether dependencies imply one more.
+fn is_implied(deps: &[Dep], width: u8, dep: Dep) -> bool
+    requires width { width ≤ MOST_ATTRIBUTES }
+    requires deps { All (IsDepWithin (below width)) deps.now }
+    requires within { IsDepWithin (below width) dep }
+    ensures implied { IsTrue result ↔ Implies width (dependencies_of deps.now) (dependency_of dep) }
+{
+    match decide_by(deps, width, dep) {
+        Decision::Implied => true,
+        Decision::Broken { .. } => false,
+    }
+}
+
+// A dependency, with its line.
+#[tactic(auto, unfolding(crate::specs::Rules::rule_text))]
+fn rule_line(
+    alloc: Global,
+    schema: &Schema,
+    k: usize,
+    follows: bool,
+) -> Result<Vec<u8>, OutOfMemory>
+    ensures text { IfOk result (λ text. text.items ≡ rule_text schema.now k follows) }
+{
+    let mut dep = Vec::new(alloc);
+    put_dep(&mut dep, schema, k)?;
+    let mut text = Vec::new(alloc);
+    add(&mut text, b"<li>line ")?;
+    put_line(alloc, &mut text, schema, k)?;
+    add(&mut text, b": ")?;
+    add_html(&mut text, &dep)?;
+    add(&mut text, follows_mark(follows))?;
+    add(&mut text, b"</li>\n")?;
+    Ok(text)
+}
+
+// What is said of a dependency that follows from the others.
+fn follows_mark(follows: bool) -> &'static [u8]
+    ensures mark { result.now ≡ follows_mark follows }
+{
+    if follows {
+        b" (follows from the others)"
+    } else {
+        b""
+    }
+}
