@@ -18,7 +18,7 @@ use Rattle.dep_model.specs.Schemas.{names_of, width_of}
 use Rattle.dep_model.specs.Tuples.{Relation}
 use Rattle.dep_model.specs.declared.schema.Schema.{Schema}
 use Rattle.fd_discovery.proofs.UniqueHeaded.{never_both}
-use Rattle.fd_discovery.specs.Headings.{IsRefusedDiscovery, names_under, rows_under, IsRefusedWithin}
+use Rattle.fd_discovery.specs.Headings.{names_under, rows_under, IsRefusedWithin}
 use Rattle.fd_discovery.specs.declared.headed_rows.Headed.{Headed}
 use Rattle.lexer.specs.Bytes.{number_of}
 use Rattle.near_rules.specs.NearRules.{IsFirstExceeded, IsTriedWhole}

@@ -1,7 +1,6 @@
 -- Where the inputs of `migrate .. into` have their meaning and its folder is free, it answers yes or no.
-use Rattle.std.proofs.Common.{ℕ, false, true, List, [], ◌∷◌, inl, inr, ap, sym, subst, ◌≡◌, ◌∙◌}
+use Rattle.std.proofs.Common.{ℕ, false, true, List, [], ◌∷◌, inl, inr, ap, sym, subst}
 use Rattle.std.specs.Prelude.{codes, IsTrue}
-use Rattle.attr_sets.specs.Attributes.{Attributes}
 use Rattle.attr_sets.specs.declared.set.AttrSet.{AttrSet}
 use Rattle.dep_model.specs.Plans.{schemes_of}
 use Rattle.dep_model.specs.Tuples.{Relation}

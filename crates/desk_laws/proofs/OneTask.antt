@@ -1,7 +1,6 @@
 -- What is asked of a schema has one answer, which rests on what the schema declares alone: both answers move to
 -- one schema that is built again (`alike_laws`), and of that one there is one answer.
 use Rattle.std.proofs.Common.{◌≡◌, ℕ, List, [], ◌∷◌, length, replicate, refl, sym, ap, ◌∙◌, inl, inr}
-use Rattle.attr_sets.specs.Attributes.{Attributes}
 use Rattle.dep_model.specs.Dependencies.{Dependency, fd, mvd, functional_part}
 use Rattle.dep_model.specs.Implication.{Implies}
 use Rattle.dep_model.specs.Plans.{IsPlan}

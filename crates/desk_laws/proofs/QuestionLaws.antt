@@ -1,6 +1,6 @@
 -- Where the inputs of the commands on sets, keys of a plan and two schemas have their meaning, they answer
 -- yes or no.
-use Rattle.std.proofs.Common.{◌≡◌, ℕ, List, [], ◌∷◌, ◌++◌, length, slice_index_or, is_none, nat_lt, ◌&&◌, Ok, Err, inl, inr, refl, sym, ap, ◌∙◌, subst, arith, false}
+use Rattle.std.proofs.Common.{◌≡◌, ℕ, List, [], ◌∷◌, ◌++◌, length, slice_index_or, is_none, nat_lt, ◌&&◌, Ok, Err, inl, inr, refl, sym, ap, ◌∙◌, subst, arith}
 use Rattle.std.proofs.lemmas.Bool.{false≢true}
 use Rattle.std.specs.Prelude.{codes, All, Contains}
 use Rattle.attr_sets.specs.Attributes.{Attributes, IsEmpty}

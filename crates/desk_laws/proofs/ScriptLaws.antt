@@ -1,7 +1,6 @@
 -- Where the inputs of the commands that print scripts and pictures have their meaning, they answer yes or no.
 use Rattle.std.proofs.Common.{ℕ, List, [], ◌∷◌, inl, inr, ap, ◌≡◌, false, sym, subst, ◌∙◌}
 use Rattle.std.specs.Prelude.{codes, IsTrue}
-use Rattle.attr_sets.specs.Attributes.{Attributes}
 use Rattle.attr_sets.specs.declared.set.AttrSet.{AttrSet}
 use Rattle.dep_model.specs.Plans.{schemes_of}
 use Rattle.dep_model.specs.declared.schema.Schema.{Schema}

@@ -1,5 +1,5 @@
 -- Where the inputs of a command on forms, plans or tables have their meaning, it answers yes or no.
-use Rattle.std.proofs.Common.{◌≡◌, ◌<◌, ◌≤◌, ◌-◌, ◌^◌, ◌⊎◌, ℕ, true, List, [], ◌∷◌, length, inl, inr, sym, ap, refl, subst, ◌∙◌, arith, false}
+use Rattle.std.proofs.Common.{◌≡◌, ◌<◌, ◌≤◌, ◌-◌, ◌^◌, ◌⊎◌, ℕ, true, List, [], ◌∷◌, length, inl, inr, sym, ap, refl, subst, ◌∙◌, arith}
 use Rattle.std.specs.Prelude.{codes, All, Contains, Some}
 use Rattle.std.proofs.lemmas.List.Elements.{All-contains, Contains-append_right}
 use Rattle.std.proofs.Math.Nat.{pow-le-pow_right}
