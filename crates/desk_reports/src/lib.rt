@@ -7,7 +7,7 @@
 mod attributes;
 mod forms;
 mod pieces;
-mod plans;
+mod planned;
 mod reports;
 mod rules;
 mod tables;

@@ -12,7 +12,7 @@ ghost use Rattle.desk_responses.specs.Responses.{RespondsAs, response_value};
 use crate::attributes::attributes_section;
 use crate::forms::forms_section;
 use crate::pieces::{both, opened, title_of};
-use crate::plans::plan_section;
+use crate::planned::plan_section;
 use crate::rules::rules_section;
 use crate::tables::tables_section;
 use dep_model::{OutOfMemory, Schema};

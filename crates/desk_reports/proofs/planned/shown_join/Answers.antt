@@ -6,7 +6,7 @@ use Rattle.html_pages.specs.Pages.{title_with_words}
 use Rattle.desk_designs.specs.Joins.{JudgesJoin}
 use Rattle.desk_reports.specs.Tables.{ShowsPicture, two_files}
 use Rattle.desk_reports.proofs.PieceLemmas.{opens}
-use Rattle.desk_reports.proofs.plans.shown_join.Goals as goal
+use Rattle.desk_reports.proofs.planned.shown_join.Goals as goal
 
 pub returns : goal.returns
 returns c =

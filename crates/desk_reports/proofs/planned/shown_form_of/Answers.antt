@@ -6,7 +6,7 @@ use Rattle.desk_designs.specs.NormalForms.{JudgesForm}
 use Rattle.desk_reports.specs.Forms.{form_title}
 use Rattle.desk_reports.specs.Tables.{check_words, two_files}
 use Rattle.desk_reports.proofs.PieceLemmas.{opens}
-use Rattle.desk_reports.proofs.plans.shown_form_of.Goals as goal
+use Rattle.desk_reports.proofs.planned.shown_form_of.Goals as goal
 
 pub returns : goal.returns
 returns c = record {

@@ -1,6 +1,6 @@
 -- What is left to prove of `shown_forms`: its clause, piece by piece.
 use Rattle.std.proofs.Common.{ℕ, List, ◌++◌, ap, ◌∙◌}
-use Rattle.desk_reports.proofs.plans.shown_forms.Goals as goal
+use Rattle.desk_reports.proofs.planned.shown_forms.Goals as goal
 
 pub returns : goal.returns
 returns c = record {

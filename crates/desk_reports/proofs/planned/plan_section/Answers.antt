@@ -1,7 +1,7 @@
 -- What is left to prove of `plan_section`: its clause, piece by piece.
 use Rattle.std.proofs.Common.{ℕ, List, ◌++◌, ap, ◌∙◌, codes}
 use Rattle.html_pages.specs.Pages.{section_text}
-use Rattle.desk_reports.proofs.plans.plan_section.Goals as goal
+use Rattle.desk_reports.proofs.planned.plan_section.Goals as goal
 
 pub returns : goal.returns
 returns c = record {

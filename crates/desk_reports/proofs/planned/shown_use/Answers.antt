@@ -8,7 +8,7 @@ use Rattle.desk_designs.specs.Keeping.{JudgesKeeping}
 use Rattle.desk_responses.specs.Responses.{RespondsAs}
 use Rattle.desk_reports.specs.Tables.{two_files}
 use Rattle.desk_reports.proofs.PieceLemmas.{folds, opens}
-use Rattle.desk_reports.proofs.plans.shown_use.Goals as goal
+use Rattle.desk_reports.proofs.planned.shown_use.Goals as goal
 
 pub returns : goal.returns
 returns c =
