@@ -19,10 +19,11 @@ use row_store::{Hashing, Rows};
 use std::alloc::Global;
 use table_names::{MOST_TABLES, name_of_table};
 
-/// For each scheme of a plan, in order, the table of the distinct projections of the rows on it, each at
-/// the position of its first occurrence. The tables have the names that are given to them in order, and `t1`,
-/// `t2` and so on where none is; the columns of a table are the attributes of its scheme, ascending. If the rows are legal and the plan is lossless, the
-/// natural join of the tables is exactly the rows.
+/// For each scheme of a plan, in order, the table of the distinct projections of the rows on it,
+/// each at the position of its first occurrence. The tables have the names that are given to them
+/// in order, and `t1`, `t2` and so on where none is; the columns of a table are the attributes of
+/// its scheme, ascending. If the rows are legal and the plan is lossless, the natural join of the
+/// tables is exactly the rows.
 pub fn tables(
     alloc: Global,
     hashing: Hashing,
