@@ -5,5 +5,7 @@ pub mod QuoteLemmas
 pub mod ReadingLemmas
 pub mod NumberingLemmas
 pub mod PairLemmas
+mod LeaderLemmas
+mod BucketLemmas
 pub mod UniqueRows
 pub mod PrintedRows

@@ -203,18 +203,18 @@ same_default [] i d e l = absurd (omega (arith, l))
 same_default (x ∷ xs) zero d e l = refl
 same_default (x ∷ xs) (suc i) d e l = same_default xs i d e (omega (arith, l))
 
--- one value more of a column
-pub column_step : (rows : Relation) (k n : ℕ) (keys after : List (Bor (List ℕ))) (key : Bor (List ℕ)) (numbers items : List ℕ) (r : ℕ)
-    → AreNumbered (λ i. value_at (row_at rows i) k) n (map (λ (s : Bor (List ℕ)). s.now) keys) numbers
-    → key.now ≡ value_at (row_at rows n) k
+-- one value more
+pub value_step : (value : ℕ → List ℕ) (n : ℕ) (keys after : List (Bor (List ℕ))) (key : Bor (List ℕ)) (numbers items : List ℕ) (r : ℕ)
+    → AreNumbered value n (map (λ (s : Bor (List ℕ)). s.now) keys) numbers
+    → key.now ≡ value n
     → after ≡ insert_key (λ (x y : Bor (List ℕ)). pointwise nat_eq x.now y.now) keys key → r ≡ position_or_len (λ (y : Bor (List ℕ)). pointwise nat_eq key.now y.now) keys
     → items ≡ numbers ++ r ∷ []
-    → AreNumbered (λ i. value_at (row_at rows i) k) (n + 1) (map (λ (s : Bor (List ℕ)). s.now) after) items
-column_step rows k n keys after key numbers items r old value grown at pushed =
+    → AreNumbered value (n + 1) (map (λ (s : Bor (List ℕ)). s.now) after) items
+value_step value n keys after key numbers items r old is grown at pushed =
     let gets = insert_full-Gets (λ (x y : Bor (List ℕ)). pointwise nat_eq x.now y.now) (λ (s : Bor (List ℕ)). s.now)
     (λ x y. (bytes_eq-Decides x.now y.now).0) (λ x y. (bytes_eq-Decides x.now y.now).1) keys after key r grown at in
-    subst (λ (l : List ℕ). AreNumbered (λ i. value_at (row_at rows i) k) (n + 1) (map (λ (s : Bor (List ℕ)). s.now) after) l) (sym pushed)
-    (numbered_more (λ i. value_at (row_at rows i) k) n _ _ numbers r old (subst (λ (v : List ℕ). Gets v (map (λ (s : Bor (List ℕ)). s.now) keys) (map (λ (s : Bor (List ℕ)). s.now) after) r) value gets))
+    subst (λ (l : List ℕ). AreNumbered value (n + 1) (map (λ (s : Bor (List ℕ)). s.now) after) l) (sym pushed)
+    (numbered_more value n _ _ numbers r old (subst (λ (v : List ℕ). Gets v (map (λ (s : Bor (List ℕ)). s.now) keys) (map (λ (s : Bor (List ℕ)). s.now) after) r) is gets))
 
 and_left : (x y : Bool) → (x && y) ≡ true → x ≡ true
 and_left true y h = refl

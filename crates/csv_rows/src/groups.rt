@@ -85,7 +85,7 @@ impl Groups {
 }
 
 // One group of this many rows.
-fn one_group(alloc: Global, count: usize) -> Result<Vec<u32>, OutOfMemory>
+pub fn one_group(alloc: Global, count: usize) -> Result<Vec<u32>, OutOfMemory>
     ensures zeros { IfOk result (λ v. v.items ≡ replicate count 0) }
 {
     let mut numbers = Vec::new(alloc);
@@ -230,7 +230,7 @@ fn lead_number(leads: &[(u32, u32)], pair: (u32, u32)) -> Option<u32>
 }
 
 // The first row of each group, where the groups are numbered in the order of their first rows.
-fn first_rows(alloc: Global, numbers: &[u32]) -> Result<Vec<u32>, OutOfMemory>
+pub fn first_rows(alloc: Global, numbers: &[u32]) -> Result<Vec<u32>, OutOfMemory>
     requires fits_u32 { length numbers.now < 2 ^ 32 }
     ensures firsts { AreInOrder numbers.now → IfOk result (λ v. AreFirsts numbers.now v.items) }
 {

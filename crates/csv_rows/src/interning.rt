@@ -1,8 +1,9 @@
-ghost use Rattle.std.specs.Prelude.{◌≡◌, ◌<◌, ◌^◌, ℕ, length, All, IfOk, slice_index_or};
+ghost use Rattle.std.specs.Prelude.{◌≡◌, ◌<◌, ◌^◌, ℕ, length, All, IfOk, IfSome, slice_index_or};
 ghost use Rattle.attr_sets.specs.Attributes.{only};
 ghost use Rattle.csv_rows.specs.Numberings.{AreGroups, number_at};
 ghost use Rattle.dep_model.specs.Tuples.{IsOver};
 
+use crate::leaders::{leaders_of, numbers_by_leaders};
 use dep_model::OutOfMemory;
 use indexmap::IndexSet;
 use row_store::{Hashing, Rows};
@@ -93,7 +94,8 @@ impl Interned {
     }
 }
 
-// The number of each row's value at an attribute, in the order of first occurrence.
+// The number of each row's value at an attribute, in the order of first occurrence. Where there are many different
+// values, a search among all of them would leave the nearest memory at each step.
 fn column_numbers(
     alloc: Global,
     hashing: Hashing,
@@ -104,11 +106,38 @@ fn column_numbers(
     requires fits_u32 { length rows.now < 2 ^ 32 }
     ensures groups { IfOk result (λ v. AreGroups rows.now (only attribute) v.items) }
 {
+    match numbers_of_few(alloc, hashing, attribute, rows)? {
+        Some(numbers) => Ok(numbers),
+        None => {
+            let leaders = leaders_of(alloc, hashing, attribute, rows)?;
+            let numbers = numbers_by_leaders(alloc, &leaders)?;
+            Ok(numbers)
+        }
+    }
+}
+
+// The most different values of a column that are searched together.
+const MOST_TOGETHER: usize = 32768;
+
+// The number of each row's value at an attribute, or nothing where there are too many different ones.
+fn numbers_of_few(
+    alloc: Global,
+    hashing: Hashing,
+    attribute: u8,
+    rows: &Rows,
+) -> Result<Option<Vec<u32>>, OutOfMemory>
+    requires attribute { All (λ t. attribute < length t) rows.now }
+    requires fits_u32 { length rows.now < 2 ^ 32 }
+    ensures groups { IfOk result (λ few. IfSome few (λ v. AreGroups rows.now (only attribute) v.items)) }
+{
     let mut values: IndexSet<&[u8], Hashing> = IndexSet::with_hasher(alloc, hashing);
     let mut numbers = Vec::with_capacity(alloc, rows.len())?;
     for row in 0..rows.len() {
         let (number, _) = values.insert_full(rows.value(row, attribute as usize))?;
+        if number > MOST_TOGETHER {
+            return Ok(None);
+        }
         numbers.push(number as u32)?;
     }
-    Ok(numbers)
+    Ok(Some(numbers))
 }

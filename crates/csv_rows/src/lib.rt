@@ -12,10 +12,12 @@
 //! on a set of attributes: two rows have one number exactly where they agree on it.
 #![tactic(auto)]
 
+mod buckets;
 mod groups;
 mod header;
 mod interning;
 mod laws;
+mod leaders;
 mod part;
 mod printing;
 mod quotes;

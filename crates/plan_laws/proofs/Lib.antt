@@ -4,6 +4,7 @@ mod RejoinedLaws
 pub mod UniqueLaws
 pub mod FormTables
 mod NameLaws
+mod OrderedNames
 pub mod OneDesign
 mod DesignTexts
 mod ScriptTexts

@@ -1,13 +1,15 @@
 //! The tables that `migrate` makes are those that `ddl` creates.
 
-ghost use Rattle.std.specs.Prelude.{◌≡◌, ◌≢◌, ◌<◌, ◌^◌, List, [], length, AllPairs};
+ghost use Rattle.std.specs.Prelude.{◌≡◌, ◌≢◌, ◌<◌, ◌^◌, ℕ, List, [], length, AllPairs};
 ghost use Rattle.attr_sets.specs.Attributes.{Attributes};
 ghost use Rattle.attr_sets.specs.declared.set.AttrSet.{AttrSet};
+ghost use Rattle.dep_model.specs.Dependencies.{Dependency};
 ghost use Rattle.dep_model.specs.Plans.{schemes_of};
 ghost use Rattle.dep_model.specs.Schemas.{LegalFor};
 ghost use Rattle.dep_model.specs.Tuples.{Relation};
 ghost use Rattle.dep_model.specs.declared.schema.Schema.{Schema};
 ghost use Rattle.ddl_text.specs.declared.table.TableDesign.{TableDesign};
+ghost use Rattle.design_order.specs.Order.{AreNamesInOrder};
 ghost use Rattle.named_plans.specs.NamedPlans.{AreApart};
 ghost use Rattle.named_tables.specs.Tables.{TableValue};
 ghost use Rattle.normal_forms.specs.declared.forms.Form.{Form};
@@ -58,4 +60,11 @@ pub fn migrated_tables_have_different_names()
     ensures given { (schema : Schema) (names : GivenNames) (plan : List Attributes) (rows : Relation)
         (tables : List TableValue) → AreApart names → AreTablesOf schema names plan rows tables
         → length tables < 2 ^ 64 → AllPairs (λ one other. one.name ≢ other.name) tables }
+{}
+
+/// Names that a plan gives to its tables apart from one another stay apart in the order of a design; so those
+/// of a plan text are apart in the tables that are made of it.
+pub fn given_names_stay_apart()
+    ensures law { (n : ℕ) (ds : List Dependency) (plan : List Attributes) (names ordered : GivenNames)
+        → AreNamesInOrder n ds plan names ordered → AreApart names → AreApart ordered }
 {}

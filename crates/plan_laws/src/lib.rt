@@ -15,7 +15,7 @@ pub use answering::{
     one_answer_of_sample, one_answer_of_split, one_answer_of_sql_check, one_answer_of_sql_migrate,
 };
 pub use designed::{
-    migrated_tables_are_designed, migrated_tables_have_different_names,
+    given_names_stay_apart, migrated_tables_are_designed, migrated_tables_have_different_names,
     migrated_tables_obey_the_design, tables_of_a_form_are_designed,
 };
 pub use passing::{

@@ -1,23 +1,21 @@
--- What is left to prove of `column_numbers`: its clause `groups` and that a round of its loop keeps
--- the invariant, by `column_step` and `column_groups`.
-use Rattle.std.proofs.Common.{arith, ◌≡◌, ℕ, List, Bor, map, length, subst}
+-- What is left to prove of `column_numbers`: that leaders give the groups, by `column_groups`.
+use Rattle.std.proofs.Common.{arith, ◌≡◌, ℕ, List, length, ap, sym, subst, ◌∙◌}
 use Rattle.dep_model.specs.Tuples.{value_at}
-use Rattle.csv_rows.specs.Numberings.{AreNumbered}
 use Rattle.row_store.specs.Rows.{row_at}
-use Rattle.csv_rows.proofs.NumberingLemmas.{column_step, column_groups}
+use Rattle.csv_rows.specs.Buckets.{AreLeaders}
+use Rattle.csv_rows.specs.Numberings.{AreNumbered}
+use Rattle.csv_rows.proofs.NumberingLemmas.{column_groups}
 use Rattle.csv_rows.proofs.interning.column_numbers.Goals as goal
 
-pub loop-row-preserved : goal.loop-row-preserved
-loop-row-preserved c = record {
-  numbered =
-      column_step c.args.rows.now c.args.attribute c.loop-row.row c.loop-row.values.keys c.insert_full.new.self.keys c.value.result c.loop-row.numbers.items _ c.in_ok-number.number
-      c.loop-row.invariant.numbered c.value.ensures.value c.in_ok-number.ensures.keys c.in_ok-number.ensures.index c.in_ok-push.ensures.items;
-}
-
-pub returns : goal.returns
-returns c =
-    let end : c.loop-row.row ≡ length c.args.rows.now = omega (arith, c.loop-row-test.false, c.len-row-end.ensures.count) in
+pub returns-in_ok-numbers-in-None : goal.returns-in_ok-numbers-in-None
+returns-in_ok-numbers-in-None c =
+    let value : ℕ → List ℕ = λ i. value_at (row_at c.args.rows.now i) c.args.attribute in
+    let led : AreLeaders value c.deref.result.now =
+    subst (AreLeaders value) (sym c.deref.ensures.value) c.in_ok-leaders-in-None.ensures.leaders in
+    let numbered = c.in_ok-numbers-in-None.ensures.numbered value led in
+    let size : length c.deref.result.now ≡ length c.args.rows.now =
+    ap length c.deref.ensures.value ∙ c.in_ok-leaders-in-None.ensures.count in
     record {
-      groups = column_groups c.args.rows.now c.args.attribute _ _
-          (subst (λ (n : ℕ). AreNumbered (λ i. value_at (row_at c.args.rows.now i) c.args.attribute) n (map (λ (s : Bor (List ℕ)). s.now) c.loop-row.values.keys) c.loop-row.numbers.items) end c.loop-row.invariant.numbered);
+      groups = column_groups c.args.rows.now c.args.attribute numbered.0 _
+          (subst (λ (n : ℕ). AreNumbered value n numbered.0 c.in_ok-numbers-in-None.numbers.items) size numbered.1);
     }

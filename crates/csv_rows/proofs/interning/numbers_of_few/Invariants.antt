@@ -1,9 +1,9 @@
--- What the loop of `column_numbers` keeps: `numbered`.
+-- What the loop of `numbers_of_few` keeps: `numbered`.
 use Rattle.std.proofs.Common.{ℕ, List, map, Bor}
 use Rattle.dep_model.specs.Tuples.{value_at}
 use Rattle.csv_rows.specs.Numberings.{AreNumbered}
 use Rattle.row_store.specs.Rows.{row_at}
-use Rattle.csv_rows.proofs.interning.column_numbers.Given as goal
+use Rattle.csv_rows.proofs.interning.numbers_of_few.Given as goal
 
 -- the rows so far have these numbers
 abbrev pub invariant-loop-row : goal.invariant-loop-row
