@@ -1,18 +1,17 @@
 -- Rows in buckets, and the leaders of the rows of one bucket.
-use Rattle.std.proofs.Common.{inl, inr, ◌≡◌, ◌≢◌, ◌+◌, ◌*◌, ◌/◌, ◌%◌, ◌^◌, ◌<◌, ◌≤◌, ◌==◌, ◌⊎◌, ℕ, zero, suc, Bool, true, false, List, [], ◌∷◌, ◌++◌, length, length-append, map, Some, drop, get_or, refl, sym, ap, subst, ◌∙◌, arith}
+use Rattle.std.proofs.Common.{inl, inr, ◌≡◌, ◌≢◌, ◌+◌, ◌*◌, ◌%◌, ◌^◌, ◌<◌, ◌≤◌, ◌==◌, ◌⊎◌, ℕ, suc, true, false, List, [], ◌∷◌, ◌++◌, length, map, Some, drop, get_or, refl, sym, ap, subst, ◌∙◌, arith}
 use Rattle.std.specs.List.{slice_get}
 use Rattle.std.specs.Prelude.{All}
 use Rattle.std.proofs.Math.ListN.{set}
 use Rattle.std.proofs.Math.Seq.{drop-cons}
-use Rattle.std.proofs.lemmas.Bool.{cases_Bool, cases_eq, cases_lt, eq-eqb, eqb-true, true≢false}
-use Rattle.std.proofs.lemmas.List.{drop_all, get_or-map, get_or-set_same, get_or-set_other, length-map, length-set, map-append}
-use Rattle.std.proofs.lemmas.Option.{get_or_from_slice_get, slice_get-get_or, slice_get_within}
+use Rattle.std.proofs.lemmas.Bool.{cases_Bool, cases_eq, cases_lt, eq-eqb, eqb-true}
+use Rattle.std.proofs.lemmas.List.{drop_all, get_or-map, get_or-set_same, get_or-set_other, length-map, map-append}
+use Rattle.std.proofs.lemmas.Option.{get_or_from_slice_get, slice_get-get_or}
 use Rattle.attr_sets.specs.Attributes.{Attributes, count_below}
 use Rattle.attr_sets.proofs.AttributesLemmas.{count_below-le, count_below-member, count_below-mono}
 use Rattle.dep_model.specs.Projections.{members_below}
 use Rattle.dep_model.proofs.SchemeLemmas.{length-members_below, members_below-at, members_below-none, members_below-one_more, members_below-no_more}
-use Rattle.csv_rows.specs.Buckets.{AreBuckets, IsBucket, IsLeader, bucket_of, mixed}
-use Rattle.csv_rows.specs.declared.buckets.Bucket.{Bucket}
+use Rattle.csv_rows.specs.Buckets.{IsBucket, IsLeader, bucket_of_bytes, bucket_of_pair, mixed}
 use Rattle.csv_rows.specs.declared.buckets.TheConstants.{BUCKETS, FACTOR}
 use Rattle.csv_rows.specs.Numberings.{number_at, AreFirsts, AreInOrder, AreNumbered}
 use Rattle.csv_rows.proofs.NumberingLemmas.{same_default, some_inj}
@@ -24,23 +23,24 @@ unfolding mixed
 mixed-low sum [] low = low
 mixed-low sum (byte ∷ bytes) low = mixed-low ((sum + byte) % 2 ^ 32 * FACTOR % 2 ^ 32) bytes (omega arith)
 
-pub bucket-low : (bytes : List ℕ) → bucket_of bytes < BUCKETS
-bucket-low bytes = omega (arith, mixed-low 0 bytes (omega arith))
+pub bytes-low : (bytes : List ℕ) → bucket_of_bytes bytes < BUCKETS
+bytes-low bytes = omega (arith, mixed-low 0 bytes (omega arith))
+
+pub pair-low : (p : ℕ × ℕ) → bucket_of_pair p < BUCKETS
+pair-low p = omega arith
 
 -- ---- the rows of a bucket
-module _ (value : ℕ → List ℕ) (n place : ℕ) (bucket : Bucket) (is : IsBucket value n place bucket) where
-  abbrev pub rows : List ℕ
-  rows = bucket.rows.items
-
+module _ {X : Type 0} (bucket_of : X → ℕ) (value : ℕ → X) (n place : ℕ) (rows : List ℕ) (values : List X)
+    (is : IsBucket bucket_of value n place rows values) where
   abbrev pub chosen : Attributes
   chosen = λ i. bucket_of (value i) == place
 
   row_facts : (k : ℕ) → k < length rows
       → (number_at rows k < n) × (chosen (number_at rows k) ≡ true) × (k ≡ count_below chosen (number_at rows k))
   row_facts k l =
-      let at : k < length (members_below n chosen) = omega (arith, l, ap length is.rows) in
+      let at : k < length (members_below n chosen) = omega (arith, l, ap length is.rows_are) in
       member_at n chosen k (number_at rows k) at
-      (ap (λ (l : List ℕ). get_or l k 0) is.rows ∙ same_default (members_below n chosen) k 0 (number_at rows k) at)
+      (ap (λ (l : List ℕ). get_or l k 0) is.rows_are ∙ same_default (members_below n chosen) k 0 (number_at rows k) at)
 
   pub row_low : (k : ℕ) → k < length rows → number_at rows k < n
   row_low k l = (row_facts k l).0
@@ -54,15 +54,20 @@ module _ (value : ℕ → List ℕ) (n place : ℕ) (bucket : Bucket) (is : IsBu
     | inr above ↦
         let first = row_facts j (omega (arith, less, l)) in
         let second = row_facts k l in
-        absurd (omega (arith, less, first.2, second.2,
-        count_below-mono (number_at rows j) (number_at rows k) chosen above))
+        absurd (omega (
+          arith,
+          less,
+          first.2,
+          second.2,
+          count_below-mono (number_at rows j) (number_at rows k) chosen above,
+        ))
   ]
 
   pub few_rows : length rows ≤ n
-  few_rows = omega (arith, ap length is.rows, length-members_below n chosen, count_below-le n chosen)
+  few_rows = omega (arith, ap length is.rows_are, length-members_below n chosen, count_below-le n chosen)
 
-  pub even_values : length bucket.values ≡ length rows
-  even_values = ap length is.values ∙ length-map rows value
+  pub even_values : length values ≡ length rows
+  even_values = ap length is.values_are ∙ length-map rows value
 
   -- where a row stands
   stands : (i : ℕ) → i < n → bucket_of (value i) ≡ place
@@ -70,28 +75,27 @@ module _ (value : ℕ → List ℕ) (n place : ℕ) (bucket : Bucket) (is : IsBu
   stands i low same =
       let has : chosen i ≡ true = eq-eqb (bucket_of (value i)) place same in
       let after = count_below-member i chosen has in
-      let upto = count_below-mono n (i + 1) chosen (omega (arith, low)) in
-      (
+      let upto = count_below-mono n (i + 1) chosen (omega (arith, low)) in (
         count_below chosen i,
-        omega (arith, after, upto, ap length is.rows, length-members_below n chosen),
-        ap (λ (l : List ℕ). number_at l (count_below chosen i)) is.rows ∙ members_below-at n chosen i 0 low has,
+        omega (arith, after, upto, ap length is.rows_are, length-members_below n chosen),
+        ap (λ (l : List ℕ). number_at l (count_below chosen i)) is.rows_are ∙ members_below-at n chosen i 0 low has,
       )
 
   -- a row of another bucket is none of these
   pub not_a_row : (i : ℕ) → bucket_of (value i) ≢ place → (k : ℕ) → k < length rows → number_at rows k ≢ i
   not_a_row i other k l same = other (ap (λ (j : ℕ). bucket_of (value j)) (sym same) ∙ row_place k l)
 
-  value_of_row : (k : ℕ) → k < length rows → get_or bucket.values k [] ≡ value (number_at rows k)
-  value_of_row k l =
-      ap (λ (vs : List (List ℕ)). get_or vs k []) is.values ∙ get_or-map value rows k 0 [] l
+  value_of_row : (none : X) (k : ℕ) → k < length rows → get_or values k none ≡ value (number_at rows k)
+  value_of_row none k l =
+      ap (λ (vs : List X). get_or vs k none) is.values_are ∙ get_or-map value rows k 0 none l
 
   -- the row at the first position of a number leads the others of this number
-  pub leads : (numbers firsts leaders : List ℕ) (seen : List (List ℕ))
-      → AreNumbered (λ k. get_or bucket.values k []) (length bucket.values) seen numbers → AreFirsts numbers firsts
+  pub leads : (none : X) (numbers firsts leaders : List ℕ) (seen : List X)
+      → AreNumbered (λ k. get_or values k none) (length values) seen numbers → AreFirsts numbers firsts
       → ((k : ℕ) → k < length rows → number_at leaders (number_at rows k)
       ≡ number_at rows (number_at firsts (number_at numbers k)))
       → (i : ℕ) → i < n → bucket_of (value i) ≡ place → IsLeader value i (number_at leaders i)
-  leads numbers firsts leaders seen numbered first told i low same =
+  leads none numbers firsts leaders seen numbered first told i low same =
       let (k, kl, at) = stands i low same in
       let size : length numbers ≡ length rows = numbered.one_each ∙ even_values in
       let m : ℕ = number_at firsts (number_at numbers k) in
@@ -107,7 +111,7 @@ module _ (value : ℕ → List ℕ) (n place : ℕ) (bucket : Bucket) (is : IsBu
       })
     where
       read_at : (k : ℕ) → k < length rows → slice_get seen (number_at numbers k) ≡ Some (value (number_at rows k))
-      read_at k l = numbered.read k (omega (arith, l, even_values)) ∙ ap Some (value_of_row k l)
+      read_at k l = numbered.read k (omega (arith, l, even_values)) ∙ ap Some (value_of_row none k l)
 
       equal_at : (m k : ℕ) → m < length rows → k < length rows → number_at numbers m ≡ number_at numbers k
           → value (number_at rows m) ≡ value (number_at rows k)
@@ -146,21 +150,22 @@ module _ (value : ℕ → List ℕ) (n place : ℕ) (bucket : Bucket) (is : IsBu
           ]
 
 -- ---- one row more
-pub bucket_more : (value : ℕ → List ℕ) (n place : ℕ) (old new : Bucket) → IsBucket value n place old
-    → bucket_of (value n) ≡ place → new.rows.items ≡ old.rows.items ++ n ∷ [] → new.values ≡ old.values ++ value n ∷ []
-    → IsBucket value (n + 1) place new
-bucket_more value n place old new is here rows values = record {
-  rows = rows ∙ ap (λ (l : List ℕ). l ++ n ∷ []) is.rows
-    ∙ sym (members_below-one_more n (n + 1) (λ i. bucket_of (value i) == place) refl (eq-eqb (bucket_of (value n)) place here));
-  values = values ∙ ap (λ (l : List (List ℕ)). l ++ value n ∷ []) is.values ∙ sym (map-append value old.rows.items (n ∷ []))
-    ∙ ap (map value) (sym rows);
+pub bucket_more : {X : Type 0} (bucket_of : X → ℕ) (value : ℕ → X) (n place : ℕ) (rows rows' : List ℕ) (values values' : List X)
+    → IsBucket bucket_of value n place rows values → bucket_of (value n) ≡ place → rows' ≡ rows ++ n ∷ []
+    → values' ≡ values ++ value n ∷ [] → IsBucket bucket_of value (n + 1) place rows' values'
+bucket_more {X} bucket_of value n place rows rows' values values' is here more_rows more_values = record {
+  rows_are = more_rows ∙ ap (λ (l : List ℕ). l ++ n ∷ []) is.rows_are
+      ∙ sym (members_below-one_more n (n + 1) (λ i. bucket_of (value i) == place) refl (eq-eqb (bucket_of (value n)) place here));
+  values_are = more_values ∙ ap (λ (l : List X). l ++ value n ∷ []) is.values_are ∙ sym (map-append value rows (n ∷ []))
+      ∙ ap (map value) (sym more_rows);
 }
 
-pub bucket_passed : (value : ℕ → List ℕ) (n place : ℕ) (bucket : Bucket) → IsBucket value n place bucket
-    → bucket_of (value n) ≢ place → IsBucket value (n + 1) place bucket
-bucket_passed value n place bucket is other = record {
-  rows = is.rows ∙ sym (members_below-no_more n (n + 1) (λ i. bucket_of (value i) == place) refl fails);
-  values = is.values;
+pub bucket_passed : {X : Type 0} (bucket_of : X → ℕ) (value : ℕ → X) (n place : ℕ) (rows : List ℕ) (values : List X)
+    → IsBucket bucket_of value n place rows values → bucket_of (value n) ≢ place
+    → IsBucket bucket_of value (n + 1) place rows values
+bucket_passed bucket_of value n place rows values is other = record {
+  rows_are = is.rows_are ∙ sym (members_below-no_more n (n + 1) (λ i. bucket_of (value i) == place) refl fails);
+  values_are = is.values_are;
 }
   where
     fails : (bucket_of (value n) == place) ≡ false
@@ -169,59 +174,56 @@ bucket_passed value n place bucket is other = record {
       | inr differs ↦ differs
     ]
 
-pub empty_bucket : (value : ℕ → List ℕ) (place : ℕ) (bucket : Bucket) → bucket.rows.items ≡ [] → bucket.values ≡ []
-    → IsBucket value 0 place bucket
-empty_bucket value place bucket rows values = record {
-  rows = rows ∙ sym (members_below-none (λ i. bucket_of (value i) == place));
-  values = values ∙ ap (map value) (sym rows);
+pub empty_bucket : {X : Type 0} (bucket_of : X → ℕ) (value : ℕ → X) (place : ℕ) (rows : List ℕ) (values : List X)
+    → rows ≡ [] → values ≡ [] → IsBucket bucket_of value 0 place rows values
+empty_bucket bucket_of value place rows values no_rows no_values = record {
+  rows_are = no_rows ∙ sym (members_below-none (λ i. bucket_of (value i) == place));
+  values_are = no_values ∙ ap (map value) (sym no_rows);
 }
 
-pub buckets_more : (value : ℕ → List ℕ) (n place : ℕ) (buckets : List Bucket) (old new : Bucket) → AreBuckets value n buckets
-    → place < BUCKETS → bucket_of (value n) ≡ place → old ≡ get_or buckets place old
-    → new.rows.items ≡ old.rows.items ++ n ∷ [] → new.values ≡ old.values ++ value n ∷ []
-    → AreBuckets value (n + 1) (set buckets place new)
-buckets_more value n place buckets old new are low here is rows values = record {
-  count = length-set buckets place new ∙ are.count;
-  each = each_more;
-}
-  where
-    inside : place < length buckets
-    inside = omega (arith, low, are.count)
+-- ---- all buckets, of whatever kind
+module _ {B X : Type 0} (rows_of : B → List ℕ) (values_of : B → List X) (bucket_of : X → ℕ) (value : ℕ → X) where
+  abbrev pub Each : ℕ → List B → Type 0
+  Each n buckets = (place : ℕ) (bucket : B) → place < BUCKETS → slice_get buckets place ≡ Some bucket
+      → IsBucket bucket_of value n place (rows_of bucket) (values_of bucket)
 
-    was : IsBucket value n place old
-    was = are.each place old low (slice_get-get_or buckets place old inside ∙ ap Some (sym is))
+  pub each_more : (n place : ℕ) (buckets : List B) (old new : B) → length buckets ≡ BUCKETS → Each n buckets
+      → place < BUCKETS → bucket_of (value n) ≡ place → old ≡ get_or buckets place old
+      → rows_of new ≡ rows_of old ++ n ∷ [] → values_of new ≡ values_of old ++ value n ∷ []
+      → Each (n + 1) (set buckets place new)
+  each_more n place buckets old new count are low here is rows values other bucket other_low at = elim (cases_eq other place) [
+    | inl same ↦
+        let inside : place < length buckets = omega (arith, low, count) in
+        let was = are place old low (slice_get-get_or buckets place old inside ∙ ap Some (sym is)) in
+        let found : bucket ≡ new =
+        sym (get_or_from_slice_get (set buckets place new) other bucket new at)
+        ∙ ap (λ (k : ℕ). get_or (set buckets place new) k new) same ∙ get_or-set_same buckets place new new inside in
+        subst (λ (k : ℕ). IsBucket bucket_of value (n + 1) k (rows_of bucket) (values_of bucket)) (sym same)
+        (subst (λ (b : B). IsBucket bucket_of value (n + 1) place (rows_of b) (values_of b)) (sym found)
+        (bucket_more bucket_of value n place (rows_of old) (rows_of new) (values_of old) (values_of new) was here rows values))
+    | inr differs ↦
+        let kept : get_or buckets other bucket ≡ bucket =
+        sym (get_or-set_other buckets place other new bucket differs)
+        ∙ get_or_from_slice_get (set buckets place new) other bucket bucket at in
+        bucket_passed bucket_of value n other (rows_of bucket) (values_of bucket)
+        (are other bucket other_low (slice_get-get_or buckets other bucket (omega (arith, other_low, count)) ∙ ap Some kept))
+        (λ same. differs (sym same ∙ here))
+  ]
 
-    each_more : (other : ℕ) (bucket : Bucket) → other < BUCKETS → slice_get (set buckets place new) other ≡ Some bucket
-        → IsBucket value (n + 1) other bucket
-    each_more other bucket other_low at = elim (cases_eq other place) [
-      | inl same ↦
-          let found : bucket ≡ new =
-          sym (get_or_from_slice_get (set buckets place new) other bucket new at)
-          ∙ ap (λ (k : ℕ). get_or (set buckets place new) k new) same ∙ get_or-set_same buckets place new new inside in
-          subst (λ (k : ℕ). IsBucket value (n + 1) k bucket) (sym same)
-          (subst (IsBucket value (n + 1) place) (sym found) (bucket_more value n place old new was here rows values))
-      | inr differs ↦
-          let kept : get_or buckets other bucket ≡ bucket =
-          sym (get_or-set_other buckets place other new bucket differs)
-          ∙ get_or_from_slice_get (set buckets place new) other bucket bucket at in
-          bucket_passed value n other bucket
-          (are.each other bucket other_low
-          (slice_get-get_or buckets other bucket (omega (arith, other_low, are.count)) ∙ ap Some kept))
-          (λ same. differs (sym same ∙ here))
-    ]
+  pub each_empty : (buckets : List B) → length buckets ≡ BUCKETS → All (λ (b : B). rows_of b ≡ []) buckets
+      → All (λ (b : B). values_of b ≡ []) buckets → Each 0 buckets
+  each_empty buckets count rows values place bucket low at =
+      let is = get_or_from_slice_get buckets place bucket bucket at in
+      let inside : place < length buckets = omega (arith, low, count) in
+      empty_bucket bucket_of value place (rows_of bucket) (values_of bucket)
+      (subst (λ (b : B). rows_of b ≡ []) is (rows place bucket inside))
+      (subst (λ (b : B). values_of b ≡ []) is (values place bucket inside))
 
-pub no_rows : (value : ℕ → List ℕ) (buckets : List Bucket) → length buckets ≡ BUCKETS
-    → All (λ (b : Bucket). b.rows.items ≡ []) buckets → All (λ (b : Bucket). b.values ≡ []) buckets
-    → AreBuckets value 0 buckets
-no_rows value buckets count rows values = record {
-  count = count;
-  each = λ place bucket low at.
-    let is = get_or_from_slice_get buckets place bucket bucket at in
-    let inside : place < length buckets = omega (arith, low, count) in
-    empty_bucket value place bucket
-    (subst (λ (b : Bucket). b.rows.items ≡ []) is (rows place bucket inside))
-    (subst (λ (b : Bucket). b.values ≡ []) is (values place bucket inside));
-}
+  pub bucket_at : (n place : ℕ) (buckets : List B) (bucket : B) → length buckets ≡ BUCKETS → Each n buckets
+      → place < BUCKETS → bucket ≡ get_or buckets place bucket
+      → IsBucket bucket_of value n place (rows_of bucket) (values_of bucket)
+  bucket_at n place buckets bucket count are low is =
+      are place bucket low (slice_get-get_or buckets place bucket (omega (arith, low, count)) ∙ ap Some (sym is))
 
 -- ---- bytes that are mixed
 pub mixed_next : (sum i : ℕ) (bytes : List ℕ) → i < length bytes
@@ -237,10 +239,10 @@ unfolding mixed
 mixed_end sum i bytes over = ap (mixed sum) (drop_all i bytes over)
 
 -- ---- numbers, their first positions, and what is read of them
-pub firsts_are : (numbers same firsts : List ℕ) (values seen : List (List ℕ))
-    → AreNumbered (λ k. get_or values k []) (length values) seen numbers → same ≡ numbers
+pub firsts_are : {X : Type 0} (none : X) (numbers same firsts : List ℕ) (values seen : List X)
+    → AreNumbered (λ k. get_or values k none) (length values) seen numbers → same ≡ numbers
     → (AreInOrder same → AreFirsts same firsts) → AreFirsts numbers firsts
-firsts_are numbers same firsts values seen numbered is first =
+firsts_are none numbers same firsts values seen numbered is first =
     subst (λ (l : List ℕ). AreFirsts l firsts) is
     (first (subst AreInOrder (sym is) (λ i g l m. numbered.in_order i g (omega (arith, l, numbered.one_each)) m)))
 
@@ -267,26 +269,19 @@ told_of rows numbers firsts rs ns fs leaders rs_is ns_is fs_is told k l =
     ∙ ap (λ (n : List ℕ). number_at rows (number_at firsts (number_at n k))) ns_is
 
 -- ---- bucket by bucket
-pub bucket_at : (value : ℕ → List ℕ) (n place : ℕ) (buckets : List Bucket) (bucket : Bucket) → AreBuckets value n buckets
-    → place < BUCKETS → bucket ≡ get_or buckets place bucket → IsBucket value n place bucket
-bucket_at value n place buckets bucket are low is =
-    are.each place bucket low (slice_get-get_or buckets place bucket (omega (arith, low, are.count)) ∙ ap Some (sym is))
+module _ {X : Type 0} (bucket_of : X → ℕ) (value : ℕ → X) (n place : ℕ) (rows : List ℕ) (values : List X)
+    (is : IsBucket bucket_of value n place rows values) where
+  pub row_inside : (k d : ℕ) → k < length rows → get_or rows k d < n
+  row_inside k d l = omega (arith, row_low bucket_of value n place rows values is k l, same_default rows k d 0 l)
 
-pub row_inside : (value : ℕ → List ℕ) (n place : ℕ) (bucket : Bucket) → IsBucket value n place bucket
-    → (k d : ℕ) → k < length bucket.rows.items → get_or bucket.rows.items k d < n
-row_inside value n place bucket is k d l =
-    omega (arith, row_low value n place bucket is k l, same_default bucket.rows.items k d 0 l)
-
-pub led_further : (value : ℕ → List ℕ) (n place : ℕ) (bucket : Bucket) → IsBucket value n place bucket
-    → (before after : List ℕ)
-    → ((i : ℕ) → i < n → bucket_of (value i) < place → IsLeader value i (number_at before i))
-    → ((i : ℕ) → i < n → bucket_of (value i) ≡ place → IsLeader value i (number_at after i))
-    → ((i : ℕ) → ((k : ℕ) → k < length bucket.rows.items → number_at bucket.rows.items k ≢ i)
-    → number_at after i ≡ number_at before i)
-    → (i : ℕ) → i < n → bucket_of (value i) < place + 1 → IsLeader value i (number_at after i)
-led_further value n place bucket is before after old here others i low reached = elim (cases_eq (bucket_of (value i)) place) [
-  | inl same ↦ here i low same
-  | inr differs ↦
-      subst (IsLeader value i) (sym (others i (not_a_row value n place bucket is i differs)))
-      (old i low (omega (arith, reached, differs)))
-]
+  pub led_further : (before after : List ℕ)
+      → ((i : ℕ) → i < n → bucket_of (value i) < place → IsLeader value i (number_at before i))
+      → ((i : ℕ) → i < n → bucket_of (value i) ≡ place → IsLeader value i (number_at after i))
+      → ((i : ℕ) → ((k : ℕ) → k < length rows → number_at rows k ≢ i) → number_at after i ≡ number_at before i)
+      → (i : ℕ) → i < n → bucket_of (value i) < place + 1 → IsLeader value i (number_at after i)
+  led_further before after old here others i low reached = elim (cases_eq (bucket_of (value i)) place) [
+    | inl same ↦ here i low same
+    | inr differs ↦
+        subst (IsLeader value i) (sym (others i (not_a_row bucket_of value n place rows values is i differs)))
+        (old i low (omega (arith, reached, differs)))
+  ]

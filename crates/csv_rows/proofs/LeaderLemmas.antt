@@ -1,10 +1,9 @@
 -- Leaders of rows, bucket by bucket, and the numbers that leaders give.
-use Rattle.std.proofs.Common.{inl, inr, ◌≡◌, ◌≢◌, ◌+◌, ◌<◌, ◌≤◌, ◌==◌, ◌⊎◌, ℕ, true, List, [], ◌∷◌, ◌++◌, length, length-append, map, Some, get_or, refl, sym, ap, subst, ◌∙◌, arith}
+use Rattle.std.proofs.Common.{inl, inr, ◌≡◌, ◌≢◌, ◌+◌, ◌<◌, ℕ, List, [], ◌∷◌, ◌++◌, length, length-append, Some, refl, sym, ap, subst, ◌∙◌, arith}
 use Rattle.std.specs.List.{slice_get}
-use Rattle.std.proofs.lemmas.Bool.{cases_lt, eq-eqb, eqb-true}
-use Rattle.std.proofs.lemmas.Option.{slice_get-get_or, slice_get_within}
-use Rattle.csv_rows.specs.Buckets.{AreLeaders, IsBucket, IsLeader, bucket_of}
-use Rattle.csv_rows.specs.Numberings.{number_at, AreFirsts, AreNumbered}
+use Rattle.std.proofs.lemmas.Option.{slice_get_within}
+use Rattle.csv_rows.specs.Buckets.{AreLeaders}
+use Rattle.csv_rows.specs.Numberings.{number_at, AreNumbered}
 use Rattle.csv_rows.proofs.NumberingLemmas.{numbered_more, some_inj}
 
 -- ---- numbers by leaders
@@ -35,8 +34,8 @@ module _ {X : Type 0} (value : ℕ → X) (leaders : List ℕ) (led : AreLeaders
     seen = old.seen ++ value row ∷ [];
     counted = ap (λ (k : ℕ). k + 1) old.counted ∙ sym (length-append old.seen (value row ∷ []));
     numbered = subst (AreNumbered value (row + 1) (old.seen ++ value row ∷ [])) (sym pushed)
-      (numbered_more value row old.seen (old.seen ++ value row ∷ []) numbers count old.numbered
-      (record { number = inr (refl, old.counted, fresh) }));
+        (numbered_more value row old.seen (old.seen ++ value row ∷ []) numbers count old.numbered
+        (record { number = inr (refl, old.counted, fresh) }));
   }
     where
       fresh : (g : ℕ) → slice_get old.seen g ≡ Some (value row) → ⊥
@@ -56,6 +55,6 @@ module _ {X : Type 0} (value : ℕ → X) (leaders : List ℕ) (led : AreLeaders
         seen = old.seen;
         counted = old.counted;
         numbered = subst (AreNumbered value (row + 1) old.seen) (sym pushed)
-          (numbered_more value row old.seen old.seen numbers (number_at numbers (number_at leaders row)) old.numbered
-          (record { number = inl (refl, old.numbered.read (number_at leaders row) before ∙ ap Some leader.equal) }));
+            (numbered_more value row old.seen old.seen numbers (number_at numbers (number_at leaders row)) old.numbered
+            (record { number = inl (refl, old.numbered.read (number_at leaders row) before ∙ ap Some leader.equal) }));
       }

@@ -4,7 +4,7 @@
 ghost use Rattle.std.specs.Prelude.{◌≡◌, ◌<◌, ◌^◌, ◌++◌, ◌∷◌, [], length, All, IfOk, OnOk};
 ghost use Rattle.dep_model.specs.Tuples.{value_at};
 ghost use Rattle.row_store.specs.Rows.{row_at};
-ghost use Rattle.csv_rows.specs.Buckets.{AreBuckets, bucket_of, mixed};
+ghost use Rattle.csv_rows.specs.Buckets.{AreBuckets, bucket_of_bytes, mixed};
 
 use dep_model::OutOfMemory;
 use row_store::{FlatValues, Rows};
@@ -37,7 +37,7 @@ pub fn rows_in_buckets(
     let mut buckets = empty_buckets(alloc)?;
     for row in 0..rows.len() {
         let value = rows.value(row, attribute as usize);
-        add_row(&mut buckets[bucket_of(value)], row as u32, value)?;
+        add_row(&mut buckets[bucket_of_bytes(value)], row as u32, value)?;
     }
     Ok(buckets)
 }
@@ -65,8 +65,8 @@ fn add_row(bucket: &mut Bucket, row: u32, value: &[u8]) -> Result<(), OutOfMemor
     bucket.values.push(value)
 }
 
-fn bucket_of(bytes: &[u8]) -> usize
-    ensures bucket { result ≡ bucket_of bytes.now }
+fn bucket_of_bytes(bytes: &[u8]) -> usize
+    ensures bucket { result ≡ bucket_of_bytes bytes.now }
     ensures below { result < BUCKETS }
 {
     (mixed(bytes) >> 24) as usize

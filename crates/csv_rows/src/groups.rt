@@ -7,6 +7,9 @@ ghost use Rattle.csv_rows.specs.Pairs.{AreKept, Gets};
 ghost use Rattle.dep_model.specs.Tuples.{Relation};
 
 use crate::Interned;
+use crate::interning::MOST_TOGETHER;
+use crate::leaders::numbers_by_leaders;
+use crate::pair_leaders::leaders_of_pairs;
 use attr_sets::{AttrSet, MOST_ATTRIBUTES};
 use dep_model::OutOfMemory;
 use indexmap::IndexSet;
@@ -165,6 +168,31 @@ fn numbered_pairs(
         × AreNumbered (λ i. (number_at first.now i, number_at second.now i))
         (length first.now) seen v.items) }
 {
+    match numbers_of_few_pairs(alloc, hashing, first, second)? {
+        Some(numbers) => Ok(numbers),
+        None => {
+            let leaders = leaders_of_pairs(alloc, hashing, first, second)?;
+            let numbers = numbers_by_leaders(alloc, &leaders)?;
+            Ok(numbers)
+        }
+    }
+}
+
+// The same, or nothing where there are too many different pairs besides the first one of each first half.
+fn numbers_of_few_pairs(
+    alloc: Global,
+    hashing: Hashing,
+    first: &[u32],
+    second: &[u32],
+) -> Result<Option<Vec<u32>>, OutOfMemory>
+    requires same_length { length first.now ≡ length second.now }
+    requires fits_u32 { length first.now < 2 ^ 32 }
+    ensures count { IfOk result (λ few. IfSome few (λ v. length v.items ≡ length first.now)) }
+    ensures numbered { AreInOrder first.now → IfOk result
+        (λ few. IfSome few (λ v. (seen : List (ℕ × ℕ))
+        × AreNumbered (λ i. (number_at first.now i, number_at second.now i))
+        (length first.now) seen v.items)) }
+{
     let mut leads = Vec::new(alloc);
     let mut others = IndexSet::with_hasher(alloc, hashing);
     let mut other_numbers = Vec::new(alloc);
@@ -173,12 +201,15 @@ fn numbered_pairs(
     for i in 0..first.len() {
         let pair = (first[i], second[i]);
         let number = pair_number(&mut leads, &mut others, &mut other_numbers, count, pair)?;
+        if other_numbers.len() > MOST_TOGETHER {
+            return Ok(None);
+        }
         numbers.push(number)?;
         if number == count {
             count += 1;
         }
     }
-    Ok(numbers)
+    Ok(Some(numbers))
 }
 
 // The number of a pair, which is that of an equal one or the next one. The first pair of each first half

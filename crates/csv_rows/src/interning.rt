@@ -116,8 +116,8 @@ fn column_numbers(
     }
 }
 
-// The most different values of a column that are searched together.
-const MOST_TOGETHER: usize = 32768;
+/// The most different values that are searched together.
+pub const MOST_TOGETHER: usize = 32768;
 
 // The number of each row's value at an attribute, or nothing where there are too many different ones.
 fn numbers_of_few(

@@ -3,7 +3,7 @@
 ghost use Rattle.std.specs.Prelude.{◌≡◌, ◌≢◌, ◌<◌, ◌≤◌, ◌^◌, ℕ, List, [], length, All, IfOk, OnOk, slice_index_or};
 ghost use Rattle.dep_model.specs.Tuples.{value_at};
 ghost use Rattle.row_store.specs.Rows.{row_at};
-ghost use Rattle.csv_rows.specs.Buckets.{AreLeaders, IsBucket, IsLeader, bucket_of};
+ghost use Rattle.csv_rows.specs.Buckets.{AreLeaders, IsBucket, IsLeader, bucket_of_bytes};
 ghost use Rattle.csv_rows.specs.Numberings.{AreNumbered, number_at};
 
 use crate::buckets::{BUCKETS, Bucket, rows_in_buckets};
@@ -48,8 +48,9 @@ fn lead_bucket(
     requires within { All (λ row. row < length leaders.old.items) bucket.now.rows.items }
     requires fits_u32 { length bucket.now.rows.items < 2 ^ 32 }
     ensures count { OnOk result (length leaders.new.items ≡ length leaders.old.items) }
-    ensures led { (value : ℕ → List ℕ) (n place : ℕ) → IsBucket value n place bucket.now
-        → OnOk result ((i : ℕ) → i < n → bucket_of (value i) ≡ place
+    ensures led { (value : ℕ → List ℕ) (n place : ℕ)
+        → IsBucket bucket_of_bytes value n place bucket.now.rows.items bucket.now.values
+        → OnOk result ((i : ℕ) → i < n → bucket_of_bytes (value i) ≡ place
         → IsLeader value i (number_at leaders.new.items i)) }
     ensures others { OnOk result ((i : ℕ)
         → ((k : ℕ) → k < length bucket.now.rows.items → number_at bucket.now.rows.items k ≢ i)
@@ -80,8 +81,8 @@ fn value_numbers(
     Ok(numbers)
 }
 
-// The leader of each of these rows is the row at the first position of its number.
-fn lead_rows(rows: &[u32], numbers: &[u32], firsts: &[u32], leaders: &mut Vec<u32>)
+/// The leader of each of these rows is the row at the first position of its number.
+pub fn lead_rows(rows: &[u32], numbers: &[u32], firsts: &[u32], leaders: &mut Vec<u32>)
     requires even { length numbers.now ≡ length rows.now }
     requires numbers { All (λ number. number < length firsts.now) numbers.now }
     requires firsts { All (λ first. first < length rows.now) firsts.now }
@@ -102,8 +103,10 @@ fn lead_rows(rows: &[u32], numbers: &[u32], firsts: &[u32], leaders: &mut Vec<u3
 pub fn numbers_by_leaders(alloc: Global, leaders: &[u32]) -> Result<Vec<u32>, OutOfMemory>
     requires no_later { (i : ℕ) → i < length leaders.now → number_at leaders.now i ≤ i }
     requires fits_u32 { length leaders.now < 2 ^ 32 }
-    ensures numbered { (value : ℕ → List ℕ) → AreLeaders value leaders.now → IfOk result
+    ensures values { (value : ℕ → List ℕ) → AreLeaders value leaders.now → IfOk result
         (λ v. (seen : List (List ℕ)) × AreNumbered value (length leaders.now) seen v.items) }
+    ensures pairs { (value : ℕ → ℕ × ℕ) → AreLeaders value leaders.now → IfOk result
+        (λ v. (seen : List (ℕ × ℕ)) × AreNumbered value (length leaders.now) seen v.items) }
 {
     let mut numbers = Vec::with_capacity(alloc, leaders.len())?;
     let mut count = 0;

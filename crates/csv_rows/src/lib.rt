@@ -18,6 +18,8 @@ mod header;
 mod interning;
 mod laws;
 mod leaders;
+mod pair_buckets;
+mod pair_leaders;
 mod part;
 mod printing;
 mod quotes;

@@ -1,6 +1,6 @@
 -- What is left to prove of `numbers_by_leaders`: that a round of its loop keeps the invariant, by `first_led` and
 -- `later_led`, and its clause.
-use Rattle.std.proofs.Common.{arith, ◌≡◌, ◌<◌, ◌+◌, ◌∷◌, ◌++◌, [], ℕ, List, length, length-append, ap, sym, subst, ◌∙◌}
+use Rattle.std.proofs.Common.{arith, ◌≡◌, ◌<◌, ◌+◌, ◌∷◌, ◌++◌, [], ℕ, List, length, length-append, ap, subst, ◌∙◌}
 use Rattle.csv_rows.specs.Numberings.{AreNumbered, number_at}
 use Rattle.csv_rows.proofs.LeaderLemmas.{first_led, later_led}
 use Rattle.csv_rows.proofs.NumberingLemmas.{same_default}
@@ -16,9 +16,12 @@ loop-row-preserved c =
       | then-leader-row+in_ok-push w ↦ record {
         one_each = rw w.numbers-is (ap length w.in_ok-push.ensures.items ∙ length-append numbers (c.loop-row.count ∷ []) ∙ ap (λ (k : ℕ). k + 1) old.one_each);
         few = rw w.count-is (omega (arith, old.few));
-        so_far = λ value led. rw (w.numbers-is, w.count-is)
+        values = λ value led. rw (w.numbers-is, w.count-is)
             (first_led value c.args.leaders.now led row c.loop-row.count numbers _ (omega (arith, c.loop-row-test.true))
-            w.if-leader-row.true (old.so_far value led) w.in_ok-push.ensures.items);
+            w.if-leader-row.true (old.values value led) w.in_ok-push.ensures.items);
+        pairs = λ value led. rw (w.numbers-is, w.count-is)
+            (first_led value c.args.leaders.now led row c.loop-row.count numbers _ (omega (arith, c.loop-row-test.true))
+            w.if-leader-row.true (old.pairs value led) w.in_ok-push.ensures.items);
       }
       | else-leader-row+in_ok-push-2 w ↦
           let leader : ℕ = number_at c.args.leaders.now row in
@@ -29,19 +32,29 @@ loop-row-preserved c =
           record {
             one_each = rw w.numbers-is (ap length w.in_ok-push-2.ensures.items ∙ length-append numbers (_ ∷ []) ∙ ap (λ (k : ℕ). k + 1) old.one_each);
             few = rw w.count-is (omega (arith, old.few));
-            so_far = λ value led. rw (w.numbers-is, w.count-is)
+            values = λ value led. rw (w.numbers-is, w.count-is)
                 (later_led value c.args.leaders.now led row c.loop-row.count numbers _ (omega (arith, c.loop-row-test.true))
-                w.if-leader-row.false (old.so_far value led)
+                w.if-leader-row.false (old.values value led)
+                (w.in_ok-push-2.ensures.items ∙ ap (λ (r : ℕ). numbers ++ r ∷ []) read));
+            pairs = λ value led. rw (w.numbers-is, w.count-is)
+                (later_led value c.args.leaders.now led row c.loop-row.count numbers _ (omega (arith, c.loop-row-test.true))
+                w.if-leader-row.false (old.pairs value led)
                 (w.in_ok-push-2.ensures.items ∙ ap (λ (r : ℕ). numbers ++ r ∷ []) read));
           }
     ]
 
 pub returns : goal.returns
-returns c = record {
-  numbered = λ value led.
+returns c =
     let end : c.loop-row.row ≡ length c.args.leaders.now = omega (arith, c.loop-row-test.false, c.loop-row.auto.row-end) in
-    let so_far = c.loop-row.invariant.so_far value led in (
-      so_far.seen,
-      subst (λ (n : ℕ). AreNumbered value n so_far.seen c.loop-row.numbers.items) end so_far.numbered,
-    );
-}
+    record {
+      values = λ value led.
+          let so_far = c.loop-row.invariant.values value led in (
+            so_far.seen,
+            subst (λ (n : ℕ). AreNumbered value n so_far.seen c.loop-row.numbers.items) end so_far.numbered,
+          );
+      pairs = λ value led.
+          let so_far = c.loop-row.invariant.pairs value led in (
+            so_far.seen,
+            subst (λ (n : ℕ). AreNumbered value n so_far.seen c.loop-row.numbers.items) end so_far.numbered,
+          );
+    }

@@ -8,5 +8,6 @@ abbrev pub invariant-loop-row : goal.invariant-loop-row
 invariant-loop-row l = record {
   one_each : length l.numbers.items ≡ l.row;
   few : l.count ≤ l.row;
-  so_far : (value : ℕ → List ℕ) → AreLeaders value l.leaders → LedSoFar value l.row l.count l.numbers.items;
+  values : (value : ℕ → List ℕ) → AreLeaders value l.leaders → LedSoFar value l.row l.count l.numbers.items;
+  pairs : (value : ℕ → ℕ × ℕ) → AreLeaders value l.leaders → LedSoFar value l.row l.count l.numbers.items;
 }

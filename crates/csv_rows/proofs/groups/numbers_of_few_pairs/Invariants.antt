@@ -1,8 +1,8 @@
--- What the loop of `numbered_pairs` keeps: what is kept of the pairs so far, and their numbers.
+-- What the loop of `numbers_of_few_pairs` keeps: what is kept of the pairs so far, and their numbers.
 use Rattle.std.proofs.Common.{◌≡◌, ◌≤◌, length}
 use Rattle.csv_rows.specs.Numberings.{AreInOrder}
 use Rattle.csv_rows.proofs.PairLemmas.{Numbers}
-use Rattle.csv_rows.proofs.groups.numbered_pairs.Given as goal
+use Rattle.csv_rows.proofs.groups.numbers_of_few_pairs.Given as goal
 
 abbrev pub invariant-loop-i : goal.invariant-loop-i
 invariant-loop-i l = record {
