@@ -82,6 +82,13 @@ def lines(texts):
     return "".join(text + "\n" for text in texts)
 
 
+def rows_of_many_values(count, last):
+    """So many rows of a number, one of 40,000 values, one of three, and what those two give; of the last row another."""
+    of_pair = [f"{i},{i % 40000},{i // 40000 % 3},{i % 40000}-{i // 40000 % 3}" for i in range(count)]
+    of_pair[-1] = of_pair[-1].rsplit(",", 1)[0] + "," + last
+    return "A,B,C,D\n" + lines(of_pair)
+
+
 def filled(front, size):
     """A text of this size that begins so; where that ends with `#`, the rest is a comment."""
     return front + "x" * (size - len(front))
