@@ -10,16 +10,7 @@ use Rattle.schema_printer.specs.Printing.{set_text}
 use Rattle.schema_printer.specs.Spelling.{printed_names_of}
 use Rattle.table_names.specs.TableNames.{table_name}
 use Rattle.ddl_text.specs.declared.table.TableDesign.{TableDesign}
-
--- a byte in an HTML label: `&`, `<`, `>` and `"` as entities
-abbrev pub html_byte : ℕ → List ℕ
-html_byte b =
-    if b == 38 then codes "&amp;" else if b == 60 then codes "&lt;" else if b == 62 then codes "&gt;"
-    else if b == 34 then codes "&quot;" else b ∷ []
-
--- a text in an HTML label
-unfoldable pub html_text : List ℕ → List ℕ
-html_text text = flat_map html_byte text
+use Rattle.html_escapes.specs.Escapes.{html_text}
 
 -- a byte in a label between double quotes: `\` before `"` and `\`
 abbrev pub label_byte : ℕ → List ℕ

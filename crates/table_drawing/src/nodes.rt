@@ -5,10 +5,10 @@ ghost use Rattle.dep_model.specs.Schemas.{width_of};
 ghost use Rattle.table_names.specs.TableNames.{table_name};
 ghost use Rattle.table_drawing.specs.Drawing.{marked_text, row_text, table_rows_text, node_head, node_text};
 
-use crate::escapes::add_html;
 use attr_sets::AttrSet;
 use ddl_text::TableDesign;
 use dep_model::{OutOfMemory, Schema};
+use html_escapes::add_html;
 use schema_printer::add;
 use std::alloc::Global;
 use table_names::table_name;
