@@ -1,5 +1,9 @@
-"""Large inputs of the black-box cases, each from few numbers."""
+"""Large inputs of the black-box cases, each from few numbers, and what pages have around their pieces."""
 import itertools
+import pathlib
+import re
+
+ROOT = pathlib.Path(__file__).resolve().parent.parent
 
 
 def attributes(count, first="a"):
@@ -130,3 +134,26 @@ def joined_lines(leaves):
     text = unused_lines(leaves)
     text += lines(f"{leaves + i}: A -> A : transitivity {2 * i - 1} {2 * i}" for i in range(1, leaves))
     return text + f"{2 * leaves}: A -> A : augmentation {2 * leaves - 1} with A\n"
+
+
+def style():
+    """The style of pages, one fixed text that is free, as the code has it."""
+    text = (ROOT / "crates/html_pages/src/style.rt").read_text()
+    return re.search(r'b"(:root.*?)\n";', text, re.DOTALL)[1].replace('\\"', '"') + "\n"
+
+
+def page_front(name):
+    """A page of a name up to its sections; the name is HTML."""
+    return ('<!DOCTYPE html>\n<html lang="en"><head><meta charset="utf-8">'
+            '<meta name="viewport" content="width=device-width, initial-scale=1">'
+            f"<title>{name}</title><style>{style()}</style></head><body>\n<h1>{name}</h1>\n")
+
+
+def page(name, sections):
+    """A page with these sections."""
+    return page_front(name) + sections.lstrip("\n") + "</body></html>\n"
+
+
+def file_of(path):
+    """The text of a file of the repository."""
+    return (ROOT / path).read_text()

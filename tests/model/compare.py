@@ -502,6 +502,23 @@ def f_draw(m):
     return ["draw", m.r.choice(model.FORMS), "s"], {"s": m.schema_text(m.schema(1, 6))}
 
 
+def f_report(m):
+    if m.r.random() < .4:
+        return with_plan(m, ["report", "s", "p"])
+    schema = m.schema_text(m.schema(1, 6))
+    name = m.r.choice(("s", "s", 'a "<b>&amp;\'.schema', "s -> t"))
+    if m.r.random() < .05:
+        schema = m.mutated(schema, PIECES)
+    return ["report", name], {name: schema}
+
+
+def f_report_wide(m):
+    names, columns, deps = wide(m, m.r.randint(0, 2))
+    if 12 < bin(sum_or(x for _, x, _ in deps)).count("1") <= 20:
+        deps.pop()      # the model would try all sets of so many
+    return ["report", "s"], {"s": m.schema_text((names, columns, deps))}
+
+
 def f_rows(m):
     s = m.schema(1, 5)
     return ["check", "rows", "s", "r"], {"s": m.schema_text(s), "r": m.csv(s[0], m.rows(s, m.r.choice((4, 8, 16))))}
@@ -689,7 +706,7 @@ def f_sql(m):
 
 
 ALL_WORDS = ["implies", "keys", "cover", "synthesize", "split", "bcnf", "4nf", "3nf", "wide-bcnf", "ddl", "plan", "check", "proof", "join", "form",
-             "rows", "same", "keeps", "migrate", "sample", "exhibit", "discover", "import", "csv", "rejoin", "basis", "closure", "project", "key", "explain", "sql", "draw", "measure", "offences", "kept", "into", "help", "--help", "-h", "--version",
+             "report", "rows", "same", "keeps", "migrate", "sample", "exhibit", "discover", "import", "csv", "rejoin", "basis", "closure", "project", "key", "explain", "sql", "draw", "measure", "offences", "kept", "into", "help", "--help", "-h", "--version",
              "s", "p", "r", "A -> B", "1", "missing", "", "Keys", "table"]
 
 
@@ -720,6 +737,25 @@ def check_certificate(words, files, text):
     return None
 
 
+def difference_of_page(program, words, files, folder, text, want):
+    """What is wrong with a page, or None: its style is free, and each derivation of a goal is what `implies` prints."""
+    before, _, rest = text.partition(b"<style>")
+    style, _, _ = rest.partition(b"<")
+    pieces = want.replace(model.STYLE, style).split(b"\0")
+    for k in range(1, len(pieces), 2):
+        goal = ["implies", words[1], os.fsdecode(pieces[k])]
+        done = subprocess.run([program, *goal], cwd=folder, stdin=subprocess.DEVNULL, capture_output=True, timeout=120)
+        wrong = check_certificate(goal, files, done.stdout)
+        if wrong:
+            return f"{goal}: {wrong}"
+        pieces[k] = model.html(done.stdout)
+    want = b"".join(pieces)
+    if text == want:
+        return None
+    at = next((i for i, (one, other) in enumerate(zip(text, want)) if one != other), min(len(text), len(want)))
+    return f"at byte {at}: {text[max(at - 200, 0):at + 200]!r}\n   the model {want[max(at - 200, 0):at + 200]!r}"
+
+
 def difference(program, words, files):
     with tempfile.TemporaryDirectory() as folder:
         for name, data in files.items():
@@ -727,8 +763,9 @@ def difference(program, words, files):
                 f.write(data)
         done = subprocess.run([program, *words], cwd=folder, stdin=subprocess.DEVNULL, capture_output=True, timeout=120)
         wrote = {os.path.relpath(path, folder): path.read_bytes() for path in pathlib.Path(folder).rglob("*") if path.is_file()}
-    want = model.run(words, files)
-    wrong = []
+        want = model.run(words, files)
+        page = difference_of_page(program, words, files, folder, done.stdout, want.text) if want.free == "page" else None
+    wrong = [page] if page else []
     if done.returncode != want.status:
         wrong.append(f"status {done.returncode}, the model has {want.status}")
     if want.free == "certificate":

@@ -19,6 +19,8 @@ files_of_task (form.check_derivation file goal) = file ∷ []
 files_of_task (form.check_same file other_file) = other_file ∷ []
 files_of_task (form.check_cover file other_file) = other_file ∷ []
 files_of_task (form.rejoin files) = files
+files_of_task (form.report file) = []
+files_of_task (form.report_plan file planned) = planned ∷ []
 
 abbrev pub files_of_command : CommandForm → List (List ℕ)
 files_of_command (form.over_schema file task) = file ∷ files_of_task task

@@ -64,6 +64,9 @@ help_text =
     ++ line (codes "desk sql migrate plan SCHEMA PLAN TABLE  the same of the plan")
     ++ line (codes "desk draw FORM SCHEMA                 a picture of the tables in the form, for Graphviz")
     ++ line (codes "desk draw plan SCHEMA PLAN            the same of the plan")
+    ++ line (codes "desk report SCHEMA                    "
+    ++ codes "a page of HTML that says of the schema what the commands say, with pictures")
+    ++ line (codes "desk report SCHEMA PLAN               the same with the tables of the plan")
     ++ line (codes "desk help                             this text")
     ++ line (codes "desk --version                        the release")
     ++ line (codes "Status: 0 yes, 1 no, 2 refused, 3 a file cannot be read, 4 the output cannot be written, "

@@ -41,6 +41,7 @@ use Rattle.desk_measures.specs.Offences.{ListsOffences, ListsOffencesByRow}
 use Rattle.desk_measures.specs.Untyped.{HasTextsAlone}
 use Rattle.desk_reasons.specs.SplitReasons.{ExplainsSplit}
 use Rattle.desk_reasons.specs.SynthesisReasons.{ExplainsSynthesis}
+use Rattle.desk_reports.specs.Reports.{ReportsPlan, ReportsSchema}
 use Rattle.desk_tables.specs.Migrations.{Samples}
 use Rattle.desk_tables.specs.Overwriting.{MigratesHere, MigratesPlanHere}
 use Rattle.desk_tables.specs.OwnFolders.{Looks, MigratesInto, MigratesPlanInto}
@@ -136,6 +137,9 @@ Does looks r schema (form.check_same file other_file) =
 Does looks r schema (form.check_cover file other_file) =
     WithFile schema_file r other_file (λ other. ChecksCover schema other file other_file)
 Does looks r schema (form.rejoin files) = WithParts r schema files (λ parts. JoinsTables schema (tables_of parts))
+Does looks r schema (form.report file) = ReportsSchema file schema
+Does looks r schema (form.report_plan file planned) =
+    WithFile (plan_file schema) r planned (λ plan. ReportsPlan file planned schema plan)
 
 -- a command
 unfoldable pub Performs : Looks → Reading → CommandForm → Allowed

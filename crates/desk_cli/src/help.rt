@@ -49,6 +49,8 @@ desk sql migrate FORM SCHEMA TABLE    statements that make the tables in the for
 desk sql migrate plan SCHEMA PLAN TABLE  the same of the plan
 desk draw FORM SCHEMA                 a picture of the tables in the form, for Graphviz
 desk draw plan SCHEMA PLAN            the same of the plan
+desk report SCHEMA                    a page of HTML that says of the schema what the commands say, with pictures
+desk report SCHEMA PLAN               the same with the tables of the plan
 desk help                             this text
 desk --version                        the release
 Status: 0 yes, 1 no, 2 refused, 3 a file cannot be read, 4 the output cannot be written, 5 a target failed, 6 want of memory.

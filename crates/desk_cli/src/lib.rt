@@ -8,6 +8,8 @@
 
 mod help;
 pub mod limits;
+mod migrations;
+mod pages;
 mod questions;
 mod tasks;
 mod top;

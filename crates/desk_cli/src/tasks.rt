@@ -1,5 +1,6 @@
 //! What is asked of files: they are read one after the other, in the order of the words, and then the
-//! question is put to what was read. No other function of this crate reads a file.
+//! question is put to what was read. What moves rows into tables stands in `migrations`, and what makes a page of
+//! a plan in `pages`; no function elsewhere in this crate reads a file.
 
 ghost use Rattle.std.specs.Prelude.{◌≡◌, ◌≤◌, ◌∷◌, []};
 ghost use Rattle.desk_words.specs.Commands.{plan_question, rows_question, rules_question, task_form};
@@ -12,8 +13,6 @@ ghost use Rattle.desk_columns.specs.Imports.{ImportsColumns};
 ghost use Rattle.desk_inputs.specs.Headed.{headed_file, imported_file};
 ghost use Rattle.desk_derivations.specs.Derivations.{ChecksDerivation};
 ghost use Rattle.desk_inputs.specs.Inputs.{derivation_file, proof_file, schema_file};
-ghost use Rattle.desk_tables.specs.Overwriting.{MigratesHere, MigratesPlanHere};
-ghost use Rattle.desk_tables.specs.OwnFolders.{MigratesInto, MigratesPlanInto};
 ghost use Rattle.desk_inputs.specs.Parts.{WithParts};
 ghost use Rattle.desk_cli.specs.FilesRead.{files_of_task};
 ghost use Rattle.desk_cli.specs.Performs.{AnswersPlan, AnswersRows, AnswersRules, Does, WithValues};
@@ -25,6 +24,8 @@ ghost use Rattle.desk_responses.specs.Responses.{RespondsAs};
 ghost use Rattle.desk_inputs.specs.Rows.{rows_file};
 ghost use Rattle.desk_covers.specs.Sameness.{ChecksSame};
 
+use crate::migrations::{of_plan_and_rows, of_plan_and_rows_into, of_rows_in_form, of_rows_into};
+use crate::pages::of_page_and_plan;
 use crate::questions::{answer_plan, answer_rows, answer_rules, answer_schema};
 use dep_model::Schema;
 use desk_columns::import_columns;
@@ -37,12 +38,10 @@ use desk_inputs::{
 };
 use desk_measures::{measure_rows, text_columns_alone};
 use desk_outside::{Argument, FileSource};
+use desk_reports::report_schema;
 use desk_responses::{EarlyExit, Response};
-use desk_tables::{
-    migrate_form_here, migrate_form_into, migrate_plan_here, migrate_plan_into, rejoin,
-};
+use desk_tables::rejoin;
 use desk_words::{MOST_FILES, PlanQuestion, RowsQuestion, RulesQuestion, Task};
-use normal_forms::Form;
 use own_folder::FolderMaker;
 use row_store::Hashing;
 use std::alloc::Global;
@@ -114,6 +113,8 @@ fn perform_task<F: FileSource, M: FolderMaker>(
         Task::CheckSame { file, other } => of_schemas(alloc, source, schema, file, other),
         Task::CheckCover { file, other } => of_cover(alloc, source, schema, file, other),
         Task::Rejoin { files } => of_parts(alloc, hashing, source, schema, files),
+        Task::Report { file } => report_schema(alloc, schema, file),
+        Task::ReportPlan { file, plan } => of_page_and_plan(alloc, source, schema, file, plan),
     }
 }
 
@@ -188,147 +189,6 @@ fn of_values<F: FileSource>(
         Err(exit) => return Err(exit),
     };
     measure_rows(alloc, hashing, schema, &rows)
-}
-
-// The rows of a file, as tables in a normal form of the schema, which is in its own file.
-fn of_rows_in_form<F: FileSource>(
-    alloc: Global,
-    hashing: Hashing,
-    source: &mut F,
-    schema: &Schema,
-    own: &Argument,
-    file: &Argument,
-    form: Form,
-) -> Result<Response, EarlyExit>
-    ensures files { F.files source.new ≡ F.files source.old }
-    ensures later { F.faults source.old ≤ F.faults source.new }
-    ensures reads { BeginsFront (file.now ∷ [])
-        (F.begun source.old) (F.begun source.new) }
-    ensures response { (r : Reading) → Shows F.files F.faults F.taken F.begun source.old source.new r
-        → RespondsAs (WithFile (rows_file schema.now) r file.now
-        (MigratesHere schema.now form (own.now ∷ file.now ∷ []))) result }
-{
-    let rows = match open_rows(alloc, source, schema, file) {
-        Ok(rows) => rows,
-        Err(exit) => return Err(exit),
-    };
-    migrate_form_here(
-        alloc,
-        hashing,
-        schema,
-        form,
-        own.bytes(),
-        file.bytes(),
-        rows,
-    )
-}
-
-// The rows of a file, as tables of the plan of another.
-fn of_plan_and_rows<F: FileSource>(
-    alloc: Global,
-    hashing: Hashing,
-    source: &mut F,
-    schema: &Schema,
-    own: &Argument,
-    planned: &Argument,
-    file: &Argument,
-) -> Result<Response, EarlyExit>
-    ensures files { F.files source.new ≡ F.files source.old }
-    ensures later { F.faults source.old ≤ F.faults source.new }
-    ensures reads { BeginsFront (planned.now ∷ file.now ∷ [])
-        (F.begun source.old) (F.begun source.new) }
-    ensures response { (r : Reading) → Shows F.files F.faults F.taken F.begun source.old source.new r
-        → RespondsAs (WithFile (plan_file schema.now) r planned.now
-        (λ plan. WithFile (rows_file schema.now) r file.now
-        (MigratesPlanHere schema.now plan.names plan.schemes (own.now ∷ planned.now ∷ file.now ∷ [])))) result }
-{
-    let plan = match open_plan(alloc, source, schema, planned) {
-        Ok(plan) => plan,
-        Err(exit) => return Err(exit),
-    };
-    let rows = match open_rows(alloc, source, schema, file) {
-        Ok(rows) => rows,
-        Err(exit) => return Err(exit),
-    };
-    migrate_plan_here(
-        alloc,
-        hashing,
-        schema,
-        &plan.plan,
-        &plan.names,
-        own.bytes(),
-        planned.bytes(),
-        file.bytes(),
-        rows,
-    )
-}
-
-// The rows of a file, as tables in a normal form, in a folder of their own.
-fn of_rows_into<F: FileSource, M: FolderMaker>(
-    alloc: Global,
-    hashing: Hashing,
-    source: &mut F,
-    place: &M,
-    schema: &Schema,
-    file: &Argument,
-    form: Form,
-    folder: &Argument,
-) -> Result<Response, EarlyExit>
-    ensures files { F.files source.new ≡ F.files source.old }
-    ensures later { F.faults source.old ≤ F.faults source.new }
-    ensures reads { BeginsFront (file.now ∷ [])
-        (F.begun source.old) (F.begun source.new) }
-    ensures response { (r : Reading) → Shows F.files F.faults F.taken F.begun source.old source.new r
-        → RespondsAs (WithFile (rows_file schema.now) r file.now
-        (MigratesInto (M.may_be_free place.now) schema.now form folder.now)) result }
-{
-    let rows = match open_rows(alloc, source, schema, file) {
-        Ok(rows) => rows,
-        Err(exit) => return Err(exit),
-    };
-    let is_free = place.is_free(folder.bytes());
-    migrate_form_into(alloc, hashing, schema, form, folder, is_free, rows)
-}
-
-// The rows of a file, as tables of the plan of another, in a folder of their own.
-fn of_plan_and_rows_into<F: FileSource, M: FolderMaker>(
-    alloc: Global,
-    hashing: Hashing,
-    source: &mut F,
-    place: &M,
-    schema: &Schema,
-    planned: &Argument,
-    file: &Argument,
-    folder: &Argument,
-) -> Result<Response, EarlyExit>
-    ensures files { F.files source.new ≡ F.files source.old }
-    ensures later { F.faults source.old ≤ F.faults source.new }
-    ensures reads { BeginsFront (planned.now ∷ file.now ∷ [])
-        (F.begun source.old) (F.begun source.new) }
-    ensures response { (r : Reading) → Shows F.files F.faults F.taken F.begun source.old source.new r
-        → RespondsAs (WithFile (plan_file schema.now) r planned.now
-        (λ plan. WithFile (rows_file schema.now) r file.now
-        (MigratesPlanInto (M.may_be_free place.now) schema.now plan.names plan.schemes folder.now))) result }
-{
-    let plan = match open_plan(alloc, source, schema, planned) {
-        Ok(plan) => plan,
-        Err(exit) => return Err(exit),
-    };
-    let rows = match open_rows(alloc, source, schema, file) {
-        Ok(rows) => rows,
-        Err(exit) => return Err(exit),
-    };
-    let is_free = place.is_free(folder.bytes());
-    migrate_plan_into(
-        alloc,
-        hashing,
-        schema,
-        &plan.plan,
-        &plan.names,
-        folder,
-        is_free,
-        rows,
-    )
 }
 
 // Whether the certificate of a file proves a goal.

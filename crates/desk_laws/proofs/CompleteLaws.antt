@@ -93,18 +93,25 @@ nullable_same s r same = ap (λ (d : Declarations). d.nullable) same
 AreSame-alike : (s r : Schema) → AreSame s r → AreAlike s r
 AreSame-alike s r same = record { naming = naming_same s r same; names = names_same s r same; theory = ap (λ (d : Declarations). d.deps) same }
 
-pub after_schema : (files : Files) (name : List ℕ) (s : Schema) (rest : Schema → Allowed) (response : ResponseValue)
-    → IsFile schema_file (known_files files) name s
-    → ((r : Schema) → AreSame s r → rest r response → IsYesOrNo response.status)
-    → WithFile schema_file (known_files files) name rest response → IsYesOrNo response.status
-after_schema files name s rest response file go (inl exit) =
+-- what is said of each answer on the schema of a file
+pub on_schema : (Said : ResponseValue → Type 0) (files : Files) (name : List ℕ) (s : Schema) (rest : Schema → Allowed)
+    (response : ResponseValue) → IsFile schema_file (known_files files) name s
+    → ((r : Schema) → AreSame s r → rest r response → Said response)
+    → WithFile schema_file (known_files files) name rest response → Said response
+on_schema Said files name s rest response file go (inl exit) =
     absurd (schema_goes files name file.bytes (declarations_of s) response file.content.0 file.content.1 file.means exit)
-after_schema files name s rest response file go (inr (r, is, more)) =
+on_schema Said files name s rest response file go (inr (r, is, more)) =
     let moved : MeansSchema file.bytes (declarations_of r) =
     subst (λ (b : List ℕ). MeansSchema b (declarations_of r)) (one_content files name is.bytes file.bytes is.content.0 file.content.0) is.means in
     let same = the_ok {A = Declarations} {E = SchemaRefusal} (declarations_of s) (declarations_of r)
     (sym ((schema-law file.bytes (declarations_of s)).1 file.means) ∙ (schema-law file.bytes (declarations_of r)).1 moved) in
     go r same more
+
+pub after_schema : (files : Files) (name : List ℕ) (s : Schema) (rest : Schema → Allowed) (response : ResponseValue)
+    → IsFile schema_file (known_files files) name s
+    → ((r : Schema) → AreSame s r → rest r response → IsYesOrNo response.status)
+    → WithFile schema_file (known_files files) name rest response → IsYesOrNo response.status
+after_schema = on_schema (λ answer. IsYesOrNo answer.status)
 
 -- ---- goals
 goal_moved : (s r : Schema) (goal : List ℕ) (dep : Dependency) → AreSame s r → MeansGoal (naming_of s) (names_of s) goal dep
@@ -272,19 +279,20 @@ same_tables : (schemes others : List Attributes) (names ordered : List (Option (
     → ◌≡◌ {A = NamedSchemes} (record { schemes = schemes; names = names }) (record { schemes = others; names = ordered })
 same_tables schemes others names ordered at also = cc
 
-pub after_plan : (files : Files) (s r : Schema) (name : List ℕ) (plan : NamedSchemes) (rest : NamedSchemes → Allowed)
-    (response : ResponseValue)
+-- what is said of each answer on the plan of a file
+pub on_plan : (Said : ResponseValue → Type 0) (files : Files) (s r : Schema) (name : List ℕ) (plan : NamedSchemes)
+    (rest : NamedSchemes → Allowed) (response : ResponseValue)
     → AreSame s r → IsFile (plan_file s) (known_files files) name plan
-    → ((p : NamedSchemes) → p ≡ plan → rest p response → IsYesOrNo response.status)
-    → WithFile (plan_file r) (known_files files) name rest response → IsYesOrNo response.status
-after_plan files s r name plan rest response same file go (inl (inl exit)) =
+    → ((p : NamedSchemes) → p ≡ plan → rest p response → Said response)
+    → WithFile (plan_file r) (known_files files) name rest response → Said response
+on_plan Said files s r name plan rest response same file go (inl (inl exit)) =
     absurd (file_goes files name file.bytes MOST_PLAN_BYTES response file.content.0 file.content.1 exit)
-after_plan files s r name plan rest response same file go (inl (inr (refusal, is, says))) =
+on_plan Said files s r name plan rest response same file go (inl (inr (refusal, is, says))) =
     let means = plan_moved s r file.bytes file.means.read same file.means.means in
     let here : RefusesPlan (naming_of r) (names_of r) file.bytes refusal =
     subst (λ (b : List ℕ). RefusesPlan (naming_of r) (names_of r) b refusal) (one_content files name is.bytes file.bytes is.content.0 file.content.0) is.refused in
     absurd (plan_never_both (naming_of r) (names_of r) file.bytes file.means.read refusal means here)
-after_plan files s r name plan rest response same file go (inr (p, is, more)) =
+on_plan Said files s r name plan rest response same file go (inr (p, is, more)) =
     let means = plan_moved s r file.bytes file.means.read same file.means.means in
     let here : MeansPlan (naming_of r) (names_of r) file.bytes is.means.read =
     subst (λ (b : List ℕ). MeansPlan (naming_of r) (names_of r) b is.means.read) (one_content files name is.bytes file.bytes is.content.0 file.content.0) is.means.means in
@@ -294,6 +302,13 @@ after_plan files s r name plan rest response same file go (inr (p, is, more)) =
     (order_moved s r is.means.read file.means.read p.names same read is.means.order) file.means.order in
     go p (same_tables p.schemes plan.schemes p.names plan.names
     (is.means.schemes ∙ ap (λ (q : NamedSchemes). q.schemes) read ∙ sym file.means.schemes) names) more
+
+pub after_plan : (files : Files) (s r : Schema) (name : List ℕ) (plan : NamedSchemes) (rest : NamedSchemes → Allowed)
+    (response : ResponseValue)
+    → AreSame s r → IsFile (plan_file s) (known_files files) name plan
+    → ((p : NamedSchemes) → p ≡ plan → rest p response → IsYesOrNo response.status)
+    → WithFile (plan_file r) (known_files files) name rest response → IsYesOrNo response.status
+after_plan = on_plan (λ answer. IsYesOrNo answer.status)
 
 judges_join : (r : Schema) (plan : List Attributes) (response : ResponseValue) → (IsTooLarge r plan → ⊥) → JudgesJoin r plan response
     → IsYesOrNo response.status

@@ -11,8 +11,10 @@ mod ReasonLaws
 mod MeasureLaws
 mod FolderLaws
 pub mod ScriptLaws
+mod PageLaws
 pub mod BegunLaws
 mod OneInput
+mod OnePage
 mod OneTask
 mod DerivationLaws
 mod SampleWords

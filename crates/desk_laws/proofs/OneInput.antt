@@ -70,6 +70,28 @@ module _ (files : Files) where
             covers = means.means.covers;
           })
 
+  -- what is said of any two answers: of equal ones, and of those on the plan of a file
+  pub after_one_plan : (s : Schema) (name : List ℕ) (C : ResponseValue → ResponseValue → Type 0)
+      (rest : NamedSchemes → Allowed) → ((one other : ResponseValue) → one ≡ other → C one other)
+      → ((plan : NamedSchemes) (one other : ResponseValue) → rest plan one → rest plan other → C one other)
+      → (one other : ResponseValue) → WithFile (plan_file s) known name rest one
+      → WithFile (plan_file s) known name rest other → C one other
+  after_one_plan s name C rest by_path alike one other (inl stops) (inl also) =
+      by_path one other
+      (one_stop files name (plan_file s) (λ (plan : NamedSchemes). plan) (MeansTables s) (plan_tables_once s)
+      (λ text plan means. means) one other stops also)
+  after_one_plan s name C rest by_path alike one other (inl stops) (inr (q, is, remains)) =
+      absurd (goes files name (plan_file s) (λ (plan : NamedSchemes). plan) (MeansTables s) (plan_tables_once s)
+      (λ text plan means. means) q one is stops)
+  after_one_plan s name C rest by_path alike one other (inr (p, is, rests)) (inl stops) =
+      absurd (goes files name (plan_file s) (λ (plan : NamedSchemes). plan) (MeansTables s) (plan_tables_once s)
+      (λ text plan means. means) p other is stops)
+  after_one_plan s name C rest by_path alike one other (inr (p, is, rests)) (inr (q, also, remains)) =
+      let same : p ≡ q =
+      one_view files name (plan_file s) (λ (plan : NamedSchemes). plan) (MeansTables s) (plan_tables_once s)
+      (λ text plan means. means) p q is also in
+      alike p one other rests (subst (λ (plan : NamedSchemes). rest plan other) (sym same) remains)
+
   pub one_after_rows : (s : Schema) (name : List ℕ) (rest : Relation → Allowed)
       → ((rows : Relation) → AllowsOne (rest rows)) → AllowsOne (WithFile (rows_file s) known name rest)
   one_after_rows s name rest each =

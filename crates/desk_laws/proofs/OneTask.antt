@@ -66,6 +66,7 @@ use Rattle.desk_inputs.specs.Readings.{known_files}
 use Rattle.desk_inputs.specs.Rows.{rows_file}
 use Rattle.desk_laws.proofs.OneFile.{goes, one_stop, one_view}
 use Rattle.desk_laws.proofs.OneInput.{one_after_derivation, one_after_parts, one_after_plan, one_after_proof, one_after_rows}
+use Rattle.desk_laws.proofs.OnePage.{two_pages, two_plan_pages}
 use Rattle.desk_laws.proofs.OneText.{schema_text_once}
 use Rattle.desk_laws.specs.OneReading.{IsOneButForProof}
 use Rattle.desk_responses.specs.ResponseValues.{Allowed, ResponseValue}
@@ -151,7 +152,7 @@ two_goals s goal one other (inr (d, is, inl found)) (inr (e, also, inr (broken, 
     (inr (e, also, inr (broken, (agreement, shows, says)))) (inr (d, is, inl found))))
 two_goals s goal one other (inr (d, is, inl (implied, (proof, proves, chain, direct, says))))
     (inr (e, also, inl (implied', (proof', proves', chain', direct', says')))) =
-    inr (record {
+    inr (inl (record {
       goal = goal;
       asks = refl;
       dependency = d;
@@ -162,7 +163,7 @@ two_goals s goal one other (inr (d, is, inl (implied, (proof, proves, chain, dir
       fixed = λ fixed. one_decision s goal d one other is (λ yes. fixed)
           (inr (d, is, inl (implied, (proof, proves, chain, direct, says))))
           (inr (e, also, inl (implied', (proof', proves', chain', direct', says'))));
-    })
+    }))
 
 fixed_moved : (s : Schema) (f : Frame s) (d : Dependency) → HasFixedProof s d → HasFixedProof (rebuilt s f) d
 fixed_moved s f (fd x y) fixed = said s f (λ ds. Implies (width_of s) (functional_part ds) (fd x y)) fixed
@@ -171,8 +172,8 @@ fixed_moved s f (mvd x y) (k, first) = (k, first_given_moved s f (mvd x y) k fir
 derive_back : (s : Schema) (f : Frame s) (task : Task) (one other : ResponseValue)
     → IsOneButForProof (rebuilt s f) task one other → IsOneButForProof s task one other
 derive_back s f task one other (inl same) = inl same
-derive_back s f task one other (inr derive) =
-    inr (record {
+derive_back s f task one other (inr (inl derive)) =
+    inr (inl (record {
       goal = derive.goal;
       asks = derive.asks;
       dependency = derive.dependency;
@@ -181,7 +182,8 @@ derive_back s f task one other (inr derive) =
       one_says_yes = derive.one_says_yes;
       other_says_yes = derive.other_says_yes;
       fixed = λ fixed. derive.fixed (fixed_moved s f derive.dependency fixed);
-    })
+    }))
+derive_back s f task one other (inr (inr report)) = inr (inr report)
 
 alike_goals : (goal : List ℕ) (s t : Schema) → DeclareTheSame s t → (one other : ResponseValue)
     → DecidesGoal s goal one → DecidesGoal t goal other
@@ -411,3 +413,7 @@ one_task looks files s t (form.rejoin names) one other single same first second 
     (λ parts. JoinsTables (rebuilt u f) (tables_of parts)) (λ parts. rejoined_moved u f (tables_of parts)))
     (λ u. one_after_parts files u names (JoinsTables u) (λ tables. one_rejoined u tables))
     s t same one other first second)
+one_task looks files s t (form.report file) one other single same first second =
+    two_pages file s t one other first second
+one_task looks files s t (form.report_plan file planned) one other single same first second =
+    two_plan_pages files file planned s t same one other first second

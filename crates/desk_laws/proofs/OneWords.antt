@@ -1,5 +1,5 @@
--- Words have one answer over known files, but for the derivation of a goal that is implied and for the refusal of a
--- search for rules.
+-- Words have one answer over known files, but for the derivation of a goal that is implied, for a page and for the
+-- refusal of a search for rules.
 use Rattle.std.proofs.Common.{◌≡◌, ◌≤◌, ◌<◌, ◌⊎◌, ℕ, List, length, Some, None, Option, refl, sym, ap, subst, ◌∙◌, inl, inr, arith}
 use Rattle.std.specs.Prelude.{codes, MatchOption}
 use Rattle.attr_sets.specs.Attributes.{Attributes}
@@ -36,7 +36,7 @@ use Rattle.desk_laws.proofs.OneTask.{after_schema, one_task}
 use Rattle.desk_laws.proofs.OneText.{names_and_rows}
 use Rattle.desk_laws.proofs.SampleWords.{sample_within}
 use Rattle.desk_tables.specs.OwnFolders.{HasOneLook, Looks}
-use Rattle.desk_laws.specs.OneReading.{AskForRules, AskWhatIsDerived, BothDerive, RefusesSearch}
+use Rattle.desk_laws.specs.OneReading.{AskForAPage, AskForRules, AskWhatIsDerived, BothDerive, BothReport, IsOneButForProof, RefusesSearch}
 use Rattle.desk_responses.specs.ResponseValues.{Allowed, ResponseValue, Says}
 use Rattle.desk_responses.specs.declared.status.Status.TheVariants.{Yes, Refused}
 use Rattle.desk_words.specs.Forms as form
@@ -120,21 +120,28 @@ IsRefusedSearch files command one other =
     × IsFile headed_file (known_files files) file headed
     × (RefusesSearch question file headed one ⊎ RefusesSearch question file headed other)
 
+-- a page is asked for
+abbrev IsPaged : CommandForm → ResponseValue → ResponseValue → Type 0
+IsPaged command one other =
+    (file : List ℕ) × (task : Task) × (command ≡ form.over_schema file task) × BothReport task one other
+
 abbrev IsFree : Files → CommandForm → ResponseValue → ResponseValue → Type 0
-IsFree files command one other = IsDerived files command one other ⊎ IsRefusedSearch files command one other
+IsFree files command one other =
+    IsDerived files command one other ⊎ (IsRefusedSearch files command one other ⊎ IsPaged command one other)
 
 after_one_task : (files : Files) (file : List ℕ) (task : Task) (s : Schema) (one other : ResponseValue)
-    → IsFile schema_file (known_files files) file s → (one ≡ other) ⊎ BothDerive s task one other
+    → IsFile schema_file (known_files files) file s → IsOneButForProof s task one other
     → (one ≡ other) ⊎ IsFree files (form.over_schema file task) one other
 after_one_task files file task s one other is (inl same) = inl same
-after_one_task files file task s one other is (inr derive) = inr (inl (file, task, s, refl, is, derive))
+after_one_task files file task s one other is (inr (inl derive)) = inr (inl (file, task, s, refl, is, derive))
+after_one_task files file task s one other is (inr (inr report)) = inr (inr (inr (file, task, refl, report)))
 
 after_rules : (files : Files) (question : RulesQuestion) (file : List ℕ) (k : Headed) (one other : ResponseValue)
     → IsFile headed_file (known_files files) file k
     → (one ≡ other) ⊎ (RefusesSearch question file k one ⊎ RefusesSearch question file k other)
     → (one ≡ other) ⊎ IsFree files (form.discover question file) one other
 after_rules files question file k one other is (inl same) = inl same
-after_rules files question file k one other is (inr refused) = inr (inr (file, question, k, refl, is, refused))
+after_rules files question file k one other is (inr refused) = inr (inr (inl (file, question, k, refl, is, refused)))
 
 one_command : (looks : Looks) (files : Files) (command : CommandForm) (one other : ResponseValue) → HasOneLook looks
     → ((persons : ℕ) → command ≡ form.sample persons → persons ≤ MOST_PERSONS)
@@ -178,9 +185,14 @@ one_of looks files (Some command) one other single few_persons first second =
       | inr free ↦ inr (command, refl, free)
     ]
 
+abbrev IsOneOfWords : Files → List (List ℕ) → ResponseValue → ResponseValue → Type 0
+IsOneOfWords files words one other =
+    (one ≡ other)
+    ⊎ (AskWhatIsDerived files words one other ⊎ (AskForAPage words one other ⊎ AskForRules files words one other))
+
 asked : (files : Files) (words : List (List ℕ)) (one other : ResponseValue)
     → (one ≡ other) ⊎ ((command : CommandForm) × (form_of words ≡ Some command) × IsFree files command one other)
-    → (one ≡ other) ⊎ (AskWhatIsDerived files words one other ⊎ AskForRules files words one other)
+    → IsOneOfWords files words one other
 asked files words one other (inl same) = inl same
 asked files words one other (inr (command, forms, (inl (file, task, s, is, read, derive)))) =
     inr (inl (record {
@@ -191,18 +203,25 @@ asked files words one other (inr (command, forms, (inl (file, task, s, is, read,
       read = read;
       derive = derive;
     }))
-asked files words one other (inr (command, forms, (inr (file, question, headed, is, read, refused)))) =
-    inr (inr (record {
+asked files words one other (inr (command, forms, (inr (inl (file, question, headed, is, read, refused))))) =
+    inr (inr (inr (record {
       file = file;
       question = question;
       forms = forms ∙ ap (λ (c : CommandForm). Some c) is;
       headed = headed;
       read = read;
       refused = refused;
-    }))
+    })))
+asked files words one other (inr (command, forms, (inr (inr (file, task, is, report))))) =
+    inr (inr (inl (record {
+      file = file;
+      task = task;
+      forms = forms ∙ ap (λ (c : CommandForm). Some c) is;
+      reports = report;
+    })))
 
 pub one_answer : (looks : Looks) (files : Files) (words : List (List ℕ)) (one other : ResponseValue) → HasOneLook looks
     → Answers looks (known_files files) words one → Answers looks (known_files files) words other
-    → (one ≡ other) ⊎ (AskWhatIsDerived files words one other ⊎ AskForRules files words one other)
+    → IsOneOfWords files words one other
 one_answer looks files words one other single first second =
     asked files words one other (one_of looks files (form_of words) one other single (sample_within words) first second)

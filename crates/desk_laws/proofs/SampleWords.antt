@@ -7,7 +7,7 @@ use Rattle.lexer.specs.Bytes.{number_of}
 use Rattle.normal_forms.specs.declared.forms.Form.{Form}
 use Rattle.sample_rows.specs.declared.rows.TheConstants.{MOST_PERSONS}
 use Rattle.desk_words.specs.Forms as form
-use Rattle.desk_words.specs.Forms.{CommandForm, PlanQuestion, RowsQuestion, SchemaQuestion, Task, after_check, after_check_form, after_ddl, after_discover, after_draw, after_explain, after_explain_split, after_keys, after_migrate, after_migrate_form, after_migrate_plan, after_offences, after_split, after_sql, after_sql_migrate, are_one_to_64, form_of, form_over_rows, form_over_schema, no_more_arguments, normal_form, persons_alone, schema_alone, schema_and_file, schema_and_plan, schema_and_plan_and_word, schema_and_rows, schema_and_several, schema_and_two, schema_and_word, two_schemas, after_import, word_alone}
+use Rattle.desk_words.specs.Forms.{CommandForm, PlanQuestion, RowsQuestion, SchemaQuestion, Task, after_check, after_check_form, after_ddl, after_discover, after_draw, after_explain, after_explain_split, after_keys, after_migrate, after_migrate_form, after_migrate_plan, after_offences, after_report, after_split, after_sql, after_sql_migrate, are_one_to_64, form_of, form_over_rows, form_over_schema, no_more_arguments, normal_form, persons_alone, schema_alone, schema_and_file, schema_and_plan, schema_and_plan_and_word, schema_and_rows, schema_and_several, schema_and_two, schema_and_word, two_schemas, after_import, word_alone}
 use Rattle.desk_words.specs.Numbers.{is_count, is_left_bound, is_row_bound}
 
 -- if a form is that of `sample`, its number is within the limit
@@ -260,6 +260,13 @@ few_draw (what ∷ rest) =
     few_if (bytes_eq what (codes "plan")) _ _ (few_and_plan form.draw_plan rest)
     (few_then _ (normal_form what) (λ normal. few_alone (form.draw normal) rest))
 
+few_report : (words : List (List ℕ)) → AreFew (after_report words)
+unfolding after_report
+few_report [] = tt
+few_report (a ∷ []) = tt
+few_report (a ∷ b ∷ []) = tt
+few_report (a ∷ b ∷ d ∷ words) = tt
+
 few_import : (words : List (List ℕ)) → AreFew (after_import words)
 unfolding after_import
 few_import [] = tt
@@ -281,7 +288,8 @@ few_over_schema verb rest =
     (few_if (bytes_eq verb (codes "explain")) _ _ (few_explain rest)
     (few_if (bytes_eq verb (codes "ddl")) _ _ (few_ddl rest)
     (few_if (bytes_eq verb (codes "sql")) _ _ (few_sql rest)
-    (few_if (bytes_eq verb (codes "draw")) _ _ (few_draw rest) (few_over_rows verb rest))))))))))))))
+    (few_if (bytes_eq verb (codes "draw")) _ _ (few_draw rest)
+    (few_if (bytes_eq verb (codes "report")) _ _ (few_report rest) (few_over_rows verb rest)))))))))))))))
 
 few_form : (words : List (List ℕ)) → AreFew (form_of words)
 unfolding form_of

@@ -16,7 +16,7 @@ use Rattle.desk_inputs.specs.Readings.{known_files}
 use Rattle.desk_outside.specs.Files.{Files}
 use Rattle.desk_responses.specs.ResponseValues.{Allowed, ResponseValue}
 use Rattle.desk_responses.specs.declared.status.Status.TheVariants.{Yes}
-use Rattle.desk_words.specs.Forms.{RulesQuestion, Task, discover, form_of, implies, keys_of_rows, minimal_rules, near_rules, of_schema, over_schema, small_rules}
+use Rattle.desk_words.specs.Forms.{RulesQuestion, Task, discover, form_of, implies, keys_of_rows, minimal_rules, near_rules, of_schema, over_schema, report, report_plan, small_rules}
 
 -- a text means one value at most, or is refused in one way at most, and never both
 pub record HasOneReading {Value Refusal : Type 0} (Means : Value → Type 0) (Refuses : Refusal → Type 0)
@@ -37,9 +37,22 @@ pub record BothDerive (schema : Schema) (task : Task) (one other : ResponseValue
   pub other_says_yes : other.status ≡ Yes
   pub fixed : HasFixedProof schema dependency → one ≡ other
 
--- two answers are equal, but for the derivation of a goal that is implied
+-- a page is asked for, of the schema of a file, or of it and a plan
+abbrev pub AsksForAPage : Task → Type 0
+AsksForAPage task =
+    ((file : List ℕ) × (task ≡ report file))
+    ⊎ ((file : List ℕ) × (plan : List ℕ) × (task ≡ report_plan file plan))
+
+-- a page, which shows derivations of goals, is asked for: both answers say yes
+pub record BothReport (task : Task) (one other : ResponseValue) : Type 0 where
+  pub asks : AsksForAPage task
+  pub one_says_yes : one.status ≡ Yes
+  pub other_says_yes : other.status ≡ Yes
+
+-- two answers are equal, but for the derivation of a goal that is implied, or those on a page
 abbrev pub IsOneButForProof : Schema → Task → ResponseValue → ResponseValue → Type 0
-IsOneButForProof schema task one other = (one ≡ other) ⊎ BothDerive schema task one other
+IsOneButForProof schema task one other =
+    (one ≡ other) ⊎ (BothDerive schema task one other ⊎ BothReport task one other)
 
 -- the words ask whether the schema of a file implies a goal, and it does
 pub record AskWhatIsDerived (files : Files) (words : List (List ℕ)) (one other : ResponseValue) : Type 0 where
@@ -49,6 +62,13 @@ pub record AskWhatIsDerived (files : Files) (words : List (List ℕ)) (one other
   pub schema : Schema
   pub read : IsFile schema_file (known_files files) file schema
   pub derive : BothDerive schema task one other
+
+-- the words ask for a page of the schema of a file, and both answers say yes
+pub record AskForAPage (words : List (List ℕ)) (one other : ResponseValue) : Type 0 where
+  pub file : List ℕ
+  pub task : Task
+  pub forms : form_of words ≡ Some (over_schema file task)
+  pub reports : BothReport task one other
 
 -- the refusal of a search for rules that meets too many candidates: of a column of the file for left sides, or for keys
 abbrev pub RefusesSearch : RulesQuestion → List ℕ → Headed → Allowed

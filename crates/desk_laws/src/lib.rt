@@ -9,6 +9,7 @@ mod complete;
 mod complete_derivations;
 mod complete_folders;
 mod complete_measures;
+mod complete_pages;
 mod complete_questions;
 mod complete_reasons;
 mod complete_scripts;
@@ -33,6 +34,7 @@ pub use complete::{
 pub use complete_derivations::check_derivation_is_answered;
 pub use complete_folders::migrate_into_is_answered;
 pub use complete_measures::{kept_is_answered, measure_is_answered, offences_is_answered};
+pub use complete_pages::{calls_answered_by_yes_end, report_is_answered};
 pub use complete_questions::{
     basis_is_answered, check_cover_is_answered, check_key_is_answered, check_same_is_answered,
     closure_is_answered, keys_of_plan_is_answered, project_is_answered,

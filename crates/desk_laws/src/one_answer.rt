@@ -20,7 +20,7 @@ ghost use Rattle.desk_inputs.specs.Readings.{known_files};
 ghost use Rattle.desk_responses.specs.ResponseValues.{ResponseValue};
 ghost use Rattle.desk_tables.specs.OwnFolders.{HasOneLook, Looks};
 ghost use Rattle.desk_words.specs.Forms.{Task};
-ghost use Rattle.desk_laws.specs.OneReading.{AskForRules, AskWhatIsDerived, HasOneReading, IsOneButForProof};
+ghost use Rattle.desk_laws.specs.OneReading.{AskForAPage, AskForRules, AskWhatIsDerived, HasOneReading, IsOneButForProof};
 
 /// The text of a file has one reading: of a schema, of a plan, of a certificate, of a derivation, and of
 /// rows.
@@ -39,7 +39,7 @@ pub fn texts_of_files_have_one_reading()
 
 /// What is asked of a schema, with the files after it, has one answer, which rests on what the schema declares
 /// alone, and on what a look at a name is answered: two answers of schemas that declare the same are equal, but for
-/// the derivation of a goal that is not fixed.
+/// the derivation of a goal that is not fixed, and for a page, which shows derivations.
 pub fn tasks_have_one_answer()
     ensures law { (looks : Looks) (files : Files) (schema other_schema : Schema) (task : Task)
         (one other : ResponseValue) → HasOneLook looks
@@ -49,11 +49,13 @@ pub fn tasks_have_one_answer()
 
 /// Any two answers that words have over known files, where a look at a name has one answer, are equal,
 /// unless the words ask whether a goal is implied which is: then both answers are yes, and equal where the
-/// derivation is fixed; or unless they ask for the rules of a file's rows: then one of the answers is the refusal
-/// of a column that has too many left sides.
+/// derivation is fixed; or unless they ask for a page, which shows derivations: then both answers are yes; or unless
+/// they ask for the rules of a file's rows: then one of the answers is the refusal of a column that has too many left
+/// sides.
 pub fn words_have_one_answer()
     ensures law { (looks : Looks) (files : Files) (words : List (List ℕ)) (one other : ResponseValue)
         → HasOneLook looks
         → Answers looks (known_files files) words one → Answers looks (known_files files) words other
-        → (one ≡ other) ⊎ (AskWhatIsDerived files words one other ⊎ AskForRules files words one other) }
+        → (one ≡ other)
+        ⊎ (AskWhatIsDerived files words one other ⊎ (AskForAPage words one other ⊎ AskForRules files words one other)) }
 {}

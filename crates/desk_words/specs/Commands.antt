@@ -69,6 +69,8 @@ task_form (task.CheckDerivation file goal) = form.check_derivation file.now goal
 task_form (task.CheckSame file other) = form.check_same file.now other.now
 task_form (task.CheckCover file other) = form.check_cover file.now other.now
 task_form (task.Rejoin files) = form.rejoin files.now
+task_form (task.Report file) = form.report file.now
+task_form (task.ReportPlan file plan) = form.report_plan file.now plan.now
 
 abbrev pub command_form : Command → form.CommandForm
 command_form (OverSchema schema task) = form.over_schema schema.now (task_form task)

@@ -117,6 +117,10 @@ pub data Task : Type 0 where
   check_cover : List ℕ → List ℕ → Task
   -- the natural join of the tables of files
   rejoin : List (List ℕ) → Task
+  -- a page of what is said of it, in the first file
+  report : List ℕ → Task
+  -- a page of what is said of it, in the first file, and of the plan of a second file
+  report_plan : List ℕ → List ℕ → Task
 
 -- a command
 pub data CommandForm : Type 0 where
@@ -327,6 +331,12 @@ after_draw (what ∷ rest) =
     if bytes_eq what (codes "plan") then schema_and_plan draw_plan rest
     else option_and_then (λ form. schema_alone (draw form) rest) (normal_form what)
 
+-- after `report`
+unfoldable pub after_report : List (List ℕ) → Option CommandForm
+after_report (schema ∷ []) = Some (over_schema schema (report schema))
+after_report (schema ∷ plan ∷ []) = Some (over_schema schema (report_plan schema plan))
+after_report _ = None
+
 -- after `discover`, a word and rows
 abbrev pub discover_after_word : List ℕ → List ℕ → Option CommandForm
 discover_after_word what rows =
@@ -375,6 +385,7 @@ form_over_schema verb rest =
     else if bytes_eq verb (codes "ddl") then after_ddl rest
     else if bytes_eq verb (codes "sql") then after_sql rest
     else if bytes_eq verb (codes "draw") then after_draw rest
+    else if bytes_eq verb (codes "report") then after_report rest
     else form_over_rows verb rest
 
 -- after `import`

@@ -4,6 +4,7 @@ ghost use Rattle.desk_words.specs.Forms as forms;
 
 use crate::check::after_check;
 use crate::explain::after_explain;
+use crate::pages::after_report;
 use crate::persons::{Persons, count_of};
 use crate::questions::{RulesQuestion, SchemaQuestion, Task};
 use crate::rows::over_rows;
@@ -178,6 +179,9 @@ fn over_schema<'a>(verb: &Argument, rest: &'a [Argument]) -> Option<Command<'a>>
     }
     if verb.bytes() == b"draw".as_slice() {
         return after_draw(rest);
+    }
+    if verb.bytes() == b"report".as_slice() {
+        return after_report(rest);
     }
     over_rows(verb, rest)
 }

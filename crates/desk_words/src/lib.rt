@@ -9,6 +9,7 @@ mod command;
 mod explain;
 mod migrate;
 mod numbers;
+mod pages;
 mod persons;
 mod questions;
 mod rows;

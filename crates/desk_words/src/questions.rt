@@ -159,4 +159,13 @@ pub enum Task<'a> {
     Rejoin {
         files: &'a [Argument],
     },
+    /// A page of what is said of it; it is in the first file.
+    Report {
+        file: &'a Argument,
+    },
+    /// A page of what is said of it, in the first file, and of the plan of a second file.
+    ReportPlan {
+        file: &'a Argument,
+        plan: &'a Argument,
+    },
 }

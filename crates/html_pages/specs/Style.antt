@@ -13,7 +13,7 @@ style_text =
     ++ codes "--page:#14181e;--card:#1d232b;--mark:#7db5ff}}")
     ++ style_line (codes "*{box-sizing:border-box}")
     ++ style_line (codes "body{margin:0 auto;padding:1.5rem 1rem 4rem;max-width:70rem;background:var(--page);"
-    ++ codes "color:var(--ink);font:1rem/1.5 system-ui,sans-serif}")
+    ++ codes "color:var(--ink);font:1rem/1.5 system-ui,sans-serif;overflow-wrap:anywhere}")
     ++ style_line (codes "h1{font-size:1.7rem;margin:0 0 1rem}")
     ++ style_line (codes "h2{font-size:1.25rem;margin:2.2rem 0 .6rem;padding-top:.9rem;"
     ++ codes "border-top:1px solid var(--line)}")
@@ -27,6 +27,8 @@ style_text =
     ++ style_line (codes "td:first-child{font-weight:600}")
     ++ style_line (codes "td:nth-child(n+2){color:var(--soft)}")
     ++ style_line (codes "td:nth-child(4){color:var(--mark)}")
+    ++ style_line (codes "td:nth-child(2){min-width:5rem}")
+    ++ style_line (codes "td:nth-child(n+3){overflow-wrap:normal}")
     ++ style_line (codes "ul{margin:.3rem 0;padding:0;list-style:none}")
     ++ style_line (codes "li{padding:.15rem 0;font-size:.85rem}")
     ++ style_line (codes "summary{cursor:pointer;color:var(--mark);font-size:.9rem;padding:.15rem 0}")

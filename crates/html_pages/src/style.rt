@@ -5,7 +5,7 @@ const STYLE: &[u8] =
     b":root{color-scheme:light dark;--ink:#1c2430;--soft:#5b6675;--line:#d5dbe3;--page:#fff;--card:#f5f7fa;--mark:#0b63ce}
 @media(prefers-color-scheme:dark){:root{--ink:#e6eaf0;--soft:#9aa6b5;--line:#39424f;--page:#14181e;--card:#1d232b;--mark:#7db5ff}}
 *{box-sizing:border-box}
-body{margin:0 auto;padding:1.5rem 1rem 4rem;max-width:70rem;background:var(--page);color:var(--ink);font:1rem/1.5 system-ui,sans-serif}
+body{margin:0 auto;padding:1.5rem 1rem 4rem;max-width:70rem;background:var(--page);color:var(--ink);font:1rem/1.5 system-ui,sans-serif;overflow-wrap:anywhere}
 h1{font-size:1.7rem;margin:0 0 1rem}
 h2{font-size:1.25rem;margin:2.2rem 0 .6rem;padding-top:.9rem;border-top:1px solid var(--line)}
 h3{font-size:1rem;margin:1.1rem 0 .3rem;font-weight:600}
@@ -17,6 +17,8 @@ td{padding:.2rem 1.2rem .2rem 0;border-bottom:1px solid var(--line)}
 td:first-child{font-weight:600}
 td:nth-child(n+2){color:var(--soft)}
 td:nth-child(4){color:var(--mark)}
+td:nth-child(2){min-width:5rem}
+td:nth-child(n+3){overflow-wrap:normal}
 ul{margin:.3rem 0;padding:0;list-style:none}
 li{padding:.15rem 0;font-size:.85rem}
 summary{cursor:pointer;color:var(--mark);font-size:.9rem;padding:.15rem 0}

@@ -110,3 +110,20 @@ returns-in-MigratePlanInto-clause-response g c = λ r shows.
 pub returns-in-MigratePlanInto-clause-reads : goal.returns-in-MigratePlanInto-clause-reads
 returns-in-MigratePlanInto-clause-reads g c =
     subst (λ (task : Task). BeginsFront (files_of_task (task_form task)) (g.F.FileSource.begun c.args.source.now) (g.F.FileSource.begun c.of_plan_and_rows_into.new.source)) (sym c.in-MigratePlanInto.is) c.of_plan_and_rows_into.ensures.reads
+
+pub returns-in-Report-clause-response : goal.returns-in-Report-clause-response
+unfolding Does
+returns-in-Report-clause-response g c = λ r shows.
+    subst (λ (task : Task). RespondsAs (Does (g.M.FolderMaker.may_be_free c.args.place.now) r c.args.schema.now (task_form task)) c.report_schema.result) (sym c.in-Report.is) c.report_schema.ensures.response
+
+pub returns-in-Report-clause-reads : goal.returns-in-Report-clause-reads
+returns-in-Report-clause-reads g c = front_none (files_of_task (task_form c.args.task)) (g.F.FileSource.begun c.args.source.now)
+
+pub returns-in-ReportPlan-clause-response : goal.returns-in-ReportPlan-clause-response
+unfolding Does
+returns-in-ReportPlan-clause-response g c = λ r shows.
+    subst (λ (task : Task). RespondsAs (Does (g.M.FolderMaker.may_be_free c.args.place.now) r c.args.schema.now (task_form task)) c.of_page_and_plan.result) (sym c.in-ReportPlan.is) (c.of_page_and_plan.ensures.response r shows)
+
+pub returns-in-ReportPlan-clause-reads : goal.returns-in-ReportPlan-clause-reads
+returns-in-ReportPlan-clause-reads g c =
+    subst (λ (task : Task). BeginsFront (files_of_task (task_form task)) (g.F.FileSource.begun c.args.source.now) (g.F.FileSource.begun c.of_page_and_plan.new.source)) (sym c.in-ReportPlan.is) c.of_page_and_plan.ensures.reads

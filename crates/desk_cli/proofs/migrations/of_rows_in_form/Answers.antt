@@ -5,7 +5,7 @@ use Rattle.desk_inputs.specs.FileKinds.{FileStops, IsFile}
 use Rattle.desk_inputs.specs.Rows.{rows_file}
 use Rattle.desk_responses.proofs.StepLemmas.{With-found}
 use Rattle.desk_responses.specs.Responses.{RespondsAs}
-use Rattle.desk_cli.proofs.tasks.of_rows_in_form.Goals as goal
+use Rattle.desk_cli.proofs.migrations.of_rows_in_form.Goals as goal
 
 pub returns-clause-response : goal.returns-clause-response
 returns-clause-response g c = λ r shows.

@@ -11,7 +11,7 @@ use Rattle.desk_inputs.specs.Rows.{rows_file}
 use Rattle.desk_inputs.proofs.BegunLemmas.{front_later, front_longer}
 use Rattle.desk_inputs.proofs.ReadingLemmas.{Shows-later}
 use Rattle.desk_responses.proofs.StepLemmas.{With-found}
-use Rattle.desk_cli.proofs.tasks.of_plan_and_rows_into.Goals as goal
+use Rattle.desk_cli.proofs.migrations.of_plan_and_rows_into.Goals as goal
 
 pub returns-in-Err-open_rows-clause-response : goal.returns-in-Err-open_rows-clause-response
 returns-in-Err-open_rows-clause-response g c = λ r shows response is.

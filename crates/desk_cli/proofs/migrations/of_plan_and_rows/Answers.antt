@@ -10,7 +10,7 @@ use Rattle.desk_inputs.proofs.BegunLemmas.{front_later, front_longer}
 use Rattle.desk_inputs.proofs.ReadingLemmas.{Shows-later}
 use Rattle.desk_responses.proofs.StepLemmas.{With-found}
 use Rattle.desk_responses.specs.Responses.{RespondsAs}
-use Rattle.desk_cli.proofs.tasks.of_plan_and_rows.Goals as goal
+use Rattle.desk_cli.proofs.migrations.of_plan_and_rows.Goals as goal
 
 pub returns-in-Err-open_rows-clause-response : goal.returns-in-Err-open_rows-clause-response
 returns-in-Err-open_rows-clause-response g c = λ r shows response is.

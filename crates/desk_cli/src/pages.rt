@@ -1,0 +1,39 @@
+//! Pages of a schema and the plan of a file.
+
+ghost use Rattle.std.specs.Prelude.{◌≡◌, ◌≤◌, ◌∷◌, []};
+ghost use Rattle.desk_inputs.specs.FileKinds.{WithFile};
+ghost use Rattle.desk_inputs.specs.FilesBegun.{BeginsFront};
+ghost use Rattle.desk_inputs.specs.Plans.{plan_file};
+ghost use Rattle.desk_inputs.specs.Readings.{Reading, Shows};
+ghost use Rattle.desk_reports.specs.Reports.{ReportsPlan};
+ghost use Rattle.desk_responses.specs.Responses.{RespondsAs};
+
+use dep_model::Schema;
+use desk_inputs::open_plan;
+use desk_outside::{Argument, FileSource};
+use desk_reports::report_plan;
+use desk_responses::{EarlyExit, Response};
+use std::alloc::Global;
+
+/// The page of a schema, which is in its own file, and the plan of another.
+pub fn of_page_and_plan<F: FileSource>(
+    alloc: Global,
+    source: &mut F,
+    schema: &Schema,
+    own: &Argument,
+    planned: &Argument,
+) -> Result<Response, EarlyExit>
+    ensures files { F.files source.new ≡ F.files source.old }
+    ensures later { F.faults source.old ≤ F.faults source.new }
+    ensures reads { BeginsFront (planned.now ∷ [])
+        (F.begun source.old) (F.begun source.new) }
+    ensures response { (r : Reading) → Shows F.files F.faults F.taken F.begun source.old source.new r
+        → RespondsAs (WithFile (plan_file schema.now) r planned.now
+        (ReportsPlan own.now planned.now schema.now)) result }
+{
+    let plan = match open_plan(alloc, source, schema, planned) {
+        Ok(plan) => plan,
+        Err(exit) => return Err(exit),
+    };
+    report_plan(alloc, schema, &plan, own, planned)
+}

@@ -1,0 +1,66 @@
+-- Where the schema file means a schema, and the plan file a plan, a page is answered, and by yes.
+use Rattle.std.proofs.Common.{◌≡◌, ℕ, List, [], ◌∷◌, Result, Ok, ap, ◌∙◌}
+use Rattle.std.specs.Prelude.{codes}
+use Rattle.dep_model.specs.declared.memory.OutOfMemory.{OutOfMemory}
+use Rattle.dep_model.specs.declared.schema.Schema.{Schema}
+use Rattle.named_plans.specs.NamedPlans.{NamedSchemes}
+use Rattle.desk_outside.specs.Files.{Files}
+use Rattle.desk_responses.specs.ResponseValues.{ResponseValue}
+use Rattle.desk_responses.specs.declared.status.Status.{Status}
+use Rattle.desk_responses.specs.declared.status.Status.TheVariants.{Yes}
+use Rattle.desk_words.specs.Forms.{after_report, form_of, form_over_schema}
+use Rattle.desk_inputs.specs.FileKinds.{IsFile, WithFile}
+use Rattle.desk_inputs.specs.Inputs.{schema_file}
+use Rattle.desk_inputs.specs.Plans.{plan_file}
+use Rattle.desk_inputs.specs.Readings.{known_files}
+use Rattle.desk_reports.specs.Pieces.{Shown}
+use Rattle.desk_reports.specs.Reports.{ReportsPlan, ReportsSchema, ReportsWith}
+use Rattle.desk_cli.specs.Desk.{Desk, FileSourceInCall, SinkInCall}
+use Rattle.desk_cli.specs.Performs.{Answers, Does, Performs}
+use Rattle.desk_delivery.specs.Outcomes.{DestinationsInCall, OwnInCall}
+use Rattle.desk_tables.specs.OwnFolders.{Looks}
+use Rattle.desk_laws.specs.Completeness.{FailsNowhere, IsAnsweredYes}
+use Rattle.desk_laws.proofs.CompleteLaws.{on_plan, on_schema}
+
+pub yes_calls_end : (words : List (List ℕ)) (looks : Looks) (files : Files) (source : FileSourceInCall)
+    (sink : SinkInCall) (destinations : DestinationsInCall) (own : OwnInCall) (result : Result Status OutOfMemory)
+    → Desk words looks source sink destinations own result → FailsNowhere files source sink destinations own
+    → IsAnsweredYes files words → (status : Status) → result ≡ Ok status → status ≡ Yes
+yes_calls_end words looks files source sink destinations own result desk nowhere answered status is =
+    let delivers = desk.complete files nowhere.holds nowhere.reads nowhere.writes nowhere.writes_tables nowhere.writes_folder
+    status is in
+    delivers.2 ∙ answered looks delivers.0 delivers.1
+
+-- a page is an answer of yes
+pub page_says_yes : (tables : Shown) (file : List ℕ) (s : Schema) (response : ResponseValue)
+    → ReportsWith tables file s response → response.status ≡ Yes
+page_says_yes tables file s response page = ap (λ (r : ResponseValue). r.status) page.2
+
+schema_page_asks : (files : Files) (name : List ℕ) (looks : Looks) (response : ResponseValue)
+    → Answers looks (known_files files) (codes "report" ∷ name ∷ []) response
+    → WithFile schema_file (known_files files) name (ReportsSchema name) response
+unfolding form_of form_over_schema after_report Performs Does
+schema_page_asks files name looks response answered = answered
+
+pub schema_page_answered : (files : Files) (name : List ℕ) (schema : Schema)
+    → IsFile schema_file (known_files files) name schema → IsAnsweredYes files (codes "report" ∷ name ∷ [])
+schema_page_answered files name schema file looks response answered =
+    on_schema (λ (a : ResponseValue). a.status ≡ Yes) files name schema (ReportsSchema name) response file
+    (λ r same page. page_says_yes _ name r response page) (schema_page_asks files name looks response answered)
+
+plan_page_asks : (files : Files) (name file : List ℕ) (looks : Looks) (response : ResponseValue)
+    → Answers looks (known_files files) (codes "report" ∷ name ∷ file ∷ []) response
+    → WithFile schema_file (known_files files) name
+    (λ r. WithFile (plan_file r) (known_files files) file (ReportsPlan name file r)) response
+unfolding form_of form_over_schema after_report Performs Does
+plan_page_asks files name file looks response answered = answered
+
+pub plan_page_answered : (files : Files) (name file : List ℕ) (schema : Schema) (plan : NamedSchemes)
+    → IsFile schema_file (known_files files) name schema → IsFile (plan_file schema) (known_files files) file plan
+    → IsAnsweredYes files (codes "report" ∷ name ∷ file ∷ [])
+plan_page_answered files name file schema plan held_schema held_plan looks response answered =
+    on_schema (λ (a : ResponseValue). a.status ≡ Yes) files name schema
+    (λ r. WithFile (plan_file r) (known_files files) file (ReportsPlan name file r)) response held_schema
+    (λ r same more. on_plan (λ (a : ResponseValue). a.status ≡ Yes) files schema r file plan (ReportsPlan name file r)
+    response same held_plan (λ p is page. page_says_yes _ name r response page) more)
+    (plan_page_asks files name file looks response answered)

@@ -1,0 +1,9 @@
+-- The law `calls_answered_by_yes_end`, by `yes_calls_end`.
+use Rattle.desk_laws.proofs.PageLaws.{yes_calls_end}
+use Rattle.desk_laws.proofs.complete_pages.calls_answered_by_yes_end.Goals as goal
+
+pub returns : goal.returns
+returns g c = record {
+  law = λ words looks files source after sink old new place made folder filled result desk nowhere answered status is.
+      yes_calls_end words looks files _ sink _ _ result desk nowhere answered status is;
+}
