@@ -122,11 +122,11 @@ text_refused d wanted text left s rest f (Refused refusal) reading is read =
     ap (λ (o : Outcome). then_read o is_there) (reading.same ∙ at_refusal d wanted (statements_in d left) rest s f refusal is read)
 text_refused d wanted text left s rest f OutOfMemory reading is read = tt
 
-pub is_found : (f : Facts) → true ≡ f.found → is_there f ≡ Ok f
-is_found f e = rw (← e) refl
+pub is_found : (f : Facts) → (length f.columns == 0) ≡ false → is_there f ≡ Ok f
+is_found f e = rw e refl
 
-pub is_missing : (f : Facts) → false ≡ f.found → is_there f ≡ refused reason.NoSuchTable 0
-is_missing f e = rw (← e) refl
+pub is_missing : (f : Facts) → (length f.columns == 0) ≡ true → is_there f ≡ refused reason.NoSuchTable 0
+is_missing f e = rw e refl
 
 pub fits_on : (size place n : ℕ) (rest : Option Rest) → place + n ≤ size → FitsRest place n rest → FitsWhole size rest
 fits_on size place n None h fits = tt
