@@ -30,8 +30,7 @@ use desk_covers::{check_cover, check_same};
 use desk_derivations::check_derivation;
 use desk_implication::check_proof;
 use desk_inputs::{
-    open_derivation, open_headed, open_parts, open_plan, open_proof, open_rows,
-    open_schema,
+    open_derivation, open_headed, open_parts, open_plan, open_proof, open_rows, open_schema,
 };
 use desk_measures::{measure_rows, text_columns_alone};
 use desk_outside::{Argument, FileSource};

@@ -1,0 +1,3 @@
+pub mod MissingLemmas
+pub mod LineLemmas
+pub mod MeaningLemmas

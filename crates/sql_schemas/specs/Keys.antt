@@ -12,8 +12,8 @@ use Rattle.sql_definitions.specs.declared.refusal.Reason.TheVariants as reason
 use Rattle.sql_definitions.specs.declared.refusal.Refusal.{Refusal}
 use Rattle.sql_definitions.specs.Facts.{Facts, StatedColumn, StatedKey, StatedPart, refused}
 
--- a key of a table: PRIMARY KEY states it or not; it keeps values of its columns from missing or not; its columns
-pub record TableKey : Type 0 where
+-- a key of a table, by its columns: PRIMARY KEY states it or not; it keeps values of its columns from missing or not; its columns
+pub record KeyColumns : Type 0 where
   pub primary : Bool
   pub binds : Bool
   pub columns : Attributes
@@ -61,31 +61,31 @@ binds_key d f key = key.primary && ((is_postgres d || f.binds) || is_row_number 
 
 -- ---- the keys
 -- a key that is stated, with its columns
-abbrev pub key_of : Dialect → Facts → StatedKey → Result TableKey Refusal
+abbrev pub key_of : Dialect → Facts → StatedKey → Result KeyColumns Refusal
 key_of d f key =
     and_then (columns_of_parts f.columns none key.parts)
     (λ x. Ok (record { primary = key.primary; binds = binds_key d f key; columns = x }))
 
 -- some keys, and those that are stated
-unfoldable pub keys_after : Dialect → Facts → List TableKey → List StatedKey → Result (List TableKey) Refusal
+unfoldable pub keys_after : Dialect → Facts → List KeyColumns → List StatedKey → Result (List KeyColumns) Refusal
 keys_after d f before [] = Ok before
 keys_after d f before (key ∷ keys) = and_then (key_of d f key) (λ k. keys_after d f (before ++ k ∷ []) keys)
 
 -- the keys of a table, in the order in which they are stated
-abbrev pub keys_of : Dialect → Facts → Result (List TableKey) Refusal
+abbrev pub keys_of : Dialect → Facts → Result (List KeyColumns) Refusal
 keys_of d f = keys_after d f [] f.keys
 
 -- ---- the keys that say something
 -- a key of n columns has one that is not in it, and is none of some keys
-abbrev pub is_new : ℕ → List TableKey → TableKey → Bool
+abbrev pub is_new : ℕ → List KeyColumns → KeyColumns → Bool
 is_new n keys key =
     not (is_subset (below n) key.columns) && not (list_any (λ other. is_same other.columns key.columns) keys)
 
 -- some keys, and those of others that are new, each once
-unfoldable pub new_keys : ℕ → List TableKey → List TableKey → List TableKey
+unfoldable pub new_keys : ℕ → List KeyColumns → List KeyColumns → List KeyColumns
 new_keys n before [] = before
 new_keys n before (key ∷ keys) = new_keys n (if is_new n before key then before ++ key ∷ [] else before) keys
 
 -- a key determines all other columns
-abbrev pub key_dependency : ℕ → TableKey → Dependency
+abbrev pub key_dependency : ℕ → KeyColumns → Dependency
 key_dependency n key = fd key.columns (difference (below n) key.columns)

@@ -14,7 +14,7 @@ use Rattle.sql_definitions.specs.declared.refusal.Refusal.{Refusal}
 use Rattle.sql_definitions.specs.Definitions.{definition_of}
 use Rattle.sql_definitions.specs.Facts.{Facts, StatedColumn}
 use Rattle.sql_definitions.specs.Wanted.{TableName}
-use Rattle.sql_schemas.specs.Keys.{TableKey, and_then, key_dependency, keys_of, new_keys}
+use Rattle.sql_schemas.specs.Keys.{KeyColumns, and_then, key_dependency, keys_of, new_keys}
 
 -- ---- the columns
 abbrev pub column_names : List StatedColumn → List (List ℕ)
@@ -29,35 +29,35 @@ says_nothing None = false
 says_nothing (Some column) = not column.never_missing
 
 -- a key keeps values of a column from missing
-abbrev pub is_bound : List TableKey → ℕ → Bool
+abbrev pub is_bound : List KeyColumns → ℕ → Bool
 is_bound keys k = list_any (λ key. key.binds && key.columns k) keys
 
 -- the columns of which a value may be missing: neither they say otherwise, nor a key
-abbrev pub columns_missing : List StatedColumn → List TableKey → Attributes
+abbrev pub columns_missing : List StatedColumn → List KeyColumns → Attributes
 columns_missing columns keys k = says_nothing (slice_get columns k) && not (is_bound keys k)
 
 -- ---- the keys
 -- no column of a key may be missing
-abbrev pub is_whole : Attributes → TableKey → Bool
+abbrev pub is_whole : Attributes → KeyColumns → Bool
 is_whole missing key = is_disjoint key.columns missing
 
 abbrev pub key_word : Bool → List ℕ
 key_word primary = if primary then codes "PRIMARY KEY" else codes "UNIQUE"
 
 -- the comment of a key of which a column may be missing
-abbrev pub comment_text : List (List ℕ) → TableKey → List ℕ
+abbrev pub comment_text : List (List ℕ) → KeyColumns → List ℕ
 comment_text names key =
     codes "# " ++ key_word key.primary ++ codes " " ++ set_text names key.columns
     ++ codes ": missing values are not compared"
 
 -- the line of a key: a dependency, where no column of it may be missing, else a comment
-unfoldable pub key_line : List (List ℕ) → Attributes → TableKey → List ℕ
+unfoldable pub key_line : List (List ℕ) → Attributes → KeyColumns → List ℕ
 key_line names missing key =
     if is_whole missing key then dependency_text names (key_dependency (length names) key) else comment_text names key
 
 -- ---- the schema and its text
 -- a schema has these columns, those among them of which a value may be missing, and no dependencies
-pub record IsSchemaOf (columns : List StatedColumn) (keys : List TableKey) (s : Schema) : Type 0 where
+pub record IsSchemaOf (columns : List StatedColumn) (keys : List KeyColumns) (s : Schema) : Type 0 where
   pub naming : naming_of s ≡ Any
   pub names : names_of s ≡ column_names columns
   pub types : types_of s ≡ column_types columns
@@ -67,13 +67,13 @@ pub record IsSchemaOf (columns : List StatedColumn) (keys : List TableKey) (s : 
 abbrev pub printed_names : List StatedColumn → List (List ℕ)
 printed_names columns = map (spelling Any) (column_names columns)
 
-abbrev pub table_lines : List StatedColumn → List TableKey → List (List ℕ)
+abbrev pub table_lines : List StatedColumn → List KeyColumns → List (List ℕ)
 table_lines columns keys =
     schema_lines Any (column_types columns) (printed_names columns) (columns_missing columns keys)
     ++ map (key_line (printed_names columns) (columns_missing columns keys)) (new_keys (length columns) [] keys)
 
 -- the text of the schema of a table of these columns and keys
-unfoldable pub table_text : List StatedColumn → List TableKey → List ℕ
+unfoldable pub table_text : List StatedColumn → List KeyColumns → List ℕ
 table_text columns keys = lines_text (table_lines columns keys)
 
 -- the same, of what is known of it

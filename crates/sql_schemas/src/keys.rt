@@ -1,11 +1,12 @@
 //! The keys of a table as sets of its columns.
 
-ghost use Rattle.std.specs.Prelude.{◌≡◌, ◌≤◌, ◌<◌, [], length, option_map, position, IfErr, IfOk, IfSome, Ok};
+ghost use Rattle.std.specs.Prelude.{◌≡◌, ◌≤◌, ◌<◌, [], length, map, IfErr, IfOk, IfSome, Ok};
 ghost use Rattle.std.specs.List.{list_any};
 ghost use Rattle.attr_sets.specs.Attributes.{none};
 ghost use Rattle.attr_sets.specs.Sets.{attributes, is_same};
 ghost use Rattle.attr_sets.specs.declared.set.TheConstants.{MOST_ATTRIBUTES};
 ghost use Rattle.sql_definitions.specs.Facts.{Fails};
+ghost use Rattle.sql_schemas.specs.KeyValues.{key_columns};
 ghost use Rattle.sql_schemas.specs.Keys.{binds_key, column_named, column_of_part, columns_of_parts, is_new, is_row_number, key_of, keys_of, new_keys};
 
 use attr_sets::AttrSet;
@@ -13,58 +14,14 @@ use dep_model::{Failure, Name, OutOfMemory};
 use sql_definitions::{Column, Definition, Key, Part, Reason, Refusal};
 use sql_lexemes::{Dialect, is_postgres};
 use std::alloc::Global;
-use std::marker::Model;
 
 /// A key of a table: whether PRIMARY KEY states it, whether it keeps values of its columns from missing,
 /// and its columns.
-#[derive(Drop)]
+#[derive(Clone, Copy, Debug)]
 pub struct TableKey {
-    primary: bool,
-    binds: bool,
-    columns: AttrSet,
-}
-
-impl Model for TableKey {
-    ghost use Rattle.attr_sets.specs.Sets.{attributes};
-    ghost use Rattle.sql_schemas.specs.Keys as keys;
-
-    ghost Value = { keys.TableKey };
-
-    ghost view = { λ k. record { primary = k.primary; binds = k.binds; columns = attributes k.columns } };
-}
-
-impl TableKey {
-    /// A key.
-    pub fn new(primary: bool, binds: bool, columns: AttrSet) -> TableKey
-        ensures key { result ≡ record { primary = primary; binds = binds; columns = attributes columns } }
-    {
-        TableKey {
-            primary,
-            binds,
-            columns,
-        }
-    }
-
-    /// Whether PRIMARY KEY states it.
-    pub fn is_primary(&self) -> bool
-        ensures primary { result ≡ self.now.primary }
-    {
-        self.primary
-    }
-
-    /// Whether it keeps values of its columns from missing.
-    pub fn binds(&self) -> bool
-        ensures binds { result ≡ self.now.binds }
-    {
-        self.binds
-    }
-
-    /// Its columns.
-    pub fn columns(&self) -> AttrSet
-        ensures columns { attributes result ≡ self.now.columns }
-    {
-        self.columns
-    }
+    pub primary: bool,
+    pub binds: bool,
+    pub columns: AttrSet,
 }
 
 /// The keys of a table, in the order in which they are stated; or the refusal of the first part of one
@@ -75,7 +32,7 @@ pub fn keys_of(
     dialect: Dialect,
     definition: &Definition,
 ) -> Result<Vec<TableKey>, Failure<Refusal>>
-    ensures ok { IfOk result (λ keys. keys_of dialect definition.now ≡ Ok keys.items) }
+    ensures ok { IfOk result (λ keys. keys_of dialect definition.now ≡ Ok (map key_columns keys.items)) }
     ensures err { IfErr result (λ failure. Fails failure (keys_of dialect definition.now)) }
 {
     let mut keys = Vec::new(alloc);
@@ -93,12 +50,16 @@ fn key_of(
     definition: &Definition,
     key: &Key,
 ) -> Result<TableKey, Failure<Refusal>>
-    ensures ok { IfOk result (λ k. key_of dialect definition.now key.now ≡ Ok k) }
+    ensures ok { IfOk result (λ k. key_of dialect definition.now key.now ≡ Ok (key_columns k)) }
     ensures err { IfErr result (λ failure. Fails failure (key_of dialect definition.now key.now)) }
 {
     let columns = columns_of_parts(definition.columns(), key.parts())?;
     let binds = binds_key(dialect, definition, key);
-    Ok(TableKey::new(key.is_primary(), binds, columns))
+    Ok(TableKey {
+        primary: key.is_primary(),
+        binds,
+        columns,
+    })
 }
 
 // The columns that parts name.
@@ -151,7 +112,9 @@ fn position_named(columns: &[Column], name: &Name) -> Option<usize>
     ensures column { result ≡ column_named columns.now name.now }
     ensures within { IfSome result (λ k. k < length columns.now) }
 {
-    columns.iter().position(|column| column.name().is_same(name))
+    columns
+        .iter()
+        .position(|column| column.name().is_same(name))
 }
 
 // Whether a key keeps values of its columns from missing.
@@ -182,13 +145,13 @@ fn is_row_number(columns: &[Column], parts: &[Part]) -> bool
 #[tactic(auto, unfolding(crate::specs::Keys::new_keys))]
 pub fn new_keys(alloc: Global, n: u8, keys: &[TableKey]) -> Result<Vec<TableKey>, OutOfMemory>
     requires within_limit { n ≤ MOST_ATTRIBUTES }
-    ensures keys { IfOk result (λ kept. kept.items ≡ new_keys n [] keys.now) }
+    ensures keys { IfOk result (λ kept. map key_columns kept.items ≡ new_keys n [] (map key_columns keys.now)) }
 {
     let mut kept = Vec::new(alloc);
     let mut rest = keys;
     while let [key, after @ ..] = rest {
         if is_new(n, &kept, key) {
-            kept.push(TableKey::new(key.primary, key.binds, key.columns))?;
+            kept.push(*key)?;
         }
         rest = after;
     }
@@ -198,14 +161,14 @@ pub fn new_keys(alloc: Global, n: u8, keys: &[TableKey]) -> Result<Vec<TableKey>
 // Whether a key of n columns has one that is not in it, and is none of these.
 fn is_new(n: u8, keys: &[TableKey], key: &TableKey) -> bool
     requires within_limit { n ≤ MOST_ATTRIBUTES }
-    ensures exact { result ≡ is_new n keys.now key.now }
+    ensures exact { result ≡ is_new n (map key_columns keys.now) (key_columns key.now) }
 {
-    !AttrSet::full(n).is_subset(key.columns()) && !is_among(keys, key)
+    !AttrSet::full(n).is_subset(key.columns) && !is_among(keys, key)
 }
 
 // Whether a key has the columns of one of these.
 fn is_among(keys: &[TableKey], key: &TableKey) -> bool
-    ensures exact { result ≡ list_any (λ other. is_same other.columns key.now.columns) keys.now }
+    ensures exact { result ≡ list_any (λ other. is_same (attributes other.columns) (attributes key.now.columns)) keys.now }
 {
-    keys.iter().any(|other| other.columns() == key.columns())
+    keys.iter().any(|other| other.columns == key.columns)
 }

@@ -1,8 +1,9 @@
 //! The columns of a table of which a value may be missing.
 
-ghost use Rattle.std.specs.Prelude.{◌≡◌, ◌≤◌, ◌<◌, ℕ, length, slice_get};
+ghost use Rattle.std.specs.Prelude.{◌≡◌, ◌≤◌, ◌<◌, ℕ, length, map};
 ghost use Rattle.attr_sets.specs.Sets.{attributes};
 ghost use Rattle.attr_sets.specs.declared.set.TheConstants.{MOST_ATTRIBUTES};
+ghost use Rattle.sql_schemas.specs.KeyValues.{key_columns};
 ghost use Rattle.sql_schemas.specs.Texts.{columns_missing, is_bound};
 
 use crate::keys::TableKey;
@@ -12,7 +13,7 @@ use sql_definitions::Column;
 /// The columns of which a value may be missing: neither they say otherwise, nor a key.
 pub fn columns_missing(columns: &[Column], keys: &[TableKey]) -> AttrSet
     requires within_limit { length columns.now ≤ MOST_ATTRIBUTES }
-    ensures missing { (k : ℕ) → attributes result k ≡ columns_missing columns.now keys.now k }
+    ensures missing { (k : ℕ) → attributes result k ≡ columns_missing columns.now (map key_columns keys.now) k }
 {
     let mut missing = AttrSet::empty();
     for column in 0..columns.len() as u8 {
@@ -26,7 +27,7 @@ pub fn columns_missing(columns: &[Column], keys: &[TableKey]) -> AttrSet
 fn may_be_missing(columns: &[Column], keys: &[TableKey], column: u8) -> bool
     requires within_limit { length columns.now ≤ MOST_ATTRIBUTES }
     requires column { column < length columns.now }
-    ensures exact { result ≡ columns_missing columns.now keys.now column }
+    ensures exact { result ≡ columns_missing columns.now (map key_columns keys.now) column }
 {
     !columns[column as usize].is_never_missing() && !is_bound(keys, column)
 }
@@ -34,8 +35,8 @@ fn may_be_missing(columns: &[Column], keys: &[TableKey], column: u8) -> bool
 // Whether a key keeps values of a column from missing.
 fn is_bound(keys: &[TableKey], column: u8) -> bool
     requires within_limit { column < MOST_ATTRIBUTES }
-    ensures exact { result ≡ is_bound keys.now column }
+    ensures exact { result ≡ is_bound (map key_columns keys.now) column }
 {
     keys.iter()
-        .any(|key| key.binds() && key.columns().contains(column))
+        .any(|key| key.binds && key.columns.contains(column))
 }

@@ -8,6 +8,7 @@ ghost use Rattle.dep_model.specs.declared.schema.Schema.{Schema};
 ghost use Rattle.schema_printer.specs.Printing.{lines_text};
 ghost use Rattle.schema_printer.specs.Spelling.{printed_names_of};
 ghost use Rattle.sql_definitions.specs.Facts.{AreColumns, Fails};
+ghost use Rattle.sql_schemas.specs.KeyValues.{key_columns};
 ghost use Rattle.sql_schemas.specs.Keys.{key_dependency, new_keys};
 ghost use Rattle.sql_schemas.specs.Texts.{IsSchemaOf, column_names, column_types, comment_text, key_line, key_word, table_text, text_of_facts};
 
@@ -36,14 +37,10 @@ pub fn print_table(
 }
 
 // The text of the schema of a table of these columns and keys.
-fn table_text(
-    alloc: Global,
-    columns: &[Column],
-    keys: &[TableKey],
-) -> Result<Vec<u8>, OutOfMemory>
+fn table_text(alloc: Global, columns: &[Column], keys: &[TableKey]) -> Result<Vec<u8>, OutOfMemory>
     requires columns { AreColumns columns.now }
     requires any_column { 0 < length columns.now }
-    ensures text { IfOk result (λ text. text.items ≡ table_text columns.now keys.now) }
+    ensures text { IfOk result (λ text. text.items ≡ table_text columns.now (map key_columns keys.now)) }
 {
     let schema = schema_of_table(alloc, columns, keys)?;
     let mut text = print_deps(alloc, &schema, schema.deps())?;
@@ -60,7 +57,7 @@ fn schema_of_table(
 ) -> Result<Schema, OutOfMemory>
     requires columns { AreColumns columns.now }
     requires any_column { 0 < length columns.now }
-    ensures schema { IfOk result (IsSchemaOf columns.now keys.now) }
+    ensures schema { IfOk result (IsSchemaOf columns.now (map key_columns keys.now)) }
 {
     let names = column_names(alloc, columns)?;
     let types = column_types(alloc, columns)?;
@@ -91,13 +88,9 @@ fn column_types(alloc: Global, columns: &[Column]) -> Result<Vec<ColumnType>, Ou
 }
 
 // The lines of keys, at the end of a text.
-fn add_key_lines(
-    text: &mut Vec<u8>,
-    schema: &Schema,
-    keys: &[TableKey],
-) -> Result<(), OutOfMemory>
+fn add_key_lines(text: &mut Vec<u8>, schema: &Schema, keys: &[TableKey]) -> Result<(), OutOfMemory>
     ensures added { OnOk result (text.new.items ≡ text.old.items
-        ++ lines_text (map (key_line (printed_names_of schema.now) (nullable_of schema.now)) keys.now)) }
+        ++ lines_text (map (key_line (printed_names_of schema.now) (nullable_of schema.now)) (map key_columns keys.now))) }
 {
     for key in keys {
         add_key_line(text, schema, key)?;
@@ -107,15 +100,11 @@ fn add_key_lines(
 }
 
 // The line of a key, without its end.
-fn add_key_line(
-    text: &mut Vec<u8>,
-    schema: &Schema,
-    key: &TableKey,
-) -> Result<(), OutOfMemory>
+fn add_key_line(text: &mut Vec<u8>, schema: &Schema, key: &TableKey) -> Result<(), OutOfMemory>
     ensures added { OnOk result (text.new.items ≡ text.old.items
-        ++ key_line (printed_names_of schema.now) (nullable_of schema.now) key.now) }
+        ++ key_line (printed_names_of schema.now) (nullable_of schema.now) (key_columns key.now)) }
 {
-    if key.columns().intersects(schema.nullable()) {
+    if key.columns.intersects(schema.nullable()) {
         add_comment(text, schema, key)
     } else {
         add_dep(text, schema, key_dependency(schema, key))
@@ -124,23 +113,23 @@ fn add_key_line(
 
 // A key determines all other columns.
 fn key_dependency(schema: &Schema, key: &TableKey) -> Dep
-    ensures dependency { dependency_of result ≡ key_dependency (length (printed_names_of schema.now)) key.now }
+    ensures dependency { dependency_of result ≡ key_dependency (length (printed_names_of schema.now)) (key_columns key.now) }
 {
     Dep::Fd {
-        lhs: key.columns(),
-        rhs: AttrSet::full(schema.width()).difference(key.columns()),
+        lhs: key.columns,
+        rhs: AttrSet::full(schema.width()).difference(key.columns),
     }
 }
 
 // The comment of a key of which a column may be missing.
 fn add_comment(text: &mut Vec<u8>, schema: &Schema, key: &TableKey) -> Result<(), OutOfMemory>
     ensures added { OnOk result (text.new.items ≡ text.old.items
-        ++ comment_text (printed_names_of schema.now) key.now) }
+        ++ comment_text (printed_names_of schema.now) (key_columns key.now)) }
 {
     add(text, b"# ")?;
-    add(text, key_word(key.is_primary()))?;
+    add(text, key_word(key.primary))?;
     add(text, b" ")?;
-    add_set(text, schema, key.columns())?;
+    add_set(text, schema, key.columns)?;
     add(text, b": missing values are not compared")
 }
 

@@ -6,15 +6,15 @@ use Rattle.dep_model.specs.declared.naming.Naming.TheVariants.{Any}
 use Rattle.schema_grammar.specs.Declarations.{Declarations}
 use Rattle.sql_lexemes.specs.declared.dialect.Dialect.{Dialect}
 use Rattle.sql_definitions.specs.Facts.{Facts, StatedColumn}
-use Rattle.sql_schemas.specs.Keys.{TableKey, key_dependency, keys_of, new_keys}
+use Rattle.sql_schemas.specs.Keys.{KeyColumns, key_dependency, keys_of, new_keys}
 use Rattle.sql_schemas.specs.Texts.{column_names, column_types, columns_missing, is_whole}
 
 -- the keys of a table, each once, of which no column may be missing
-abbrev pub whole_keys : List StatedColumn → List TableKey → List TableKey
+abbrev pub whole_keys : List StatedColumn → List KeyColumns → List KeyColumns
 whole_keys columns keys = filter (is_whole (columns_missing columns keys)) (new_keys (length columns) [] keys)
 
 -- the columns of a table, and the dependencies of these keys, on lines of these numbers
-abbrev pub declared_table : List StatedColumn → List TableKey → List ℕ → Declarations
+abbrev pub declared_table : List StatedColumn → List KeyColumns → List ℕ → Declarations
 declared_table columns keys lines = record {
   names = column_names columns;
   columns = column_types columns;
