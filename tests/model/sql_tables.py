@@ -9,9 +9,9 @@ BLANK = re.compile(rb"[ \t\r\n\f]+|--[^\n]*|/\*.*?\*/", re.DOTALL)
 WORD = re.compile(rb"[A-Za-z_\x80-\xff][A-Za-z0-9_$\x80-\xff]*")
 NUMBER = re.compile(rb"[0-9][A-Za-z0-9_.]*")
 TAG = re.compile(rb"\$(?:[A-Za-z_\x80-\xff][A-Za-z0-9_\x80-\xff]*)?\$")
-PLAIN = re.compile(rb"'(?:[^']|'')*'", re.DOTALL)
-ESCAPED = re.compile(rb"'(?:[^'\\]|''|\\.)*'", re.DOTALL)
-QUOTES = {b'"': re.compile(rb'"(?:[^"]|"")*"', re.DOTALL), b"`": re.compile(rb"`(?:[^`]|``)*`", re.DOTALL),
+PLAIN = re.compile(rb"'(?:[^']|'')*+'", re.DOTALL)
+ESCAPED = re.compile(rb"'(?:[^'\\]|''|\\.)*+'", re.DOTALL)
+QUOTES = {b'"': re.compile(rb'"(?:[^"]|"")*+"', re.DOTALL), b"`": re.compile(rb"`(?:[^`]|``)*+`", re.DOTALL),
           b"[": re.compile(rb"\[[^\]]*\]", re.DOTALL)}
 TYPE = re.compile(rb"[A-Za-z0-9_ (),.\[\]]{1,63}")
 

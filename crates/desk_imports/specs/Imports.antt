@@ -47,14 +47,10 @@ reason_text reason.TooManyAttributes = codes "too many attributes"
 reason_text reason.TooManyDependencies = codes "too many dependencies"
 reason_text reason.UnknownName = codes "unknown name"
 
--- what stands before a place, without a byte-order mark
-abbrev pub front_of : List ℕ → ℕ → List ℕ
-front_of text place = without_mark (take place text)
-
 -- the line and the column of a place
 abbrev pub line_and_column : List ℕ → ℕ → List ℕ
 line_and_column text place =
-    decimal (line_after (front_of text place)) ++ codes ":" ++ decimal (column_after (front_of text place))
+    decimal (line_after (take place text)) ++ codes ":" ++ decimal (column_after (take place text))
 
 -- where a refusal stands, in the text of a file: a table that is not there stands nowhere
 abbrev pub place_text : List ℕ → Reason → ℕ → List ℕ
@@ -75,10 +71,11 @@ abbrev pub import_response : List ℕ → List ℕ → Result (List ℕ) Refusal
 import_response file text (Ok printed) = text_only status.Yes printed
 import_response file text (Err refusal) = text_only status.Refused (import_refusal_text file text refusal)
 
--- of the table that is wanted, where a word wants one
+-- of the table that is wanted, where a word wants one; one byte-order mark at the start of the text is skipped
 abbrev pub wanted_response : Dialect → List ℕ → List ℕ → Option TableName → ResponseValue
 wanted_response dialect file text None = text_only status.Refused bad_table_text
-wanted_response dialect file text (Some wanted) = import_response file text (imported_text dialect wanted text)
+wanted_response dialect file text (Some wanted) =
+    import_response file (without_mark text) (imported_text dialect wanted (without_mark text))
 
 -- the schema of the table that a word wants, by the text of a file
 abbrev pub ImportsTable : Dialect → List ℕ → List ℕ → List ℕ → Allowed

@@ -1,4 +1,5 @@
-ghost use Rattle.std.specs.Prelude.{◌≡◌, ◌<◌, ◌^◌, length, IfErr, IfOk, Ok, Err};
+ghost use Rattle.std.specs.Prelude.{◌≡◌, ◌<◌, ◌≤◌, ◌^◌, length, IfErr, IfOk, Ok, Err};
+ghost use Rattle.lexer.specs.Lines.{without_mark};
 ghost use Rattle.sql_definitions.specs.Facts.{Fails};
 ghost use Rattle.sql_schemas.specs.Texts.{imported_text};
 ghost use Rattle.desk_imports.specs.Imports.{ImportsTable, bad_table_text, import_response};
@@ -9,6 +10,7 @@ use crate::refusals::import_refusal_exit;
 use dep_model::{Failure, OutOfMemory};
 use desk_responses::{EarlyExit, Response, Status};
 use desk_texts::line_of;
+use lexer::without_mark;
 use sql_definitions::{Refusal, Wanted, read_definition, wanted_table};
 use sql_lexemes::Dialect;
 use sql_schemas::print_table;
@@ -28,7 +30,15 @@ pub fn import_table(
     let Some(wanted) = wanted_table(table) else {
         return Err(bad_table_exit(alloc));
     };
-    import_wanted(alloc, dialect, &wanted, file, text)
+    import_wanted(alloc, dialect, &wanted, file, text_after_mark(text))
+}
+
+// The text without a byte-order mark.
+fn text_after_mark(text: &[u8]) -> &[u8]
+    ensures text { result.now ≡ without_mark text.now }
+    ensures within { length result.now ≤ length text.now }
+{
+    without_mark(text)
 }
 
 // The schema of the table that is wanted.

@@ -1,13 +1,12 @@
 //! Refusals of SQL, as they are worded.
 
-ghost use Rattle.std.specs.Prelude.{◌≡◌, ◌<◌, ◌≤◌, ◌^◌, ◌++◌, length, IfOk, OnOk};
-ghost use Rattle.desk_imports.specs.Imports.{front_of, import_refusal_text, line_and_column, place_text, reason_number, reason_text};
+ghost use Rattle.std.specs.Prelude.{◌≡◌, ◌<◌, ◌≤◌, ◌^◌, ◌++◌, length, take, IfOk, OnOk};
+ghost use Rattle.desk_imports.specs.Imports.{import_refusal_text, line_and_column, place_text, reason_number, reason_text};
 ghost use Rattle.desk_responses.specs.ResponseValues.{Says};
 ghost use Rattle.desk_responses.specs.Responses.{ExitsAs};
 
 use dep_model::OutOfMemory;
 use desk_responses::{EarlyExit, Status};
-use lexer::without_mark;
 use schema_printer::{add, add_number};
 use sql_definitions::{Reason, Refusal};
 use sql_lexemes::{column_at, line_at};
@@ -80,15 +79,15 @@ fn add_line_and_column(
     add_number(line, alloc, column_at(front))
 }
 
-// What stands before a place, without a byte-order mark.
+// What stands before a place.
 fn front_of(text: &[u8], place: usize) -> &[u8]
-    ensures front { result.now ≡ front_of text.now place }
+    ensures front { result.now ≡ take place text.now }
     ensures within { length result.now ≤ length text.now }
 {
     if place <= text.len() {
-        without_mark(text.split_at(place).0)
+        text.split_at(place).0
     } else {
-        without_mark(text)
+        text.split_at(text.len()).0
     }
 }
 

@@ -3,6 +3,7 @@
 use Rattle.std.proofs.Common.{◌≡◌, ℕ, Some, Ok, List, [], ◌∷◌, inl, inr, sym, ap, ◌∙◌}
 use Rattle.std.specs.Prelude.{codes}
 use Rattle.implication_laws.specs.OneAnswer.{AllowsOne}
+use Rattle.lexer.specs.Lines.{without_mark}
 use Rattle.sql_lexemes.specs.declared.dialect.Dialect.{Dialect}
 use Rattle.sql_lexemes.specs.declared.dialect.Dialect.TheVariants.{Sqlite, Postgres}
 use Rattle.sql_definitions.specs.Wanted.{TableName, wanted_table}
@@ -26,7 +27,7 @@ use Rattle.desk_laws.proofs.StopLemmas.{file_goes, one_content}
 -- ---- it is answered
 after_sql : (files : Files) (dialect : Dialect) (file table : List ℕ) (wanted : TableName) (text printed : List ℕ) (response : ResponseValue)
     → IsFile sql_file (known_files files) file text → wanted_table table ≡ Some wanted
-    → imported_text dialect wanted text ≡ Ok printed
+    → imported_text dialect wanted (without_mark text) ≡ Ok printed
     → WithFile sql_file (known_files files) file (ImportsTable dialect table file) response → IsYesOrNo response.status
 after_sql files dialect file table wanted text printed response is wants prints (inl (inl exit)) =
     absurd (file_goes files file is.bytes MOST_SQL_BYTES response is.content.0 is.content.1 exit)
@@ -39,7 +40,7 @@ after_sql files dialect file table wanted text printed response is wants prints 
     found
     ∙ ap (λ (t : List ℕ). wanted_response dialect file t (wanted_table table)) same
     ∙ ap (wanted_response dialect file text) wants
-    ∙ ap (import_response file text) prints in
+    ∙ ap (import_response file (without_mark text)) prints in
     inl (ap (λ (a : ResponseValue). a.status) answer)
 
 sqlite_asks : (files : Files) (file table : List ℕ) (looks : Looks) (response : ResponseValue)
@@ -56,7 +57,7 @@ postgres_asks files file table looks response answered = answered
 
 pub sqlite_answered : (files : Files) (file table : List ℕ) (wanted : TableName) (text printed : List ℕ)
     → IsFile sql_file (known_files files) file text → wanted_table table ≡ Some wanted
-    → imported_text Sqlite wanted text ≡ Ok printed
+    → imported_text Sqlite wanted (without_mark text) ≡ Ok printed
     → IsAnswered files (codes "import" ∷ codes "sqlite" ∷ file ∷ table ∷ [])
 sqlite_answered files file table wanted text printed is wants prints looks response answered =
     after_sql files Sqlite file table wanted text printed response is wants prints
@@ -64,7 +65,7 @@ sqlite_answered files file table wanted text printed is wants prints looks respo
 
 pub postgres_answered : (files : Files) (file table : List ℕ) (wanted : TableName) (text printed : List ℕ)
     → IsFile sql_file (known_files files) file text → wanted_table table ≡ Some wanted
-    → imported_text Postgres wanted text ≡ Ok printed
+    → imported_text Postgres wanted (without_mark text) ≡ Ok printed
     → IsAnswered files (codes "import" ∷ codes "postgres" ∷ file ∷ table ∷ [])
 postgres_answered files file table wanted text printed is wants prints looks response answered =
     after_sql files Postgres file table wanted text printed response is wants prints

@@ -15,6 +15,7 @@ ghost use Rattle.fd_discovery.specs.declared.headed_rows.Headed.{Headed};
 ghost use Rattle.fd_discovery.specs.Headings.{names_under, rows_under};
 ghost use Rattle.fd_closure.specs.LeftSides.{IsWide};
 ghost use Rattle.lexer.specs.Bytes.{number_of};
+ghost use Rattle.lexer.specs.Lines.{without_mark};
 ghost use Rattle.row_keys.specs.Keys.{HasTooManyKeys};
 ghost use Rattle.normal_forms.specs.declared.forms.Form.{Form};
 ghost use Rattle.normal_forms.specs.declared.forms.Form.TheVariants as forms;
@@ -160,11 +161,11 @@ pub fn import_csv_is_answered()
 pub fn import_sql_is_answered()
     ensures sqlite { (files : Files) (file table : List ℕ) (wanted : TableName) (text printed : List ℕ)
         → IsFile sql_file (known_files files) file text → wanted_table table ≡ Some wanted
-        → imported_text Sqlite wanted text ≡ Ok printed
+        → imported_text Sqlite wanted (without_mark text) ≡ Ok printed
         → IsAnswered files (codes "import" ∷ codes "sqlite" ∷ file ∷ table ∷ []) }
     ensures postgres { (files : Files) (file table : List ℕ) (wanted : TableName) (text printed : List ℕ)
         → IsFile sql_file (known_files files) file text → wanted_table table ≡ Some wanted
-        → imported_text Postgres wanted text ≡ Ok printed
+        → imported_text Postgres wanted (without_mark text) ≡ Ok printed
         → IsAnswered files (codes "import" ∷ codes "postgres" ∷ file ∷ table ∷ []) }
 {}
 

@@ -1,3 +1,5 @@
 pub mod MissingLemmas
+pub mod KeyLemmas
+pub mod TableLemmas
 pub mod LineLemmas
 pub mod MeaningLemmas

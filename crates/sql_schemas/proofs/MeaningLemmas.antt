@@ -22,7 +22,7 @@ use Rattle.schema_grammar.specs.declared.format.TheConstants.{MOST_DEPENDENCY_LI
 use Rattle.schema_grammar.specs.declared.format.Format.TheVariants as format
 use Rattle.schema_grammar.specs.Declarations.{Declarations, no_declaration}
 use Rattle.schema_grammar.specs.Meanings.{HasTokens}
-use Rattle.schema_grammar.specs.Printed.{AreReadBack}
+use Rattle.schema_grammar.specs.Printed.{AreReadBack, IsReadBack}
 use Rattle.schema_grammar.specs.Schemas.{IsVersionLine, IsVersionedText, MeansAll, MeansLines, MeansSchema}
 use Rattle.schema_grammar.specs.Texts.{is_version}
 use Rattle.schema_grammar.proofs.PrintedDeclarations.{are_runs, nullable_bytes, nullable_mean, run_columns, run_lines, run_names, runs_bytes, runs_mean, runs_spelled, with_nullable, with_runs}
@@ -124,7 +124,7 @@ columns_bytes names columns missing keys is =
     let cut_up = are_runs format.Full columns names is.one_each is.types in
     each_append (run_lines Any runs) (nullable_lines (members_from missing 0 (map (spelling Any) names)))
     (runs_bytes format.Full runs cut_up.not_empty
-    (subst (All (λ (name : List ℕ). _)) (sym cut_up.names_are) is.are.each))
+    (subst (All (IsReadBack format.Full Any)) (sym cut_up.names_are) is.are.each))
     (nullable_bytes missing names is.are)
 
 -- the lines of the text: those of the schema, and those of the keys

@@ -41,14 +41,14 @@ columns_missing columns keys k = says_nothing (slice_get columns k) && not (is_b
 abbrev pub is_whole : Attributes → KeyColumns → Bool
 is_whole missing key = is_disjoint key.columns missing
 
-abbrev pub key_word : Bool → List ℕ
-key_word primary = if primary then codes "PRIMARY KEY" else codes "UNIQUE"
+-- by what it is stated, in a comment
+abbrev pub comment_front : Bool → List ℕ
+comment_front primary = if primary then codes "# PRIMARY KEY " else codes "# UNIQUE "
 
 -- the comment of a key of which a column may be missing
 abbrev pub comment_text : List (List ℕ) → KeyColumns → List ℕ
 comment_text names key =
-    codes "# " ++ key_word key.primary ++ codes " " ++ set_text names key.columns
-    ++ codes ": missing values are not compared"
+    comment_front key.primary ++ set_text names key.columns ++ codes ": missing values are not compared"
 
 -- the line of a key: a dependency, where no column of it may be missing, else a comment
 unfoldable pub key_line : List (List ℕ) → Attributes → KeyColumns → List ℕ

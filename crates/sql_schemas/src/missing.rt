@@ -1,10 +1,11 @@
 //! The columns of a table of which a value may be missing.
 
-ghost use Rattle.std.specs.Prelude.{◌≡◌, ◌≤◌, ◌<◌, ℕ, length, map};
+ghost use Rattle.std.specs.Prelude.{◌≡◌, ◌≤◌, ◌<◌, ℕ, ◌&&◌, length, map};
+ghost use Rattle.std.specs.List.{list_any};
 ghost use Rattle.attr_sets.specs.Sets.{attributes};
 ghost use Rattle.attr_sets.specs.declared.set.TheConstants.{MOST_ATTRIBUTES};
 ghost use Rattle.sql_schemas.specs.KeyValues.{key_columns};
-ghost use Rattle.sql_schemas.specs.Texts.{columns_missing, is_bound};
+ghost use Rattle.sql_schemas.specs.Texts.{columns_missing};
 
 use crate::keys::TableKey;
 use attr_sets::AttrSet;
@@ -24,6 +25,7 @@ pub fn columns_missing(columns: &[Column], keys: &[TableKey]) -> AttrSet
     missing
 }
 
+#[tactic(auto, using(crate::proofs::KeyLemmas::bound_mapped))]
 fn may_be_missing(columns: &[Column], keys: &[TableKey], column: u8) -> bool
     requires within_limit { length columns.now ≤ MOST_ATTRIBUTES }
     requires column { column < length columns.now }
@@ -35,7 +37,7 @@ fn may_be_missing(columns: &[Column], keys: &[TableKey], column: u8) -> bool
 // Whether a key keeps values of a column from missing.
 fn is_bound(keys: &[TableKey], column: u8) -> bool
     requires within_limit { column < MOST_ATTRIBUTES }
-    ensures exact { result ≡ is_bound (map key_columns keys.now) column }
+    ensures exact { result ≡ list_any (λ key. key.binds && attributes key.columns column) keys.now }
 {
     keys.iter()
         .any(|key| key.binds && key.columns.contains(column))

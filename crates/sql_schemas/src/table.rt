@@ -10,7 +10,7 @@ ghost use Rattle.schema_printer.specs.Spelling.{printed_names_of};
 ghost use Rattle.sql_definitions.specs.Facts.{AreColumns, Fails};
 ghost use Rattle.sql_schemas.specs.KeyValues.{key_columns};
 ghost use Rattle.sql_schemas.specs.Keys.{key_dependency, new_keys};
-ghost use Rattle.sql_schemas.specs.Texts.{IsSchemaOf, column_names, column_types, comment_text, key_line, key_word, table_text, text_of_facts};
+ghost use Rattle.sql_schemas.specs.Texts.{IsSchemaOf, column_names, column_types, comment_front, comment_text, key_line, table_text, text_of_facts};
 
 use crate::keys::{TableKey, keys_of, new_keys};
 use crate::missing::columns_missing;
@@ -37,6 +37,7 @@ pub fn print_table(
 }
 
 // The text of the schema of a table of these columns and keys.
+#[tactic(auto, unfolding(crate::specs::Texts::table_text))]
 fn table_text(alloc: Global, columns: &[Column], keys: &[TableKey]) -> Result<Vec<u8>, OutOfMemory>
     requires columns { AreColumns columns.now }
     requires any_column { 0 < length columns.now }
@@ -100,6 +101,7 @@ fn add_key_lines(text: &mut Vec<u8>, schema: &Schema, keys: &[TableKey]) -> Resu
 }
 
 // The line of a key, without its end.
+#[tactic(auto, unfolding(crate::specs::Texts::key_line))]
 fn add_key_line(text: &mut Vec<u8>, schema: &Schema, key: &TableKey) -> Result<(), OutOfMemory>
     ensures added { OnOk result (text.new.items ≡ text.old.items
         ++ key_line (printed_names_of schema.now) (nullable_of schema.now) (key_columns key.now)) }
@@ -126,15 +128,18 @@ fn add_comment(text: &mut Vec<u8>, schema: &Schema, key: &TableKey) -> Result<()
     ensures added { OnOk result (text.new.items ≡ text.old.items
         ++ comment_text (printed_names_of schema.now) (key_columns key.now)) }
 {
-    add(text, b"# ")?;
-    add(text, key_word(key.primary))?;
-    add(text, b" ")?;
+    add(text, comment_front(key.primary))?;
     add_set(text, schema, key.columns)?;
     add(text, b": missing values are not compared")
 }
 
-fn key_word(primary: bool) -> &'static [u8]
-    ensures word { result.now ≡ key_word primary }
+// By what a key is stated, in a comment.
+fn comment_front(primary: bool) -> &'static [u8]
+    ensures front { result.now ≡ comment_front primary }
 {
-    if primary { b"PRIMARY KEY" } else { b"UNIQUE" }
+    if primary {
+        b"# PRIMARY KEY "
+    } else {
+        b"# UNIQUE "
+    }
 }
