@@ -1,5 +1,5 @@
 -- Keys of the code and keys by their columns.
-use Rattle.std.proofs.Common.{◌≡◌, ◌&&◌, ℕ, Bool, true, false, not, List, [], ◌∷◌, refl, sym, ap, ◌∙◌}
+use Rattle.std.proofs.Common.{◌≡◌, ◌&&◌, ◌||◌, ℕ, Bool, false, not, List, [], ◌∷◌, refl, sym, ap, ◌∙◌}
 use Rattle.std.specs.Prelude.{map}
 use Rattle.std.specs.List.{list_any}
 use Rattle.attr_sets.specs.Attributes.{below}
@@ -11,7 +11,7 @@ use Rattle.sql_schemas.specs.Texts.{is_bound}
 
 any_mapped : {A B : Type 0} (f : A → B) (P : B → Bool) (xs : List A) → list_any P (map f xs) ≡ list_any (λ x. P (f x)) xs
 any_mapped f P [] = refl
-any_mapped f P (x ∷ xs) = ap (λ (b : Bool). if P (f x) then true else b) (any_mapped f P xs)
+any_mapped f P (x ∷ xs) = ap (λ (b : Bool). P (f x) || b) (any_mapped f P xs)
 
 pub bound_mapped : (keys : List TableKey) (k : ℕ)
     → is_bound (map key_columns keys) k ≡ list_any (λ key. key.binds && attributes key.columns k) keys

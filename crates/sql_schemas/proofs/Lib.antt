@@ -3,3 +3,5 @@ pub mod KeyLemmas
 pub mod TableLemmas
 pub mod LineLemmas
 pub mod MeaningLemmas
+pub mod StatedLemmas
+pub mod LawLemmas

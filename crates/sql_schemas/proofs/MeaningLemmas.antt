@@ -102,7 +102,7 @@ columns_mean names columns missing keys is =
     let last = key_lines names missing keys ++ [] ∷ [] in
     let number = (2 + length runs) + length nullable in
     let whole = whole_of names columns missing keys (key_numbers missing number keys) in
-    let said = keys_mean number (with_nullable (named names columns) missing) missing keys is.are is.keys_within is.keys_within_limit in
+    let said = keys_mean number (with_nullable (named names columns) missing) missing keys is.are is.keys_within (let limit = is.keys_within_limit in omega (arith, limit)) in
     let after_names = nullable_mean (2 + length runs) (named names columns) missing last whole is.are is.missing_within refl said in
     let cut_up = are_runs format.Full columns names is.one_each is.types in
     let back : run_names runs ≡ names = cut_up.names_are in

@@ -1,9 +1,9 @@
 -- The columns of a table as a schema without dependencies, and its text.
-use Rattle.std.proofs.Common.{◌≡◌, ◌<◌, ◌≤◌, ℕ, Bool, true, false, None, IsTrue, List, [], ◌∷◌, inl, inr, length, refl, sym, ap, subst, ◌∙◌, arith, append-nil}
+use Rattle.std.proofs.Common.{◌≡◌, ◌<◌, ◌≤◌, ℕ, true, false, None, IsTrue, List, [], ◌∷◌, ◌++◌, inl, inr, length, refl, sym, ap, subst, ◌∙◌, arith, append-nil}
 use mathlib.Core.Path.{fun_ext}
 use Rattle.std.specs.Prelude.{All, AllPairs, map, slice_get}
-use Rattle.std.specs.List.{flat_map}
 use Rattle.std.proofs.lemmas.Bool.{cases_lt, and_parts}
+use Rattle.std.proofs.lemmas.Grind.{flat_map-append}
 use Rattle.std.proofs.lemmas.Bool.Decides.{nat_tests}
 use Rattle.std.proofs.lemmas.List.{get_or-map, length-map}
 use Rattle.std.proofs.lemmas.List.Elements.{All-map}
@@ -16,17 +16,23 @@ use Rattle.dep_model.specs.Validity.{AreDeclared, IsSchema}
 use Rattle.dep_model.specs.declared.column_type.ColumnType.{ColumnType}
 use Rattle.dep_model.specs.declared.dep.Dep.{Dep}
 use Rattle.dep_model.specs.declared.naming.Naming.TheVariants.{Any, Bare}
+use Rattle.dep_model.specs.Deps.{dependencies_of}
+use Rattle.dep_model.specs.Schemas.{deps_of, names_of, naming_of, nullable_of, types_of, width_of}
+use Rattle.dep_model.specs.declared.naming.Naming.{Naming}
+use Rattle.dep_model.specs.declared.schema.Schema.{Schema}
+use Rattle.schema_printer.specs.Printing.{lines_text, schema_lines, schema_text}
+use Rattle.schema_printer.specs.Spelling.{printed_names_of, spelling}
 use Rattle.sql_definitions.specs.Facts.{AreColumns, StatedColumn}
-use Rattle.sql_schemas.specs.Keys.{KeyColumns}
-use Rattle.sql_schemas.specs.Texts.{column_names, column_types, columns_missing, is_bound, says_nothing}
+use Rattle.sql_schemas.specs.Keys.{KeyColumns, new_keys}
+use Rattle.sql_schemas.specs.Texts.{IsSchemaOf, column_names, column_types, columns_missing, key_line, says_nothing, table_text}
 
-names_count : (columns : List StatedColumn) → length (column_names columns) ≡ length columns
+pub names_count : (columns : List StatedColumn) → length (column_names columns) ≡ length columns
 names_count columns = length-map columns (λ c. c.name)
 
-types_count : (columns : List StatedColumn) → length (column_types columns) ≡ length columns
+pub types_count : (columns : List StatedColumn) → length (column_types columns) ≡ length columns
 types_count columns = length-map columns (λ c. c.kind)
 
-names_apart : (columns : List StatedColumn) → AllPairs (λ a b. same_name a.name b.name ≡ false) columns
+pub names_apart : (columns : List StatedColumn) → AllPairs (λ a b. same_name a.name b.name ≡ false) columns
     → AllPairs (λ a b. same_name a b ≡ false) (column_names columns)
 names_apart [] differ i j d before within = absurd (omega (arith, within))
 names_apart (column ∷ columns) differ i j d before within =
@@ -51,7 +57,7 @@ table_schema columns names deps lines are some same none empty =
     })
 
 -- a value may be missing in columns alone
-missing_within : (columns : List StatedColumn) (keys : List KeyColumns) (n : ℕ) → length columns ≤ n
+pub missing_within : (columns : List StatedColumn) (keys : List KeyColumns) (n : ℕ) → length columns ≤ n
     → IsSubset (columns_missing columns keys) (below n)
 missing_within columns keys n size k member = elim (cases_lt k n) [
   | inl low ↦ grind (arith, nat_tests, low)
@@ -81,3 +87,44 @@ table_declared columns keys names types missing are same kinds each =
   where
     never : Any ≡ Bare → ⊥
     never wrong = cc
+
+-- ---- the text, by the parts of a schema
+text_by : Naming → List ColumnType → List (List ℕ) → Attributes → List KeyColumns → List ℕ
+text_by naming columns names nullable kept =
+    lines_text (schema_lines naming columns (map (spelling naming) names) nullable
+    ++ map (key_line (map (spelling naming) names) nullable) kept)
+
+parts_text : (s : Schema) (kept : List KeyColumns)
+    → schema_text s [] ++ lines_text (map (key_line (printed_names_of s) (nullable_of s)) kept)
+    ≡ text_by (naming_of s) (types_of s) (names_of s) (nullable_of s) kept
+unfolding schema_text printed_names_of text_by
+parts_text s kept =
+    let naming = naming_of s in
+    let printed = map (spelling naming) (names_of s) in
+    let front = schema_lines naming (types_of s) printed (nullable_of s) in
+    let last = map (key_line printed (nullable_of s)) kept in
+    ap (λ (ls : List (List ℕ)). lines_text ls ++ lines_text last) (append-nil front)
+    ∙ sym (flat_map-append (λ (line : List ℕ). line ++ 10 ∷ []) front last)
+
+whole_text : (columns : List StatedColumn) (keys : List KeyColumns)
+    → text_by Any (column_types columns) (column_names columns) (columns_missing columns keys) (new_keys (length columns) [] keys)
+    ≡ table_text columns keys
+unfolding text_by table_text
+whole_text columns keys = refl
+
+pub text_of_table : (columns : List StatedColumn) (keys : List KeyColumns) (s : Schema) (deps : List Dep) (kept : List KeyColumns) (n : ℕ)
+    (text : List ℕ) → IsSchemaOf columns keys s → deps ≡ deps_of s → n ≡ width_of s → kept ≡ new_keys n [] keys
+    → text ≡ schema_text s (dependencies_of deps) ++ lines_text (map (key_line (printed_names_of s) (nullable_of s)) kept)
+    → text ≡ table_text columns keys
+text_of_table columns keys s deps kept n text is same width new says =
+    let count : n ≡ length columns = width ∙ ap length is.names ∙ names_count columns in
+    let all : kept ≡ new_keys (length columns) [] keys = new ∙ ap (λ (k : ℕ). new_keys k [] keys) count in
+    says
+    ∙ ap (λ (ds : List Dep). schema_text s (dependencies_of ds) ++ lines_text (map (key_line (printed_names_of s) (nullable_of s)) kept)) (same ∙ is.deps)
+    ∙ parts_text s kept
+    ∙ ap (λ (naming : Naming). text_by naming (types_of s) (names_of s) (nullable_of s) kept) is.naming
+    ∙ ap (λ (types : List ColumnType). text_by Any types (names_of s) (nullable_of s) kept) is.types
+    ∙ ap (λ (names : List (List ℕ)). text_by Any (column_types columns) names (nullable_of s) kept) is.names
+    ∙ ap (λ (x : Attributes). text_by Any (column_types columns) (column_names columns) x kept) is.nullable
+    ∙ ap (λ (ks : List KeyColumns). text_by Any (column_types columns) (column_names columns) (columns_missing columns keys) ks) all
+    ∙ whole_text columns keys

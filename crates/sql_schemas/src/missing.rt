@@ -1,11 +1,11 @@
 //! The columns of a table of which a value may be missing.
 
-ghost use Rattle.std.specs.Prelude.{◌≡◌, ◌≤◌, ◌<◌, ℕ, ◌&&◌, length, map};
+ghost use Rattle.std.specs.Prelude.{◌≡◌, ◌≤◌, ◌<◌, ℕ, ◌&&◌, length, map, slice_get};
 ghost use Rattle.std.specs.List.{list_any};
 ghost use Rattle.attr_sets.specs.Sets.{attributes};
 ghost use Rattle.attr_sets.specs.declared.set.TheConstants.{MOST_ATTRIBUTES};
 ghost use Rattle.sql_schemas.specs.KeyValues.{key_columns};
-ghost use Rattle.sql_schemas.specs.Texts.{columns_missing};
+ghost use Rattle.sql_schemas.specs.Texts.{columns_missing, says_nothing};
 
 use crate::keys::TableKey;
 use attr_sets::AttrSet;
@@ -27,11 +27,20 @@ pub fn columns_missing(columns: &[Column], keys: &[TableKey]) -> AttrSet
 
 #[tactic(auto, using(crate::proofs::KeyLemmas::bound_mapped))]
 fn may_be_missing(columns: &[Column], keys: &[TableKey], column: u8) -> bool
-    requires within_limit { length columns.now ≤ MOST_ATTRIBUTES }
-    requires column { column < length columns.now }
+    requires within_limit { column < MOST_ATTRIBUTES }
     ensures exact { result ≡ columns_missing columns.now (map key_columns keys.now) column }
 {
-    !columns[column as usize].is_never_missing() && !is_bound(keys, column)
+    says_nothing(columns, column) && !is_bound(keys, column)
+}
+
+// Whether a column does not say itself that no value is missing.
+fn says_nothing(columns: &[Column], column: u8) -> bool
+    ensures exact { result ≡ says_nothing (slice_get columns.now column) }
+{
+    match columns.get(column as usize) {
+        Some(stated) => !stated.is_never_missing(),
+        None => false,
+    }
 }
 
 // Whether a key keeps values of a column from missing.
