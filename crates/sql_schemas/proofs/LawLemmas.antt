@@ -1,7 +1,6 @@
 -- The laws of the text of a table's schema.
-use Rattle.std.proofs.Common.{◌≡◌, ◌<◌, ◌≤◌, ℕ, Bool, true, false, cond, All, Ok, List, [], ◌∷◌, length, inl, inr, refl, sym, ap, subst, ◌∙◌, arith}
-use Rattle.std.specs.Prelude.{filter, map}
-use Rattle.std.proofs.lemmas.Bool.{cases_lt}
+use Rattle.std.proofs.Common.{◌≡◌, ◌<◌, ◌≤◌, ℕ, Bool, true, false, cond, IsTrue, All, Ok, List, [], ◌∷◌, length, refl, sym, ap, subst, ◌∙◌, arith}
+use Rattle.std.specs.Prelude.{filter}
 use Rattle.std.proofs.lemmas.Bool.Decides.{nat_tests}
 use Rattle.std.proofs.lemmas.List.Elements.{All-cons, All-filter, All-map, All-nil}
 use Rattle.attr_sets.specs.Attributes.{Attributes, Disjoint, IsSubset, below}
@@ -15,7 +14,7 @@ use Rattle.schema_grammar.specs.Declarations.{Declarations}
 use Rattle.schema_grammar.specs.Schemas.{MeansSchema}
 use Rattle.sql_lexemes.specs.declared.dialect.Dialect.{Dialect}
 use Rattle.sql_definitions.specs.Facts.{AreColumns, Facts, StatedColumn}
-use Rattle.sql_schemas.specs.Keys.{KeyColumns, key_dependency, keys_of, new_keys}
+use Rattle.sql_schemas.specs.Keys.{KeyColumns, keys_of, new_keys}
 use Rattle.sql_schemas.specs.Meaning.{IsStatedKey, declared_table, whole_keys}
 use Rattle.sql_schemas.specs.Texts.{column_names, column_types, columns_missing, is_whole, table_text}
 use Rattle.sql_schemas.proofs.LineLemmas.{stated}
@@ -40,7 +39,7 @@ table_is columns keys are some room within =
       within_limit = omega (arith, names, limit);
       are = record { each = All-map IsName (λ c. c.name) columns are.names; differ = names_apart columns are.names_differ };
       one_each = types ∙ sym names;
-      types = All-map (λ column. _) (λ c. c.kind) columns are.types;
+      types = All-map (λ column. IsTrue (is_column_type column)) (λ c. c.kind) columns are.types;
       missing_within = missing_within columns keys (length (column_names columns)) (omega (arith, names));
       keys_within = subst (λ (n : ℕ). All (λ (key : KeyColumns). IsSubset key.columns (below n)) (new_keys (length columns) [] keys)) (sym names) each;
       keys_within_limit = omega (arith, count, room);

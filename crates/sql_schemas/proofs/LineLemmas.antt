@@ -5,7 +5,7 @@ use Rattle.std.proofs.lemmas.Bool.{and_parts}
 use Rattle.std.proofs.lemmas.List.{length-map}
 use Rattle.std.proofs.lemmas.List.Elements.{All-head, All-tail}
 use Rattle.attr_sets.specs.Attributes.{Attributes, IsSubset, below, difference}
-use Rattle.dep_model.specs.Dependencies.{Dependency, IsWithin}
+use Rattle.dep_model.specs.Dependencies.{Dependency}
 use Rattle.dep_model.specs.declared.naming.Naming.TheVariants.{Any}
 use Rattle.lexer.specs.Modes as mode
 use Rattle.lexer.specs.Pieces.{front_piece}
@@ -13,7 +13,6 @@ use Rattle.lexer.proofs.Steps.{at_comment}
 use Rattle.schema_printer.specs.Printing.{dependency_text, members_from, set_text, side_text}
 use Rattle.schema_printer.specs.Spelling.{spelling}
 use Rattle.schema_grammar.specs.declared.format.TheConstants.{MOST_DEPENDENCY_LINES}
-use Rattle.schema_grammar.specs.declared.format.Format.{Format}
 use Rattle.schema_grammar.specs.declared.format.Format.TheVariants as format
 use Rattle.schema_grammar.specs.Declarations.{Declarations, add_dependency}
 use Rattle.schema_grammar.specs.LineTokens.{lex_line}

@@ -1,7 +1,6 @@
 -- The text of a table's schema means what it declares.
-use Rattle.std.proofs.Common.{◌≡◌, ◌<◌, ◌≤◌, ◌+◌, inr, ℕ, true, All, IsTrue, List, [], ◌∷◌, ◌++◌, length, Some, refl, sym, ap, subst, ◌∙◌, arith, append_assoc}
+use Rattle.std.proofs.Common.{◌≡◌, ◌<◌, ◌≤◌, ◌+◌, inr, ℕ, All, IsTrue, List, [], ◌∷◌, ◌++◌, length, refl, sym, ap, subst, ◌∙◌, arith, append_assoc}
 use Rattle.std.specs.Prelude.{codes, map}
-use Rattle.std.proofs.lemmas.List.{length-map}
 use Rattle.std.proofs.lemmas.List.Elements.{All-nil}
 use Rattle.attr_sets.specs.Attributes.{Attributes, IsSubset, below, none}
 use Rattle.attr_sets.specs.declared.set.TheConstants.{MOST_ATTRIBUTES}
@@ -13,7 +12,6 @@ use Rattle.lexer.specs.Lines.{line_texts, without_mark}
 use Rattle.lexer.specs.Modes as mode
 use Rattle.lexer.specs.Pieces.{front_piece, run_piece}
 use Rattle.lexer.specs.Tokens.{Mark, lex, led_by_mark}
-use Rattle.lexer.specs.declared.piece.Piece.TheVariants as piece
 use Rattle.lexer.specs.declared.token.TokenKind.TheVariants as token
 use Rattle.lexer.proofs.Steps.{at_token}
 use Rattle.schema_printer.specs.Printing.{lines_text, members_from, nullable_lines, run_line, runs_of, schema_lines}
@@ -26,7 +24,6 @@ use Rattle.schema_grammar.specs.Printed.{AreReadBack, IsReadBack}
 use Rattle.schema_grammar.specs.Schemas.{IsVersionLine, IsVersionedText, MeansAll, MeansLines, MeansSchema}
 use Rattle.schema_grammar.specs.Texts.{is_version}
 use Rattle.schema_grammar.proofs.PrintedDeclarations.{are_runs, nullable_bytes, nullable_mean, run_columns, run_lines, run_names, runs_bytes, runs_mean, runs_spelled, with_nullable, with_runs}
-use Rattle.schema_grammar.proofs.PrintedDependencies.{with_dependencies}
 use Rattle.schema_grammar.proofs.PrintedLexing.{blank_lexed, name_lexed}
 use Rattle.schema_grammar.proofs.PrintedTexts.{EachBytes, lines_cut}
 use Rattle.schema_grammar.proofs.SpelledWords.{nothing_left}

@@ -1,12 +1,11 @@
 -- The columns of which a value may be missing, one after the other.
-use Rattle.std.proofs.Common.{◌≡◌, ◌<◌, ◌≤◌, ◌+◌, inl, inr, ℕ, Bool, true, false, None, List, length, refl, sym, ap, ◌∙◌, arith}
+use Rattle.std.proofs.Common.{◌≡◌, ◌<◌, ◌≤◌, inl, inr, ℕ, false, List, length, refl, sym, ◌∙◌, arith}
 use Rattle.std.proofs.lemmas.Bool.{cases_lt}
 use Rattle.std.proofs.lemmas.Option.{slice_get_past}
-use Rattle.std.specs.Prelude.{slice_get}
 use Rattle.attr_sets.specs.Attributes.{Attributes}
 use Rattle.sql_definitions.specs.Facts.{StatedColumn}
 use Rattle.sql_schemas.specs.Keys.{KeyColumns}
-use Rattle.sql_schemas.specs.Texts.{columns_missing, says_nothing}
+use Rattle.sql_schemas.specs.Texts.{columns_missing}
 
 -- below n a set has just the columns of which a value may be missing, and none from there on
 pub record AreMissingBelow (n : ℕ) (columns : List StatedColumn) (keys : List KeyColumns) (x : Attributes) : Type 0 where

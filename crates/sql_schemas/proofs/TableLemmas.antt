@@ -1,7 +1,7 @@
 -- The columns of a table as a schema without dependencies, and its text.
 use Rattle.std.proofs.Common.{◌≡◌, ◌<◌, ◌≤◌, ℕ, true, false, None, IsTrue, List, [], ◌∷◌, ◌++◌, inl, inr, length, refl, sym, ap, subst, ◌∙◌, arith, append-nil}
 use mathlib.Core.Path.{fun_ext}
-use Rattle.std.specs.Prelude.{All, AllPairs, map, slice_get}
+use Rattle.std.specs.Prelude.{AllPairs, map, slice_get}
 use Rattle.std.proofs.lemmas.Bool.{cases_lt, and_parts}
 use Rattle.std.proofs.lemmas.Grind.{flat_map-append}
 use Rattle.std.proofs.lemmas.Bool.Decides.{nat_tests}
@@ -9,7 +9,6 @@ use Rattle.std.proofs.lemmas.List.{get_or-map, length-map}
 use Rattle.std.proofs.lemmas.List.Elements.{All-map}
 use Rattle.std.proofs.lemmas.Option.{slice_get_past}
 use Rattle.attr_sets.specs.Attributes.{Attributes, IsSubset, below}
-use Rattle.attr_sets.specs.declared.set.TheConstants.{MOST_ATTRIBUTES}
 use Rattle.dep_model.specs.Columns.{is_column_type}
 use Rattle.dep_model.specs.Names.{same_name}
 use Rattle.dep_model.specs.Validity.{AreDeclared, IsSchema}

@@ -1,5 +1,5 @@
 -- The text of the schema of a table: its columns, those of which a value may be missing, and its keys.
-use Rattle.std.specs.Prelude.{◌≡◌, ℕ, Bool, false, ◌&&◌, not, Option, Some, None, Result, Ok, List, [], ◌∷◌, ◌++◌, length, map, codes, slice_get, if◌then◌else◌}
+use Rattle.std.specs.Prelude.{◌≡◌, ℕ, Bool, false, ◌&&◌, not, Option, Some, None, Result, Ok, List, [], ◌++◌, length, map, codes, slice_get, if◌then◌else◌}
 use Rattle.std.specs.List.{list_any}
 use Rattle.attr_sets.specs.Attributes.{Attributes}
 use Rattle.attr_sets.specs.Sets.{is_disjoint}
