@@ -610,6 +610,107 @@ def f_import_csv(m):
     return ["import", "csv", "r"], {"r": m.csv(names, rows, noise=.15)}
 
 
+# ---- SQL that defines tables
+
+SQL_NAMES = ["a", "b", "c", "d", "e", "Id", "city", "Select", "key", "primary", "Unit price", 'say "hi"', "n\u00e9e", "like", "text", "x" * 63]
+SQL_TYPES = ["INTEGER", "int", "bigint", "Int8", "smallint", "TEXT", "text", "", "date", "uuid", "timestamp", "timestamp without time zone",
+             "timestamp with time zone", "timestamp(3)", "numeric", "numeric(10,2)", "decimal(15)", "DECIMAL (15, 9)", "numeric(16,2)", "numeric(5,10)",
+             "numeric(010,2)", "numeric(-1)", "serial", "BIGSERIAL", "varchar(80)", "character varying(20)", "double precision", "s.mood", "int[]",
+             "int[][3]", "int[3]", "int(11)", "integer(4)", "\"Mood\"", "enum('a','b')", "INT UNSIGNED", "real", "x" * 64, "text[]", "json", "a$b", "tinyint"]
+SQL_AFTER = ["NOT NULL", "not null", "NULL", "PRIMARY KEY", "primary key AUTOINCREMENT", "UNIQUE", "DEFAULT 1", "DEFAULT 'it''s; a'", "default (now())",
+             "CHECK (a IS NOT NULL)", "COLLATE NOCASE", "collate \"C\"", "REFERENCES t2 (a)", "CONSTRAINT n1 NOT NULL", "CONSTRAINT \"u x\" UNIQUE",
+             "GENERATED ALWAYS AS (1 + (2))", "NOT /* c */ NULL", "UNIQUE ON CONFLICT IGNORE", "NOT DEFERRABLE NULL", "AS (a)", "DEFAULT NULL"]
+SQL_CONSTRAINTS = ["PRIMARY KEY ({0})", "UNIQUE ({0})", "CONSTRAINT k1 UNIQUE ({0})", "CONSTRAINT \"k 2\" PRIMARY KEY ({0})", "unique nulls not distinct ({0})",
+                   "UNIQUE NULLS DISTINCT ({0})", "FOREIGN KEY ({0}) REFERENCES t2 ({0})", "CHECK (({1} > 0) AND ({1} IS NOT NULL))", "EXCLUDE USING gist ({1} WITH &&)",
+                   "CONSTRAINT c3 CHECK ({1} <> 'UNIQUE (x)')", "UNIQUE ({0}) ON CONFLICT REPLACE", "PRIMARY KEY ({0} DESC)", "UNIQUE ({0} COLLATE NOCASE ASC)"]
+SQL_LATER = ["ALTER TABLE {t} ADD CONSTRAINT x1 PRIMARY KEY ({0});", "alter table only {t} add unique ({0});", "ALTER TABLE IF EXISTS {t} ADD UNIQUE ({0}) DEFERRABLE;",
+             "ALTER TABLE {t} ADD CONSTRAINT x2 UNIQUE USING INDEX i2;", "ALTER TABLE {t} OWNER TO postgres;", "ALTER TABLE {t} ADD COLUMN z int UNIQUE;",
+             "CREATE UNIQUE INDEX i1 ON {t} ({0});", "CREATE UNIQUE INDEX i2 ON ONLY {t} USING btree ({0});", "create unique index if not exists i3 on {t} ({0} DESC);",
+             "CREATE UNIQUE INDEX i4 ON {t} ({0}) WHERE {1} IS NOT NULL;", "CREATE UNIQUE INDEX i5 ON {t} (lower({1}));", "CREATE UNIQUE INDEX i6 ON {t} ({1}, (1));",
+             "CREATE INDEX i7 ON {t} ({0});", "CREATE UNIQUE INDEX i8 ON t2 ({0});", "ALTER TABLE t2 ADD UNIQUE ({0});", "CREATE UNIQUE INDEX i9 ON {t} ({0}) INCLUDE ({1});",
+             "COMMENT ON TABLE {t} IS 'CREATE TABLE t (x);';", "INSERT INTO {t} VALUES(1,'PRIMARY KEY (a));');", "SELECT pg_catalog.set_config('search_path', '', false);",
+             "ALTER TABLE ONLY {t} ALTER COLUMN {1} SET DEFAULT nextval('s'::regclass);"]
+SQL_NOISE = ["CREATE TABLE t2 (a int PRIMARY KEY, b text UNIQUE);", "-- CREATE TABLE t (a);\n", "/* ; ' */", "BEGIN TRANSACTION;", "PRAGMA foreign_keys=OFF;", ";",
+             "SET client_encoding = 'UTF8';", "CREATE VIEW v AS SELECT 1;", "CREATE TRIGGER r AFTER INSERT ON t BEGIN SELECT ')'; END;", ") ; (a;b)", "CREATE TYPE mood AS ENUM ('a');",
+             "COPY public.t2 (a, b) FROM stdin;\n1\tCREATE TABLE t (x int);\n'\t(\n\\.\n", "\\restrict x'\n", "SELECT $$ ' ; $$;", "SELECT $a$ $$ ; $a$, E'\\';';", "SELECT E'it''s';",
+             "CREATE TABLE other.u (LIKE t2);", "COPY t2 FROM 'f';", "CREATE FUNCTION f() RETURNS int AS $_$ BEGIN; CREATE TABLE t (q); END $_$ LANGUAGE sql;", "DELETE FROM sqlite_sequence;"]
+
+
+class SqlMaker:
+    def __init__(self, m):
+        self.r = m.r
+
+    def name(self, name, quoted=None):
+        """A name as it may be written."""
+        r = self.r
+        word = name.isidentifier() and name.isascii()
+        if word and not quoted and r.random() < .7:
+            return name if r.random() < .8 else name.swapcase()
+        if self.sqlite and "]" not in name and r.random() < .2:
+            return f"[{name}]"
+        quote = "`" if self.sqlite and r.random() < .2 else '"'
+        return quote + name.replace(quote, quote * 2) + quote
+
+    def names(self, names):
+        """A list of some of the names, now and then with one that is none of them."""
+        r = self.r
+        some = r.sample(names, r.randint(1, min(3, len(names))))
+        if r.random() < .04:
+            some.append(r.choice(("zz", "", some[0])))
+        return r.choice((", ", ",", " , ")).join(map(self.name, some))
+
+    def table(self, table):
+        r = self.r
+        names = r.sample(SQL_NAMES, r.randint(1, 5))
+        if r.random() < .03:
+            names.append(r.choice((names[0].upper(), "", "x" * 64)))
+        elements = [" ".join([self.name(n, n.lower() in ("primary", "like", "key")), r.choice(SQL_TYPES),
+                              *r.choices(SQL_AFTER, k=r.choice((0, 0, 1, 1, 2, 3)))]) for n in names]
+        for _ in range(r.choice((0, 0, 1, 1, 2))):
+            elements.append(r.choice(SQL_CONSTRAINTS).format(self.names(names), self.name(names[0])))
+        if r.random() < .02:
+            elements.append(r.choice(("LIKE t2", "", "UNIQUE", "PRIMARY (a)", "UNIQUE (", "CONSTRAINT", "UNIQUE a")))
+        tail = r.choice(("", "", "", " WITHOUT ROWID", " STRICT", " strict, without rowid", " WITH (fillfactor=70)", " INHERITS (p)"))
+        head = r.choice(("CREATE TABLE ", "CREATE TABLE ", "create table if not exists ", "CREATE TEMP TABLE ", "CREATE UNLOGGED TABLE "))
+        return names, head + table + r.choice((" (", "(\n    ")) + r.choice((", ", ",\n    ", ",")).join(elements) + ")" + tail + ";"
+
+    def text(self, table):
+        r = self.r
+        names, created = self.table(table)
+        later = [r.choice(SQL_LATER).format(self.names(names), self.name(names[0]), t=table) for _ in range(r.choice((0, 1, 1, 2, 4)))]
+        statements = [created, *later] + r.choices(SQL_NOISE, k=r.choice((0, 1, 2, 4)))
+        if r.random() < .02:
+            statements.append(created)
+        if r.random() < .3:
+            r.shuffle(statements)
+        text = r.choice((" ", "\n", "\r\n", "\n\n")).join(statements)
+        if not self.sqlite:
+            text = "\n".join(text.split("\n"))
+        data = text.encode()
+        if r.random() < .12:
+            k = r.randrange(len(data) + 1)
+            data = data[:k] + r.choice((b"", b"'", b'"', b"(", b")", b",", b"\x01", b"/*", b"--", b"$", b"\\", b"[", b"\xff", b";")) + data[k + r.choice((0, 1)):]
+        return (b"\xef\xbb\xbf" if r.random() < .05 else b"") + data
+
+
+def f_import_sql(m):
+    r = m.r
+    sql = SqlMaker(m)
+    sql.sqlite = r.random() < .5
+    table = r.choice(("t", "t", "public.t", "Main.T", '"t"', "a.b.t", '"Order Lines"'))
+    plain = table.replace('"', "")
+    word = r.choice((plain, plain, plain, plain.upper(), plain.split(".")[-1], plain.split(".")[-1])) if r.random() < .95 else r.choice(("u", "", ".t", "a..t", "t.", "a.b.c.t", "t2", "b.t"))
+    return ["import", "sqlite" if sql.sqlite else "postgres", "f", word], {"f": sql.text(table)}
+
+
+def f_import_ddl(m):
+    """What `ddl` prints of a schema, read again."""
+    s = m.schema(1, 6, mvd=0)
+    files = {"s": m.schema_text(s)}
+    printed = model.run(["ddl", m.r.choice(("3nf", "bcnf", "4nf")), "s"], files)
+    return ["import", m.r.choice(("sqlite", "postgres", "postgres")), "f", m.r.choice(("t1", "t1", "t2", "T3"))], {"f": printed.text}
+
+
 def f_rejoin(m):
     r = m.r
     s = m.schema(1, 5)
@@ -706,7 +807,7 @@ def f_sql(m):
 
 
 ALL_WORDS = ["implies", "keys", "cover", "synthesize", "split", "bcnf", "4nf", "3nf", "wide-bcnf", "ddl", "plan", "check", "proof", "join", "form",
-             "report", "rows", "same", "keeps", "migrate", "sample", "exhibit", "discover", "import", "csv", "rejoin", "basis", "closure", "project", "key", "explain", "sql", "draw", "measure", "offences", "kept", "into", "help", "--help", "-h", "--version",
+             "report", "rows", "same", "keeps", "migrate", "sample", "exhibit", "discover", "import", "csv", "sqlite", "postgres", "rejoin", "basis", "closure", "project", "key", "explain", "sql", "draw", "measure", "offences", "kept", "into", "help", "--help", "-h", "--version",
              "s", "p", "r", "A -> B", "1", "missing", "", "Keys", "table"]
 
 

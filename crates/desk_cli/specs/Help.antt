@@ -56,6 +56,9 @@ help_text =
     ++ line (codes "desk discover near N K CSV            "
     ++ codes "those that hold once at most N rows change, with at most K attributes on the left")
     ++ line (codes "desk import csv CSV                   a schema of the columns of CSV, to go on from")
+    ++ line (codes "desk import sqlite FILE TABLE         "
+    ++ codes "a schema of TABLE, by what sqlite3 prints of a database in FILE")
+    ++ line (codes "desk import postgres FILE TABLE       the same by what pg_dump prints")
     ++ line (codes "desk rejoin SCHEMA CSV..              the join of the tables in files")
     ++ line (codes "desk sql check SCHEMA TABLE           "
     ++ codes "queries for the rows of TABLE in a database that break each rule")

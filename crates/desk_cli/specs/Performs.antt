@@ -25,7 +25,9 @@ use Rattle.desk_words.specs.Forms.{CommandForm, PlanQuestion, RowsQuestion, Rule
 use Rattle.fd_discovery.specs.declared.headed_rows.Headed.{Headed}
 use Rattle.desk_inputs.specs.FileKinds.{WithFile}
 use Rattle.desk_columns.specs.Imports.{ImportsColumns}
+use Rattle.desk_imports.specs.Imports.{ImportsTable}
 use Rattle.desk_inputs.specs.Headed.{headed_file, imported_file}
+use Rattle.desk_inputs.specs.Sql.{sql_file}
 use Rattle.desk_cli.specs.Help.{help_text, version_text}
 use Rattle.desk_implication.specs.Implication.{DecidesGoal}
 use Rattle.desk_inputs.specs.Inputs.{derivation_file, proof_file, schema_file}
@@ -146,6 +148,7 @@ unfoldable pub Performs : Looks → Reading → CommandForm → Allowed
 Performs looks r (form.over_schema file task) = WithFile schema_file r file (λ schema. Does looks r schema task)
 Performs looks r (form.discover question file) = WithFile headed_file r file (AnswersRules question file)
 Performs looks r (form.import_csv file) = WithFile imported_file r file ImportsColumns
+Performs looks r (form.import_sql dialect file table) = WithFile sql_file r file (ImportsTable dialect table file)
 Performs looks r (form.sample persons) = Samples persons
 Performs looks r form.help = Says Yes help_text
 Performs looks r form.version = Says Yes version_text

@@ -43,6 +43,8 @@ desk discover K CSV                   those with at most K attributes on the lef
 desk discover keys CSV                the minimal sets of columns on which no two different rows agree
 desk discover near N K CSV            those that hold once at most N rows change, with at most K attributes on the left
 desk import csv CSV                   a schema of the columns of CSV, to go on from
+desk import sqlite FILE TABLE         a schema of TABLE, by what sqlite3 prints of a database in FILE
+desk import postgres FILE TABLE       the same by what pg_dump prints
 desk rejoin SCHEMA CSV..              the join of the tables in files
 desk sql check SCHEMA TABLE           queries for the rows of TABLE in a database that break each rule
 desk sql migrate FORM SCHEMA TABLE    statements that make the tables in the form from TABLE

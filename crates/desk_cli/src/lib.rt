@@ -7,6 +7,7 @@
 #![tactic(auto)]
 
 mod help;
+mod imports;
 pub mod limits;
 mod migrations;
 mod pages;

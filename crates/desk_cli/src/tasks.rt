@@ -9,8 +9,7 @@ ghost use Rattle.desk_implication.specs.Certificates.{ChecksProof};
 ghost use Rattle.desk_covers.specs.CoverChecks.{ChecksCover};
 ghost use Rattle.desk_inputs.specs.FileKinds.{WithFile};
 ghost use Rattle.desk_inputs.specs.FilesBegun.{BeginsFront};
-ghost use Rattle.desk_columns.specs.Imports.{ImportsColumns};
-ghost use Rattle.desk_inputs.specs.Headed.{headed_file, imported_file};
+ghost use Rattle.desk_inputs.specs.Headed.{headed_file};
 ghost use Rattle.desk_derivations.specs.Derivations.{ChecksDerivation};
 ghost use Rattle.desk_inputs.specs.Inputs.{derivation_file, proof_file, schema_file};
 ghost use Rattle.desk_inputs.specs.Parts.{WithParts};
@@ -28,13 +27,11 @@ use crate::migrations::{of_plan_and_rows, of_plan_and_rows_into, of_rows_in_form
 use crate::pages::of_page_and_plan;
 use crate::questions::{answer_plan, answer_rows, answer_rules, answer_schema};
 use dep_model::Schema;
-use desk_columns::import_columns;
 use desk_covers::{check_cover, check_same};
 use desk_derivations::check_derivation;
 use desk_implication::check_proof;
 use desk_inputs::{
-    open_derivation, open_headed, open_imported, open_parts, open_plan, open_proof, open_rows,
-    open_schema,
+    open_derivation, open_headed, open_parts, open_plan, open_proof, open_rows, open_schema,
 };
 use desk_measures::{measure_rows, text_columns_alone};
 use desk_outside::{Argument, FileSource};
@@ -330,24 +327,4 @@ pub fn of_headed<F: FileSource>(
         Err(exit) => return Err(exit),
     };
     answer_rules(alloc, hashing, file, headed, question)
-}
-
-/// A schema of the columns of a file.
-pub fn of_imported<F: FileSource>(
-    alloc: Global,
-    source: &mut F,
-    file: &Argument,
-) -> Result<Response, EarlyExit>
-    ensures files { F.files source.new ≡ F.files source.old }
-    ensures later { F.faults source.old ≤ F.faults source.new }
-    ensures reads { BeginsFront (file.now ∷ [])
-        (F.begun source.old) (F.begun source.new) }
-    ensures response { (r : Reading) → Shows F.files F.faults F.taken F.begun source.old source.new r
-        → RespondsAs (WithFile imported_file r file.now ImportsColumns) result }
-{
-    let headed = match open_imported(alloc, source, file) {
-        Ok(headed) => headed,
-        Err(exit) => return Err(exit),
-    };
-    import_columns(alloc, headed)
 }

@@ -10,7 +10,8 @@ ghost use Rattle.desk_inputs.specs.Readings.{Reading, Shows};
 ghost use Rattle.desk_responses.specs.Responses.{response_value, RespondsAs};
 
 use crate::help::{help, version};
-use crate::tasks::{of_headed, of_imported, over_schema};
+use crate::imports::{of_imported, of_sql};
+use crate::tasks::{of_headed, over_schema};
 use dep_model::OutOfMemory;
 use desk_delivery::deliver_tables;
 use desk_outside::{Argument, FileSource, Folder, Sink, send};
@@ -160,6 +161,11 @@ fn perform<F: FileSource, M: FolderMaker>(
             of_headed(alloc, hashing, source, file, question)
         }
         Command::ImportCsv { file } => of_imported(alloc, source, file),
+        Command::ImportSql {
+            dialect,
+            file,
+            table,
+        } => of_sql(alloc, source, dialect, file, table),
         Command::Sample { persons } => migrate_sample(alloc, hashing, persons),
         Command::Help => help(alloc),
         Command::Version => version(alloc),

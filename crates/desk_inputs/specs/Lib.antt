@@ -8,3 +8,4 @@ pub mod Plans
 pub mod Rows
 pub mod Parts
 pub mod Headed
+pub mod Sql

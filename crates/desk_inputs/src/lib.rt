@@ -11,6 +11,7 @@ mod plan;
 mod read;
 mod row_refusals;
 mod rows;
+mod sql;
 
 pub use derived::open_derivation;
 pub use headed::{open_headed, open_imported};
@@ -18,3 +19,4 @@ pub use parts::open_parts;
 pub use plan::open_plan;
 pub use read::{open_proof, open_schema};
 pub use rows::open_rows;
+pub use sql::{MOST_SQL_BYTES, open_sql};

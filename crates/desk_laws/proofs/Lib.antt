@@ -5,6 +5,7 @@ pub mod CompleteLaws
 pub mod TableLaws
 mod OneText
 mod OneFile
+mod ImportLaws
 pub mod FileLaws
 pub mod QuestionLaws
 mod ReasonLaws

@@ -31,6 +31,7 @@ use Rattle.desk_columns.specs.Imports.{ImportsColumns}
 use Rattle.desk_inputs.specs.Headed.{headed_file}
 use Rattle.desk_inputs.specs.Inputs.{schema_file}
 use Rattle.desk_inputs.specs.Readings.{known_files}
+use Rattle.desk_laws.proofs.ImportLaws.{one_import_of_sql}
 use Rattle.desk_laws.proofs.OneInput.{after_headed}
 use Rattle.desk_laws.proofs.OneTask.{after_schema, one_task}
 use Rattle.desk_laws.proofs.OneText.{names_and_rows}
@@ -166,6 +167,8 @@ one_command looks files (form.import_csv file) one other single few_persons firs
     (λ h k a b is same found also.
     import_once h k a b (ap (λ (read : List (List ℕ) × Relation). read.0) same) (ap (λ (read : List (List ℕ) × Relation). read.1) same) found also)
     one other first second)
+one_command looks files (form.import_sql dialect file table) one other single few_persons first second =
+    inl (one_import_of_sql files dialect file table one other first second)
 one_command looks files (form.sample persons) one other single few_persons first second =
     let few = few_persons persons refl in inl (one_sampled persons (omega (arith, few)) one other first second)
 one_command looks files form.help one other single few_persons first second = inl (first ∙ sym second)

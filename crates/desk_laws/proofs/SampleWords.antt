@@ -4,10 +4,10 @@ use Rattle.std.proofs.lemmas.Bool.{and_parts, cond_both, leb-true}
 use Rattle.std.specs.Option.{option_and_then}
 use Rattle.std.specs.Str.{bytes_eq}
 use Rattle.lexer.specs.Bytes.{number_of}
-use Rattle.normal_forms.specs.declared.forms.Form.{Form}
 use Rattle.sample_rows.specs.declared.rows.TheConstants.{MOST_PERSONS}
 use Rattle.desk_words.specs.Forms as form
-use Rattle.desk_words.specs.Forms.{CommandForm, PlanQuestion, RowsQuestion, SchemaQuestion, Task, after_check, after_check_form, after_ddl, after_discover, after_draw, after_explain, after_explain_split, after_keys, after_migrate, after_migrate_form, after_migrate_plan, after_offences, after_report, after_split, after_sql, after_sql_migrate, are_one_to_64, form_of, form_over_rows, form_over_schema, no_more_arguments, normal_form, persons_alone, schema_alone, schema_and_file, schema_and_plan, schema_and_plan_and_word, schema_and_rows, schema_and_several, schema_and_two, schema_and_word, two_schemas, after_import, word_alone}
+use Rattle.desk_words.specs.Forms.{CommandForm, PlanQuestion, RowsQuestion, SchemaQuestion, Task, after_check, after_check_form, after_ddl, after_discover, after_draw, after_explain, after_explain_split, after_keys, after_migrate, after_migrate_form, after_migrate_plan, after_offences, after_report, after_split, after_sql, after_sql_migrate, are_one_to_64, form_of, form_over_rows, form_over_schema, no_more_arguments, normal_form, persons_alone, schema_alone, schema_and_file, schema_and_plan, schema_and_plan_and_word, schema_and_rows, schema_and_several, schema_and_two, schema_and_word, two_schemas, after_import, dialect_of, file_and_table, word_alone}
+use Rattle.sql_lexemes.specs.declared.dialect.Dialect.{Dialect}
 use Rattle.desk_words.specs.Numbers.{is_count, is_left_bound, is_row_bound}
 
 -- if a form is that of `sample`, its number is within the limit
@@ -16,6 +16,7 @@ IsFew (form.sample persons) = persons ≤ MOST_PERSONS
 IsFew (form.over_schema file task) = Unit {0}
 IsFew (form.discover question file) = Unit {0}
 IsFew (form.import_csv file) = Unit {0}
+IsFew (form.import_sql dialect file table) = Unit {0}
 IsFew form.help = Unit {0}
 IsFew form.version = Unit {0}
 
@@ -27,10 +28,10 @@ few_if : (b : Bool) (x y : Option CommandForm) → AreFew x → AreFew y → Are
 few_if true x y few other = few
 few_if false x y few other = other
 
-few_then : (f : Form → Option CommandForm) (o : Option Form) → ((normal : Form) → AreFew (f normal))
+few_then : {A : Type 0} (f : A → Option CommandForm) (o : Option A) → ((x : A) → AreFew (f x))
     → AreFew (option_and_then f o)
 few_then f None each = tt
-few_then f (Some normal) each = each normal
+few_then f (Some x) each = each x
 
 -- ---- words after those of a command
 few_alone : (question : SchemaQuestion) (words : List (List ℕ)) → AreFew (schema_alone question words)
@@ -113,6 +114,13 @@ unfolding word_alone
 few_imported [] = tt
 few_imported (a ∷ []) = tt
 few_imported (a ∷ b ∷ words) = tt
+
+few_table : (dialect : Dialect) (words : List (List ℕ)) → AreFew (file_and_table dialect words)
+unfolding file_and_table
+few_table dialect [] = tt
+few_table dialect (a ∷ []) = tt
+few_table dialect (a ∷ b ∷ []) = tt
+few_table dialect (a ∷ b ∷ d ∷ words) = tt
 
 few_help : (words : List (List ℕ)) → AreFew (no_more_arguments form.help words)
 unfolding no_more_arguments
@@ -270,7 +278,9 @@ few_report (a ∷ b ∷ d ∷ words) = tt
 few_import : (words : List (List ℕ)) → AreFew (after_import words)
 unfolding after_import
 few_import [] = tt
-few_import (what ∷ rest) = few_if (bytes_eq what (codes "csv")) _ _ (few_imported rest) tt
+few_import (what ∷ rest) =
+    few_if (bytes_eq what (codes "csv")) _ _ (few_imported rest)
+    (few_then _ (dialect_of what) (λ dialect. few_table dialect rest))
 
 few_over_schema : (verb : List ℕ) (rest : List (List ℕ)) → AreFew (form_over_schema verb rest)
 unfolding form_over_schema

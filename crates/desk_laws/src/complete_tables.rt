@@ -2,7 +2,7 @@
 //! memory (`complete` says it of every call): the laws of the commands on normal forms, plans and
 //! tables.
 
-ghost use Rattle.std.specs.Prelude.{◌≡◌, ◌<◌, ◌≤◌, ℕ, true, List, [], ◌∷◌, codes, All, length};
+ghost use Rattle.std.specs.Prelude.{◌≡◌, ◌<◌, ◌≤◌, ℕ, true, List, [], ◌∷◌, Ok, Some, codes, All, length};
 ghost use Rattle.attr_sets.specs.Attributes.{Attributes};
 ghost use Rattle.armstrong_rel.specs.Refusals.{IsFirstMvd, HasTooManyRows, IsTooWideToExhibit};
 ghost use Rattle.candidate_search.specs.declared.side.TooManyLeftSides.{TooManyLeftSides};
@@ -15,6 +15,7 @@ ghost use Rattle.fd_discovery.specs.declared.headed_rows.Headed.{Headed};
 ghost use Rattle.fd_discovery.specs.Headings.{names_under, rows_under};
 ghost use Rattle.fd_closure.specs.LeftSides.{IsWide};
 ghost use Rattle.lexer.specs.Bytes.{number_of};
+ghost use Rattle.lexer.specs.Lines.{without_mark};
 ghost use Rattle.row_keys.specs.Keys.{HasTooManyKeys};
 ghost use Rattle.normal_forms.specs.declared.forms.Form.{Form};
 ghost use Rattle.normal_forms.specs.declared.forms.Form.TheVariants as forms;
@@ -27,6 +28,10 @@ ghost use Rattle.desk_discovery.specs.Discoveries.{HasTooManyLeftSides};
 ghost use Rattle.desk_tables.specs.declared.rejoining.TheConstants.{MOST_JOINED_ROWS};
 ghost use Rattle.desk_inputs.specs.FileKinds.{IsFile};
 ghost use Rattle.desk_inputs.specs.Headed.{headed_file, imported_file};
+ghost use Rattle.desk_inputs.specs.Sql.{sql_file};
+ghost use Rattle.sql_definitions.specs.Wanted.{TableName, wanted_table};
+ghost use Rattle.sql_lexemes.specs.declared.dialect.Dialect.TheVariants.{Sqlite, Postgres};
+ghost use Rattle.sql_schemas.specs.Texts.{imported_text};
 ghost use Rattle.desk_words.specs.Forms.{are_one_to_64};
 ghost use Rattle.desk_inputs.specs.Inputs.{schema_file};
 ghost use Rattle.desk_designs.specs.Joins.{IsTooLarge};
@@ -149,6 +154,19 @@ pub fn import_csv_is_answered()
     ensures law { (files : Files) (file : List ℕ) (headed : Headed)
         → IsFile imported_file (known_files files) file headed
         → IsAnswered files (codes "import" ∷ codes "csv" ∷ file ∷ []) }
+{}
+
+/// `import sqlite` and `import postgres` are answered where a word wants a table, and the SQL of the file
+/// defines it.
+pub fn import_sql_is_answered()
+    ensures sqlite { (files : Files) (file table : List ℕ) (wanted : TableName) (text printed : List ℕ)
+        → IsFile sql_file (known_files files) file text → wanted_table table ≡ Some wanted
+        → imported_text Sqlite wanted (without_mark text) ≡ Ok printed
+        → IsAnswered files (codes "import" ∷ codes "sqlite" ∷ file ∷ table ∷ []) }
+    ensures postgres { (files : Files) (file table : List ℕ) (wanted : TableName) (text printed : List ℕ)
+        → IsFile sql_file (known_files files) file text → wanted_table table ≡ Some wanted
+        → imported_text Postgres wanted (without_mark text) ≡ Ok printed
+        → IsAnswered files (codes "import" ∷ codes "postgres" ∷ file ∷ table ∷ []) }
 {}
 
 /// `rejoin` is answered where the schema file means a schema, from one to 64 files are tables, each

@@ -1,6 +1,6 @@
 -- A command of the code, as its form: for `parse`. `Desk` does not cite it.
 use Rattle.desk_words.specs.declared.command.Command.{Command}
-use Rattle.desk_words.specs.declared.command.Command.TheVariants.{OverSchema, Discover, ImportCsv, Sample, Help, Version}
+use Rattle.desk_words.specs.declared.command.Command.TheVariants.{OverSchema, Discover, ImportCsv, ImportSql, Sample, Help, Version}
 use Rattle.desk_words.specs.declared.questions.PlanQuestion.{PlanQuestion}
 use Rattle.desk_words.specs.declared.questions.PlanQuestion.TheVariants as plan
 use Rattle.desk_words.specs.declared.questions.RowsQuestion.{RowsQuestion}
@@ -76,6 +76,7 @@ abbrev pub command_form : Command → form.CommandForm
 command_form (OverSchema schema task) = form.over_schema schema.now (task_form task)
 command_form (Discover question file) = form.discover (rules_question question) file.now
 command_form (ImportCsv file) = form.import_csv file.now
+command_form (ImportSql dialect file table) = form.import_sql dialect file.now table.now
 command_form (Sample persons) = form.sample persons.number
 command_form Help = form.help
 command_form Version = form.version

@@ -5,6 +5,8 @@ use Rattle.std.specs.Option.{option_and_then}
 use Rattle.std.specs.Str.{bytes_eq}
 use Rattle.normal_forms.specs.declared.forms.Form.{Form as NormalForm}
 use Rattle.normal_forms.specs.declared.forms.Form.TheVariants.{Third, Bcnf, Fourth}
+use Rattle.sql_lexemes.specs.declared.dialect.Dialect.{Dialect}
+use Rattle.sql_lexemes.specs.declared.dialect.Dialect.TheVariants.{Sqlite, Postgres}
 use Rattle.lexer.specs.Bytes.{number_of}
 use Rattle.desk_words.specs.Numbers.{is_count, is_left_bound, is_row_bound}
 use Rattle.desk_words.specs.declared.command.TheConstants.{MOST_FILES}
@@ -130,6 +132,8 @@ pub data CommandForm : Type 0 where
   discover : RulesQuestion → List ℕ → CommandForm
   -- a schema of the columns of a file of rows
   import_csv : List ℕ → CommandForm
+  -- a schema of a table that the SQL of a file defines
+  import_sql : Dialect → List ℕ → List ℕ → CommandForm
   -- so many invented persons, as tables in fourth normal form
   sample : ℕ → CommandForm
   -- the commands, in a few lines
@@ -388,10 +392,24 @@ form_over_schema verb rest =
     else if bytes_eq verb (codes "report") then after_report rest
     else form_over_rows verb rest
 
+-- the engine that a word names
+unfoldable pub dialect_of : List ℕ → Option Dialect
+dialect_of word =
+    if bytes_eq word (codes "sqlite") then Some Sqlite
+    else if bytes_eq word (codes "postgres") then Some Postgres
+    else None
+
+-- a file and a table
+unfoldable pub file_and_table : Dialect → List (List ℕ) → Option CommandForm
+file_and_table dialect (file ∷ table ∷ []) = Some (import_sql dialect file table)
+file_and_table dialect _ = None
+
 -- after `import`
 unfoldable pub after_import : List (List ℕ) → Option CommandForm
 after_import [] = None
-after_import (what ∷ rest) = if bytes_eq what (codes "csv") then word_alone import_csv rest else None
+after_import (what ∷ rest) =
+    if bytes_eq what (codes "csv") then word_alone import_csv rest
+    else option_and_then (λ dialect. file_and_table dialect rest) (dialect_of what)
 
 -- the command that the words form, if they form one
 unfoldable pub form_of : List (List ℕ) → Option CommandForm

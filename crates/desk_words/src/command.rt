@@ -5,6 +5,7 @@ ghost use Rattle.desk_words.specs.Forms as forms;
 use crate::check::after_check;
 use crate::explain::after_explain;
 use crate::pages::after_report;
+use crate::imports::after_import;
 use crate::persons::{Persons, count_of};
 use crate::questions::{RulesQuestion, SchemaQuestion, Task};
 use crate::rows::over_rows;
@@ -12,6 +13,7 @@ use crate::rules::after_discover;
 use crate::shapes::{no_more_arguments, over, schema_alone};
 use crate::tables::{after_ddl, after_draw, after_keys, after_split, after_sql};
 use desk_outside::Argument;
+use sql_lexemes::Dialect;
 
 /// The most files of a command.
 pub const MOST_FILES: usize = 64;
@@ -32,6 +34,12 @@ pub enum Command<'a> {
     /// A schema of the columns of a file of rows.
     ImportCsv {
         file: &'a Argument,
+    },
+    /// A schema of a table that the SQL of a file defines.
+    ImportSql {
+        dialect: Dialect,
+        file: &'a Argument,
+        table: &'a Argument,
     },
     /// So many invented persons, as tables in fourth normal form.
     Sample {
@@ -68,23 +76,6 @@ pub fn parse(words: &[Argument]) -> Option<Command<'_>>
         return no_more_arguments(Command::Version, rest);
     }
     over_schema(verb, rest)
-}
-
-// Of what kind the file is, and the file.
-#[tactic(auto, unfolding(crate::specs::Forms::after_import, crate::specs::Forms::word_alone))]
-fn after_import(words: &[Argument]) -> Option<Command<'_>>
-    ensures form { option_map command_form result ≡ forms.after_import words.now }
-{
-    let [kind, rest @ ..] = words else {
-        return None;
-    };
-    if kind.bytes() != b"csv".as_slice() {
-        return None;
-    }
-    let [file] = rest else {
-        return None;
-    };
-    Some(Command::ImportCsv { file })
 }
 
 // How many persons, and no word more.

@@ -12,7 +12,7 @@ use Rattle.sql_lexemes.specs.Statements.{FitsRest, Stated, statements_of, statem
 use Rattle.sql_definitions.specs.declared.refusal.Refusal.{Refusal}
 use Rattle.sql_definitions.specs.Definitions.{definition_of, is_there, read_statement, read_statements}
 use Rattle.sql_definitions.specs.Elements.{element}
-use Rattle.sql_definitions.specs.Facts.{Facts, Outcome, Fails, no_facts, refused, then_read}
+use Rattle.sql_definitions.specs.Facts.{Facts, StatedColumn, Outcome, Fails, no_facts, refused, then_read}
 use Rattle.sql_definitions.specs.Lists.{closes_list}
 use Rattle.sql_definitions.specs.Tables.{elements, element_length, after_element, closed_table, closes_table, place_of}
 use Rattle.sql_definitions.specs.Wanted.{TableName}
@@ -122,11 +122,15 @@ text_refused d wanted text left s rest f (Refused refusal) reading is read =
     ap (λ (o : Outcome). then_read o is_there) (reading.same ∙ at_refusal d wanted (statements_in d left) rest s f refusal is read)
 text_refused d wanted text left s rest f OutOfMemory reading is read = tt
 
-pub is_found : (f : Facts) → true ≡ f.found → is_there f ≡ Ok f
-is_found f e = rw (← e) refl
+-- columns are none exactly where those that are the same are none
+pub as_told : (told columns : List StatedColumn) → told ≡ columns → (length columns == 0) ≡ (length told == 0)
+as_told told columns same = ap (λ (cs : List StatedColumn). length cs == 0) (sym same)
 
-pub is_missing : (f : Facts) → false ≡ f.found → is_there f ≡ refused reason.NoSuchTable 0
-is_missing f e = rw (← e) refl
+pub is_found : (f : Facts) → (length f.columns == 0) ≡ false → is_there f ≡ Ok f
+is_found f e = rw e refl
+
+pub is_missing : (f : Facts) → (length f.columns == 0) ≡ true → is_there f ≡ refused reason.NoSuchTable 0
+is_missing f e = rw e refl
 
 pub fits_on : (size place n : ℕ) (rest : Option Rest) → place + n ≤ size → FitsRest place n rest → FitsWhole size rest
 fits_on size place n None h fits = tt

@@ -1,5 +1,5 @@
 -- What the SQL of a text says of a table: for `read_definition`, and for all that stands on it.
-use Rattle.std.specs.Prelude.{ℕ, nat_lt, Option, Some, None, Ok, Err, List, [], ◌∷◌, if◌then◌else◌}
+use Rattle.std.specs.Prelude.{ℕ, ◌==◌, nat_lt, Option, Some, None, Ok, Err, List, [], ◌∷◌, length, if◌then◌else◌}
 use Rattle.sql_lexemes.specs.declared.dialect.Dialect.{Dialect}
 use Rattle.sql_lexemes.specs.declared.piece.Flaw.{Flaw}
 use Rattle.sql_lexemes.specs.declared.piece.Flaw.TheVariants as flaw
@@ -33,9 +33,9 @@ unfoldable pub read_statements : Dialect → TableName → List Stated → Facts
 read_statements d wanted [] f = Ok f
 read_statements d wanted (s ∷ ss) f = then_read (read_statement d wanted s f) (read_statements d wanted ss)
 
--- where no refusal stands, some statement creates the table
+-- where no refusal stands, some statement creates the table, with a column at least
 abbrev pub is_there : Facts → Outcome
-is_there f = if f.found then Ok f else refused reason.NoSuchTable 0
+is_there f = if length f.columns == 0 then refused reason.NoSuchTable 0 else Ok f
 
 -- what the SQL of a text says of a table
 abbrev pub definition_of : Dialect → TableName → List ℕ → Outcome

@@ -5,7 +5,7 @@ use Rattle.dep_model.specs.declared.failure.Failure.{Failure}
 use Rattle.dep_model.specs.declared.failure.Failure.TheVariants.{Refused, OutOfMemory}
 use Rattle.dep_model.specs.declared.schema.TheConstants.{MOST_DEPENDENCIES}
 use Rattle.dep_model.specs.Columns.{is_column_type}
-use Rattle.dep_model.specs.Names.{same_name}
+use Rattle.dep_model.specs.Names.{IsName, same_name}
 use Rattle.dep_model.specs.declared.column_type.ColumnType.{ColumnType}
 use Rattle.sql_definitions.specs.declared.refusal.Reason.{Reason}
 use Rattle.sql_definitions.specs.declared.refusal.Reason.TheVariants as reason
@@ -56,9 +56,10 @@ as_found f = record { found = true; columns = f.columns; keys = f.keys; binds = 
 abbrev pub with_binding : Facts → Bool → Facts
 with_binding f binds = record { found = f.found; columns = f.columns; keys = f.keys; binds = binds }
 
--- the columns can be those of a schema: not too many, with different names and types of columns
+-- the columns can be those of a schema: not too many, with names, which differ, and types of columns
 pub record AreColumns (columns : List StatedColumn) : Type 0 where
   pub within_limit : length columns ≤ MOST_ATTRIBUTES
+  pub names : All (λ c. IsName c.name) columns
   pub names_differ : AllPairs (λ a b. same_name a.name b.name ≡ false) columns
   pub types : All (λ c. IsTrue (is_column_type c.kind)) columns
 

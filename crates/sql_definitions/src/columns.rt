@@ -2,6 +2,7 @@
 
 ghost use Rattle.std.specs.Prelude.{◌≡◌, ◌≤◌, ◌∷◌, [], length, IfErr, IfOk, IsTrue, Ok, OnOk, Some};
 ghost use Rattle.dep_model.specs.Columns.{is_column_type};
+ghost use Rattle.dep_model.specs.Names.{IsName};
 ghost use Rattle.std.specs.List.{list_any};
 ghost use Rattle.sql_definitions.specs.Facts.{Fails};
 ghost use Rattle.sql_definitions.specs.Elements.{column, column_keys, column_of, ending_words, ends_type, is_one_of, is_taken, key_at, named_column, says_not_null, type_length};
@@ -113,6 +114,7 @@ fn column_of(
 ) -> Result<Column, OutOfMemory>
     ensures column { IfOk result (λ column. column ≡ column_of dialect name own.now after.now) }
     ensures kind { IfOk result (λ column. IsTrue (is_column_type column.kind)) }
+    ensures name { IfOk result (λ column. IsName column.name) }
 {
     let text = type_text(alloc, own)?;
     let kind = column_type(alloc, dialect, own, &text)?;

@@ -2,7 +2,7 @@ ghost use Rattle.std.specs.Prelude.{◌≡◌, ◌<◌, length, All, IsTrue, OnO
 ghost use Rattle.attr_sets.specs.declared.set.TheConstants.{MOST_ATTRIBUTES};
 ghost use Rattle.dep_model.specs.Columns.{is_column_type};
 ghost use Rattle.dep_model.specs.Failures.{RefusesAs};
-ghost use Rattle.dep_model.specs.Names.{same_name};
+ghost use Rattle.dep_model.specs.Names.{IsName, same_name};
 ghost use Rattle.sql_definitions.specs.Facts.{AreColumns, Fails, as_found, no_facts, state_key, with_binding, with_column, with_key};
 
 use crate::refusal::{Reason, Refusal};
@@ -225,6 +225,7 @@ impl Definition {
         requires another { All (λ c. same_name c.name column.name ≡ false) self.old.columns }
         requires within_limit { length self.old.columns < MOST_ATTRIBUTES }
         requires kind { IsTrue (is_column_type column.kind) }
+        requires name { IsName column.name }
         ensures added { OnOk result (self.new ≡ with_column self.old column) }
     {
         self.columns.push(column)?;

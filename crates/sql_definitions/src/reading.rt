@@ -23,6 +23,7 @@ pub fn read_definition(
 ) -> Result<Definition, Failure<Refusal>>
     requires { length text.now < 2 ^ 63 }
     ensures ok { IfOk result (λ definition. definition_of dialect wanted.now text.now ≡ Ok definition) }
+    ensures any_column { IfOk result (λ definition. 0 < length definition.columns) }
     ensures err { IfErr result (λ failure. Fails failure (definition_of dialect wanted.now text.now)) }
 {
     let mut definition = Definition::new(alloc);
@@ -39,10 +40,10 @@ pub fn read_definition(
         }
         rest = cut.rest;
     }
-    if definition.is_found() {
-        Ok(definition)
-    } else {
+    if definition.columns().is_empty() {
         Err(refused(Reason::NoSuchTable, 0))
+    } else {
+        Ok(definition)
     }
 }
 

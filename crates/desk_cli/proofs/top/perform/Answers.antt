@@ -26,6 +26,10 @@ pub returns-in-ImportCsv-clause-reads : goal.returns-in-ImportCsv-clause-reads
 returns-in-ImportCsv-clause-reads g c =
     subst (λ (command : Command). BeginsFront (files_of_command (command_form command)) (g.F.FileSource.begun c.args.source.now) (g.F.FileSource.begun c.of_imported.new.source)) (sym c.in-ImportCsv.is) c.of_imported.ensures.reads
 
+pub returns-in-ImportSql-clause-reads : goal.returns-in-ImportSql-clause-reads
+returns-in-ImportSql-clause-reads g c =
+    subst (λ (command : Command). BeginsFront (files_of_command (command_form command)) (g.F.FileSource.begun c.args.source.now) (g.F.FileSource.begun c.of_sql.new.source)) (sym c.in-ImportSql.is) c.of_sql.ensures.reads
+
 pub returns-in-Sample-clause-reads : goal.returns-in-Sample-clause-reads
 returns-in-Sample-clause-reads g c = front_none (files_of_command (command_form c.args.command)) (g.F.FileSource.begun c.args.source.now)
 

@@ -3,7 +3,7 @@ use Rattle.desk_columns.specs.Imports.{ImportsColumns}
 use Rattle.desk_inputs.specs.FileKinds.{FileStops, IsFile}
 use Rattle.desk_inputs.specs.Headed.{imported_file}
 use Rattle.desk_responses.proofs.StepLemmas.{With-found}
-use Rattle.desk_cli.proofs.tasks.of_imported.Goals as goal
+use Rattle.desk_cli.proofs.imports.of_imported.Goals as goal
 
 pub returns-clause-response : goal.returns-clause-response
 returns-clause-response g c = λ r shows.

@@ -1,0 +1,2 @@
+-- The definitions of desk_imports.
+pub mod Imports

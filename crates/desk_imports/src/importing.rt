@@ -1,0 +1,90 @@
+ghost use Rattle.std.specs.Prelude.{◌≡◌, ◌<◌, ◌≤◌, ◌^◌, length, IfErr, IfOk, Ok, Err};
+ghost use Rattle.lexer.specs.Lines.{without_mark};
+ghost use Rattle.sql_definitions.specs.Facts.{Fails};
+ghost use Rattle.sql_schemas.specs.Texts.{imported_text};
+ghost use Rattle.desk_imports.specs.Imports.{ImportsTable, bad_table_text, import_response};
+ghost use Rattle.desk_responses.specs.ResponseValues.{Says};
+ghost use Rattle.desk_responses.specs.Responses.{ExitsAs, RespondsAs};
+
+use crate::refusals::import_refusal_exit;
+use dep_model::{Failure, OutOfMemory};
+use desk_responses::{EarlyExit, Response, Status};
+use desk_texts::line_of;
+use lexer::without_mark;
+use sql_definitions::{Refusal, Wanted, read_definition, wanted_table};
+use sql_lexemes::Dialect;
+use sql_schemas::print_table;
+use std::alloc::Global;
+
+/// The schema of the table that a word wants, by the text of a file of this name.
+pub fn import_table(
+    alloc: Global,
+    dialect: Dialect,
+    table: &[u8],
+    file: &[u8],
+    text: &[u8],
+) -> Result<Response, EarlyExit>
+    requires within_limit { length text.now < 2 ^ 31 }
+    ensures response { RespondsAs (ImportsTable dialect table.now file.now text.now) result }
+{
+    let Some(wanted) = wanted_table(table) else {
+        return Err(bad_table_exit(alloc));
+    };
+    import_wanted(alloc, dialect, &wanted, file, text_after_mark(text))
+}
+
+// The text without a byte-order mark.
+fn text_after_mark(text: &[u8]) -> &[u8]
+    ensures text { result.now ≡ without_mark text.now }
+    ensures within { length result.now ≤ length text.now }
+{
+    without_mark(text)
+}
+
+// The schema of the table that is wanted.
+fn import_wanted(
+    alloc: Global,
+    dialect: Dialect,
+    wanted: &Wanted<'_>,
+    file: &[u8],
+    text: &[u8],
+) -> Result<Response, EarlyExit>
+    requires within_limit { length text.now < 2 ^ 31 }
+    ensures response { RespondsAs
+        (λ response. response ≡ import_response file.now text.now (imported_text dialect wanted.now text.now))
+        result }
+{
+    match imported_text(alloc, dialect, wanted, text) {
+        Ok(printed) => Ok(Response::with_text(Status::Yes, printed)),
+        Err(Failure::Refused(refusal)) => Err(import_refusal_exit(alloc, file, text, refusal)),
+        Err(Failure::OutOfMemory) => Err(EarlyExit::OutOfMemory),
+    }
+}
+
+// The text of its schema.
+fn imported_text(
+    alloc: Global,
+    dialect: Dialect,
+    wanted: &Wanted<'_>,
+    text: &[u8],
+) -> Result<Vec<u8>, Failure<Refusal>>
+    requires within_limit { length text.now < 2 ^ 31 }
+    ensures ok { IfOk result (λ printed. imported_text dialect wanted.now text.now ≡ Ok printed.items) }
+    ensures err { IfErr result (λ failure. Fails failure (imported_text dialect wanted.now text.now)) }
+{
+    let definition = read_definition(alloc, dialect, wanted, text)?;
+    print_table(alloc, dialect, &definition)
+}
+
+// A word that names no table.
+fn bad_table_exit(alloc: Global) -> EarlyExit
+    ensures says { ExitsAs (Says Status.Refused bad_table_text) result }
+{
+    EarlyExit::with_text(Status::Refused, bad_table_line(alloc))
+}
+
+fn bad_table_line(alloc: Global) -> Result<Vec<u8>, OutOfMemory>
+    ensures line { IfOk result (λ text. text.items ≡ bad_table_text) }
+{
+    line_of(alloc, b"refused: bad table name", b"", b"")
+}

@@ -1,0 +1,114 @@
+-- The laws of the text of a table's schema.
+use Rattle.std.proofs.Common.{◌≡◌, ◌<◌, ◌≤◌, ℕ, Bool, true, false, cond, IsTrue, All, Ok, List, [], ◌∷◌, length, refl, sym, ap, subst, ◌∙◌, arith}
+use Rattle.std.specs.Prelude.{filter}
+use Rattle.std.proofs.lemmas.Bool.Decides.{nat_tests}
+use Rattle.std.proofs.lemmas.List.Elements.{All-cons, All-filter, All-map, All-nil}
+use Rattle.attr_sets.specs.Attributes.{Attributes, Disjoint, IsSubset, below}
+use Rattle.attr_sets.specs.declared.set.TheConstants.{MOST_ATTRIBUTES}
+use Rattle.attr_sets.proofs.AttributesLemmas.{is_disjoint-true}
+use Rattle.dep_model.specs.Columns.{is_column_type}
+use Rattle.dep_model.specs.Names.{IsName}
+use Rattle.dep_model.specs.declared.naming.Naming.TheVariants.{Any}
+use Rattle.dep_model.specs.declared.schema.TheConstants.{MOST_DEPENDENCIES}
+use Rattle.schema_grammar.specs.Declarations.{Declarations}
+use Rattle.schema_grammar.specs.Schemas.{MeansSchema}
+use Rattle.sql_lexemes.specs.declared.dialect.Dialect.{Dialect}
+use Rattle.sql_definitions.specs.Facts.{AreColumns, Facts, StatedColumn}
+use Rattle.sql_schemas.specs.Keys.{KeyColumns, keys_of, new_keys}
+use Rattle.sql_schemas.specs.Meaning.{IsStatedKey, declared_table, whole_keys}
+use Rattle.sql_schemas.specs.Texts.{column_names, column_types, columns_missing, is_whole, table_text}
+use Rattle.sql_schemas.proofs.LineLemmas.{stated}
+use Rattle.sql_schemas.proofs.MeaningLemmas.{IsTable, table_means, whole_of}
+use Rattle.sql_schemas.proofs.StatedLemmas.{keys_as_many, keys_stated, keys_within, new_all, new_count}
+use Rattle.sql_schemas.proofs.TableLemmas.{missing_within, names_apart, names_count, types_count}
+
+-- ---- what the text means
+table_is : (columns : List StatedColumn) (keys : List KeyColumns) → AreColumns columns → 0 < length columns
+    → length keys ≤ MOST_DEPENDENCIES → All (λ key. IsSubset key.columns (below (length columns))) keys
+    → IsTable (column_names columns) (column_types columns) (columns_missing columns keys) (new_keys (length columns) [] keys)
+table_is columns keys are some room within =
+    let names = names_count columns in
+    let types = types_count columns in
+    let limit = are.within_limit in
+    let count = new_count (length columns) [] keys in
+    let each : All (λ (key : KeyColumns). IsSubset key.columns (below (length columns))) (new_keys (length columns) [] keys) =
+    new_all (λ (key : KeyColumns). IsSubset key.columns (below (length columns))) (length columns) [] keys
+    (All-nil (λ (key : KeyColumns). IsSubset key.columns (below (length columns)))) within in
+    record {
+      some = omega (arith, names, some);
+      within_limit = omega (arith, names, limit);
+      are = record { each = All-map IsName (λ c. c.name) columns are.names; differ = names_apart columns are.names_differ };
+      one_each = types ∙ sym names;
+      types = All-map (λ column. IsTrue (is_column_type column)) (λ c. c.kind) columns are.types;
+      missing_within = missing_within columns keys (length (column_names columns)) (omega (arith, names));
+      keys_within = subst (λ (n : ℕ). All (λ (key : KeyColumns). IsSubset key.columns (below n)) (new_keys (length columns) [] keys)) (sym names) each;
+      keys_within_limit = omega (arith, count, room);
+    }
+
+-- what is declared, by how many names there are
+same_declared : (columns : List StatedColumn) (keys : List KeyColumns) (lines : List ℕ)
+    → whole_of (column_names columns) (column_types columns) (columns_missing columns keys) (new_keys (length columns) [] keys) lines
+    ≡ declared_table columns keys lines
+same_declared columns keys lines =
+    ap (λ (n : ℕ). with_deps n) (names_count columns)
+  where
+    with_deps : ℕ → Declarations
+    with_deps n = record {
+      names = column_names columns;
+      columns = column_types columns;
+      deps = stated n (columns_missing columns keys) (new_keys (length columns) [] keys);
+      lines = lines;
+      naming = Any;
+      nullable = columns_missing columns keys;
+    }
+
+pub text_means : (d : Dialect) (f : Facts) (keys : List KeyColumns) → AreColumns f.columns → 0 < length f.columns
+    → length f.keys ≤ MOST_DEPENDENCIES → keys_of d f ≡ Ok keys
+    → (lines : List ℕ) × MeansSchema (table_text f.columns keys) (declared_table f.columns keys lines)
+unfolding table_text
+text_means d f keys are some room read =
+    let many = keys_as_many d f keys read in
+    let is = table_is f.columns keys are some (omega (arith, many, room)) (keys_within d f keys read) in
+    let (lines, means) = table_means (column_names f.columns) (column_types f.columns) (columns_missing f.columns keys)
+    (new_keys (length f.columns) [] keys) is in (
+      lines,
+      subst (MeansSchema (table_text f.columns keys)) (same_declared f.columns keys lines) means,
+    )
+
+-- ---- the keys whose dependencies are printed
+pub whole_stated : (d : Dialect) (f : Facts) (keys : List KeyColumns) → keys_of d f ≡ Ok keys
+    → All (IsStatedKey d f) (whole_keys f.columns keys)
+whole_stated d f keys read =
+    All-filter (is_whole (columns_missing f.columns keys)) (IsStatedKey d f) (new_keys (length f.columns) [] keys)
+    (new_all (IsStatedKey d f) (length f.columns) [] keys (All-nil (IsStatedKey d f)) (keys_stated d f keys read))
+
+-- those of a filter pass it
+filter_passes : (test : KeyColumns → Bool) (keys : List KeyColumns) → All (λ key. test key ≡ true) (filter test keys)
+filter_passes test [] = All-nil (λ key. test key ≡ true)
+filter_passes test (key ∷ keys) = by_test (test key) refl (filter_passes test keys)
+  where
+    by_test : (b : Bool) → test key ≡ b → All (λ k. test k ≡ true) (filter test keys)
+        → All (λ k. test k ≡ true) (cond b (key ∷ filter test keys) (filter test keys))
+    by_test true passes rest = All-cons (λ k. test k ≡ true) key (filter test keys) passes rest
+    by_test false fails rest = rest
+
+pub whole_never_missing : (d : Dialect) (f : Facts) (keys : List KeyColumns) → length f.columns ≤ MOST_ATTRIBUTES
+    → keys_of d f ≡ Ok keys
+    → All (λ key. Disjoint key.columns (columns_missing f.columns keys)) (whole_keys f.columns keys)
+whole_never_missing d f keys limit read i default low =
+    is_disjoint-true _ _ (λ k member. beyond k (inside i default low k member)) (filter_passes (is_whole missing) kept i default low)
+  where
+    missing : Attributes
+    missing = columns_missing f.columns keys
+
+    kept : List KeyColumns
+    kept = new_keys (length f.columns) [] keys
+
+    inside : All (λ (key : KeyColumns). IsSubset key.columns (below (length f.columns))) (whole_keys f.columns keys)
+    inside =
+        All-filter (is_whole missing) (λ (key : KeyColumns). IsSubset key.columns (below (length f.columns))) kept
+        (new_all (λ (key : KeyColumns). IsSubset key.columns (below (length f.columns))) (length f.columns) [] keys
+        (All-nil (λ (key : KeyColumns). IsSubset key.columns (below (length f.columns)))) (keys_within d f keys read))
+
+    beyond : (k : ℕ) → below (length f.columns) k ≡ true → below MOST_ATTRIBUTES k ≡ true
+    beyond k here = grind (arith, nat_tests, here, limit)

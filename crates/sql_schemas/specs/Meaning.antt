@@ -1,0 +1,30 @@
+-- What the text of the schema of a table declares: for the laws.
+use Rattle.std.specs.Prelude.{◌≡◌, ℕ, Some, Ok, List, [], length, map, filter, slice_get}
+use Rattle.dep_model.specs.declared.naming.Naming.TheVariants.{Any}
+use Rattle.schema_grammar.specs.Declarations.{Declarations}
+use Rattle.sql_lexemes.specs.declared.dialect.Dialect.{Dialect}
+use Rattle.sql_definitions.specs.Facts.{Facts, StatedColumn, StatedKey}
+use Rattle.sql_schemas.specs.Keys.{KeyColumns, key_dependency, key_of, new_keys}
+use Rattle.sql_schemas.specs.Texts.{column_names, column_types, columns_missing, is_whole}
+
+-- a key is one that the table states, with the columns that its parts name
+pub record IsStatedKey (d : Dialect) (f : Facts) (key : KeyColumns) : Type 0 where
+  pub at : ℕ
+  pub statement : StatedKey
+  pub stated : slice_get f.keys at ≡ Some statement
+  pub columns : key_of d f statement ≡ Ok key
+
+-- the keys of a table, each once, of which no column may be missing
+abbrev pub whole_keys : List StatedColumn → List KeyColumns → List KeyColumns
+whole_keys columns keys = filter (is_whole (columns_missing columns keys)) (new_keys (length columns) [] keys)
+
+-- the columns of a table, and the dependencies of these keys, on lines of these numbers
+abbrev pub declared_table : List StatedColumn → List KeyColumns → List ℕ → Declarations
+declared_table columns keys lines = record {
+  names = column_names columns;
+  columns = column_types columns;
+  deps = map (key_dependency (length columns)) (whole_keys columns keys);
+  lines = lines;
+  naming = Any;
+  nullable = columns_missing columns keys;
+}
