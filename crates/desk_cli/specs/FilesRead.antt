@@ -23,6 +23,7 @@ files_of_task (form.rejoin files) = files
 abbrev pub files_of_command : CommandForm → List (List ℕ)
 files_of_command (form.over_schema file task) = file ∷ files_of_task task
 files_of_command (form.discover question file) = file ∷ []
+files_of_command (form.discover_all file) = file ∷ []
 files_of_command (form.import_csv file) = file ∷ []
 files_of_command (form.sample persons) = []
 files_of_command form.help = []

@@ -55,6 +55,8 @@ help_text =
     ++ codes "the minimal sets of columns on which no two different rows agree")
     ++ line (codes "desk discover near N K CSV            "
     ++ codes "those that hold once at most N rows change, with at most K attributes on the left")
+    ++ line (codes "desk discover all CSV                 "
+    ++ codes "all functional and multivalued dependencies of at most 10 columns")
     ++ line (codes "desk import csv CSV                   a schema of the columns of CSV, to go on from")
     ++ line (codes "desk rejoin SCHEMA CSV..              the join of the tables in files")
     ++ line (codes "desk sql check SCHEMA TABLE           "

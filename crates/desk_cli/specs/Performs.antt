@@ -14,6 +14,7 @@ use Rattle.desk_covers.specs.CoverReasons.{ExplainsCover}
 use Rattle.desk_covers.specs.Covering.{GivesCover}
 use Rattle.desk_designs.specs.Decompositions.{Splits, SplitsWide}
 use Rattle.desk_designs.specs.Designs.{WritesForm, WritesPlan}
+use Rattle.desk_discovery.specs.AllDiscoveries.{FindsAllRules}
 use Rattle.desk_discovery.specs.NearDiscoveries.{FindsNearRules}
 use Rattle.desk_discovery.specs.Discoveries.{FindsRules, FindsSmallRules}
 use Rattle.desk_discovery.specs.KeyDiscoveries.{FindsRowKeys}
@@ -25,7 +26,7 @@ use Rattle.desk_words.specs.Forms.{CommandForm, PlanQuestion, RowsQuestion, Rule
 use Rattle.fd_discovery.specs.declared.headed_rows.Headed.{Headed}
 use Rattle.desk_inputs.specs.FileKinds.{WithFile}
 use Rattle.desk_columns.specs.Imports.{ImportsColumns}
-use Rattle.desk_inputs.specs.Headed.{headed_file, imported_file}
+use Rattle.desk_inputs.specs.Headed.{headed_file, imported_file, whole_file}
 use Rattle.desk_cli.specs.Help.{help_text, version_text}
 use Rattle.desk_implication.specs.Implication.{DecidesGoal}
 use Rattle.desk_inputs.specs.Inputs.{derivation_file, proof_file, schema_file}
@@ -141,6 +142,7 @@ Does looks r schema (form.rejoin files) = WithParts r schema files (λ parts. Jo
 unfoldable pub Performs : Looks → Reading → CommandForm → Allowed
 Performs looks r (form.over_schema file task) = WithFile schema_file r file (λ schema. Does looks r schema task)
 Performs looks r (form.discover question file) = WithFile headed_file r file (AnswersRules question file)
+Performs looks r (form.discover_all file) = WithFile whole_file r file FindsAllRules
 Performs looks r (form.import_csv file) = WithFile imported_file r file ImportsColumns
 Performs looks r (form.sample persons) = Samples persons
 Performs looks r form.help = Says Yes help_text

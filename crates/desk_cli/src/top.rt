@@ -10,7 +10,7 @@ ghost use Rattle.desk_inputs.specs.Readings.{Reading, Shows};
 ghost use Rattle.desk_responses.specs.Responses.{response_value, RespondsAs};
 
 use crate::help::{help, version};
-use crate::tasks::{of_headed, of_imported, over_schema};
+use crate::tasks::{of_headed, of_imported, of_whole, over_schema};
 use dep_model::OutOfMemory;
 use desk_delivery::deliver_tables;
 use desk_outside::{Argument, FileSource, Folder, Sink, send};
@@ -159,6 +159,7 @@ fn perform<F: FileSource, M: FolderMaker>(
         Command::Discover { question, file } => {
             of_headed(alloc, hashing, source, file, question)
         }
+        Command::DiscoverAll { file } => of_whole(alloc, hashing, source, file),
         Command::ImportCsv { file } => of_imported(alloc, source, file),
         Command::Sample { persons } => migrate_sample(alloc, hashing, persons),
         Command::Help => help(alloc),

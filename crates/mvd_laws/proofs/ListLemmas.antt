@@ -151,7 +151,9 @@ module _ (n : ℕ) (r : Relation) (fds mvds ds : List Dependency) (over : IsOver
   implied_mvd (suc m) x x_in less y y_in obeys = ⊎_elim
       (λ some s legal.
       mvd_same (below n) x (difference y x) y s (fun_ext (λ k. beside k))
-      (each_part n r x (IsImplied x) x_in (λ z block. implied_block x z x_in smaller block)
+      (each_part n r x (IsImplied x) x_in (λ z block. implied_block x z x_in (λ a low member w w_in w_obeys.
+      implied_mvd m (difference x (only a)) (λ k h. x_in k (grind (arith, h)))
+      (omega (arith, less, count_below-difference_only n x a low member)) w w_in w_obeys) block)
       (λ v w v_in first second q q_legal. mvd_union_obeyed (below n) x v w q v_in (first q q_legal) (second q q_legal))
       (suc (count_below (difference y x) n)) (difference y x) (omega arith) (record {
         within = λ k h. y_in k (grind (arith, h));
@@ -167,11 +169,6 @@ module _ (n : ℕ) (r : Relation) (fds mvds ds : List Dependency) (over : IsOver
 
       inside : (k : ℕ) → y k ≡ true → difference y x k ≡ false → x k ≡ true
       inside k h e = grind (arith, h, e)
-
-      smaller : AreSmallerImplied x
-      smaller a low member z z_in z_obeys =
-          implied_mvd m (difference x (only a)) (λ k h. x_in k (grind (arith, h)))
-          (omega (arith, less, count_below-difference_only n x a low member)) z z_in z_obeys
 
   -- ---- both ways
   legal_rows : IsLegal n ds r

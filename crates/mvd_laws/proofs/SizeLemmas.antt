@@ -20,7 +20,7 @@ use Rattle.row_store.specs.Rows.{row_at}
 use Rattle.mvd_laws.specs.Sizes.{AreDifferentRows, AreNumbersOn, AreSizes, one_at, size_at}
 
 -- ---- sums
-one_if : Bool → ℕ
+abbrev one_if : Bool → ℕ
 one_if b = if b then 1 else 0
 
 total-none : (n : ℕ) → total (λ j. 0) n ≡ 0
@@ -34,12 +34,12 @@ total-plus f g zero = omega arith
 total-plus f g (suc n) = omega (arith, total-plus f g n)
 
 total-test : (x : Attributes) (n : ℕ) → total (λ j. if x j then 1 else 0) n ≡ count_below x n
-unfolding total, count_below
+unfolding total count_below
 total-test x zero = refl
 total-test x (suc n) = omega (arith, total-test x n)
 
 total-scaled : (x : Attributes) (q n : ℕ) → total (λ j. if x j then q else 0) n ≡ count_below x n * q
-unfolding total, count_below
+unfolding total count_below
 total-scaled x q zero = omega arith
 total-scaled x q (suc n) = elim (cases_Bool (x n)) [
   | inl member ↦ rw member (grind (arith, total-scaled x q n))
@@ -48,7 +48,7 @@ total-scaled x q (suc n) = elim (cases_Bool (x n)) [
 
 -- pairs can be counted either way
 total-count : (p : ℕ → ℕ → Bool) (m n : ℕ) → total (λ j. count_below (λ v. p v j) m) n ≡ total (λ v. count_below (λ j. p v j) n) m
-unfolding total, count_below
+unfolding total count_below
 total-count p zero n = total-none n
 total-count p (suc m) n =
     total-plus (λ j. count_below (λ v. p v j) m) (λ j. if p m j then 1 else 0) n
@@ -72,6 +72,27 @@ total-everywhere f g (suc n) each same k low =
       | inl same ↦ inl (eqb-true k n same)
       | inr other ↦ inr (omega (arith, low, (λ (e : k ≡ n). true≢false (sym (eq-eqb k n e) ∙ other))))
     ]
+
+one_place : count_below (λ (k : ℕ). true) 1 ≡ 1
+unfolding count_below
+one_place = refl
+
+-- tests of which one gives the other, and that pass equally often, are the same
+equal_tests : (m : ℕ) (p q : Attributes) → ((k : ℕ) → k < m → p k ≡ true → q k ≡ true) → count_below p m ≡ count_below q m → (k : ℕ) → k < m → p k ≡ q k
+equal_tests m p q each same k low =
+    let e = total-everywhere (λ k. if p k then 1 else 0) (λ k. if q k then 1 else 0) m (λ k l. at_most (p k) (q k) (each k l))
+    (total-test p m ∙ same ∙ sym (total-test q m)) k low in
+    told (p k) (q k) e
+  where
+    at_most : (s t : Bool) → (s ≡ true → t ≡ true) → (if s then 1 else 0) ≤ (if t then 1 else 0)
+    at_most true t gives = rw (gives refl) (omega arith)
+    at_most false t gives = omega arith
+
+    told : (s t : Bool) → one_if s ≡ one_if t → s ≡ t
+    told true true e = refl
+    told true false e = absurd (omega (arith, e))
+    told false true e = absurd (omega (arith, e))
+    told false false e = refl
 
 -- ---- tests
 both : (a b : Bool) → a ≡ true → b ≡ true → (a && b) ≡ true
@@ -124,10 +145,6 @@ module _ (d : ℕ) (a b c : ℕ → ℕ) (b_finer : (i j : ℕ) → i < d → j 
       (eqb-true (b v) (b i) (first_of_both _ _ h) ∙ sym (eqb-true (b w) (b i) (first_of_both _ _ g)))
       (sym (eqb-true (c j) (c v) (second_of_both _ _ h)) ∙ eqb-true (c j) (c w) (second_of_both _ _ g))) in
       omega (arith, few, one_place)
-    where
-      one_place : count_below (λ (k : ℕ). true) 1 ≡ 1
-      unfolding count_below
-      one_place = refl
 
   -- only places of the number of i are found
   found_within : (i j : ℕ) → i < d → j < d → found i j ≤ (if a j == a i then 1 else 0)
@@ -183,14 +200,11 @@ module _ (d : ℕ) (a b c : ℕ → ℕ) (b_finer : (i j : ℕ) → i < d → j 
       all_counted i sizes ∙ sym (products i i_in) ∙ sym (total-test (λ k. a k == a i) d) in
       let here : found i j ≡ (if a j == a i then 1 else 0) =
       total-everywhere (found i) (λ k. if a k == a i then 1 else 0) d (λ k low. found_within i k i_in low) sums j j_in in
-      let one : found i j ≡ 1 = here ∙ ap one_if' (eq-eqb (a j) (a i) (sym same)) in
+      let one : found i j ≡ 1 = here ∙ ap one_if (eq-eqb (a j) (a i) (sym same)) in
       ⊎_elim
       (λ some. (some.0, some.1, eqb-true (b some.0) (b i) (first_of_both _ _ some.2), sym (eqb-true (c j) (c some.0) (second_of_both _ _ some.2))))
       (λ none. absurd (omega (arith, one, count_below-none d (λ v. pairs i v j) none)))
       (found_below (λ v. pairs i v j) d)
-    where
-      one_if' : Bool → ℕ
-      one_if' t = if t then 1 else 0
 
   -- ---- from pairs to products
   few_rests : ArePaired → (v i : ℕ) → v < d → i < d → a v ≡ a i → size_at c d v ≤ size_at c d i
@@ -211,6 +225,9 @@ module _ (d : ℕ) (a b c : ℕ → ℕ) (b_finer : (i j : ℕ) → i < d → j 
       total-same (λ k. if a k == a i then 1 else 0) (found i) d (λ k low. there k low) in
       sym (total-test (λ k. a k == a i) d) ∙ all ∙ all_counted i sizes
     where
+      at_most : (k : ℕ) → k < d → (a k == a i) ≡ false → found i k ≤ 0
+      at_most k low other = subst (λ (t : Bool). found i k ≤ (if t then 1 else 0)) other (found_within i k i_in low)
+
       there : (k : ℕ) → k < d → (if a k == a i then 1 else 0) ≡ found i k
       there k low = elim (cases_Bool (a k == a i)) [
         | inl same ↦
@@ -220,8 +237,6 @@ module _ (d : ℕ) (a b c : ℕ → ℕ) (b_finer : (i j : ℕ) → i < d → j 
         | inr other ↦ rw other (omega (arith, at_most k low other))
       ]
 
-      at_most : (k : ℕ) → k < d → (a k == a i) ≡ false → found i k ≤ 0
-      at_most k low other = subst (λ (t : Bool). found i k ≤ (if t then 1 else 0)) other (found_within i k i_in low)
 
 -- ---- a relation with its different rows
 module _ (n : ℕ) (r : Relation) (ones : List ℕ) (different : AreDifferentRows n r ones) (x y : Attributes) (x_in : IsSubset x (below n))
@@ -295,22 +310,6 @@ module _ (n : ℕ) (r : Relation) (ones : List ℕ) (different : AreDifferentRow
             true≢false (sym coarse ∙ sym (equal_tests (length ones) (λ k. by_left.numbers k == by_left.numbers j) (λ k. by_x.numbers k == by_x.numbers j)
             (λ k k_in h. eq-eqb _ _ (to_coarse k j k_in j_in (eqb-true _ _ h))) same i i_in) ∙ other) in
             omega (arith, within, apart)
-
-        equal_tests : (m : ℕ) (p q : Attributes) → ((k : ℕ) → k < m → p k ≡ true → q k ≡ true) → count_below p m ≡ count_below q m → (k : ℕ) → k < m → p k ≡ q k
-        equal_tests m p q each same k low =
-            let e = total-everywhere (λ k. if p k then 1 else 0) (λ k. if q k then 1 else 0) m (λ k l. at_most (p k) (q k) (each k l))
-            (total-test p m ∙ same ∙ sym (total-test q m)) k low in
-            told (p k) (q k) e
-          where
-            at_most : (s t : Bool) → (s ≡ true → t ≡ true) → (if s then 1 else 0) ≤ (if t then 1 else 0)
-            at_most true t gives = rw (gives refl) (omega arith)
-            at_most false t gives = omega arith
-
-            told : (s t : Bool) → (if s then 1 else 0) ≡ (if t then 1 else 0) → s ≡ t
-            told true true e = refl
-            told true false e = absurd (omega (arith, e))
-            told false true e = absurd (omega (arith, e))
-            told false false e = refl
 
     pub sizes_tell_fd : ((j : ℕ) → j < length ones → number_at sx j ≡ number_at sl j) ↔ ObeysFd x y r
     sizes_tell_fd = (equal_obeyed, obeyed_equal)
