@@ -12,11 +12,11 @@ use attr_sets::AttrSet;
 // The block of a set with the first attribute of some of its blocks together. Of the sets within these that have the
 // attribute it is the first that is obeyed, since a part of a block comes before the block.
 pub fn first_block(counts: &Counts, left: AttrSet, blocks: AttrSet, first: u8) -> AttrSet
-    requires rows { (r : Relation) × AreCounts counts.now.width r counts.now
+    requires rows { (r : Relation) × AreCounts r counts.now
         × IsPartOfRows counts.now.width r (attributes left) (attributes blocks) }
     requires left { IsSubset (attributes left) (below counts.now.width) }
     requires first { IsFirstFrom (attributes blocks) 0 first }
-    ensures block { (r : Relation) → AreCounts counts.now.width r counts.now
+    ensures block { (r : Relation) → AreCounts r counts.now
         → IsPartOfRows counts.now.width r (attributes left) (attributes blocks)
         → IsBlockOfRows counts.now.width r (attributes left) (attributes result) }
     ensures within { IsSubset (attributes result) (attributes blocks) }

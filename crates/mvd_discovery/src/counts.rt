@@ -5,7 +5,7 @@ ghost use Rattle.csv_rows.specs.Interning.{firsts_of, groups_of};
 ghost use Rattle.csv_rows.specs.Numberings.{AreFirsts, AreGroups};
 ghost use Rattle.dep_model.specs.Tuples.{IsOver, Relation};
 ghost use Rattle.mvd_laws.specs.Sizes.{AreDifferentRows, AreSizes};
-ghost use Rattle.mvd_discovery.specs.Counting.{ArePartSizes};
+ghost use Rattle.mvd_discovery.specs.Counting.{ArePartCounts, ArePartSizes};
 ghost use Rattle.fd_discovery.specs.declared.headed_rows.TheConstants.{WIDEST_WITH_ALL};
 
 use attr_sets::AttrSet;
@@ -49,7 +49,8 @@ impl Counts {
         requires width { width ≤ WIDEST_WITH_ALL }
         requires over { IsOver width rows.now }
         requires fits_u32 { length rows.now < 2 ^ 32 }
-        ensures counts { IfOk result (λ counts. AreCounts width rows.now counts) }
+        ensures width { IfOk result (λ counts. counts.width ≡ width) }
+        ensures counts { IfOk result (AreCounts rows.now) }
     {
         let codes = Interned::intern(alloc, hashing, width, rows)?;
         let different = Groups::by_agreement(alloc, &codes, AttrSet::full(width))?;
@@ -76,7 +77,7 @@ fn sizes_by(alloc: Global, groups: &Groups, different: &Groups) -> Result<Vec<u3
     requires same_length { length (groups_of groups.now) ≡ length (groups_of different.now) }
     requires groups { AreFirsts (groups_of groups.now) (firsts_of groups.now) }
     requires different { AreFirsts (groups_of different.now) (firsts_of different.now) }
-    requires fits_u32 { length (groups_of groups.now) < 2 ^ 32 }
+    requires fits_u32 { length (firsts_of different.now) < 2 ^ 32 }
     ensures sizes { IfOk result (λ v. ArePartSizes (groups_of groups.now) (firsts_of different.now) v.items) }
 {
     let counts = counts_by(alloc, groups, different)?;
@@ -91,10 +92,17 @@ fn sizes_by(alloc: Global, groups: &Groups, different: &Groups) -> Result<Vec<u3
 
 // How many of the different rows are in each group.
 fn counts_by(alloc: Global, groups: &Groups, different: &Groups) -> Result<Vec<u32>, OutOfMemory>
+    requires same_length { length (groups_of groups.now) ≡ length (groups_of different.now) }
+    requires groups { AreFirsts (groups_of groups.now) (firsts_of groups.now) }
+    requires different { AreFirsts (groups_of different.now) (firsts_of different.now) }
+    requires fits_u32 { length (firsts_of different.now) < 2 ^ 32 }
+    ensures counts { IfOk result (λ v. ArePartCounts (groups_of groups.now) (firsts_of different.now)
+        (length (firsts_of groups.now)) v.items) }
 {
+    let numbers = groups.numbers();
     let mut counts = zeros(alloc, groups.firsts().len())?;
     for row in different.firsts() {
-        let group = groups.numbers()[*row as usize] as usize;
+        let group = numbers[*row as usize] as usize;
         counts[group] += 1;
     }
     Ok(counts)

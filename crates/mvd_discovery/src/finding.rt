@@ -1,4 +1,4 @@
-ghost use Rattle.std.specs.Prelude.{◌<◌, ◌≤◌, ◌^◌, length, All, IfOk};
+ghost use Rattle.std.specs.Prelude.{◌≡◌, ◌<◌, ◌≤◌, ◌^◌, ◌++◌, length, All, IfOk, OnOk};
 ghost use Rattle.attr_sets.specs.Attributes.{below};
 ghost use Rattle.dep_model.specs.Deps.{IsDepWithin, dependencies_of};
 ghost use Rattle.dep_model.specs.Tuples.{IsOver};
@@ -7,7 +7,7 @@ ghost use Rattle.mvd_laws.specs.Telling.{TellsAll};
 ghost use Rattle.mvd_discovery.specs.Finding.{AreAllRules};
 
 use crate::counts::Counts;
-use crate::reduced::add_reduced;
+use crate::reduced::reduced_dependencies;
 use dep_model::{Dep, OutOfMemory};
 use fd_discovery::discover;
 use min_cover::nonredundant_from;
@@ -33,6 +33,17 @@ pub fn discover_all(
     let mut found = discover(alloc, hashing, width, rows)?;
     let from = found.len();
     let counts = Counts::count(alloc, hashing, width, rows)?;
-    add_reduced(&counts, &mut found)?;
+    let reduced = reduced_dependencies(alloc, &counts)?;
+    add_all(&mut found, &reduced)?;
     nonredundant_from(alloc, width, found, from)
+}
+
+// Adds dependencies at the end of a list.
+fn add_all(found: &mut Vec<Dep>, more: &[Dep]) -> Result<(), OutOfMemory>
+    ensures added { OnOk result (found.new.items ≡ found.old.items ++ more.now) }
+{
+    for dep in more {
+        found.push(*dep)?;
+    }
+    Ok(())
 }

@@ -11,10 +11,10 @@ use attr_sets::AttrSet;
 
 // Whether the rows obey a functional dependency: as many agree on both sides as on the left side.
 pub fn obeys_functional(counts: &Counts, left: AttrSet, right: AttrSet) -> bool
-    requires rows { (r : Relation) × AreCounts counts.now.width r counts.now }
+    requires rows { (r : Relation) × AreCounts r counts.now }
     requires left { IsSubset (attributes left) (below counts.now.width) }
     requires right { IsSubset (attributes right) (below counts.now.width) }
-    ensures obeys { (r : Relation) → AreCounts counts.now.width r counts.now
+    ensures obeys { (r : Relation) → AreCounts r counts.now
         → IsTrue result ↔ ObeysFd (attributes left) (attributes right) r }
 {
     are_equal(counts.sizes(left), counts.sizes(left.union(right)))
@@ -23,18 +23,19 @@ pub fn obeys_functional(counts: &Counts, left: AttrSet, right: AttrSet) -> bool
 // Whether the rows obey a multivalued dependency: those that agree on the left side are as many as those that agree
 // on both sides times those that agree on the left side and the rest.
 pub fn obeys_multivalued(counts: &Counts, left: AttrSet, right: AttrSet) -> bool
-    requires rows { (r : Relation) × AreCounts counts.now.width r counts.now }
+    requires rows { (r : Relation) × AreCounts r counts.now }
     requires left { IsSubset (attributes left) (below counts.now.width) }
     requires right { IsSubset (attributes right) (below counts.now.width) }
-    ensures obeys { (r : Relation) → AreCounts counts.now.width r counts.now
+    ensures obeys { (r : Relation) → AreCounts r counts.now
         → IsTrue result ↔ ObeysMvd (below counts.now.width) (attributes left) (attributes right) r }
 {
     let both = left.union(right);
     let rest = AttrSet::full(counts.width).difference(both);
+    let others = left.union(rest);
     are_products(
         counts.sizes(left),
         counts.sizes(both),
-        counts.sizes(left.union(rest)),
+        counts.sizes(others),
     )
 }
 

@@ -1,0 +1,5 @@
+pub mod NumberLemmas
+pub mod CountLemmas
+pub mod SearchLemmas
+pub mod ListingLemmas
+pub mod FindingLemmas
