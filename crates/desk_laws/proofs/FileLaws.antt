@@ -31,11 +31,12 @@ use Rattle.desk_tables.specs.declared.rejoining.TheConstants.{MOST_JOINED_ROWS}
 use Rattle.desk_inputs.specs.declared.rows.TheConstants.{MOST_CSV_BYTES}
 use Rattle.desk_responses.specs.ResponseValues.{ResponseValue, Allowed}
 use Rattle.desk_discovery.specs.Discoveries.{FindsRules, FindsSmallRules, HasTooManyLeftSides}
+use Rattle.desk_discovery.specs.AllDiscoveries.{FindsAllRules}
 use Rattle.desk_discovery.specs.NearDiscoveries.{FindsNearRules}
 use Rattle.desk_discovery.specs.KeyDiscoveries.{FindsRowKeys}
 use Rattle.desk_discovery.specs.declared.discovering.TheConstants.{WIDEST_TRIED}
 use Rattle.desk_inputs.specs.FileKinds.{FileStops, IsFile, WithFile}
-use Rattle.desk_inputs.specs.Headed.{headed_file, headed_file_for, imported, imported_file}
+use Rattle.desk_inputs.specs.Headed.{headed_file, headed_file_for, imported, imported_file, whole_file, wholly_discovered}
 use Rattle.desk_words.specs.Forms.{after_discover, form_of, form_over_rows, form_over_schema, schema_and_several, are_one_to_64, after_import, word_alone}
 use Rattle.desk_words.specs.Numbers.{is_left_bound, is_short_number, is_row_bound}
 use Rattle.desk_columns.specs.Imports.{ImportsColumns}
@@ -170,6 +171,24 @@ discover_keys_answered files file headed is not_many looks response answered =
     after_headed files (codes "discover") discovered file headed (FindsRowKeys file) response is
     (λ k same found. keys_given file headed k response not_many same found)
     (keys_ask files file looks response answered)
+
+-- `all` is no number of attributes
+all_no_bound : is_left_bound (codes "all") ≡ false
+unfolding is_left_bound is_short_number
+all_no_bound = refl
+
+all_asks : (files : Files) (file : List ℕ) (looks : Looks) (response : ResponseValue)
+    → Answers looks (known_files files) (codes "discover" ∷ codes "all" ∷ file ∷ []) response
+    → WithFile whole_file (known_files files) file FindsAllRules response
+unfolding form_of after_discover Performs
+all_asks files file looks response answered = (rw all_no_bound at answered)
+
+pub discover_all_answered : (files : Files) (file : List ℕ) (headed : Headed) → IsFile whole_file (known_files files) file headed
+    → IsAnswered files (codes "discover" ∷ codes "all" ∷ file ∷ [])
+discover_all_answered files file headed is looks response answered =
+    after_headed files (codes "discover") wholly_discovered file headed FindsAllRules response is
+    (λ k same found. inl (ap (λ (a : ResponseValue). a.status) found.2))
+    (all_asks files file looks response answered)
 
 import_asks : (files : Files) (file : List ℕ) (looks : Looks) (response : ResponseValue)
     → Answers looks (known_files files) (codes "import" ∷ codes "csv" ∷ file ∷ []) response
