@@ -585,6 +585,24 @@ def f_discover(m):
     return words + ["r"], {"r": m.csv(names, rows, noise=.1)}
 
 
+def f_discover_all(m):
+    r = m.r
+    n = r.randint(1, 5) if r.random() < .97 else r.randint(10, 11)
+    names = list(NAMES[:n])
+    if r.random() < .05:
+        names[r.randrange(n)] = r.choice(("scheme", "Unit price", "1x"))
+    values = [b"0", b"1"] if r.random() < .7 else [b"0", b"1", b"2"]
+    rows = [[r.choice(values) for _ in names] for _ in range(r.randint(0, 8))] if n <= 5 else []
+    for _ in range(r.choice((0, 1, 1, 2))):
+        # rows that mix two others that agree on a set, so that multivalued dependencies are obeyed
+        left, right = r.randrange(1 << n), r.randrange(1 << n)
+        rows += [[t[a] if (left | right) >> a & 1 else u[a] for a in range(n)] for t in rows for u in rows
+                 if all(t[a] == u[a] for a in range(n) if left >> a & 1)]
+        rows = [list(t) for t in dict.fromkeys(map(tuple, rows))][:40]
+    r.shuffle(rows)
+    return ["discover", "all", "r"], {"r": m.csv(names, rows, noise=.05)}
+
+
 # for each type values on both sides of its edge
 EDGES = [b"0", b"-0", b"7", b"-7", b"07", b"9223372036854775807", b"9223372036854775808", b"-9223372036854775808", b"-9223372036854775809",
          b"+1", b"1.5", b"-1.5", b"1.50", b"0.00", b"-0.00", b"-0.01", b"00.10", b".50", b"1.", b"999999999999999", b"1234567890123.45",

@@ -25,6 +25,7 @@ files_of_task (form.report_plan file planned) = planned ∷ []
 abbrev pub files_of_command : CommandForm → List (List ℕ)
 files_of_command (form.over_schema file task) = file ∷ files_of_task task
 files_of_command (form.discover question file) = file ∷ []
+files_of_command (form.discover_all file) = file ∷ []
 files_of_command (form.import_csv file) = file ∷ []
 files_of_command (form.import_sql dialect file table) = file ∷ []
 files_of_command (form.sample persons) = []

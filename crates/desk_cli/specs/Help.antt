@@ -55,6 +55,8 @@ help_text =
     ++ codes "the minimal sets of columns on which no two different rows agree")
     ++ line (codes "desk discover near N K CSV            "
     ++ codes "those that hold once at most N rows change, with at most K attributes on the left")
+    ++ line (codes "desk discover all CSV                 "
+    ++ codes "all functional and multivalued dependencies of at most 10 columns")
     ++ line (codes "desk import csv CSV                   a schema of the columns of CSV, to go on from")
     ++ line (codes "desk import sqlite FILE TABLE         "
     ++ codes "a schema of TABLE, by what sqlite3 prints of a database in FILE")

@@ -14,6 +14,7 @@ use Rattle.desk_covers.specs.CoverReasons.{ExplainsCover}
 use Rattle.desk_covers.specs.Covering.{GivesCover}
 use Rattle.desk_designs.specs.Decompositions.{Splits, SplitsWide}
 use Rattle.desk_designs.specs.Designs.{WritesForm, WritesPlan}
+use Rattle.desk_discovery.specs.AllDiscoveries.{FindsAllRules}
 use Rattle.desk_discovery.specs.NearDiscoveries.{FindsNearRules}
 use Rattle.desk_discovery.specs.Discoveries.{FindsRules, FindsSmallRules}
 use Rattle.desk_discovery.specs.KeyDiscoveries.{FindsRowKeys}
@@ -26,7 +27,7 @@ use Rattle.fd_discovery.specs.declared.headed_rows.Headed.{Headed}
 use Rattle.desk_inputs.specs.FileKinds.{WithFile}
 use Rattle.desk_columns.specs.Imports.{ImportsColumns}
 use Rattle.desk_imports.specs.Imports.{ImportsTable}
-use Rattle.desk_inputs.specs.Headed.{headed_file, imported_file}
+use Rattle.desk_inputs.specs.Headed.{headed_file, imported_file, whole_file}
 use Rattle.desk_inputs.specs.Sql.{sql_file}
 use Rattle.desk_cli.specs.Help.{help_text, version_text}
 use Rattle.desk_implication.specs.Implication.{DecidesGoal}
@@ -147,6 +148,7 @@ Does looks r schema (form.report_plan file planned) =
 unfoldable pub Performs : Looks → Reading → CommandForm → Allowed
 Performs looks r (form.over_schema file task) = WithFile schema_file r file (λ schema. Does looks r schema task)
 Performs looks r (form.discover question file) = WithFile headed_file r file (AnswersRules question file)
+Performs looks r (form.discover_all file) = WithFile whole_file r file FindsAllRules
 Performs looks r (form.import_csv file) = WithFile imported_file r file ImportsColumns
 Performs looks r (form.import_sql dialect file table) = WithFile sql_file r file (ImportsTable dialect table file)
 Performs looks r (form.sample persons) = Samples persons

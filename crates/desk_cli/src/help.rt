@@ -42,6 +42,7 @@ desk discover CSV                     the functional dependencies that the rows 
 desk discover K CSV                   those with at most K attributes on the left
 desk discover keys CSV                the minimal sets of columns on which no two different rows agree
 desk discover near N K CSV            those that hold once at most N rows change, with at most K attributes on the left
+desk discover all CSV                 all functional and multivalued dependencies of at most 10 columns
 desk import csv CSV                   a schema of the columns of CSV, to go on from
 desk import sqlite FILE TABLE         a schema of TABLE, by what sqlite3 prints of a database in FILE
 desk import postgres FILE TABLE       the same by what pg_dump prints

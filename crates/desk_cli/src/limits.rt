@@ -16,7 +16,7 @@ ghost use Rattle.desk_discovery.specs.declared.discovering.TheConstants.{WIDEST_
 ghost use Rattle.desk_tables.specs.declared.rejoining.TheConstants.{MOST_JOINED_ROWS};
 ghost use Rattle.desk_inputs.specs.declared.rows.TheConstants.{MOST_CSV_BYTES};
 ghost use Rattle.desk_words.specs.declared.command.TheConstants.{MOST_FILES};
-ghost use Rattle.fd_discovery.specs.declared.headed_rows.TheConstants.{MOST_HEADED_ROWS, WIDEST_HEADED};
+ghost use Rattle.fd_discovery.specs.declared.headed_rows.TheConstants.{MOST_HEADED_ROWS, MOST_ROWS_WITH_ALL, WIDEST_HEADED, WIDEST_WITH_ALL};
 ghost use Rattle.fd_closure.specs.declared.left_sides.TheConstants.{WIDEST_SEARCHED};
 ghost use Rattle.key_listing.specs.declared.refusal.TheConstants.{MOST_KEYS};
 ghost use Rattle.plan_grammar.specs.declared.refusal.TheConstants.{MOST_SCHEMES};
@@ -55,6 +55,8 @@ pub fn limits_of_contents()
     ensures rows { MOST_ROWS ≡ 10000000 }
     ensures headed_rows { MOST_HEADED_ROWS ≡ 10000000 }
     ensures headed_columns { WIDEST_HEADED ≡ 64 }
+    ensures whole_rows { MOST_ROWS_WITH_ALL ≡ 100000 }
+    ensures whole_columns { WIDEST_WITH_ALL ≡ 10 }
 {}
 
 /// Where a search gives up, and up to how many columns `discover` tries all sets.

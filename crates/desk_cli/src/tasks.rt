@@ -9,7 +9,8 @@ ghost use Rattle.desk_implication.specs.Certificates.{ChecksProof};
 ghost use Rattle.desk_covers.specs.CoverChecks.{ChecksCover};
 ghost use Rattle.desk_inputs.specs.FileKinds.{WithFile};
 ghost use Rattle.desk_inputs.specs.FilesBegun.{BeginsFront};
-ghost use Rattle.desk_inputs.specs.Headed.{headed_file};
+ghost use Rattle.desk_discovery.specs.AllDiscoveries.{FindsAllRules};
+ghost use Rattle.desk_inputs.specs.Headed.{headed_file, whole_file};
 ghost use Rattle.desk_derivations.specs.Derivations.{ChecksDerivation};
 ghost use Rattle.desk_inputs.specs.Inputs.{derivation_file, proof_file, schema_file};
 ghost use Rattle.desk_inputs.specs.Parts.{WithParts};
@@ -29,9 +30,10 @@ use crate::questions::{answer_plan, answer_rows, answer_rules, answer_schema};
 use dep_model::Schema;
 use desk_covers::{check_cover, check_same};
 use desk_derivations::check_derivation;
+use desk_discovery::discover_all_rules;
 use desk_implication::check_proof;
 use desk_inputs::{
-    open_derivation, open_headed, open_parts, open_plan, open_proof, open_rows, open_schema,
+    open_derivation, open_headed, open_parts, open_plan, open_proof, open_rows, open_schema, open_whole,
 };
 use desk_measures::{measure_rows, text_columns_alone};
 use desk_outside::{Argument, FileSource};
@@ -327,4 +329,25 @@ pub fn of_headed<F: FileSource>(
         Err(exit) => return Err(exit),
     };
     answer_rules(alloc, hashing, file, headed, question)
+}
+
+/// All dependencies that the rows of a file obey.
+pub fn of_whole<F: FileSource>(
+    alloc: Global,
+    hashing: Hashing,
+    source: &mut F,
+    file: &Argument,
+) -> Result<Response, EarlyExit>
+    ensures files { F.files source.new ≡ F.files source.old }
+    ensures later { F.faults source.old ≤ F.faults source.new }
+    ensures reads { BeginsFront (file.now ∷ [])
+        (F.begun source.old) (F.begun source.new) }
+    ensures response { (r : Reading) → Shows F.files F.faults F.taken F.begun source.old source.new r
+        → RespondsAs (WithFile whole_file r file.now FindsAllRules) result }
+{
+    let headed = match open_whole(alloc, source, file) {
+        Ok(headed) => headed,
+        Err(exit) => return Err(exit),
+    };
+    discover_all_rules(alloc, hashing, headed)
 }

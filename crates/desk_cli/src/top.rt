@@ -11,7 +11,7 @@ ghost use Rattle.desk_responses.specs.Responses.{response_value, RespondsAs};
 
 use crate::help::{help, version};
 use crate::imports::{of_imported, of_sql};
-use crate::tasks::{of_headed, over_schema};
+use crate::tasks::{of_headed, of_whole, over_schema};
 use dep_model::OutOfMemory;
 use desk_delivery::deliver_tables;
 use desk_outside::{Argument, FileSource, Folder, Sink, send};
@@ -160,6 +160,7 @@ fn perform<F: FileSource, M: FolderMaker>(
         Command::Discover { question, file } => {
             of_headed(alloc, hashing, source, file, question)
         }
+        Command::DiscoverAll { file } => of_whole(alloc, hashing, source, file),
         Command::ImportCsv { file } => of_imported(alloc, source, file),
         Command::ImportSql {
             dialect,

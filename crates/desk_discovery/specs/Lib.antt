@@ -3,3 +3,4 @@ pub mod Exhibits
 pub mod Discoveries
 pub mod KeyDiscoveries
 pub mod NearDiscoveries
+pub mod AllDiscoveries

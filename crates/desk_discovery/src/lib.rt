@@ -1,15 +1,18 @@
 //! Between dependencies and relations: the relation that exhibits a schema, and what the rows of a file
-//! obey: their minimal dependencies, those of few attributes on the left, those that nearly hold, and their minimal keys.
+//! obey: their minimal dependencies, those of few attributes on the left, those that nearly hold, all of either kind,
+//! and their minimal keys.
 //!
 //! Each is a pure function of values, with the one clause that its response is allowed.
 #![tactic(auto)]
 
+mod all;
 mod discovering;
 mod exhibits;
 mod keys;
 mod near;
 mod small;
 
+pub use all::discover_all_rules;
 pub use discovering::{WIDEST_TRIED, discover_rules};
 pub use exhibits::{exhibit_relation, multivalued_exit};
 pub use keys::discover_keys;

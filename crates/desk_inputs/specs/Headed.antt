@@ -3,9 +3,10 @@ use Rattle.std.specs.Prelude.{ℕ, List, ◌++◌, codes}
 use Rattle.std.specs.Fmt.{decimal}
 use Rattle.attr_sets.specs.declared.set.TheConstants.{MOST_ATTRIBUTES}
 use Rattle.fd_discovery.specs.declared.headed_rows.Headed.{Headed}
-use Rattle.fd_discovery.specs.declared.headed_rows.TheConstants.{WIDEST_HEADED}
+use Rattle.fd_discovery.specs.declared.headed_rows.Limits.{Limits}
+use Rattle.fd_discovery.specs.declared.headed_rows.TheConstants.{MOST_HEADED_ROWS, MOST_ROWS_WITH_ALL, WIDEST_WITH_ALL}
 use Rattle.fd_discovery.specs.declared.refusal.DiscoverRefusal.{DiscoverRefusal}
-use Rattle.fd_discovery.specs.Headings.{IsHeadedWithin, IsRefusedWithin}
+use Rattle.fd_discovery.specs.Headings.{IsHeadedWithin, IsRefusedWithin, discovered}
 use Rattle.fd_discovery.specs.RefusalTexts.{headed_reason_text, headed_refusal_number}
 use Rattle.desk_inputs.specs.declared.rows.TheConstants.{MOST_CSV_BYTES}
 use Rattle.desk_inputs.specs.FileKinds.{FileKind}
@@ -17,19 +18,31 @@ headed_refusal_text command file why =
     line (codes "refused: " ++ command ++ codes " " ++ decimal (headed_refusal_number why) ++ codes " at " ++ file
     ++ codes ": " ++ headed_reason_text why)
 
--- rows under at most so many names of their own, for a command of this word
-abbrev pub headed_file_for : List ℕ → ℕ → FileKind Headed DiscoverRefusal
-headed_file_for command widest = record {
+-- rows under names of their own, within these limits, for a command of this word
+abbrev pub headed_file_for : List ℕ → Limits → FileKind Headed DiscoverRefusal
+headed_file_for command limits = record {
   limit = MOST_CSV_BYTES;
-  means = λ bytes headed. IsHeadedWithin widest bytes headed;
-  refuses = λ bytes refusal. IsRefusedWithin widest bytes refusal;
+  means = λ bytes headed. IsHeadedWithin limits bytes headed;
+  refuses = λ bytes refusal. IsRefusedWithin limits bytes refusal;
   refusal_text = headed_refusal_text command;
 }
 
 -- rows whose dependencies are looked for
 abbrev pub headed_file : FileKind Headed DiscoverRefusal
-headed_file = headed_file_for (codes "discover") WIDEST_HEADED
+headed_file = headed_file_for (codes "discover") discovered
 
--- rows whose columns are made a schema
+-- the limits of rows of which all that they obey is looked for
+abbrev pub wholly_discovered : Limits
+wholly_discovered = record { columns = WIDEST_WITH_ALL; rows = MOST_ROWS_WITH_ALL }
+
+-- such rows
+abbrev pub whole_file : FileKind Headed DiscoverRefusal
+whole_file = headed_file_for (codes "discover") wholly_discovered
+
+-- the limits of rows whose columns are made a schema
+abbrev pub imported : Limits
+imported = record { columns = MOST_ATTRIBUTES; rows = MOST_HEADED_ROWS }
+
+-- such rows
 abbrev pub imported_file : FileKind Headed DiscoverRefusal
-imported_file = headed_file_for (codes "import") MOST_ATTRIBUTES
+imported_file = headed_file_for (codes "import") imported

@@ -3,11 +3,11 @@ ghost use Rattle.attr_sets.specs.declared.set.TheConstants.{MOST_ATTRIBUTES};
 ghost use Rattle.dep_model.specs.Tuples.{IsOver};
 ghost use Rattle.fd_discovery.specs.Headers.{IsColumnHeader, IsHeaderWithin};
 ghost use Rattle.fd_discovery.specs.Headings.{names_under, rows_under};
-ghost use Rattle.fd_discovery.specs.declared.headed_rows.TheConstants.{MOST_HEADED_ROWS};
+ghost use Rattle.fd_discovery.specs.declared.headed_rows.TheConstants.{MOST_HEADED_ROWS, MOST_ROWS_WITH_ALL, WIDEST_WITH_ALL};
 ghost use Rattle.desk_outside.specs.Begun.{Begins};
 ghost use Rattle.desk_inputs.specs.FilesBegun.{BeginsFront};
 ghost use Rattle.desk_inputs.specs.FileKinds.{FileStops, IsFile};
-ghost use Rattle.desk_inputs.specs.Headed.{headed_file, headed_file_for, headed_refusal_text, imported_file};
+ghost use Rattle.desk_inputs.specs.Headed.{headed_file, headed_file_for, headed_refusal_text, imported_file, whole_file};
 ghost use Rattle.desk_inputs.specs.Readings.{Reading, files_in, Shows};
 ghost use Rattle.desk_responses.specs.ResponseValues.{Says};
 ghost use Rattle.desk_responses.specs.Responses.{ExitsAs};
@@ -19,7 +19,10 @@ use dep_model::{Failure, OutOfMemory};
 use desk_outside::{Argument, FileSource};
 use desk_responses::{EarlyExit, Status};
 use desk_texts::add_displayed;
-use fd_discovery::{DiscoverRefusal, Headed, WIDEST_HEADED, read_headed};
+use fd_discovery::{
+    DiscoverRefusal, Headed, Limits, MOST_HEADED_ROWS, MOST_ROWS_WITH_ALL, WIDEST_HEADED,
+    WIDEST_WITH_ALL, read_headed,
+};
 use schema_printer::{add, add_number};
 use std::alloc::Global;
 
@@ -44,7 +47,38 @@ pub fn open_headed<F: FileSource>(
     ensures exit { (r : Reading) → Shows F.files F.faults F.taken F.begun source.old source.new r
         → IfErr result (ExitsAs (FileStops headed_file r name.now)) }
 {
-    open_headed_for(alloc, source, b"discover", WIDEST_HEADED, name)
+    let limits = Limits {
+        columns: WIDEST_HEADED,
+        rows: MOST_HEADED_ROWS,
+    };
+    open_headed_for(alloc, source, b"discover", limits, name)
+}
+
+/// The same, for a command that looks for all that the rows obey.
+pub fn open_whole<F: FileSource>(
+    alloc: Global,
+    source: &mut F,
+    name: &Argument,
+) -> Result<Headed, EarlyExit>
+    ensures files { F.files source.new ≡ F.files source.old }
+    ensures later { F.faults source.old ≤ F.faults source.new }
+    ensures begins { OnOk result (Begins name.now (F.begun source.old) (F.begun source.new)) }
+    ensures reads { BeginsFront (name.now ∷ []) (F.begun source.old) (F.begun source.new) }
+    ensures ok { (r : Reading) → files_in r ≡ F.files source.old
+        → IfOk result (IsFile whole_file r name.now) }
+    ensures header { IfOk result (λ headed. IsHeaderWithin WIDEST_WITH_ALL (names_under headed)) }
+    ensures any_name { IfOk result (λ headed. 0 < length (names_under headed)) }
+    ensures same_width { IfOk result (λ headed. IsOver (length (names_under headed))
+        (rows_under headed)) }
+    ensures within_limit { IfOk result (λ headed. length (rows_under headed) ≤ MOST_ROWS_WITH_ALL) }
+    ensures exit { (r : Reading) → Shows F.files F.faults F.taken F.begun source.old source.new r
+        → IfErr result (ExitsAs (FileStops whole_file r name.now)) }
+{
+    let limits = Limits {
+        columns: WIDEST_WITH_ALL,
+        rows: MOST_ROWS_WITH_ALL,
+    };
+    open_headed_for(alloc, source, b"discover", limits, name)
 }
 
 /// The same, for a command that makes a schema of the columns.
@@ -67,15 +101,19 @@ pub fn open_imported<F: FileSource>(
     ensures exit { (r : Reading) → Shows F.files F.faults F.taken F.begun source.old source.new r
         → IfErr result (ExitsAs (FileStops imported_file r name.now)) }
 {
-    open_headed_for(alloc, source, b"import", MOST_ATTRIBUTES, name)
+    let limits = Limits {
+        columns: MOST_ATTRIBUTES,
+        rows: MOST_HEADED_ROWS,
+    };
+    open_headed_for(alloc, source, b"import", limits, name)
 }
 
-// The same, for a command of this word, where the header names at most so many columns.
+// The same, for a command of this word, within limits.
 fn open_headed_for<F: FileSource>(
     alloc: Global,
     source: &mut F,
     command: &[u8],
-    widest: u8,
+    limits: Limits,
     name: &Argument,
 ) -> Result<Headed, EarlyExit>
     ensures files { F.files source.new ≡ F.files source.old }
@@ -83,20 +121,20 @@ fn open_headed_for<F: FileSource>(
     ensures begins { OnOk result (Begins name.now (F.begun source.old) (F.begun source.new)) }
     ensures reads { BeginsFront (name.now ∷ []) (F.begun source.old) (F.begun source.new) }
     ensures ok { (r : Reading) → files_in r ≡ F.files source.old
-        → IfOk result (IsFile (headed_file_for command.now widest) r name.now) }
-    ensures header { IfOk result (λ headed. IsHeaderWithin widest (names_under headed)) }
+        → IfOk result (IsFile (headed_file_for command.now limits) r name.now) }
+    ensures header { IfOk result (λ headed. IsHeaderWithin limits.columns (names_under headed)) }
     ensures any_name { IfOk result (λ headed. 0 < length (names_under headed)) }
     ensures same_width { IfOk result (λ headed. IsOver (length (names_under headed))
         (rows_under headed)) }
-    ensures within_limit { IfOk result (λ headed. length (rows_under headed) ≤ MOST_HEADED_ROWS) }
+    ensures within_limit { IfOk result (λ headed. length (rows_under headed) ≤ limits.rows) }
     ensures exit { (r : Reading) → Shows F.files F.faults F.taken F.begun source.old source.new r
-        → IfErr result (ExitsAs (FileStops (headed_file_for command.now widest) r name.now)) }
+        → IfErr result (ExitsAs (FileStops (headed_file_for command.now limits) r name.now)) }
 {
     let bytes = match open_file(alloc, source, name, MOST_CSV_BYTES) {
         Ok(bytes) => bytes,
         Err(exit) => return Err(exit),
     };
-    match read_headed(alloc, widest, &bytes) {
+    match read_headed(alloc, limits, &bytes) {
         Ok(headed) => Ok(headed),
         Err(Failure::Refused(refusal)) => Err(headed_refusal_exit(
             alloc,

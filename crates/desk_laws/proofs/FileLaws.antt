@@ -3,7 +3,6 @@ use Rattle.std.proofs.Common.{◌≡◌, ◌≤◌, ◌<◌, ℕ, true, false, z
 use Rattle.std.specs.Prelude.{codes, slice_get}
 use Rattle.attr_sets.specs.Attributes.{Attributes}
 use Rattle.attr_sets.specs.Sets.{attributes}
-use Rattle.attr_sets.specs.declared.set.TheConstants.{MOST_ATTRIBUTES}
 use Rattle.candidate_search.specs.Sides.{IsExceeded}
 use Rattle.candidate_search.specs.declared.side.TooManyLeftSides.{TooManyLeftSides}
 use Rattle.csv_rows.specs.Columns.{with_columns, columns_of_header}
@@ -18,12 +17,12 @@ use Rattle.dep_model.specs.Schemas.{names_of, width_of}
 use Rattle.dep_model.specs.Tuples.{Relation}
 use Rattle.dep_model.specs.declared.schema.Schema.{Schema}
 use Rattle.fd_discovery.proofs.UniqueHeaded.{never_both}
-use Rattle.fd_discovery.specs.Headings.{names_under, rows_under, IsRefusedWithin}
+use Rattle.fd_discovery.specs.Headings.{discovered, IsRefusedWithin, names_under, rows_under}
 use Rattle.fd_discovery.specs.declared.headed_rows.Headed.{Headed}
 use Rattle.lexer.specs.Bytes.{number_of}
 use Rattle.near_rules.specs.NearRules.{IsFirstExceeded, IsTriedWhole}
 use Rattle.row_keys.specs.Keys.{HasTooManyKeys}
-use Rattle.fd_discovery.specs.declared.headed_rows.TheConstants.{WIDEST_HEADED}
+use Rattle.fd_discovery.specs.declared.headed_rows.Limits.{Limits}
 use Rattle.table_join.specs.Answers.{IsWithinLimit}
 use Rattle.table_join.specs.declared.refusal.JoinRefusal.TheVariants.{NotCovered, TooManyRows}
 use Rattle.table_join.specs.Tables.{PartialRelation, table_of_part, tables_of, plan_of_tables}
@@ -32,11 +31,12 @@ use Rattle.desk_tables.specs.declared.rejoining.TheConstants.{MOST_JOINED_ROWS}
 use Rattle.desk_inputs.specs.declared.rows.TheConstants.{MOST_CSV_BYTES}
 use Rattle.desk_responses.specs.ResponseValues.{ResponseValue, Allowed}
 use Rattle.desk_discovery.specs.Discoveries.{FindsRules, FindsSmallRules, HasTooManyLeftSides}
+use Rattle.desk_discovery.specs.AllDiscoveries.{FindsAllRules}
 use Rattle.desk_discovery.specs.NearDiscoveries.{FindsNearRules}
 use Rattle.desk_discovery.specs.KeyDiscoveries.{FindsRowKeys}
 use Rattle.desk_discovery.specs.declared.discovering.TheConstants.{WIDEST_TRIED}
 use Rattle.desk_inputs.specs.FileKinds.{FileStops, IsFile, WithFile}
-use Rattle.desk_inputs.specs.Headed.{headed_file, headed_file_for, imported_file}
+use Rattle.desk_inputs.specs.Headed.{headed_file, headed_file_for, imported, imported_file, whole_file, wholly_discovered}
 use Rattle.desk_words.specs.Forms.{after_discover, form_of, form_over_rows, form_over_schema, schema_and_several, are_one_to_64, after_import, word_alone}
 use Rattle.desk_words.specs.Numbers.{is_left_bound, is_short_number, is_row_bound}
 use Rattle.desk_columns.specs.Imports.{ImportsColumns}
@@ -53,19 +53,19 @@ use Rattle.desk_laws.proofs.StopLemmas.{one_content, file_goes}
 use Rattle.desk_tables.specs.OwnFolders.{Looks}
 
 -- ---- rows under a free header
-after_headed : (files : Files) (command : List ℕ) (widest : ℕ) (name : List ℕ) (h : Headed) (rest : Headed → Allowed) (response : ResponseValue)
-    → IsFile (headed_file_for command widest) (known_files files) name h
+after_headed : (files : Files) (command : List ℕ) (limits : Limits) (name : List ℕ) (h : Headed) (rest : Headed → Allowed) (response : ResponseValue)
+    → IsFile (headed_file_for command limits) (known_files files) name h
     → ((k : Headed) → names_and_rows k ≡ names_and_rows h → rest k response → IsYesOrNo response.status)
-    → WithFile (headed_file_for command widest) (known_files files) name rest response → IsYesOrNo response.status
-after_headed files command widest name h rest response file go (inl (inl exit)) =
+    → WithFile (headed_file_for command limits) (known_files files) name rest response → IsYesOrNo response.status
+after_headed files command limits name h rest response file go (inl (inl exit)) =
     absurd (file_goes files name file.bytes MOST_CSV_BYTES response file.content.0 file.content.1 exit)
-after_headed files command widest name h rest response file go (inl (inr (why, is, says))) =
-    let here : IsRefusedWithin widest file.bytes why =
-    subst (λ (b : List ℕ). IsRefusedWithin widest b why)
+after_headed files command limits name h rest response file go (inl (inr (why, is, says))) =
+    let here : IsRefusedWithin limits file.bytes why =
+    subst (λ (b : List ℕ). IsRefusedWithin limits b why)
     (one_content files name is.bytes file.bytes is.content.0 file.content.0) is.refused in
-    absurd (never_both widest file.bytes h why file.means here)
-after_headed files command widest name h rest response file go (inr (k, is, more)) =
-    go k (one_view files name (headed_file_for command widest) names_and_rows (MeansNamesAndRows widest) (headed_text_once widest)
+    absurd (never_both limits file.bytes h why file.means here)
+after_headed files command limits name h rest response file go (inr (k, is, more)) =
+    go k (one_view files name (headed_file_for command limits) names_and_rows (MeansNamesAndRows limits) (headed_text_once limits)
     (λ text h means. (h, means, refl)) k h is file) more
 
 discover_asks : (files : Files) (file : List ℕ) (looks : Looks) (response : ResponseValue)
@@ -142,7 +142,7 @@ pub discover_near_answered : (files : Files) (limit most file : List ℕ) (heade
     → IsTriedWhole (length (names_under headed)) (number_of most) (number_of limit) (rows_under headed)
     → IsAnswered files (codes "discover" ∷ codes "near" ∷ limit ∷ most ∷ file ∷ [])
 discover_near_answered files limit most file headed rows bounds is whole looks response answered =
-    after_headed files (codes "discover") WIDEST_HEADED file headed (FindsNearRules (number_of limit) (number_of most) file) response is
+    after_headed files (codes "discover") discovered file headed (FindsNearRules (number_of limit) (number_of most) file) response is
     (λ k same found. near_given (number_of limit) (number_of most) file headed k response whole same found)
     (near_asks files limit most file looks response rows bounds answered)
 
@@ -150,7 +150,7 @@ pub discover_answered : (files : Files) (file : List ℕ) (headed : Headed) → 
     → ((refusal : TooManyLeftSides) → HasTooManyLeftSides (length (names_under headed)) headed refusal → ⊥)
     → IsAnswered files (codes "discover" ∷ file ∷ [])
 discover_answered files file headed is not_many looks response answered =
-    after_headed files (codes "discover") WIDEST_HEADED file headed (FindsRules file) response is
+    after_headed files (codes "discover") discovered file headed (FindsRules file) response is
     (λ k same found. rules_given file headed k response not_many same found)
     (discover_asks files file looks response answered)
 
@@ -159,7 +159,7 @@ pub discover_small_answered : (files : Files) (word file : List ℕ) (headed : H
     → ((refusal : TooManyLeftSides) → HasTooManyLeftSides (number_of word) headed refusal → ⊥)
     → IsAnswered files (codes "discover" ∷ word ∷ file ∷ [])
 discover_small_answered files word file headed bounds is not_many looks response answered =
-    after_headed files (codes "discover") WIDEST_HEADED file headed (FindsSmallRules (number_of word) file) response is
+    after_headed files (codes "discover") discovered file headed (FindsSmallRules (number_of word) file) response is
     (λ k same found. small_given (number_of word) file headed k response not_many same found)
     (small_asks files word file looks response bounds answered)
 
@@ -168,9 +168,27 @@ pub discover_keys_answered : (files : Files) (file : List ℕ) (headed : Headed)
     → (HasTooManyKeys (length (names_under headed)) (rows_under headed) → ⊥)
     → IsAnswered files (codes "discover" ∷ codes "keys" ∷ file ∷ [])
 discover_keys_answered files file headed is not_many looks response answered =
-    after_headed files (codes "discover") WIDEST_HEADED file headed (FindsRowKeys file) response is
+    after_headed files (codes "discover") discovered file headed (FindsRowKeys file) response is
     (λ k same found. keys_given file headed k response not_many same found)
     (keys_ask files file looks response answered)
+
+-- `all` is no number of attributes
+all_no_bound : is_left_bound (codes "all") ≡ false
+unfolding is_left_bound is_short_number
+all_no_bound = refl
+
+all_asks : (files : Files) (file : List ℕ) (looks : Looks) (response : ResponseValue)
+    → Answers looks (known_files files) (codes "discover" ∷ codes "all" ∷ file ∷ []) response
+    → WithFile whole_file (known_files files) file FindsAllRules response
+unfolding form_of after_discover Performs
+all_asks files file looks response answered = (rw all_no_bound at answered)
+
+pub discover_all_answered : (files : Files) (file : List ℕ) (headed : Headed) → IsFile whole_file (known_files files) file headed
+    → IsAnswered files (codes "discover" ∷ codes "all" ∷ file ∷ [])
+discover_all_answered files file headed is looks response answered =
+    after_headed files (codes "discover") wholly_discovered file headed FindsAllRules response is
+    (λ k same found. inl (ap (λ (a : ResponseValue). a.status) found.2))
+    (all_asks files file looks response answered)
 
 import_asks : (files : Files) (file : List ℕ) (looks : Looks) (response : ResponseValue)
     → Answers looks (known_files files) (codes "import" ∷ codes "csv" ∷ file ∷ []) response
@@ -181,7 +199,7 @@ import_asks files file looks response answered = answered
 pub import_answered : (files : Files) (file : List ℕ) (headed : Headed) → IsFile imported_file (known_files files) file headed
     → IsAnswered files (codes "import" ∷ codes "csv" ∷ file ∷ [])
 import_answered files file headed is looks response answered =
-    after_headed files (codes "import") MOST_ATTRIBUTES file headed ImportsColumns response is
+    after_headed files (codes "import") imported file headed ImportsColumns response is
     (λ k same found. inl (ap (λ (a : ResponseValue). a.status) found.2))
     (import_asks files file looks response answered)
 

@@ -13,6 +13,7 @@ use Rattle.derivation.specs.Trees.{Tree}
 use Rattle.derivation_grammar.specs.Derivations.{Derives}
 use Rattle.desk_outside.specs.Files.{Files}
 use Rattle.fd_discovery.specs.declared.headed_rows.Headed.{Headed}
+use Rattle.fd_discovery.specs.declared.headed_rows.Limits.{Limits}
 use Rattle.implication_laws.specs.OneAnswer.{AllowsOne}
 use Rattle.implication_laws.proofs.StepLaws.{With-alike}
 use Rattle.plan_grammar.proofs.PlanLaws.{lines_within, lines_not_empty}
@@ -117,25 +118,25 @@ module _ (files : Files) where
       each d one other first (subst (λ (e : Dependency). rest e other) (sym same) second))
 
   -- what is said of any two answers: of equal ones, and of those on values that have the same names and rows
-  pub after_headed : (command : List ℕ) (widest : ℕ) (name : List ℕ) (C : ResponseValue → ResponseValue → Type 0) (rest : Headed → Allowed)
+  pub after_headed : (command : List ℕ) (limits : Limits) (name : List ℕ) (C : ResponseValue → ResponseValue → Type 0) (rest : Headed → Allowed)
       → ((one other : ResponseValue) → one ≡ other → C one other)
-      → ((h k : Headed) (one other : ResponseValue) → IsFile (headed_file_for command widest) known name k
+      → ((h k : Headed) (one other : ResponseValue) → IsFile (headed_file_for command limits) known name k
       → names_and_rows h ≡ names_and_rows k → rest h one → rest k other → C one other)
-      → (one other : ResponseValue) → WithFile (headed_file_for command widest) known name rest one
-      → WithFile (headed_file_for command widest) known name rest other → C one other
-  after_headed command widest name C rest by_path alike one other (inl stops) (inl also) =
+      → (one other : ResponseValue) → WithFile (headed_file_for command limits) known name rest one
+      → WithFile (headed_file_for command limits) known name rest other → C one other
+  after_headed command limits name C rest by_path alike one other (inl stops) (inl also) =
       by_path one other
-      (one_stop files name (headed_file_for command widest) names_and_rows (MeansNamesAndRows widest) (headed_text_once widest)
+      (one_stop files name (headed_file_for command limits) names_and_rows (MeansNamesAndRows limits) (headed_text_once limits)
       (λ text h means. (h, means, refl)) one other stops also)
-  after_headed command widest name C rest by_path alike one other (inl stops) (inr (k, is, remains)) =
-      absurd (goes files name (headed_file_for command widest) names_and_rows (MeansNamesAndRows widest) (headed_text_once widest)
+  after_headed command limits name C rest by_path alike one other (inl stops) (inr (k, is, remains)) =
+      absurd (goes files name (headed_file_for command limits) names_and_rows (MeansNamesAndRows limits) (headed_text_once limits)
       (λ text h means. (h, means, refl)) k one is stops)
-  after_headed command widest name C rest by_path alike one other (inr (h, is, rests)) (inl stops) =
-      absurd (goes files name (headed_file_for command widest) names_and_rows (MeansNamesAndRows widest) (headed_text_once widest)
+  after_headed command limits name C rest by_path alike one other (inr (h, is, rests)) (inl stops) =
+      absurd (goes files name (headed_file_for command limits) names_and_rows (MeansNamesAndRows limits) (headed_text_once limits)
       (λ text h means. (h, means, refl)) h other is stops)
-  after_headed command widest name C rest by_path alike one other (inr (h, is, rests)) (inr (k, also, remains)) =
+  after_headed command limits name C rest by_path alike one other (inr (h, is, rests)) (inr (k, also, remains)) =
       alike h k one other also
-      (one_view files name (headed_file_for command widest) names_and_rows (MeansNamesAndRows widest) (headed_text_once widest)
+      (one_view files name (headed_file_for command limits) names_and_rows (MeansNamesAndRows limits) (headed_text_once limits)
       (λ text h means. (h, means, refl)) h k is also) rests remains
 
   -- ---- several files

@@ -20,6 +20,7 @@ use Rattle.derivation_grammar.specs.Texts.{read_derivation}
 use Rattle.fd_discovery.proofs.UniqueHeaded.{names_same, rows_same, refused_same, never_both}
 use Rattle.fd_discovery.specs.Headings.{IsHeadedWithin, IsRefusedWithin, names_under, rows_under}
 use Rattle.fd_discovery.specs.declared.headed_rows.Headed.{Headed}
+use Rattle.fd_discovery.specs.declared.headed_rows.Limits.{Limits}
 use Rattle.plan_grammar.proofs.ExactLaws.{plan_one_meaning, plan_one_refusal, plan_never_both}
 use Rattle.plan_grammar.specs.Diagnostics.{RefusesPlan}
 use Rattle.plan_grammar.specs.Meanings.{MeansPlan}
@@ -130,22 +131,22 @@ rows_text_once s text = one_result (RowsOf s text) (one_rows s text)
 abbrev pub names_and_rows : Headed → List (List ℕ) × Relation
 names_and_rows headed = (names_under headed, rows_under headed)
 
-abbrev pub MeansNamesAndRows : ℕ → List ℕ → List (List ℕ) × Relation → Type 0
-MeansNamesAndRows widest text read =
-    (headed : Headed) × IsHeadedWithin widest text headed × (names_and_rows headed ≡ read)
+abbrev pub MeansNamesAndRows : Limits → List ℕ → List (List ℕ) × Relation → Type 0
+MeansNamesAndRows limits text read =
+    (headed : Headed) × IsHeadedWithin limits text headed × (names_and_rows headed ≡ read)
 
-pub headed_text_once : (widest : ℕ) (text : List ℕ)
-    → HasOneReading (MeansNamesAndRows widest text) (IsRefusedWithin widest text)
-headed_text_once widest text = record {
+pub headed_text_once : (limits : Limits) (text : List ℕ)
+    → HasOneReading (MeansNamesAndRows limits text) (IsRefusedWithin limits text)
+headed_text_once limits text = record {
   one_meaning = λ read other first second.
       sym first.2
       ∙ ap (λ (names : List (List ℕ)). (names, rows_under first.0))
-      (names_same widest text first.0 second.0 first.1 second.1)
+      (names_same limits text first.0 second.0 first.1 second.1)
       ∙ ap (λ (rows : Relation). (names_under second.0, rows))
-      (rows_same widest text first.0 second.0 first.1 second.1)
+      (rows_same limits text first.0 second.0 first.1 second.1)
       ∙ second.2;
-  one_refusal = refused_same widest text;
-  never_both = λ read why first refused. never_both widest text first.0 why first.1 refused;
+  one_refusal = refused_same limits text;
+  never_both = λ read why first refused. never_both limits text first.0 why first.1 refused;
 }
 
 -- ---- rows over some columns

@@ -9,26 +9,25 @@ use Rattle.dep_model.specs.Dependencies.{Dependency}
 use Rattle.dep_model.specs.Tuples.{Relation}
 use Rattle.dep_model.specs.declared.schema.Schema.{Schema}
 use Rattle.desk_outside.specs.Files.{Files}
-use Rattle.fd_discovery.specs.Headings.{names_under}
+use Rattle.fd_discovery.specs.Headings.{discovered, names_under}
 use Rattle.fd_discovery.specs.declared.headed_rows.Headed.{Headed}
 use Rattle.fd_search.specs.Small.{AreAllSmall}
 use Rattle.near_rules.specs.NearRules.{AreNearRules, IsFirstExceeded, IsTriedWhole}
 use Rattle.near_rules.specs.declared.found.TooManyTried.{TooManyTried}
 use Rattle.row_keys.specs.Keys.{AreRowKeys, HasTooManyKeys}
-use Rattle.attr_sets.specs.declared.set.TheConstants.{MOST_ATTRIBUTES}
-use Rattle.fd_discovery.specs.declared.headed_rows.TheConstants.{WIDEST_HEADED}
 use Rattle.sample_rows.specs.declared.rows.TheConstants.{MOST_PERSONS}
-use Rattle.implication_laws.proofs.OneAnswer.{one_near_answer, one_row_keys_answer, one_rules_answer, one_small_answer}
+use Rattle.implication_laws.proofs.OneAnswer.{one_near_answer, one_row_keys_answer, one_rules_answer, one_small_answer, one_whole_answer}
 use Rattle.plan_laws.proofs.SampleAnswers.{one_sampled}
 use Rattle.desk_cli.specs.Performs.{Answers, AnswersRules, Does, Performs}
 use Rattle.desk_discovery.specs.Discoveries.{AreRulesOf, RefusesRules, found_text, left_sides_text}
+use Rattle.desk_discovery.specs.AllDiscoveries.{AreAllRulesOf, FindsAllRules}
 use Rattle.desk_discovery.specs.NearDiscoveries.{near_text}
 use Rattle.desk_discovery.specs.KeyDiscoveries.{row_keys_text, too_many_row_keys_text}
 use Rattle.desk_discovery.specs.declared.discovering.TheConstants.{WIDEST_TRIED}
 use Rattle.desk_inputs.specs.FileKinds.{IsFile}
 use Rattle.desk_columns.proofs.LawLemmas.{import_once}
 use Rattle.desk_columns.specs.Imports.{ImportsColumns}
-use Rattle.desk_inputs.specs.Headed.{headed_file}
+use Rattle.desk_inputs.specs.Headed.{headed_file, imported, wholly_discovered}
 use Rattle.desk_inputs.specs.Inputs.{schema_file}
 use Rattle.desk_inputs.specs.Readings.{known_files}
 use Rattle.desk_laws.proofs.ImportLaws.{one_import_of_sql}
@@ -130,6 +129,13 @@ abbrev IsFree : Files → CommandForm → ResponseValue → ResponseValue → Ty
 IsFree files command one other =
     IsDerived files command one other ⊎ (IsRefusedSearch files command one other ⊎ IsPaged command one other)
 
+-- all that holds of equal names and rows
+all_there : (h k : Headed) (response : ResponseValue) → names_and_rows h ≡ names_and_rows k → FindsAllRules h response
+    → FindsAllRules k response
+all_there h k response same found =
+    subst (λ (read : List (List ℕ) × Relation). (ds : List Dependency) × AreAllRulesOf (length read.0) read.1 ds
+    × Says Yes (found_text read.0 ds) response) same found
+
 after_one_task : (files : Files) (file : List ℕ) (task : Task) (s : Schema) (one other : ResponseValue)
     → IsFile schema_file (known_files files) file s → IsOneButForProof s task one other
     → (one ≡ other) ⊎ IsFree files (form.over_schema file task) one other
@@ -156,14 +162,19 @@ one_command looks files (form.over_schema file task) one other single few_person
     after_one_task files file task s one other is (one_task looks files s t task one other single same first second))
     one other first second
 one_command looks files (form.discover question file) one other single few_persons first second =
-    after_headed files (codes "discover") WIDEST_HEADED file (λ one other. (one ≡ other) ⊎ IsFree files (form.discover question file) one other)
+    after_headed files (codes "discover") discovered file (λ one other. (one ≡ other) ⊎ IsFree files (form.discover question file) one other)
     (AnswersRules question file) (λ one other path. inl path)
     (λ h k a b is same found also.
     after_rules files question file k a b is
     (one_of_rules question file k a b (found_there question file h k a same found) also))
     one other first second
+one_command looks files (form.discover_all file) one other single few_persons first second =
+    inl (after_headed files (codes "discover") wholly_discovered file (λ one other. one ≡ other) FindsAllRules (λ one other path. path)
+    (λ h k a b is same found also.
+    one_whole_answer k a b (all_there h k a same found) also)
+    one other first second)
 one_command looks files (form.import_csv file) one other single few_persons first second =
-    inl (after_headed files (codes "import") MOST_ATTRIBUTES file (λ one other. one ≡ other) ImportsColumns (λ one other path. path)
+    inl (after_headed files (codes "import") imported file (λ one other. one ≡ other) ImportsColumns (λ one other path. path)
     (λ h k a b is same found also.
     import_once h k a b (ap (λ (read : List (List ℕ) × Relation). read.0) same) (ap (λ (read : List (List ℕ) × Relation). read.1) same) found also)
     one other first second)

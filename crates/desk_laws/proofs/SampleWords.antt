@@ -15,6 +15,7 @@ abbrev IsFew : CommandForm → Type 0
 IsFew (form.sample persons) = persons ≤ MOST_PERSONS
 IsFew (form.over_schema file task) = Unit {0}
 IsFew (form.discover question file) = Unit {0}
+IsFew (form.discover_all file) = Unit {0}
 IsFew (form.import_csv file) = Unit {0}
 IsFew (form.import_sql dialect file table) = Unit {0}
 IsFew form.help = Unit {0}
@@ -103,7 +104,7 @@ unfolding after_discover
 few_discover [] = tt
 few_discover (a ∷ []) = tt
 few_discover (what ∷ rows ∷ []) =
-    few_if (is_left_bound what) _ _ tt (few_if (bytes_eq what (codes "keys")) _ _ tt tt)
+    few_if (is_left_bound what) _ _ tt (few_if (bytes_eq what (codes "keys")) _ _ tt (few_if (bytes_eq what (codes "all")) _ _ tt tt))
 few_discover (a ∷ b ∷ d ∷ []) = tt
 few_discover (what ∷ limit ∷ most ∷ rows ∷ []) =
     few_if (bytes_eq what (codes "near") && (is_row_bound limit && is_left_bound most)) _ _ tt tt

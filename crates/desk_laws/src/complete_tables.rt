@@ -27,7 +27,7 @@ ghost use Rattle.near_rules.specs.NearRules.{IsTriedWhole};
 ghost use Rattle.desk_discovery.specs.Discoveries.{HasTooManyLeftSides};
 ghost use Rattle.desk_tables.specs.declared.rejoining.TheConstants.{MOST_JOINED_ROWS};
 ghost use Rattle.desk_inputs.specs.FileKinds.{IsFile};
-ghost use Rattle.desk_inputs.specs.Headed.{headed_file, imported_file};
+ghost use Rattle.desk_inputs.specs.Headed.{headed_file, imported_file, whole_file};
 ghost use Rattle.desk_inputs.specs.Sql.{sql_file};
 ghost use Rattle.sql_definitions.specs.Wanted.{TableName, wanted_table};
 ghost use Rattle.sql_lexemes.specs.declared.dialect.Dialect.TheVariants.{Sqlite, Postgres};
@@ -147,6 +147,14 @@ pub fn discover_near_is_answered()
         → is_left_bound most ≡ true → IsFile headed_file (known_files files) file headed
         → IsTriedWhole (length (names_under headed)) (number_of most) (number_of limit) (rows_under headed)
         → IsAnswered files (codes "discover" ∷ codes "near" ∷ limit ∷ most ∷ file ∷ []) }
+{}
+
+/// `discover all` is answered where the CSV file has a header that names at most ten columns, and at most 100,000 rows
+/// under it.
+pub fn discover_all_is_answered()
+    ensures law { (files : Files) (file : List ℕ) (headed : Headed)
+        → IsFile whole_file (known_files files) file headed
+        → IsAnswered files (codes "discover" ∷ codes "all" ∷ file ∷ []) }
 {}
 
 /// `import csv` is answered where the CSV file has a header that names its columns, and rows under it.

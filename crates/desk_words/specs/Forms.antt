@@ -130,6 +130,8 @@ pub data CommandForm : Type 0 where
   over_schema : List ℕ → Task → CommandForm
   -- the rules that the rows of a file obey
   discover : RulesQuestion → List ℕ → CommandForm
+  -- all dependencies that the rows of a file obey
+  discover_all : List ℕ → CommandForm
   -- a schema of the columns of a file of rows
   import_csv : List ℕ → CommandForm
   -- a schema of a table that the SQL of a file defines
@@ -346,6 +348,7 @@ abbrev pub discover_after_word : List ℕ → List ℕ → Option CommandForm
 discover_after_word what rows =
     if is_left_bound what then Some (discover (small_rules (number_of what)) rows)
     else if bytes_eq what (codes "keys") then Some (discover keys_of_rows rows)
+    else if bytes_eq what (codes "all") then Some (discover_all rows)
     else None
 
 -- after `discover`, a word, two numbers and rows

@@ -31,6 +31,10 @@ pub enum Command<'a> {
         question: RulesQuestion,
         file: &'a Argument,
     },
+    /// All dependencies that the rows of a file obey.
+    DiscoverAll {
+        file: &'a Argument,
+    },
     /// A schema of the columns of a file of rows.
     ImportCsv {
         file: &'a Argument,

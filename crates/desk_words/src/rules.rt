@@ -52,6 +52,9 @@ fn after_discover_word<'a>(what: &Argument, file: &'a Argument) -> Option<Comman
     if what.bytes() == b"keys".as_slice() {
         return rules_of(RulesQuestion::Keys, file);
     }
+    if what.bytes() == b"all".as_slice() {
+        return Some(Command::DiscoverAll { file });
+    }
     None
 }
 

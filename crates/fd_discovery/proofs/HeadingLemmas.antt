@@ -16,7 +16,7 @@ use Rattle.csv_rows.specs.Quotes.{ends_within_quotes, open_record, is_open}
 use Rattle.csv_rows.specs.Records.{records_of}
 use Rattle.fd_discovery.specs.Headings.{is_open_at, FitsRow, RefusesRow, AreRows, RefusesRows, RefusesHeader, RefusesRecords, ReadsNames, RefusesNames, IsHeadedWithin, IsRefusedWithin, names_under, rows_under}
 use Rattle.fd_discovery.specs.declared.headed_rows.Headed.{Headed}
-use Rattle.fd_discovery.specs.declared.headed_rows.TheConstants.{MOST_HEADED_ROWS}
+use Rattle.fd_discovery.specs.declared.headed_rows.Limits.{Limits}
 use Rattle.dep_model.specs.Failures.{RefusesAs}
 use Rattle.dep_model.specs.declared.failure.Failure.{Failure}
 use Rattle.fd_discovery.specs.declared.refusal.DiscoverRefusal.{DiscoverRefusal}
@@ -108,9 +108,9 @@ takes_all_rows rs old new b fields rows p is takes =
     (sym (TakesRows-none old new fields b p.rest is takes p.left)) ∙ sym p.all
 
 -- the record at hand stands after the rows
-module _ (unclosed : Option ℕ) (n : ℕ) (rs : List (List (List ℕ))) (old new : Reader (Bor (List ℕ))) (b : Bool)
+module _ (most : ℕ) (unclosed : Option ℕ) (n : ℕ) (rs : List (List (List ℕ))) (old new : Reader (Bor (List ℕ))) (b : Bool)
     (fields : List (List ℕ)) (rows : Relation) (p : TakesRows rs old rows)
-    (is : b ≡ true) (takes : TakesRecord b old new fields) (fit : AreRows unclosed n rows (length rows)) where
+    (is : b ≡ true) (takes : TakesRecord b old new fields) (fit : AreRows most unclosed n rows (length rows)) where
   at_hand : (more : List (List (List ℕ))) × (rs ≡ rows ++ fields ∷ more)
   at_hand =
       let (more, whole, rest) = TakesRows-one old new fields b p.rest is takes p.left in
@@ -123,66 +123,66 @@ module _ (unclosed : Option ℕ) (n : ℕ) (rs : List (List (List ℕ))) (old ne
   within : length rows < length rs
   within = omega (arith, ap length at_hand.1 ∙ length-append rows (fields ∷ at_hand.0))
 
-  fit_before : AreRows unclosed n rs (length rows)
+  fit_before : AreRows most unclosed n rs (length rows)
   fit_before i l =
-      subst (λ (f : List (List ℕ)). FitsRow unclosed n i f)
+      subst (λ (f : List (List ℕ)). FitsRow most unclosed n i f)
       (sym (ap (λ (m : List (List (List ℕ))). row_at m i) at_hand.1
       ∙ get_or_append_left rows (fields ∷ at_hand.0) [] i l)) (fit i l)
 
-  pub row_refused : (count : ℕ) (e : DiscoverRefusal) → count ≡ length rows → RefusesRow unclosed n count fields e
-      → RefusesRows unclosed n rs e
+  pub row_refused : (count : ℕ) (e : DiscoverRefusal) → count ≡ length rows → RefusesRow most unclosed n count fields e
+      → RefusesRows most unclosed n rs e
   row_refused count e same refused = record {
     at = length rows;
     within = within;
     before = fit_before;
-    refused = subst (λ (f : List (List ℕ)). RefusesRow unclosed n (length rows) f e) (sym here)
-        (subst (λ (i : ℕ). RefusesRow unclosed n i fields e) same refused);
+    refused = subst (λ (f : List (List ℕ)). RefusesRow most unclosed n (length rows) f e) (sym here)
+        (subst (λ (i : ℕ). RefusesRow most unclosed n i fields e) same refused);
   }
 
 -- one row more
-pub fit_more : (unclosed : Option ℕ) (n : ℕ) (rows : Relation) (t : Tuple) → AreRows unclosed n rows (length rows)
-    → FitsRow unclosed n (length rows) t → AreRows unclosed n (rows ++ t ∷ []) (length (rows ++ t ∷ []))
-fit_more unclosed n rows t fit next i l = elim (cases_lt i (length rows)) [
+pub fit_more : (most : ℕ) (unclosed : Option ℕ) (n : ℕ) (rows : Relation) (t : Tuple) → AreRows most unclosed n rows (length rows)
+    → FitsRow most unclosed n (length rows) t → AreRows most unclosed n (rows ++ t ∷ []) (length (rows ++ t ∷ []))
+fit_more most unclosed n rows t fit next i l = elim (cases_lt i (length rows)) [
   | inl front ↦
-      subst (λ (f : List (List ℕ)). FitsRow unclosed n i f) (sym (get_or_append_left rows (t ∷ []) [] i front)) (fit i front)
+      subst (λ (f : List (List ℕ)). FitsRow most unclosed n i f) (sym (get_or_append_left rows (t ∷ []) [] i front)) (fit i front)
   | inr end ↦
       let at : length rows ≡ i = omega (arith, l, end, length-append rows (t ∷ [])) in
-      subst (λ (j : ℕ). FitsRow unclosed n j (row_at (rows ++ t ∷ []) j)) at
-      (subst (λ (f : List (List ℕ)). FitsRow unclosed n (length rows) f) (sym (get_or-append_seam rows t [] [])) next)
+      subst (λ (j : ℕ). FitsRow most unclosed n j (row_at (rows ++ t ∷ []) j)) at
+      (subst (λ (f : List (List ℕ)). FitsRow most unclosed n (length rows) f) (sym (get_or-append_seam rows t [] [])) next)
 ]
 
-pub none_fit : (unclosed : Option ℕ) (n : ℕ) (rows : Relation) → rows ≡ [] → AreRows unclosed n rows (length rows)
-none_fit unclosed n rows none i l = absurd (omega (arith, l, ap length none))
+pub none_fit : (most : ℕ) (unclosed : Option ℕ) (n : ℕ) (rows : Relation) → rows ≡ [] → AreRows most unclosed n rows (length rows)
+none_fit most unclosed n rows none i l = absurd (omega (arith, l, ap length none))
 
 -- rows that fit have n values each, and are no more than there may be
-pub fit_over : (unclosed : Option ℕ) (n : ℕ) (rows : Relation) → AreRows unclosed n rows (length rows) → IsOver n rows
-fit_over unclosed n rows fit i d l = ap length (same_default rows i d [] l) ∙ (fit i l).1
+pub fit_over : (most : ℕ) (unclosed : Option ℕ) (n : ℕ) (rows : Relation) → AreRows most unclosed n rows (length rows) → IsOver n rows
+fit_over most unclosed n rows fit i d l = ap length (same_default rows i d [] l) ∙ (fit i l).1
 
-pub fit_within : (unclosed : Option ℕ) (n : ℕ) (rows : Relation) → AreRows unclosed n rows (length rows)
-    → length rows ≤ MOST_HEADED_ROWS
-fit_within unclosed n [] fit = omega arith
-fit_within unclosed n (row ∷ rows) fit = let last = (fit (length rows) (omega arith)).2 in omega (arith, last)
+pub fit_within : (most : ℕ) (unclosed : Option ℕ) (n : ℕ) (rows : Relation) → AreRows most unclosed n rows (length rows)
+    → length rows ≤ most
+fit_within most unclosed n [] fit = omega arith
+fit_within most unclosed n (row ∷ rows) fit = let last = (fit (length rows) (omega arith)).2 in omega (arith, last)
 
 pub over_more : (n : ℕ) (rows : Relation) (t : Tuple) → IsOver n rows → length t ≡ n → IsOver n (rows ++ t ∷ [])
 over_more n rows t even fits = All-push (λ (u : Tuple). length u ≡ n) rows t even fits
 
 -- the whole text, where the open record was found
-pub header_refused : (widest : ℕ) (unclosed : Option ℕ) (rs : List (List (List ℕ))) (e : DiscoverRefusal) → RefusesNames widest unclosed rs e
-    → RefusesRecords widest unclosed rs e
-header_refused widest unclosed [] e h = h
-header_refused widest unclosed (header ∷ records) e h = inl h
+pub header_refused : (limits : Limits) (unclosed : Option ℕ) (rs : List (List (List ℕ))) (e : DiscoverRefusal) → RefusesNames limits.columns unclosed rs e
+    → RefusesRecords limits unclosed rs e
+header_refused limits unclosed [] e h = h
+header_refused limits unclosed (header ∷ records) e h = inl h
 
-pub rows_refused : (widest : ℕ) (unclosed : Option ℕ) (rs : List (List (List ℕ))) (reader : Reader (Bor (List ℕ))) (names : List (List ℕ)) (n : ℕ)
+pub rows_refused : (limits : Limits) (unclosed : Option ℕ) (rs : List (List (List ℕ))) (reader : Reader (Bor (List ℕ))) (names : List (List ℕ)) (n : ℕ)
     (e : DiscoverRefusal)
-    → (read : ReadsNames widest unclosed rs reader names) → n ≡ length names → RefusesRows unclosed n read.records e → RefusesRecords widest unclosed rs e
-rows_refused widest unclosed rs reader names n e read count refused =
-    subst (λ (l : List (List (List ℕ))). RefusesRecords widest unclosed l e) (sym read.all)
-    (inr (read.closed, read.header, subst (λ (m : ℕ). RefusesRows unclosed m read.records e) count refused))
+    → (read : ReadsNames limits.columns unclosed rs reader names) → n ≡ length names → RefusesRows limits.rows unclosed n read.records e → RefusesRecords limits unclosed rs e
+rows_refused limits unclosed rs reader names n e read count refused =
+    subst (λ (l : List (List (List ℕ))). RefusesRecords limits unclosed l e) (sym read.all)
+    (inr (read.closed, read.header, subst (λ (m : ℕ). RefusesRows limits.rows unclosed m read.records e) count refused))
 
-pub refused_text : (widest : ℕ) (text : List ℕ) (unclosed : Option ℕ) (e : DiscoverRefusal) → unclosed ≡ open_record text
-    → RefusesRecords widest unclosed (records_of text) e → IsRefusedWithin widest text e
-refused_text widest text unclosed e same refused =
-    subst (λ (o : Option ℕ). RefusesRecords widest o (records_of text) e) same refused
+pub refused_text : (limits : Limits) (text : List ℕ) (unclosed : Option ℕ) (e : DiscoverRefusal) → unclosed ≡ open_record text
+    → RefusesRecords limits unclosed (records_of text) e → IsRefusedWithin limits text e
+refused_text limits text unclosed e same refused =
+    subst (λ (o : Option ℕ). RefusesRecords limits o (records_of text) e) same refused
 
 -- where neither the header nor a row is open, the text ends outside of quotes
 ends_outside : (text : List ℕ) (names : List (List ℕ)) (rows : Relation) → records_of text ≡ names ∷ rows
@@ -202,11 +202,11 @@ ends_outside text names rows all header closed = by (ends_within_quotes text) he
           | inr none ↦ absurd (grind (arith, nat_tests, h, count, none))
         ]
 
-pub headed_of : (widest : ℕ) (text : List ℕ) (unclosed : Option ℕ) (reader : Reader (Bor (List ℕ))) (h : Headed) (n : ℕ) → unclosed ≡ open_record text
-    → (read : ReadsNames widest unclosed (records_of text) reader (names_under h))
+pub headed_of : (limits : Limits) (text : List ℕ) (unclosed : Option ℕ) (reader : Reader (Bor (List ℕ))) (h : Headed) (n : ℕ) → unclosed ≡ open_record text
+    → (read : ReadsNames limits.columns unclosed (records_of text) reader (names_under h))
     → n ≡ length (names_under h) → rows_under h ≡ read.records → ((i : ℕ) → i < length (rows_under h) → is_open_at unclosed i ≡ false)
-    → IsOver n (rows_under h) → length (rows_under h) ≤ MOST_HEADED_ROWS → IsHeadedWithin widest text h
-headed_of widest text unclosed reader h n same read count rows closed even in_limit =
+    → IsOver n (rows_under h) → length (rows_under h) ≤ limits.rows → IsHeadedWithin limits text h
+headed_of limits text unclosed reader h n same read count rows closed even in_limit =
     let all : records_of text ≡ names_under h ∷ rows_under h = read.all ∙ ap (λ (l : List (List (List ℕ))). names_under h ∷ l) (sym rows) in
     record {
       all = all;

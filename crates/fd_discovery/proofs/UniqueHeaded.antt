@@ -10,7 +10,7 @@ use Rattle.csv_rows.specs.Records.{records_of}
 use Rattle.row_store.specs.Rows.{row_at}
 use Rattle.fd_discovery.specs.Headings.{is_open_at, FitsRow, RefusesRow, RefusesRows, RefusesHeader, RefusesRecords, IsHeadedWithin, IsRefusedWithin, names_under, rows_under}
 use Rattle.fd_discovery.specs.declared.headed_rows.Headed.{Headed}
-use Rattle.fd_discovery.specs.declared.headed_rows.TheConstants.{MOST_HEADED_ROWS}
+use Rattle.fd_discovery.specs.declared.headed_rows.Limits.{Limits}
 use Rattle.fd_discovery.specs.declared.refusal.DiscoverRefusal.{DiscoverRefusal}
 use Rattle.fd_discovery.specs.declared.refusal.DiscoverRefusal.TheVariants as refusal
 
@@ -82,28 +82,28 @@ header_not_refused widest header e is (inr p) =
 
 -- ---- rows
 -- the refusal of a record is that of an open quote, of its length, or that there are too many
-abbrev SeenRow : Option ℕ → ℕ → ℕ → List (List ℕ) → DiscoverRefusal → Type 0
-SeenRow unclosed n i fields e =
+abbrev SeenRow : ℕ → Option ℕ → ℕ → ℕ → List (List ℕ) → DiscoverRefusal → Type 0
+SeenRow most unclosed n i fields e =
     ((e ≡ refusal.OpenRow (i + 1)) × (is_open_at unclosed i ≡ true))
     ⊎ ((e ≡ refusal.UnevenRow (i + 1)) × (is_open_at unclosed i ≡ false) × (length fields ≢ n))
-    ⊎ ((e ≡ refusal.TooManyRows) × (is_open_at unclosed i ≡ false) × (length fields ≡ n) × (MOST_HEADED_ROWS ≤ i))
+    ⊎ ((e ≡ refusal.TooManyRows) × (is_open_at unclosed i ≡ false) × (length fields ≡ n) × (most ≤ i))
 
-seen_row : (unclosed : Option ℕ) (n i : ℕ) (fields : List (List ℕ)) (e : DiscoverRefusal)
-    → RefusesRow unclosed n i fields e → SeenRow unclosed n i fields e
-seen_row unclosed n i fields (refusal.OpenRow row) p = inl (ap refusal.OpenRow p.0, p.1)
-seen_row unclosed n i fields (refusal.UnevenRow row) p = inr (inl (ap refusal.UnevenRow p.0, p.1, p.2))
-seen_row unclosed n i fields refusal.TooManyRows p = inr (inr (refl, p.0, p.1, p.2))
-seen_row unclosed n i fields refusal.NoHeader p = absurd p
-seen_row unclosed n i fields refusal.OpenHeader p = absurd p
-seen_row unclosed n i fields refusal.TooManyColumns p = absurd p
-seen_row unclosed n i fields (refusal.BadColumn c) p = absurd p
-seen_row unclosed n i fields (refusal.DoubleColumn c) p = absurd p
+seen_row : (most : ℕ) (unclosed : Option ℕ) (n i : ℕ) (fields : List (List ℕ)) (e : DiscoverRefusal)
+    → RefusesRow most unclosed n i fields e → SeenRow most unclosed n i fields e
+seen_row most unclosed n i fields (refusal.OpenRow row) p = inl (ap refusal.OpenRow p.0, p.1)
+seen_row most unclosed n i fields (refusal.UnevenRow row) p = inr (inl (ap refusal.UnevenRow p.0, p.1, p.2))
+seen_row most unclosed n i fields refusal.TooManyRows p = inr (inr (refl, p.0, p.1, p.2))
+seen_row most unclosed n i fields refusal.NoHeader p = absurd p
+seen_row most unclosed n i fields refusal.OpenHeader p = absurd p
+seen_row most unclosed n i fields refusal.TooManyColumns p = absurd p
+seen_row most unclosed n i fields (refusal.BadColumn c) p = absurd p
+seen_row most unclosed n i fields (refusal.DoubleColumn c) p = absurd p
 
-row_same : (unclosed : Option ℕ) (n i : ℕ) (fields : List (List ℕ)) (e f : DiscoverRefusal)
-    → RefusesRow unclosed n i fields e → RefusesRow unclosed n i fields f → e ≡ f
-row_same unclosed n i fields e f p q = by (seen_row unclosed n i fields e p) (seen_row unclosed n i fields f q)
+row_same : (most : ℕ) (unclosed : Option ℕ) (n i : ℕ) (fields : List (List ℕ)) (e f : DiscoverRefusal)
+    → RefusesRow most unclosed n i fields e → RefusesRow most unclosed n i fields f → e ≡ f
+row_same most unclosed n i fields e f p q = by (seen_row most unclosed n i fields e p) (seen_row most unclosed n i fields f q)
   where
-    by : SeenRow unclosed n i fields e → SeenRow unclosed n i fields f → e ≡ f
+    by : SeenRow most unclosed n i fields e → SeenRow most unclosed n i fields f → e ≡ f
     by (inl (is, opens)) (inl (also, open_too)) = is ∙ sym also
     by (inl (is, opens)) (inr (inl (also, closed, other))) = absurd (true≢false (sym opens ∙ closed))
     by (inl (is, opens)) (inr (inr (also, closed, even, many))) = absurd (true≢false (sym opens ∙ closed))
@@ -114,32 +114,32 @@ row_same unclosed n i fields e f p q = by (seen_row unclosed n i fields e p) (se
     by (inr (inr (is, closed, even, many))) (inr (inl (also, shut, other))) = absurd (other even)
     by (inr (inr (is, closed, even, many))) (inr (inr (also, shut, same, more))) = is ∙ sym also
 
-fits_not_refused : (unclosed : Option ℕ) (n i : ℕ) (fields : List (List ℕ)) (e : DiscoverRefusal)
-    → FitsRow unclosed n i fields → RefusesRow unclosed n i fields e → ⊥
-fits_not_refused unclosed n i fields e fits p = by (seen_row unclosed n i fields e p)
+fits_not_refused : (most : ℕ) (unclosed : Option ℕ) (n i : ℕ) (fields : List (List ℕ)) (e : DiscoverRefusal)
+    → FitsRow most unclosed n i fields → RefusesRow most unclosed n i fields e → ⊥
+fits_not_refused most unclosed n i fields e fits p = by (seen_row most unclosed n i fields e p)
   where
-    by : SeenRow unclosed n i fields e → ⊥
+    by : SeenRow most unclosed n i fields e → ⊥
     by (inl (is, opens)) = true≢false (sym opens ∙ fits.0)
     by (inr (inl (is, closed, other))) = other fits.1
-    by (inr (inr (is, closed, even, many))) = at_most_not_beyond MOST_HEADED_ROWS i many fits.2
+    by (inr (inr (is, closed, even, many))) = at_most_not_beyond most i many fits.2
 
-under_same : (unclosed : Option ℕ) (n : ℕ) (rows : Relation) (e f : DiscoverRefusal) → RefusesRows unclosed n rows e
-    → RefusesRows unclosed n rows f → e ≡ f
-under_same unclosed n rows e f p q = elim (cases_lt p.at q.at) [
-  | inl before ↦ absurd (fits_not_refused unclosed n p.at (row_at rows p.at) e (q.before p.at before) p.refused)
+under_same : (most : ℕ) (unclosed : Option ℕ) (n : ℕ) (rows : Relation) (e f : DiscoverRefusal) → RefusesRows most unclosed n rows e
+    → RefusesRows most unclosed n rows f → e ≡ f
+under_same most unclosed n rows e f p q = elim (cases_lt p.at q.at) [
+  | inl before ↦ absurd (fits_not_refused most unclosed n p.at (row_at rows p.at) e (q.before p.at before) p.refused)
   | inr on ↦ elim (cases_lt q.at p.at) [
-    | inl before ↦ absurd (fits_not_refused unclosed n q.at (row_at rows q.at) f (p.before q.at before) q.refused)
+    | inl before ↦ absurd (fits_not_refused most unclosed n q.at (row_at rows q.at) f (p.before q.at before) q.refused)
     | inr here ↦
         let one : q.at ≡ p.at = omega (arith, on, here) in
-        row_same unclosed n p.at (row_at rows p.at) e f p.refused
-        (subst (λ (i : ℕ). RefusesRow unclosed n i (row_at rows i) f) one q.refused)
+        row_same most unclosed n p.at (row_at rows p.at) e f p.refused
+        (subst (λ (i : ℕ). RefusesRow most unclosed n i (row_at rows i) f) one q.refused)
   ]
 ]
 
-rows_not_refused : (n : ℕ) (rows : Relation) (e : DiscoverRefusal) → IsOver n rows → length rows ≤ MOST_HEADED_ROWS
-    → RefusesRows None n rows e → ⊥
-rows_not_refused n rows e over in_limit p =
-    fits_not_refused None n p.at (row_at rows p.at) e (refl, over p.at [] p.within, omega (arith, p.within, in_limit)) p.refused
+rows_not_refused : (most n : ℕ) (rows : Relation) (e : DiscoverRefusal) → IsOver n rows → length rows ≤ most
+    → RefusesRows most None n rows e → ⊥
+rows_not_refused most n rows e over in_limit p =
+    fits_not_refused most None n p.at (row_at rows p.at) e (refl, over p.at [] p.within, omega (arith, p.within, in_limit)) p.refused
 
 -- ---- headers that may have an open quote
 header_of_same : (widest : ℕ) (b : Bool) (header : List (List ℕ)) (e f : DiscoverRefusal) → RefusesHeader widest b header e → RefusesHeader widest b header f → e ≡ f
@@ -152,35 +152,35 @@ closed_header_not_refused widest b header e closed is p =
     header_not_refused widest header e is (subst (λ (t : Bool). RefusesHeader widest t header e) closed p)
 
 -- ---- records
-records_same : (widest : ℕ) (unclosed : Option ℕ) (records : List (List (List ℕ))) (e f : DiscoverRefusal) → RefusesRecords widest unclosed records e
-    → RefusesRecords widest unclosed records f → e ≡ f
-records_same widest unclosed [] e f p q = p ∙ sym q
-records_same widest unclosed (header ∷ rows) e f (inl p) (inl q) = header_of_same widest (is_open unclosed 1) header e f p q
-records_same widest unclosed (header ∷ rows) e f (inl p) (inr q) = absurd (closed_header_not_refused widest (is_open unclosed 1) header e q.0 q.1 p)
-records_same widest unclosed (header ∷ rows) e f (inr p) (inl q) = absurd (closed_header_not_refused widest (is_open unclosed 1) header f p.0 p.1 q)
-records_same widest unclosed (header ∷ rows) e f (inr p) (inr q) = under_same unclosed (length header) rows e f p.2 q.2
+records_same : (limits : Limits) (unclosed : Option ℕ) (records : List (List (List ℕ))) (e f : DiscoverRefusal) → RefusesRecords limits unclosed records e
+    → RefusesRecords limits unclosed records f → e ≡ f
+records_same limits unclosed [] e f p q = p ∙ sym q
+records_same limits unclosed (header ∷ rows) e f (inl p) (inl q) = header_of_same limits.columns (is_open unclosed 1) header e f p q
+records_same limits unclosed (header ∷ rows) e f (inl p) (inr q) = absurd (closed_header_not_refused limits.columns (is_open unclosed 1) header e q.0 q.1 p)
+records_same limits unclosed (header ∷ rows) e f (inr p) (inl q) = absurd (closed_header_not_refused limits.columns (is_open unclosed 1) header f p.0 p.1 q)
+records_same limits unclosed (header ∷ rows) e f (inr p) (inr q) = under_same limits.rows unclosed (length header) rows e f p.2 q.2
 
-pub refused_same : (widest : ℕ) (text : List ℕ) (e f : DiscoverRefusal) → IsRefusedWithin widest text e → IsRefusedWithin widest text f → e ≡ f
-refused_same widest text e f p q = records_same widest (open_record text) (records_of text) e f p q
+pub refused_same : (limits : Limits) (text : List ℕ) (e f : DiscoverRefusal) → IsRefusedWithin limits text e → IsRefusedWithin limits text f → e ≡ f
+refused_same limits text e f p q = records_same limits (open_record text) (records_of text) e f p q
 
-not_refused : (widest : ℕ) (names : List (List ℕ)) (rows : Relation) (e : DiscoverRefusal) → IsHeaderWithin widest names
-    → IsOver (length names) rows → length rows ≤ MOST_HEADED_ROWS → RefusesRecords widest None (names ∷ rows) e → ⊥
-not_refused widest names rows e header even in_limit (inl p) = header_not_refused widest names e header p
-not_refused widest names rows e header even in_limit (inr p) = rows_not_refused (length names) rows e even in_limit p.2
+not_refused : (limits : Limits) (names : List (List ℕ)) (rows : Relation) (e : DiscoverRefusal) → IsHeaderWithin limits.columns names
+    → IsOver (length names) rows → length rows ≤ limits.rows → RefusesRecords limits None (names ∷ rows) e → ⊥
+not_refused limits names rows e header even in_limit (inl p) = header_not_refused limits.columns names e header p
+not_refused limits names rows e header even in_limit (inr p) = rows_not_refused limits.rows (length names) rows e even in_limit p.2
 
-pub never_both : (widest : ℕ) (text : List ℕ) (h : Headed) (e : DiscoverRefusal) → IsHeadedWithin widest text h → IsRefusedWithin widest text e → ⊥
-never_both widest text h e is p =
+pub never_both : (limits : Limits) (text : List ℕ) (h : Headed) (e : DiscoverRefusal) → IsHeadedWithin limits text h → IsRefusedWithin limits text e → ⊥
+never_both limits text h e is p =
     let none : open_record text ≡ None = ap (λ (b : Bool). if b then Some (length (records_of text)) else None) is.closed in
-    not_refused widest (names_under h) (rows_under h) e is.header is.even is.within_limit
-    (subst (λ (rs : List (List (List ℕ))). RefusesRecords widest None rs e) is.all
-    (subst (λ (o : Option ℕ). RefusesRecords widest o (records_of text) e) none p))
+    not_refused limits (names_under h) (rows_under h) e is.header is.even is.within_limit
+    (subst (λ (rs : List (List (List ℕ))). RefusesRecords limits None rs e) is.all
+    (subst (λ (o : Option ℕ). RefusesRecords limits o (records_of text) e) none p))
 
-pub names_same : (widest : ℕ) (text : List ℕ) (one other : Headed) → IsHeadedWithin widest text one → IsHeadedWithin widest text other
+pub names_same : (limits : Limits) (text : List ℕ) (one other : Headed) → IsHeadedWithin limits text one → IsHeadedWithin limits text other
     → names_under one ≡ names_under other
-names_same widest text one other p q =
+names_same limits text one other p q =
     let same : names_under one ∷ rows_under one ≡ names_under other ∷ rows_under other = sym p.all ∙ q.all in cc
 
-pub rows_same : (widest : ℕ) (text : List ℕ) (one other : Headed) → IsHeadedWithin widest text one → IsHeadedWithin widest text other
+pub rows_same : (limits : Limits) (text : List ℕ) (one other : Headed) → IsHeadedWithin limits text one → IsHeadedWithin limits text other
     → rows_under one ≡ rows_under other
-rows_same widest text one other p q =
+rows_same limits text one other p q =
     let same : names_under one ∷ rows_under one ≡ names_under other ∷ rows_under other = sym p.all ∙ q.all in cc

@@ -19,6 +19,19 @@ pub const WIDEST_HEADED: u8 = 64;
 /// The most rows of such a text.
 pub const MOST_HEADED_ROWS: u32 = 10_000_000;
 
+/// The most columns of a text of which all that its rows obey is looked for.
+pub const WIDEST_WITH_ALL: u8 = 10;
+
+/// The most rows of such a text.
+pub const MOST_ROWS_WITH_ALL: u32 = 100_000;
+
+/// How many columns and rows a text may have.
+#[derive(Clone, Copy, Debug)]
+pub struct Limits {
+    pub columns: u8,
+    pub rows: u32,
+}
+
 /// The rows of a CSV text and the names that its header gives the columns.
 #[derive(Debug, Drop)]
 pub struct Headed {
@@ -28,27 +41,27 @@ pub struct Headed {
     pub rows: Rows,
 }
 
-/// The rows of a CSV text under a header of at most so many different names, which may be any names. The records are
+/// The rows of a CSV text, at most so many, under a header of at most so many different names, which may be any names. The records are
 /// those that `csv_rows` reads, after one byte-order mark. Of more than one refusal the first in
 /// the order of `DiscoverRefusal` decides, of the header's fields the first from the left, of the rows
 /// the first from the top; of one row `UnevenRow` comes before `TooManyRows`. But an open quote comes
 /// right after `NoHeader`, and in a row before all else.
 pub fn read_headed(
     alloc: Global,
-    widest: u8,
+    limits: Limits,
     text: &[u8],
 ) -> Result<Headed, Failure<DiscoverRefusal>>
-    ensures ok { IfOk result (λ headed. IsHeadedWithin widest text.now headed) }
+    ensures ok { IfOk result (λ headed. IsHeadedWithin limits text.now headed) }
     ensures any_name { IfOk result (λ headed. 0 < length (names_under headed)) }
-    ensures err { IfErr result (RefusesAs (IsRefusedWithin widest text.now)) }
+    ensures err { IfErr result (RefusesAs (IsRefusedWithin limits text.now)) }
 {
     let unclosed = open_record(text);
     let mut reader = open_reader(alloc, text);
-    let names = match read_names(alloc, widest, unclosed, &mut reader) {
+    let names = match read_names(alloc, limits.columns, unclosed, &mut reader) {
         Ok(names) => names,
         Err(failure) => return Err(failure),
     };
-    match read_body(alloc, names.len(), unclosed, &mut reader, text.len()) {
+    match read_body(alloc, limits.rows, names.len(), unclosed, &mut reader, text.len()) {
         Ok(rows) => Ok(Headed { names, rows }),
         Err(failure) => Err(failure),
     }
@@ -75,9 +88,10 @@ fn read_names(
     }
 }
 
-// The rows under a header of this many columns. Room is taken at once for so many bytes of values.
+// The rows under a header of this many columns, at most so many. Room is taken at once for so many bytes of values.
 fn read_body(
     alloc: Global,
+    most: u32,
     columns: usize,
     unclosed: Option<usize>,
     reader: &mut Reader<&[u8]>,
@@ -87,9 +101,9 @@ fn read_body(
         → IfOk result (λ rows. rows ≡ rs) }
     ensures closed { IfOk result (λ rows. (i : ℕ) → i < length rows → is_open_at unclosed i ≡ false) }
     ensures same_width { IfOk result (λ rows. IsOver columns rows) }
-    ensures within_limit { IfOk result (λ rows. length rows ≤ MOST_HEADED_ROWS) }
+    ensures within_limit { IfOk result (λ rows. length rows ≤ most) }
     ensures err { (rs : List (List (List ℕ))) → HasLeft reader.old rs
-        → IfErr result (RefusesAs (RefusesRows unclosed columns rs)) }
+        → IfErr result (RefusesAs (RefusesRows most unclosed columns rs)) }
 {
     let mut fields = ByteRecord::new(alloc);
     let mut row = FlatValues::new(alloc);
@@ -101,7 +115,7 @@ fn read_body(
             Err(_) => return Err(Failure::OutOfMemory),
         }
         let count = rows.len();
-        match row_refusal(columns, unclosed, count as u32, &fields) {
+        match row_refusal(most, columns, unclosed, count as u32, &fields) {
             Some(refusal) => return Err(Failure::Refused(refusal)),
             None => {}
         }
@@ -112,20 +126,21 @@ fn read_body(
 
 // Why the record after so many rows is no row, if it is none.
 fn row_refusal(
+    most: u32,
     columns: usize,
     unclosed: Option<usize>,
     count: u32,
     fields: &ByteRecord,
 ) -> Option<DiscoverRefusal>
-    requires count { count ≤ MOST_HEADED_ROWS }
-    ensures refusal { IfSome result (RefusesRow unclosed columns count (fields_of fields.now)) }
-    ensures none { result ≡ None → FitsRow unclosed columns count (fields_of fields.now) }
+    requires count { count ≤ most }
+    ensures refusal { IfSome result (RefusesRow most unclosed columns count (fields_of fields.now)) }
+    ensures none { result ≡ None → FitsRow most unclosed columns count (fields_of fields.now) }
 {
     if is_open(unclosed, count as usize + 2) {
         Some(DiscoverRefusal::OpenRow { row: count + 1 })
     } else if fields.len() != columns {
         Some(DiscoverRefusal::UnevenRow { row: count + 1 })
-    } else if count >= MOST_HEADED_ROWS {
+    } else if count >= most {
         Some(DiscoverRefusal::TooManyRows)
     } else {
         None

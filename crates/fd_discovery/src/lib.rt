@@ -19,6 +19,9 @@ mod table;
 
 pub use columns::naming_under;
 pub use discovering::discover;
-pub use headed_rows::{Headed, MOST_HEADED_ROWS, WIDEST_HEADED, read_headed};
+pub use headed_rows::{
+    Headed, Limits, MOST_HEADED_ROWS, MOST_ROWS_WITH_ALL, WIDEST_HEADED, WIDEST_WITH_ALL,
+    read_headed,
+};
 pub use laws::one_reading;
 pub use refusal::DiscoverRefusal;

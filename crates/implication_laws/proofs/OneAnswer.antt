@@ -48,6 +48,7 @@ use Rattle.desk_covers.specs.Covering.{GivesCover}
 use Rattle.desk_discovery.specs.Discoveries.{FindsRules, FindsSmallRules, GivesRules, GivesSmallRules, RefusesRules, found_text, left_sides_text}
 use Rattle.near_rules.specs.NearRules.{IsFirstExceeded}
 use Rattle.near_rules.specs.declared.found.TooManyTried.{TooManyTried}
+use Rattle.desk_discovery.specs.AllDiscoveries.{FindsAllRules}
 use Rattle.desk_discovery.specs.NearDiscoveries.{FindsNearRules, near_text}
 use Rattle.desk_discovery.specs.KeyDiscoveries.{FindsRowKeys, GivesRowKeys, RefusesRowKeys, row_keys_text}
 use Rattle.desk_discovery.specs.declared.discovering.TheConstants.{WIDEST_TRIED}
@@ -61,7 +62,7 @@ use Rattle.implication_laws.proofs.GoalLemmas.{one_goal, goal_goes}
 use Rattle.implication_laws.proofs.OneBasis.{one_closed, one_blocks}
 use Rattle.implication_laws.proofs.OneCover.{one_whole_cover}
 use Rattle.implication_laws.proofs.OneKey.{one_keys, before_one_way, ascends, each_key, key_listed}
-use Rattle.implication_laws.proofs.OneList.{one_differences, one_near_rules, one_row_keys, one_rules, one_small_rules}
+use Rattle.implication_laws.proofs.OneList.{one_differences, one_near_rules, one_row_keys, one_rules, one_small_rules, one_list_of_all}
 use Rattle.implication_laws.proofs.OrderedLists.{no_longer}
 use Rattle.implication_laws.proofs.StepLaws.{same_says, With-one, Unless-one, same_texts}
 use Rattle.shown_rows.specs.Shown.{shown_relation}
@@ -322,6 +323,13 @@ pub few_rules_answer : (file : List ℕ) (headed : Headed) → length (names_und
 few_rules_answer file headed few one other (inl first) (inl second) = one_rules_given headed one other first second
 few_rules_answer file headed few one other (inl first) (inr second) = absurd (few_not_refused (length (names_under headed)) file headed other few second)
 few_rules_answer file headed few one other (inr first) second = absurd (few_not_refused (length (names_under headed)) file headed one few first)
+
+-- ---- all that holds
+pub one_whole_answer : (headed : Headed) → AllowsOne (FindsAllRules headed)
+one_whole_answer headed one other (ds, rules, says) (es, also, said) =
+    same_says Yes _ _ one other says said
+    (ap (found_text (names_under headed))
+    (one_list_of_all (length (names_under headed)) (rows_under headed) ds es rules.rules also.rules))
 
 -- ---- few attributes on the left
 one_small_given : (most : ℕ) (headed : Headed) → AllowsOne (GivesSmallRules most headed)

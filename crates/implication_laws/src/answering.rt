@@ -15,6 +15,7 @@ ghost use Rattle.desk_covers.specs.CoverReasons.{ExplainsCover};
 ghost use Rattle.desk_covers.specs.Covering.{GivesCover};
 ghost use Rattle.desk_derivations.specs.Derivations.{ChecksDerivation};
 ghost use Rattle.desk_discovery.specs.Discoveries.{FindsRules, FindsSmallRules, RefusesRules};
+ghost use Rattle.desk_discovery.specs.AllDiscoveries.{FindsAllRules};
 ghost use Rattle.desk_discovery.specs.NearDiscoveries.{FindsNearRules};
 ghost use Rattle.desk_discovery.specs.KeyDiscoveries.{FindsRowKeys, RefusesRowKeys};
 ghost use Rattle.desk_discovery.specs.declared.discovering.TheConstants.{WIDEST_TRIED};
@@ -128,6 +129,11 @@ pub fn discover_keys_has_one_answer()
     ensures law { (file : List ℕ) (headed : Headed) (one other : ResponseValue)
         → FindsRowKeys file headed one → FindsRowKeys file headed other
         → (one ≡ other) ⊎ (RefusesRowKeys file headed one ⊎ RefusesRowKeys file headed other) }
+{}
+
+/// `discover all` has one answer.
+pub fn discover_all_has_one_answer()
+    ensures law { (headed : Headed) → AllowsOne (FindsAllRules headed) }
 {}
 
 /// `discover near` has one answer.

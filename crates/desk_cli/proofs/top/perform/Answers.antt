@@ -22,6 +22,10 @@ pub returns-in-Discover-clause-reads : goal.returns-in-Discover-clause-reads
 returns-in-Discover-clause-reads g c =
     subst (λ (command : Command). BeginsFront (files_of_command (command_form command)) (g.F.FileSource.begun c.args.source.now) (g.F.FileSource.begun c.of_headed.new.source)) (sym c.in-Discover.is) c.of_headed.ensures.reads
 
+pub returns-in-DiscoverAll-clause-reads : goal.returns-in-DiscoverAll-clause-reads
+returns-in-DiscoverAll-clause-reads g c =
+    subst (λ (command : Command). BeginsFront (files_of_command (command_form command)) (g.F.FileSource.begun c.args.source.now) (g.F.FileSource.begun c.of_whole.new.source)) (sym c.in-DiscoverAll.is) c.of_whole.ensures.reads
+
 pub returns-in-ImportCsv-clause-reads : goal.returns-in-ImportCsv-clause-reads
 returns-in-ImportCsv-clause-reads g c =
     subst (λ (command : Command). BeginsFront (files_of_command (command_form command)) (g.F.FileSource.begun c.args.source.now) (g.F.FileSource.begun c.of_imported.new.source)) (sym c.in-ImportCsv.is) c.of_imported.ensures.reads

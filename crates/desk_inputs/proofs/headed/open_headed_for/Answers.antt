@@ -13,13 +13,13 @@ pub returns-in-Ok-read_headed-clause-ok : goal.returns-in-Ok-read_headed-clause-
 returns-in-Ok-read_headed-clause-ok g c = λ r same. record {
   bytes = c.in-Ok.bytes.items;
   content = c.in-Ok.ensures.ok r same;
-  means = subst (λ (bytes : List ℕ). IsHeadedWithin c.args.widest bytes c.in-Ok-read_headed.headed) c.deref.ensures.value c.in-Ok-read_headed.ensures.ok;
+  means = subst (λ (bytes : List ℕ). IsHeadedWithin c.args.limits bytes c.in-Ok-read_headed.headed) c.deref.ensures.value c.in-Ok-read_headed.ensures.ok;
 }
 
 pub returns-in-Err-Refused-clause-exit : goal.returns-in-Err-Refused-clause-exit
 returns-in-Err-Refused-clause-exit g c = λ r shows.
     let refusal = c.in-Err-Refused.refusal in
     let refuses = refused_is _ _ _ c.in-Err-Refused.field-0-is c.in-Err-Refused.ensures.err in
-    let refused = subst (λ (bytes : List ℕ). IsRefusedWithin c.args.widest bytes refusal) c.deref.ensures.value refuses in
+    let refused = subst (λ (bytes : List ℕ). IsRefusedWithin c.args.limits bytes refusal) c.deref.ensures.value refuses in
     let exits_as = subst (λ (name : List ℕ). ExitsAs (Says Refused (headed_refusal_text c.args.command.now name refusal)) c.headed_refusal_exit.result) c.bytes.ensures.bytes c.headed_refusal_exit.ensures.says in
-    refusal_stops (headed_file_for c.args.command.now c.args.widest) r c.args.name.now c.in-Ok.bytes.items refusal c.headed_refusal_exit.result (c.in-Ok.ensures.ok r shows.same) refused exits_as
+    refusal_stops (headed_file_for c.args.command.now c.args.limits) r c.args.name.now c.in-Ok.bytes.items refusal c.headed_refusal_exit.result (c.in-Ok.ensures.ok r shows.same) refused exits_as

@@ -8,10 +8,10 @@ use Rattle.fd_discovery.proofs.headed_rows.read_body.Given as goal
 -- the records so far are the rows
 abbrev pub invariant-loop-rows : goal.invariant-loop-rows
 invariant-loop-rows l = record {
-  within_limit : length l.rows ≤ 10000000;
-  fit : AreRows l.unclosed l.columns l.rows (length l.rows);
+  within_limit : length l.rows ≤ l.most;
+  fit : AreRows l.most l.unclosed l.columns l.rows (length l.rows);
   taken : (rs : List (List (List ℕ))) → HasLeft l.fn.reader rs → TakesRows rs l.reader l.rows;
 }
 
 abbrev pub decreases-loop-rows : goal.decreases-loop-rows
-decreases-loop-rows l = 10000000 - length l.rows
+decreases-loop-rows l = l.most - length l.rows

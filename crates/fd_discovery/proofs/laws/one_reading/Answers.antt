@@ -5,8 +5,8 @@ use Rattle.fd_discovery.proofs.laws.one_reading.Goals as goal
 
 pub returns : goal.returns
 returns c = record {
-  names = λ widest text one other p q. names_same widest text one other p q;
-  rows = λ widest text one other p q. rows_same widest text one other p q;
-  refusal = λ widest text one other p q. refused_same widest text one other p q;
-  never_both = λ widest text headed why p q. never_both widest text headed why p q;
+  names = λ limits text one other p q. names_same limits text one other p q;
+  rows = λ limits text one other p q. rows_same limits text one other p q;
+  refusal = λ limits text one other p q. refused_same limits text one other p q;
+  never_both = λ limits text headed why p q. never_both limits text headed why p q;
 }

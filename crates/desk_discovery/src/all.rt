@@ -1,0 +1,31 @@
+ghost use Rattle.std.specs.Prelude.{◌≤◌, ◌<◌, length};
+ghost use Rattle.dep_model.specs.Tuples.{IsOver};
+ghost use Rattle.fd_discovery.specs.Headers.{IsHeaderWithin};
+ghost use Rattle.fd_discovery.specs.Headings.{names_under, rows_under};
+ghost use Rattle.fd_discovery.specs.declared.headed_rows.TheConstants.{MOST_ROWS_WITH_ALL, WIDEST_WITH_ALL};
+ghost use Rattle.desk_discovery.specs.AllDiscoveries.{FindsAllRules};
+ghost use Rattle.desk_responses.specs.Responses.{RespondsAs};
+
+use crate::discovering::rules_response;
+use desk_responses::{EarlyExit, Response};
+use fd_discovery::Headed;
+use mvd_discovery::discover_all;
+use row_store::Hashing;
+use std::alloc::Global;
+
+/// All dependencies that rows obey, under the names of their columns.
+pub fn discover_all_rules(
+    alloc: Global,
+    hashing: Hashing,
+    headed: Headed,
+) -> Result<Response, EarlyExit>
+    requires header { IsHeaderWithin WIDEST_WITH_ALL (names_under headed) }
+    requires any_name { 0 < length (names_under headed) }
+    requires same_width { IsOver (length (names_under headed)) (rows_under headed) }
+    requires within_limit { length (rows_under headed) ≤ MOST_ROWS_WITH_ALL }
+    ensures response { RespondsAs (FindsAllRules headed) result }
+{
+    let Headed { names, rows } = headed;
+    let deps = discover_all(alloc, hashing, names.len() as u8, &rows)?;
+    Ok(rules_response(alloc, names, &deps)?)
+}

@@ -1,0 +1,25 @@
+-- The list of all that rows obey, as it is put together.
+use Rattle.std.proofs.Common.{◌≡◌, ℕ, true, false, List, ◌++◌, refl, sym, ap, subst, ◌∙◌, length, take, drop, arith}
+use Rattle.std.specs.Prelude.{All}
+use Rattle.std.proofs.lemmas.List.Elements.{All-weaker}
+use Rattle.attr_sets.specs.Attributes.{Attributes, below, only}
+use Rattle.dep_model.specs.Dependencies.{Dependency, IsWithin, Obeys, is_fd, mvd}
+use Rattle.dep_model.specs.Deps.{IsDepWithin, dependencies_of, dependency_of}
+use Rattle.dep_model.specs.Tuples.{Relation}
+use Rattle.dep_model.specs.declared.dep.Dep.{Dep}
+use Rattle.dep_model.proofs.DepLemmas.{dependencies_all-to}
+use Rattle.fd_discovery.specs.Minimal.{AreAllMinimal, IsMinimalFd}
+use Rattle.mvd_laws.specs.Reduced.{AreAllReduced, IsReducedMvd}
+
+pub minimal_obeyed : (n : ℕ) (r : Relation) (fds : List Dependency) → AreAllMinimal n r fds → All (λ d. Obeys n d r) fds
+minimal_obeyed n r fds are = All-weaker (IsMinimalFd n r) (λ (d : Dependency). Obeys n d r)
+    (λ d is. subst (λ (e : Dependency). Obeys n e r) (sym is.2) is.3.minimal.obeys) fds are.each
+
+pub reduced_within : (n : ℕ) (r : Relation) (ds : List Dep) → AreAllReduced n r (dependencies_of ds) → All (IsDepWithin (below n)) ds
+reduced_within n r ds are = dependencies_all-to (IsWithin (below n)) ds (All-weaker (IsReducedMvd n r) (IsWithin (below n))
+    (λ d is. subst (IsWithin (below n)) (sym is.2) (is.3.left, is.3.block.part.within)) (dependencies_of ds) are.each)
+
+pub reduced_kind : (n : ℕ) (r : Relation) (ds : List Dep) → AreAllReduced n r (dependencies_of ds)
+    → All (λ d. is_fd (dependency_of d) ≡ false) ds
+reduced_kind n r ds are = dependencies_all-to (λ (d : Dependency). is_fd d ≡ false) ds (All-weaker (IsReducedMvd n r) (λ (d : Dependency). is_fd d ≡ false)
+    (λ d is. ap is_fd is.2) (dependencies_of ds) are.each)

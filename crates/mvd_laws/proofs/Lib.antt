@@ -1,0 +1,4 @@
+pub mod DecideLemmas
+pub mod BlockLemmas
+pub mod ListLemmas
+pub mod SizeLemmas
