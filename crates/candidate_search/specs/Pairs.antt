@@ -24,3 +24,7 @@ Tells r x a (Some p) = IsBroken r x a p.0 p.1
 -- the columns below a bound in which two rows have one number
 abbrev pub same_codes : Interned → ℕ → ℕ → ℕ → Attributes
 same_codes t i j bound k = nat_lt k bound && (number_at (codes_at t k) i == number_at (codes_at t k) j)
+
+-- the positions of two of so many rows
+abbrev pub IsRowPair : ℕ → ℕ × ℕ → Type 0
+IsRowPair n p = (p.0 < n) × (p.1 < n)

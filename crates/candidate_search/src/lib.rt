@@ -8,7 +8,10 @@
 mod asking;
 mod learning;
 mod levels;
+mod neighbours;
+mod orders;
 mod pairs;
+mod sampling;
 mod searching;
 mod side;
 mod testing;

@@ -1,0 +1,12 @@
+-- What the loop of `broken_under` keeps: `same`.
+use Rattle.std.proofs.Common.{◌≡◌, ◌<◌, ℕ}
+use Rattle.csv_rows.specs.Interning.{codes_at}
+use Rattle.csv_rows.specs.Numberings.{number_at}
+use Rattle.candidate_search.proofs.pairs.broken_under.Given as goal
+
+-- each row so far has the number of its leader
+abbrev pub invariant-loop-second : goal.invariant-loop-second
+invariant-loop-second l = record {
+  same : (j : ℕ) → j < l.second
+      → number_at (codes_at l.codes l.right) j ≡ number_at (codes_at l.codes l.right) (number_at l.leaders j);
+}
