@@ -14,7 +14,7 @@ use Rattle.desk_responses.specs.ResponseValues.{Allowed, ResponseValue}
 use Rattle.desk_responses.specs.declared.status.Status.TheVariants.{Yes}
 use Rattle.desk_words.specs.Forms as form
 use Rattle.desk_laws.proofs.OneInput.{after_one_plan}
-use Rattle.desk_laws.proofs.PageLaws.{page_says_yes}
+use Rattle.desk_laws.proofs.PageLaws.{page_says_yes, plan_page_says_yes}
 use Rattle.desk_laws.specs.OneReading.{IsOneButForProof}
 
 pub two_pages : (file : List ℕ) (s t : Schema) (one other : ResponseValue) → ReportsSchema file s one
@@ -22,8 +22,8 @@ pub two_pages : (file : List ℕ) (s t : Schema) (one other : ResponseValue) →
 two_pages file s t one other first second =
     inr (inr (record {
       asks = inl (file, refl);
-      one_says_yes = page_says_yes _ file s one first;
-      other_says_yes = page_says_yes _ file t other second;
+      one_says_yes = page_says_yes file s one first;
+      other_says_yes = page_says_yes file t other second;
     }))
 
 -- a page of any plan says yes
@@ -39,13 +39,13 @@ two_plan_pages files file planned s t same one other first second =
     after_one_plan files (rebuilt s (own_frame s)) planned (IsOneButForProof s (form.report_plan file planned)) SaysYes
     (λ one other path. inl path)
     (λ plan one other yes also. inr (inr (record {
-      asks = inr (file, (planned, refl));
+      asks = inr (file, planned, refl);
       one_says_yes = yes;
       other_says_yes = also;
     })))
     one other
     (with_plan_file_moved s (own_frame s) (known_files files) planned (ReportsPlan file planned s) SaysYes
-    (λ plan answer page. page_says_yes _ file s answer page) one first)
+    (λ plan answer page. plan_page_says_yes file planned s plan answer page) one first)
     (carried (λ (u : Schema). WithFile (plan_file u) (known_files files) planned SaysYes other) s t same
     (λ f. with_plan_file_moved t f (known_files files) planned (ReportsPlan file planned t) SaysYes
-    (λ plan answer page. page_says_yes _ file t answer page) other second))
+    (λ plan answer page. plan_page_says_yes file planned t plan answer page) other second))

@@ -13,8 +13,7 @@ use Rattle.desk_inputs.specs.FileKinds.{IsFile, WithFile}
 use Rattle.desk_inputs.specs.Inputs.{schema_file}
 use Rattle.desk_inputs.specs.Plans.{plan_file}
 use Rattle.desk_inputs.specs.Readings.{known_files}
-use Rattle.desk_reports.specs.Pieces.{Shown}
-use Rattle.desk_reports.specs.Reports.{ReportsPlan, ReportsSchema, ReportsWith}
+use Rattle.desk_reports.specs.Reports.{ReportsPlan, ReportsSchema}
 use Rattle.desk_cli.specs.Desk.{Desk, FileSourceInCall, SinkInCall}
 use Rattle.desk_cli.specs.Performs.{Answers, Does, Performs}
 use Rattle.desk_delivery.specs.Outcomes.{DestinationsInCall, OwnInCall}
@@ -32,9 +31,13 @@ yes_calls_end words looks files source sink destinations own result desk nowhere
     delivers.2 ∙ answered looks delivers.0 delivers.1
 
 -- a page is an answer of yes
-pub page_says_yes : (tables : Shown) (file : List ℕ) (s : Schema) (response : ResponseValue)
-    → ReportsWith tables file s response → response.status ≡ Yes
-page_says_yes tables file s response page = ap (λ (r : ResponseValue). r.status) page.2
+pub page_says_yes : (file : List ℕ) (s : Schema) (response : ResponseValue) → ReportsSchema file s response
+    → response.status ≡ Yes
+page_says_yes file s response page = ap (λ (r : ResponseValue). r.status) page.2
+
+pub plan_page_says_yes : (file planned : List ℕ) (s : Schema) (plan : NamedSchemes) (response : ResponseValue)
+    → ReportsPlan file planned s plan response → response.status ≡ Yes
+plan_page_says_yes file planned s plan response page = ap (λ (r : ResponseValue). r.status) page.2
 
 schema_page_asks : (files : Files) (name : List ℕ) (looks : Looks) (response : ResponseValue)
     → Answers looks (known_files files) (codes "report" ∷ name ∷ []) response
@@ -46,7 +49,7 @@ pub schema_page_answered : (files : Files) (name : List ℕ) (schema : Schema)
     → IsFile schema_file (known_files files) name schema → IsAnsweredYes files (codes "report" ∷ name ∷ [])
 schema_page_answered files name schema file looks response answered =
     on_schema (λ (a : ResponseValue). a.status ≡ Yes) files name schema (ReportsSchema name) response file
-    (λ r same page. page_says_yes _ name r response page) (schema_page_asks files name looks response answered)
+    (λ r same page. page_says_yes name r response page) (schema_page_asks files name looks response answered)
 
 plan_page_asks : (files : Files) (name file : List ℕ) (looks : Looks) (response : ResponseValue)
     → Answers looks (known_files files) (codes "report" ∷ name ∷ file ∷ []) response
@@ -62,5 +65,5 @@ plan_page_answered files name file schema plan held_schema held_plan looks respo
     on_schema (λ (a : ResponseValue). a.status ≡ Yes) files name schema
     (λ r. WithFile (plan_file r) (known_files files) file (ReportsPlan name file r)) response held_schema
     (λ r same more. on_plan (λ (a : ResponseValue). a.status ≡ Yes) files schema r file plan (ReportsPlan name file r)
-    response same held_plan (λ p is page. page_says_yes _ name r response page) more)
+    response same held_plan (λ p is page. plan_page_says_yes name file r p response page) more)
     (plan_page_asks files name file looks response answered)
