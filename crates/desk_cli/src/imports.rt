@@ -57,5 +57,5 @@ pub fn of_sql<F: FileSource>(
         Ok(text) => text,
         Err(exit) => return Err(exit),
     };
-    import_table(alloc, dialect, table.bytes(), file.bytes(), &text)
+    import_table(alloc, dialect, table, file, text)
 }

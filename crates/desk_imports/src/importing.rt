@@ -8,6 +8,7 @@ ghost use Rattle.desk_responses.specs.Responses.{ExitsAs, RespondsAs};
 
 use crate::refusals::import_refusal_exit;
 use dep_model::{Failure, OutOfMemory};
+use desk_outside::Argument;
 use desk_responses::{EarlyExit, Response, Status};
 use desk_texts::line_of;
 use lexer::without_mark;
@@ -20,17 +21,17 @@ use std::alloc::Global;
 pub fn import_table(
     alloc: Global,
     dialect: Dialect,
-    table: &[u8],
-    file: &[u8],
-    text: &[u8],
+    table: &Argument,
+    file: &Argument,
+    text: Vec<u8>,
 ) -> Result<Response, EarlyExit>
-    requires within_limit { length text.now < 2 ^ 31 }
-    ensures response { RespondsAs (ImportsTable dialect table.now file.now text.now) result }
+    requires within_limit { length text.items < 2 ^ 31 }
+    ensures response { RespondsAs (ImportsTable dialect table.now file.now text.items) result }
 {
-    let Some(wanted) = wanted_table(table) else {
-        return Err(bad_table_exit(alloc));
-    };
-    import_wanted(alloc, dialect, &wanted, file, text_after_mark(text))
+    match wanted_table(table.bytes()) {
+        Some(wanted) => import_wanted(alloc, dialect, &wanted, file, text_after_mark(&text)),
+        None => Err(bad_table_exit(alloc)),
+    }
 }
 
 // The text without a byte-order mark.
@@ -46,7 +47,7 @@ fn import_wanted(
     alloc: Global,
     dialect: Dialect,
     wanted: &Wanted<'_>,
-    file: &[u8],
+    file: &Argument,
     text: &[u8],
 ) -> Result<Response, EarlyExit>
     requires within_limit { length text.now < 2 ^ 31 }

@@ -6,6 +6,7 @@ ghost use Rattle.desk_responses.specs.ResponseValues.{Says};
 ghost use Rattle.desk_responses.specs.Responses.{ExitsAs};
 
 use dep_model::OutOfMemory;
+use desk_outside::Argument;
 use desk_responses::{EarlyExit, Status};
 use schema_printer::{add, add_number};
 use sql_definitions::{Reason, Refusal};
@@ -13,7 +14,12 @@ use sql_lexemes::{column_at, line_at};
 use std::alloc::Global;
 
 /// A command that ends with the refusal of the text of a file.
-pub fn import_refusal_exit(alloc: Global, file: &[u8], text: &[u8], refusal: Refusal) -> EarlyExit
+pub fn import_refusal_exit(
+    alloc: Global,
+    file: &Argument,
+    text: &[u8],
+    refusal: Refusal,
+) -> EarlyExit
     requires within_limit { length text.now < 2 ^ 31 }
     ensures says { ExitsAs (Says Status.Refused (import_refusal_text file.now text.now refusal)) result }
 {
@@ -26,7 +32,7 @@ pub fn import_refusal_exit(alloc: Global, file: &[u8], text: &[u8], refusal: Ref
 // The line that words a refusal.
 fn import_refusal_line(
     alloc: Global,
-    file: &[u8],
+    file: &Argument,
     text: &[u8],
     refusal: Refusal,
 ) -> Result<Vec<u8>, OutOfMemory>
@@ -37,7 +43,7 @@ fn import_refusal_line(
     add(&mut line, b"refused: import ")?;
     add_number(&mut line, alloc, reason_number(refusal.reason))?;
     add(&mut line, b" at ")?;
-    add(&mut line, file)?;
+    add(&mut line, file.bytes())?;
     add(&mut line, b":")?;
     add_place(&mut line, alloc, text, refusal.reason, refusal.place)?;
     add(&mut line, b" ")?;

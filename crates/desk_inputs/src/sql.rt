@@ -32,5 +32,8 @@ pub fn open_sql<F: FileSource>(
     ensures exit { (r : Reading) → Shows F.files F.faults F.taken F.begun source.old source.new r
         → IfErr result (ExitsAs (FileStops sql_file r name.now)) }
 {
-    open_file(alloc, source, name, MOST_SQL_BYTES)
+    match open_file(alloc, source, name, MOST_SQL_BYTES) {
+        Ok(bytes) => Ok(bytes),
+        Err(exit) => Err(exit),
+    }
 }

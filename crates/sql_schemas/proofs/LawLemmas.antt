@@ -1,5 +1,5 @@
 -- The laws of the text of a table's schema.
-use Rattle.std.proofs.Common.{◌≡◌, ◌<◌, ◌≤◌, ℕ, Bool, true, false, cond, IsTrue, All, Ok, List, [], ◌∷◌, length, refl, sym, ap, subst, ◌∙◌, arith}
+use Rattle.std.proofs.Common.{◌≡◌, ◌<◌, ◌≤◌, ℕ, Bool, true, false, cond, IsTrue, All, Result, Ok, Err, List, [], ◌∷◌, length, refl, sym, ap, subst, ◌∙◌, arith}
 use Rattle.std.specs.Prelude.{filter}
 use Rattle.std.proofs.lemmas.Bool.Decides.{nat_tests}
 use Rattle.std.proofs.lemmas.List.Elements.{All-cons, All-filter, All-map, All-nil}
@@ -14,9 +14,13 @@ use Rattle.schema_grammar.specs.Declarations.{Declarations}
 use Rattle.schema_grammar.specs.Schemas.{MeansSchema}
 use Rattle.sql_lexemes.specs.declared.dialect.Dialect.{Dialect}
 use Rattle.sql_definitions.specs.Facts.{AreColumns, Facts, StatedColumn}
-use Rattle.sql_schemas.specs.Keys.{KeyColumns, keys_of, new_keys}
+use Rattle.sql_definitions.specs.declared.refusal.Refusal.{Refusal}
+use Rattle.sql_definitions.specs.Definitions.{definition_of}
+use Rattle.sql_definitions.specs.Wanted.{TableName}
+use Rattle.sql_schemas.proofs.ReadLemmas.{definition_reads}
+use Rattle.sql_schemas.specs.Keys.{and_then, KeyColumns, keys_of, new_keys}
 use Rattle.sql_schemas.specs.Meaning.{IsStatedKey, declared_table, whole_keys}
-use Rattle.sql_schemas.specs.Texts.{column_names, column_types, columns_missing, is_whole, table_text}
+use Rattle.sql_schemas.specs.Texts.{column_names, column_types, columns_missing, imported_text, is_whole, table_text, text_of_facts}
 use Rattle.sql_schemas.proofs.LineLemmas.{stated}
 use Rattle.sql_schemas.proofs.MeaningLemmas.{IsTable, table_means, whole_of}
 use Rattle.sql_schemas.proofs.StatedLemmas.{keys_as_many, keys_stated, keys_within, new_all, new_count}
@@ -112,3 +116,34 @@ whole_never_missing d f keys limit read i default low =
 
     beyond : (k : ℕ) → below (length f.columns) k ≡ true → below MOST_ATTRIBUTES k ≡ true
     beyond k here = grind (arith, nat_tests, here, limit)
+
+-- ---- of the SQL of a text
+-- the facts and keys of a text, and what the text that is printed of them means
+pub import_means : (d : Dialect) (wanted : TableName) (text printed : List ℕ) → imported_text d wanted text ≡ Ok printed
+    → (f : Facts) × (keys : List KeyColumns) × (lines : List ℕ) × (definition_of d wanted text ≡ Ok f) × (keys_of d f ≡ Ok keys)
+    × MeansSchema printed (declared_table f.columns keys lines)
+import_means d wanted text printed says = by_facts (definition_of d wanted text) refl says
+  where
+    by_keys : (f : Facts) → definition_of d wanted text ≡ Ok f → (known : Result (List KeyColumns) Refusal) → keys_of d f ≡ known
+        → and_then known (λ keys. Ok (table_text f.columns keys)) ≡ Ok printed
+        → (f : Facts) × (keys : List KeyColumns) × (lines : List ℕ) × (definition_of d wanted text ≡ Ok f) × (keys_of d f ≡ Ok keys)
+        × MeansSchema printed (declared_table f.columns keys lines)
+    by_keys f read (Ok keys) known goes =
+        let is = definition_reads d wanted text f read in
+        let same : table_text f.columns keys ≡ printed = cc in
+        let (lines, means) = text_means d f keys is.fine.columns is.some is.fine.keys known in
+        (f, keys, lines, read, known, subst (λ (t : List ℕ). MeansSchema t (declared_table f.columns keys lines)) same means)
+    by_keys f read (Err refusal) known goes = cc
+
+    by_facts : (read : Result Facts Refusal) → definition_of d wanted text ≡ read → and_then read (text_of_facts d) ≡ Ok printed
+        → (f : Facts) × (keys : List KeyColumns) × (lines : List ℕ) × (definition_of d wanted text ≡ Ok f) × (keys_of d f ≡ Ok keys)
+        × MeansSchema printed (declared_table f.columns keys lines)
+    by_facts (Ok f) read goes = by_keys f read (keys_of d f) refl goes
+    by_facts (Err refusal) read goes = cc
+
+pub read_never_missing : (d : Dialect) (wanted : TableName) (text : List ℕ) (f : Facts) (keys : List KeyColumns)
+    → definition_of d wanted text ≡ Ok f → keys_of d f ≡ Ok keys
+    → All (λ key. Disjoint key.columns (columns_missing f.columns keys)) (whole_keys f.columns keys)
+read_never_missing d wanted text f keys read known =
+    let is = definition_reads d wanted text f read in
+    whole_never_missing d f keys is.fine.columns.within_limit known

@@ -5,3 +5,4 @@ pub mod LineLemmas
 pub mod MeaningLemmas
 pub mod StatedLemmas
 pub mod LawLemmas
+pub mod ReadLemmas

@@ -1,6 +1,6 @@
 -- The law `text_means_the_table`, by `LawLemmas`.
-use Rattle.sql_schemas.proofs.LawLemmas.{text_means}
+use Rattle.sql_schemas.proofs.LawLemmas.{import_means}
 use Rattle.sql_schemas.proofs.laws.text_means_the_table.Goals as goal
 
 pub returns : goal.returns
-returns c = record { law = text_means }
+returns c = record { law = import_means }
