@@ -15,7 +15,7 @@ use Rattle.mvd_discovery.specs.Counting.{AreCounts, has_place, sizes_at}
 use Rattle.mvd_discovery.specs.declared.counts.Counts.{Counts}
 use Rattle.mvd_discovery.proofs.NumberLemmas.{number_from_within}
 
-more_sets : (n m : ℕ) → n ≤ m → 2 ^ n ≤ 2 ^ m
+pub more_sets : (n m : ℕ) → n ≤ m → 2 ^ n ≤ 2 ^ m
 more_sets n zero few = subst (λ (k : ℕ). 2 ^ n ≤ 2 ^ k) (let same : n ≡ 0 = omega (arith, few) in same) (omega arith)
 more_sets n (suc m) few = elim (cases_eq n (suc m)) [
   | inl same ↦ subst (λ (k : ℕ). 2 ^ n ≤ 2 ^ k) same (omega arith)

@@ -1,6 +1,7 @@
 -- The list of all that rows obey, as it is put together.
 use Rattle.std.proofs.Common.{◌≡◌, ℕ, true, false, List, ◌++◌, refl, sym, ap, subst, ◌∙◌, length, take, drop, arith}
 use Rattle.std.specs.Prelude.{All}
+use Rattle.std.proofs.lemmas.List.{drop_at, take_at}
 use Rattle.std.proofs.lemmas.List.Elements.{All-weaker}
 use Rattle.attr_sets.specs.Attributes.{Attributes, below, only}
 use Rattle.dep_model.specs.Dependencies.{Dependency, IsWithin, Obeys, is_fd, mvd}
@@ -23,3 +24,8 @@ pub reduced_kind : (n : ℕ) (r : Relation) (ds : List Dep) → AreAllReduced n 
     → All (λ d. is_fd (dependency_of d) ≡ false) ds
 reduced_kind n r ds are = dependencies_all-to (λ (d : Dependency). is_fd d ≡ false) ds (All-weaker (IsReducedMvd n r) (λ (d : Dependency). is_fd d ≡ false)
     (λ d is. ap is_fd is.2) (dependencies_of ds) are.each)
+
+-- a list of two parts, cut where the first one ends
+pub parted : {X : Type 0} (whole xs ys : List X) (from : ℕ) → whole ≡ xs ++ ys → from ≡ length xs → (take from whole ≡ xs) × (drop from whole ≡ ys)
+parted {X} whole xs ys from is at =
+    (ap (λ (zs : List X). take from zs) is ∙ take_at xs ys from (sym at), ap (λ (zs : List X). drop from zs) is ∙ drop_at xs ys from (sym at))
