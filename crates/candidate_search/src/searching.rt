@@ -10,7 +10,7 @@ ghost use Rattle.dep_model.specs.Tuples.{Relation};
 use crate::asking::asked_of_size;
 use crate::learning::sides_after;
 use crate::levels::column_orders;
-use crate::sampling::early_evidence;
+use crate::sampling::first_evidence;
 use crate::side::{Side, TooManyLeftSides, first_sides};
 use crate::testing::refuting_evidence;
 use attr_sets::{AttrSet, MOST_ATTRIBUTES};
@@ -44,8 +44,7 @@ pub fn minimal_left_sides(
         → IfErr result (RefusesAs (IsExceeded width most r)) }
     ensures named { IfErr result (RefusesAs (λ refusal. Contains rights.now refusal.right)) }
 {
-    let mut begun = early_evidence(alloc, codes, width)?;
-    begun.extend_from_slice(seen)?;
+    let begun = first_evidence(alloc, codes, width, seen)?;
     let orders = column_orders(alloc, codes, width)?;
     search_from(alloc, codes, &orders, width, most, rights, &begun)
 }
