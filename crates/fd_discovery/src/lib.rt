@@ -21,6 +21,4 @@ pub use columns::naming_under;
 pub use discovering::discover;
 pub use headed_rows::{Headed, MOST_HEADED_ROWS, WIDEST_HEADED, read_headed};
 pub use laws::one_reading;
-pub use leaders::refine_leaders;
-pub use ordering::RowOrder;
 pub use refusal::DiscoverRefusal;
