@@ -11,7 +11,6 @@ use Rattle.csv_rows.specs.declared.interning.Interned.{Interned}
 use Rattle.csv_rows.proofs.NumberingLemmas.{row_of}
 use Rattle.dep_model.specs.Dependencies.{ObeysFd}
 use Rattle.dep_model.specs.Tuples.{Tuple, Relation, value_at}
-use Rattle.fd_discovery.specs.Leaders.{AreLeaders}
 use Rattle.row_store.specs.Rows.{row_at}
 use Rattle.candidate_laws.specs.Evidence.{agreement}
 use Rattle.candidate_laws.proofs.EvidenceLemmas.{agreement-from, agreement-to}
@@ -111,18 +110,5 @@ broken_by n r t x a groups firsts i j coded a_in grouped first j_in is other =
       first = low;
       second = j_in;
       agree = (grouped.equal i j low j_in).0 one;
-      differ = λ same. other (same_number n r t coded i j low j_in a a_in same);
-    }
-
--- a row that has another number than its leader
-pub broken_led : (n : ℕ) (r : Relation) (t : Interned) (x : Attributes) (a : ℕ) (leaders : List ℕ) (i j : ℕ)
-    → IsInterned n r t → a < n → AreLeaders r x leaders → j < length r → i ≡ number_at leaders j
-    → (number_at (codes_at t a) i ≡ number_at (codes_at t a) j → ⊥) → IsBroken r x a i j
-broken_led n r t x a leaders i j coded a_in led j_in is other =
-    let low : i < length r = omega (arith, is, led.within j j_in) in
-    record {
-      first = low;
-      second = j_in;
-      agree = λ k m. ap (λ (l : ℕ). value_at (row_at r l) k) is ∙ sym (led.agrees j j_in k m);
       differ = λ same. other (same_number n r t coded i j low j_in a a_in same);
     }

@@ -140,8 +140,8 @@ fn column_at(step: usize, width: u8, backwards: bool) -> u8
     if backwards { place } else { width - 1 - place }
 }
 
-// Looks at rows of one number that stand side by side, then at those that stand further apart, as long as one in a
-// hundred tells something new.
+// Looks at rows of one number that stand side by side, then at those that stand further apart, as long as one in
+// twenty tells something new.
 fn look_along(
     table: &RowTable,
     numbers: &[u32],
@@ -155,7 +155,7 @@ fn look_along(
     for distance in 1..order.len() {
         let before = sample.pairs.len();
         let looked = look_at(table, numbers, order, distance, sample)?;
-        if sample.pairs.len().saturating_sub(before) <= looked / 100 {
+        if sample.pairs.len().saturating_sub(before) <= looked / 20 {
             return Ok(());
         }
     }

@@ -1,11 +1,9 @@
 ghost use Rattle.std.specs.Prelude.{◌≡◌, ◌<◌, ◌≤◌, ℕ, IfOk};
-ghost use Rattle.attr_sets.specs.Attributes.{Attributes, IsSubset, below};
+ghost use Rattle.attr_sets.specs.Attributes.{IsSubset, below};
 ghost use Rattle.attr_sets.specs.Sets.{attributes};
 ghost use Rattle.attr_sets.specs.declared.set.TheConstants.{MOST_ATTRIBUTES};
-ghost use Rattle.csv_rows.specs.Interning.{IsInterned, count_of, firsts_of, groups_of, width_of_rows};
-ghost use Rattle.csv_rows.specs.Numberings.{AreFirsts, AreGroups};
+ghost use Rattle.csv_rows.specs.Interning.{IsInterned, count_of, width_of_rows};
 ghost use Rattle.dep_model.specs.Tuples.{Relation};
-ghost use Rattle.fd_discovery.specs.Leaders.{AreLeaders};
 ghost use Rattle.row_store.specs.Rows.{row_at};
 ghost use Rattle.candidate_laws.specs.Evidence.{agreement};
 ghost use Rattle.candidate_search.specs.Levels.{IsLevel};
@@ -50,54 +48,22 @@ pub fn broken_pair(
         → IfOk result (Tells r (attributes set) right) }
 {
     let groups = Groups::by_agreement(alloc, codes, set)?;
-    Ok(broken_in(codes, width, &groups, right))
+    let level = Level { set, groups };
+    Ok(broken_in(codes, width, &level, right))
 }
 
 // The same by the groups of the set.
-fn broken_in(codes: &Interned, width: u8, groups: &Groups, right: u8) -> Option<(usize, usize)>
-    requires rows { (r : Relation) × (x : Attributes) × IsInterned width r codes.now
-        × AreGroups r x (groups_of groups.now) × AreFirsts (groups_of groups.now) (firsts_of groups.now) }
-    requires right { right < width }
-    ensures pair { (r : Relation) (x : Attributes) → IsInterned width r codes.now
-        → AreGroups r x (groups_of groups.now) → AreFirsts (groups_of groups.now) (firsts_of groups.now)
-        → Tells r x right result }
-{
-    let column = codes.column(right);
-    for second in 0..codes.count() {
-        let group = groups.numbers()[second] as usize;
-        let first = groups.firsts()[group] as usize;
-        if column[first] != column[second] {
-            return Some((first, second));
-        }
-    }
-    None
-}
-
-// The same by the level of the set: a row that has not the number of its leader.
-pub fn broken_at_level(
-    codes: &Interned,
-    width: u8,
-    level: &Level,
-    right: u8,
-) -> Option<(usize, usize)>
+pub fn broken_in(codes: &Interned, width: u8, level: &Level, right: u8) -> Option<(usize, usize)>
     requires rows { (r : Relation) × IsInterned width r codes.now × IsLevel r level.now }
     requires right { right < width }
     ensures pair { (r : Relation) → IsInterned width r codes.now → IsLevel r level.now
         → Tells r (attributes level.now.set) right result }
 {
-    broken_under(codes, width, &level.leaders, right)
-}
-
-// The same by the leaders on the set.
-fn broken_under(codes: &Interned, width: u8, leaders: &[u32], right: u8) -> Option<(usize, usize)>
-    requires rows { (r : Relation) × (x : Attributes) × IsInterned width r codes.now × AreLeaders r x leaders.now }
-    requires right { right < width }
-    ensures pair { (r : Relation) (x : Attributes) → IsInterned width r codes.now → AreLeaders r x leaders.now
-        → Tells r x right result }
-{
+    let groups = &level.groups;
     let column = codes.column(right);
     for second in 0..codes.count() {
-        let first = leaders[second] as usize;
+        let group = groups.numbers()[second] as usize;
+        let first = groups.firsts()[group] as usize;
         if column[first] != column[second] {
             return Some((first, second));
         }

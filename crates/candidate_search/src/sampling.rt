@@ -14,12 +14,25 @@ use csv_rows::Interned;
 use dep_model::OutOfMemory;
 use std::alloc::Global;
 
-// Evidence to begin with: what neighbours in the orders of the columns agree on, larger sets first.
-pub fn early_evidence(
+// Evidence to begin with: what neighbours in the orders of the columns agree on, and what is given.
+pub fn first_evidence(
     alloc: Global,
     codes: &Interned,
     width: u8,
+    seen: &[AttrSet],
 ) -> Result<Vec<AttrSet>, OutOfMemory>
+    requires width { width ≤ MOST_ATTRIBUTES }
+    requires rows { (r : Relation) × AreCoded width r codes.now }
+    ensures evidence { (r : Relation) → AreCoded width r codes.now → AreEvidence width r (schemes_of seen.now)
+        → IfOk result (λ found. AreEvidence width r (schemes_of found.items)) }
+{
+    let mut found = early_evidence(alloc, codes, width)?;
+    found.extend_from_slice(seen)?;
+    Ok(found)
+}
+
+// What neighbours in the orders of the columns agree on, larger sets first.
+fn early_evidence(alloc: Global, codes: &Interned, width: u8) -> Result<Vec<AttrSet>, OutOfMemory>
     requires width { width ≤ MOST_ATTRIBUTES }
     requires rows { (r : Relation) × AreCoded width r codes.now }
     ensures evidence { (r : Relation) → AreCoded width r codes.now

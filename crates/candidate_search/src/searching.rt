@@ -1,7 +1,6 @@
 ghost use Rattle.std.specs.Prelude.{◌≡◌, ◌<◌, ◌≤◌, All, Contains, IfOk, IfErr};
 ghost use Rattle.attr_sets.specs.declared.set.TheConstants.{MOST_ATTRIBUTES};
 ghost use Rattle.candidate_laws.specs.Evidence.{AreEvidence};
-ghost use Rattle.candidate_search.specs.Levels.{AreOrders};
 ghost use Rattle.candidate_search.specs.Sides.{AreCoded, HasMinimal, IsExceeded, rights_of};
 ghost use Rattle.dep_model.specs.Failures.{RefusesAs};
 ghost use Rattle.dep_model.specs.Plans.{schemes_of};
@@ -9,14 +8,12 @@ ghost use Rattle.dep_model.specs.Tuples.{Relation};
 
 use crate::asking::asked_of_size;
 use crate::learning::sides_after;
-use crate::levels::column_orders;
-use crate::sampling::early_evidence;
+use crate::sampling::first_evidence;
 use crate::side::{Side, TooManyLeftSides, first_sides};
 use crate::testing::refuting_evidence;
 use attr_sets::{AttrSet, MOST_ATTRIBUTES};
 use csv_rows::Interned;
 use dep_model::Failure;
-use fd_discovery::RowOrder;
 use std::alloc::Global;
 
 /// The left sides of the minimal dependencies on each of some attributes, of at most `most` columns;
@@ -44,17 +41,14 @@ pub fn minimal_left_sides(
         → IfErr result (RefusesAs (IsExceeded width most r)) }
     ensures named { IfErr result (RefusesAs (λ refusal. Contains rights.now refusal.right)) }
 {
-    let mut begun = early_evidence(alloc, codes, width)?;
-    begun.extend_from_slice(seen)?;
-    let orders = column_orders(alloc, codes, width)?;
-    search_from(alloc, codes, &orders, width, most, rights, &begun)
+    let begun = first_evidence(alloc, codes, width, seen)?;
+    search_from(alloc, codes, width, most, rights, &begun)
 }
 
 // The same with this evidence and no other to begin with.
 fn search_from(
     alloc: Global,
     codes: &Interned,
-    orders: &[RowOrder],
     width: u8,
     most: u8,
     rights: &[u8],
@@ -62,7 +56,6 @@ fn search_from(
 ) -> Result<Vec<Side>, Failure<TooManyLeftSides>>
     requires width { width ≤ MOST_ATTRIBUTES }
     requires most { most ≤ MOST_ATTRIBUTES }
-    requires orders { AreOrders width codes.now orders.now }
     requires rights { All (λ right. right < width) rights.now }
     requires rows { (r : Relation) × AreCoded width r codes.now × AreEvidence width r (schemes_of seen.now) }
     ensures rights { IfOk result (λ sides. rights_of sides.items ≡ rights.now) }
@@ -76,7 +69,7 @@ fn search_from(
     let mut sides = sides_after(alloc, width, most, &first, seen)?;
     for size in 0..most + 1 {
         let asked = asked_of_size(alloc, &sides, size)?;
-        let found = refuting_evidence(alloc, codes, orders, width, &asked)?;
+        let found = refuting_evidence(alloc, codes, width, &asked)?;
         sides = sides_after(alloc, width, most, &sides, &found)?;
     }
     Ok(sides)

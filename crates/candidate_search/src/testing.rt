@@ -3,7 +3,7 @@ ghost use Rattle.attr_sets.specs.Sets.{attributes};
 ghost use Rattle.attr_sets.specs.declared.set.TheConstants.{MOST_ATTRIBUTES};
 ghost use Rattle.candidate_laws.specs.Evidence.{AreEvidence};
 ghost use Rattle.candidate_search.specs.Asking.{IsAskedWithin, IsSettled, Settles};
-ghost use Rattle.candidate_search.specs.Levels.{AreOrders, IsLevel};
+ghost use Rattle.candidate_search.specs.Levels.{IsLevel};
 ghost use Rattle.candidate_search.specs.Pairs.{Tells};
 ghost use Rattle.candidate_search.specs.Sides.{AreCoded, IsRefutedBy};
 ghost use Rattle.dep_model.specs.Plans.{schemes_of};
@@ -11,23 +11,20 @@ ghost use Rattle.dep_model.specs.Tuples.{Relation};
 
 use crate::asking::Asked;
 use crate::levels::{Level, ends_at, lead_to};
-use crate::pairs::{broken_at_level, broken_pair, row_agreement};
+use crate::pairs::{broken_in, broken_pair, row_agreement};
 use attr_sets::{AttrSet, MOST_ATTRIBUTES};
 use csv_rows::Interned;
 use dep_model::OutOfMemory;
-use fd_discovery::RowOrder;
 use std::alloc::Global;
 
 // Evidence that refutes each of the dependencies that the rows do not obey.
 pub fn refuting_evidence(
     alloc: Global,
     codes: &Interned,
-    orders: &[RowOrder],
     width: u8,
     asked: &[Asked],
 ) -> Result<Vec<AttrSet>, OutOfMemory>
     requires width { width ≤ MOST_ATTRIBUTES }
-    requires orders { AreOrders width codes.now orders.now }
     requires rows { (r : Relation) × AreCoded width r codes.now }
     requires within { All (IsAskedWithin width) asked.now }
     ensures evidence { (r : Relation) → AreCoded width r codes.now
@@ -38,7 +35,7 @@ pub fn refuting_evidence(
     let mut found = Vec::new(alloc);
     let mut levels = Vec::new(alloc);
     for one in asked {
-        match refutation(alloc, codes, orders, width, *one, &found, &mut levels)? {
+        match refutation(alloc, codes, width, *one, &found, &mut levels)? {
             Some(evidence) => found.push(evidence)?,
             None => {}
         }
@@ -50,14 +47,12 @@ pub fn refuting_evidence(
 fn refutation(
     alloc: Global,
     codes: &Interned,
-    orders: &[RowOrder],
     width: u8,
     asked: Asked,
     found: &[AttrSet],
     levels: &mut Vec<Level>,
 ) -> Result<Option<AttrSet>, OutOfMemory>
     requires width { width ≤ MOST_ATTRIBUTES }
-    requires orders { AreOrders width codes.now orders.now }
     requires rows { (r : Relation) × AreCoded width r codes.now × All (IsLevel r) levels.old.items }
     requires within { IsAskedWithin width asked }
     ensures levels { (r : Relation) → AreCoded width r codes.now → All (IsLevel r) levels.old.items
@@ -68,7 +63,7 @@ fn refutation(
     if is_refuted(found, asked) {
         return Ok(None);
     }
-    lead_to(alloc, codes, orders, width, asked.left, levels)?;
+    lead_to(alloc, codes, width, asked.left, levels)?;
     match broken_at(alloc, codes, width, asked, levels)? {
         Some((first, second)) => Ok(Some(row_agreement(codes, width, first, second))),
         None => Ok(None),
@@ -103,7 +98,7 @@ fn broken_at(
         → IfOk result (Tells r (attributes asked.left) asked.right) }
 {
     if ends_at(levels, asked.left) {
-        return Ok(broken_at_level(codes, width, &levels[levels.len() - 1], asked.right));
+        return Ok(broken_in(codes, width, &levels[levels.len() - 1], asked.right));
     }
     broken_pair(alloc, codes, width, asked.left, asked.right)
 }

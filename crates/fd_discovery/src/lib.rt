@@ -24,6 +24,4 @@ pub use headed_rows::{
     read_headed,
 };
 pub use laws::one_reading;
-pub use leaders::refine_leaders;
-pub use ordering::RowOrder;
 pub use refusal::DiscoverRefusal;

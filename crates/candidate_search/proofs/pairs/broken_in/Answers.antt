@@ -1,6 +1,7 @@
 -- What is left to prove of `broken_in`: its clause `pair` and that the invariant of its loop stays, by
 -- `PairLemmas`.
 use Rattle.std.proofs.Common.{◌≡◌, ℕ, List, sym, ap, subst, ◌∙◌, below_more, arith}
+use Rattle.attr_sets.specs.Sets.{attributes}
 use Rattle.csv_rows.specs.Interning.{codes_at, firsts_of, groups_of}
 use Rattle.csv_rows.specs.Numberings.{number_at}
 use Rattle.candidate_search.proofs.PairLemmas.{broken_by, obeyed_by}
@@ -10,10 +11,10 @@ use Rattle.candidate_search.proofs.pairs.broken_in.Goals.{After-firsts}
 -- the first row of the group of the row at hand
 first_is : (c : After-firsts)
     → number_at c.firsts.result.now (number_at c.numbers.result.now c.loop-second.second)
-    ≡ number_at (firsts_of c.args.groups.now) (number_at (groups_of c.args.groups.now) c.loop-second.second)
+    ≡ number_at (firsts_of c.args.level.now.groups) (number_at (groups_of c.args.level.now.groups) c.loop-second.second)
 first_is c =
     ap (λ (xs : List ℕ). number_at xs (number_at c.numbers.result.now c.loop-second.second)) c.firsts.ensures.firsts
-    ∙ ap (λ (xs : List ℕ). number_at (firsts_of c.args.groups.now) (number_at xs c.loop-second.second))
+    ∙ ap (λ (xs : List ℕ). number_at (firsts_of c.args.level.now.groups) (number_at xs c.loop-second.second))
     c.numbers.ensures.numbers
 
 pub returns-then-column-first : goal.returns-then-column-first
@@ -21,9 +22,9 @@ returns-then-column-first c =
     let first : ℕ = number_at c.firsts.result.now (number_at c.numbers.result.now c.loop-second.second) in
     let second : ℕ = c.loop-second.second in
     record {
-      pair = λ r x coded grouped first_of. broken_by c.args.width r c.args.codes.now x c.args.right
-          (groups_of c.args.groups.now) (firsts_of c.args.groups.now) first second coded c.requires.right
-          grouped first_of
+      pair = λ r coded is. broken_by c.args.width r c.args.codes.now (attributes c.args.level.now.set) c.args.right
+          (groups_of c.args.level.now.groups) (firsts_of c.args.level.now.groups) first second coded c.requires.right
+          is.groups is.firsts
           (omega (arith, c.loop-second-test.true, c.count-second-end.ensures.count, coded.count))
           (first_is (goal.at.returns-then-column-first c).After-firsts)
           (λ same. c.if-column-first.true
@@ -44,9 +45,9 @@ loop-second-preserved c =
 
 pub returns : goal.returns
 returns c = record {
-  pair = λ r x coded grouped first_of. obeyed_by c.args.width r c.args.codes.now x c.args.right
-      (groups_of c.args.groups.now) (firsts_of c.args.groups.now) coded c.requires.right
-      grouped first_of
+  pair = λ r coded is. obeyed_by c.args.width r c.args.codes.now (attributes c.args.level.now.set) c.args.right
+      (groups_of c.args.level.now.groups) (firsts_of c.args.level.now.groups) coded c.requires.right
+      is.groups is.firsts
       (λ j l. c.loop-second.invariant.same j
       (omega (arith, l, c.loop-second-test.false, c.count-second-end.ensures.count, coded.count)));
 }

@@ -8,6 +8,6 @@ use Rattle.candidate_search.proofs.pairs.broken_in.Given as goal
 abbrev pub invariant-loop-second : goal.invariant-loop-second
 invariant-loop-second l = record {
   same : (j : ℕ) → j < l.second
-      → number_at (codes_at l.codes l.right) (number_at (firsts_of l.groups) (number_at (groups_of l.groups) j))
+      → number_at (codes_at l.codes l.right) (number_at (firsts_of l.level.groups) (number_at (groups_of l.level.groups) j))
       ≡ number_at (codes_at l.codes l.right) j;
 }
