@@ -3,7 +3,7 @@ use Rattle.std.specs.Prelude.{ℕ, List, ◌++◌, codes}
 use Rattle.desk_texts.specs.Texts.{line}
 
 abbrev pub version_text : List ℕ
-version_text = line (codes "desk 0.7.0")
+version_text = line (codes "desk 0.8.0")
 
 abbrev pub help_text : List ℕ
 help_text =

@@ -74,7 +74,7 @@ pub fn help(alloc: Global) -> Result<Response, EarlyExit>
 pub fn version(alloc: Global) -> Result<Response, EarlyExit>
     ensures response { RespondsAs (Says Status.Yes version_text) result }
 {
-    match Vec::from_slice(alloc, b"desk 0.7.0\n") {
+    match Vec::from_slice(alloc, b"desk 0.8.0\n") {
         Ok(text) => Ok(Response::with_text(Status::Yes, text)),
         Err(_) => Err(EarlyExit::OutOfMemory),
     }
