@@ -33,7 +33,8 @@ use desk_derivations::check_derivation;
 use desk_discovery::discover_all_rules;
 use desk_implication::check_proof;
 use desk_inputs::{
-    open_derivation, open_headed, open_parts, open_plan, open_proof, open_rows, open_schema, open_whole,
+    open_derivation, open_headed, open_parts, open_plan, open_proof, open_rows, open_schema,
+    open_whole,
 };
 use desk_measures::{measure_rows, text_columns_alone};
 use desk_outside::{Argument, FileSource};

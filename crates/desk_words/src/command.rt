@@ -4,8 +4,8 @@ ghost use Rattle.desk_words.specs.Forms as forms;
 
 use crate::check::after_check;
 use crate::explain::after_explain;
-use crate::pages::after_report;
 use crate::imports::after_import;
+use crate::pages::after_report;
 use crate::persons::{Persons, count_of};
 use crate::questions::{RulesQuestion, SchemaQuestion, Task};
 use crate::rows::over_rows;
