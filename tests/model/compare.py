@@ -514,8 +514,9 @@ def f_report(m):
 
 def f_report_wide(m):
     names, columns, deps = wide(m, m.r.randint(0, 2))
-    if 12 < bin(sum_or(x for _, x, _ in deps)).count("1") <= 20:
-        deps.pop()      # the model would try all sets of so many
+    if deps and bin(deps[-1][1]).count("1") > 12:
+        # the model would try all sets of so many, unless there are too many
+        deps = deps[-1:] if bin(deps[-1][1]).count("1") > 20 else deps[:-1]
     return ["report", "s"], {"s": m.schema_text((names, columns, deps))}
 
 

@@ -107,7 +107,8 @@ box_at s tables places k =
 -- the opening of a picture of this width and height
 unfoldable pub opening_text : ℕ → ℕ → List ℕ
 opening_text width height =
-    point_text (codes "<div class=\"p\"><svg xmlns=\"http://www.w3.org/2000/svg\" viewBox=\"0 0 ") width (codes " ") height
+    point_text (codes "<div class=\"p\"><svg xmlns=\"http://www.w3.org/2000/svg\" viewBox=\"0 0 ")
+    width (codes " ") height
     ++ point_text (codes "\" width=\"") width (codes "\" height=\"") height ++ codes "\">\n"
 
 -- the lines of all references, and then the boxes, so that these hide what runs behind them

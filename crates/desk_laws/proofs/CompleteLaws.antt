@@ -111,7 +111,8 @@ pub after_schema : (files : Files) (name : List ℕ) (s : Schema) (rest : Schema
     → IsFile schema_file (known_files files) name s
     → ((r : Schema) → AreSame s r → rest r response → IsYesOrNo response.status)
     → WithFile schema_file (known_files files) name rest response → IsYesOrNo response.status
-after_schema = on_schema (λ answer. IsYesOrNo answer.status)
+after_schema files name s rest response file go =
+    on_schema (λ (answer : ResponseValue). IsYesOrNo answer.status) files name s rest response file go
 
 -- ---- goals
 goal_moved : (s r : Schema) (goal : List ℕ) (dep : Dependency) → AreSame s r → MeansGoal (naming_of s) (names_of s) goal dep
@@ -308,7 +309,8 @@ pub after_plan : (files : Files) (s r : Schema) (name : List ℕ) (plan : NamedS
     → AreSame s r → IsFile (plan_file s) (known_files files) name plan
     → ((p : NamedSchemes) → p ≡ plan → rest p response → IsYesOrNo response.status)
     → WithFile (plan_file r) (known_files files) name rest response → IsYesOrNo response.status
-after_plan = on_plan (λ answer. IsYesOrNo answer.status)
+after_plan files s r name plan rest response same file go =
+    on_plan (λ (answer : ResponseValue). IsYesOrNo answer.status) files s r name plan rest response same file go
 
 judges_join : (r : Schema) (plan : List Attributes) (response : ResponseValue) → (IsTooLarge r plan → ⊥) → JudgesJoin r plan response
     → IsYesOrNo response.status
