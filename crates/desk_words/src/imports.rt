@@ -33,11 +33,13 @@ pub fn after_import(words: &[Argument]) -> Option<Command<'_>>
 fn dialect_of(word: &Argument) -> Option<Dialect>
     ensures dialect { result ≡ forms.dialect_of word.now }
 {
-    match word.bytes() {
-        b"sqlite" => Some(Dialect::Sqlite),
-        b"postgres" => Some(Dialect::Postgres),
-        _ => None,
+    if word.bytes() == b"sqlite".as_slice() {
+        return Some(Dialect::Sqlite);
     }
+    if word.bytes() == b"postgres".as_slice() {
+        return Some(Dialect::Postgres);
+    }
+    None
 }
 
 // A file and a table.

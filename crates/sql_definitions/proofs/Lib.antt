@@ -1,5 +1,5 @@
 -- The lemmas of sql_definitions.
 mod NameLemmas
-mod ColumnLemmas
+pub mod ColumnLemmas
 mod ReadingLemmas
 mod WantedLemmas

@@ -1,5 +1,5 @@
 -- What is read of a table has columns that can be those of a schema, and not too many keys: each statement keeps it so.
-use Rattle.std.proofs.Common.{◌≡◌, ◌<◌, ◌≤◌, ◌+◌, ◌-◌, ◌==◌, ◌&&◌, ◌||◌, ℕ, zero, suc, Bool, true, false, not, cond, All, IsTrue, Option, Some, None, Result, Ok, Err, List, [], ◌∷◌, ◌++◌, length, take, drop, refl, sym, ap, subst, ◌∙◌, arith, length-append}
+use Rattle.std.proofs.Common.{◌≡◌, ◌<◌, ◌≤◌, ◌+◌, ◌==◌, ◌&&◌, ◌||◌, ℕ, zero, suc, Bool, true, false, not, cond, All, IsTrue, Option, Some, None, Result, Ok, Err, List, [], ◌∷◌, length, take, drop, refl, subst, arith, length-append}
 use Rattle.std.specs.Prelude.{bytes_eq, codes, nat_le, nat_lt, unwrap_or}
 use Rattle.std.specs.List.{list_all, list_any}
 use Rattle.std.proofs.lemmas.Bool.Decides.{nat_tests}
@@ -9,7 +9,6 @@ use Rattle.dep_model.specs.Columns.{is_column_type}
 use Rattle.dep_model.specs.Names.{IsName, is_type_text, same_name}
 use Rattle.dep_model.specs.declared.column_type.ColumnType.{ColumnType}
 use Rattle.dep_model.specs.declared.column_type.ColumnType.TheVariants as type
-use Rattle.dep_model.specs.declared.column_type.TheConstants.{MOST_SCALE}
 use Rattle.dep_model.specs.declared.schema.TheConstants.{MOST_DEPENDENCIES}
 use Rattle.lexer.proofs.Quoting.{name_test}
 use Rattle.lexer.specs.Quotes as quotes
@@ -18,15 +17,14 @@ use Rattle.sql_lexemes.specs.declared.piece.Flaw.{Flaw}
 use Rattle.sql_lexemes.specs.Lexemes.{Lexed}
 use Rattle.sql_lexemes.specs.Pieces.{is_postgres}
 use Rattle.sql_lexemes.specs.Statements.{Stated, begins_with, is_mark, is_word, statements_of}
-use Rattle.sql_definitions.specs.declared.refusal.Reason.{Reason}
 use Rattle.sql_definitions.specs.declared.refusal.Reason.TheVariants as reason
 use Rattle.sql_definitions.specs.declared.refusal.Refusal.{Refusal}
 use Rattle.sql_definitions.specs.Definitions.{definition_of, ended, flawed, is_there, read_statement, read_statements, reason_of}
 use Rattle.sql_definitions.specs.Elements.{after_constraint, column, column_keys, column_of, constraint, constraint_words, element, is_one_of, is_taken, key_at, key_by_list, key_constraint, named_column, past_nulls, primary_key, type_length}
 use Rattle.sql_definitions.specs.Facts.{AreColumns, Facts, Outcome, StatedColumn, StatedPart, as_found, no_facts, refused, state_key, then_read, with_binding, with_column, with_key}
-use Rattle.sql_definitions.specs.Lists.{closes_list, name_of, read_list, list_parts}
+use Rattle.sql_definitions.specs.Lists.{closes_list, read_list, list_parts}
 use Rattle.sql_definitions.specs.Names.{is_name, name_text}
-use Rattle.sql_definitions.specs.Tables.{add_key, after_alter, after_create, after_element, after_word, alter_by, alter_table, before_on, binds_keys, closed_table, create_table, element_length, elements, index_key, index_list, index_over, index_statement, is_meant, is_name_wanted, is_where, list_length, name_length, open_table, other_statement, past_using, past_word, place_of, read_lexemes, statement_by, unique_index}
+use Rattle.sql_definitions.specs.Tables.{add_key, after_alter, after_create, after_element, after_word, alter_by, before_on, binds_keys, closed_table, create_table, element_length, elements, index_key, index_list, index_over, index_statement, is_meant, is_name_wanted, is_where, list_length, name_length, open_table, other_statement, past_using, past_word, read_lexemes, statement_by, unique_index}
 use Rattle.sql_definitions.specs.Types.{column_type, decimal_type, has_quotes, integer_words, is_outside, is_up_to, is_word_or_within, number_in, other_type, postgres_type, scaled, serial_words, type_by_text, type_text, written}
 use Rattle.sql_definitions.specs.Wanted.{TableName}
 use Rattle.sql_definitions.proofs.ColumnLemmas.{columns_with}
@@ -176,13 +174,13 @@ type_column d ls =
 none_taken : (columns : List StatedColumn) (name : List ℕ) → is_taken columns name ≡ false
     → All (λ c. same_name c.name name ≡ false) columns
 none_taken [] name free = All-nil (λ c. same_name c.name name ≡ false)
-none_taken (column ∷ columns) name free = by_first (same_name column.name name) refl free
+none_taken (column ∷ columns) name free = by_first (same_name column.name name) refl free (none_taken columns name)
   where
     by_first : (b : Bool) → same_name column.name name ≡ b → (b || is_taken columns name) ≡ false
+        → (is_taken columns name ≡ false → All (λ c. same_name c.name name ≡ false) columns)
         → All (λ c. same_name c.name name ≡ false) (column ∷ columns)
-    by_first true same rest = cc
-    by_first false same rest =
-        All-cons (λ c. same_name c.name name ≡ false) column columns same (none_taken columns name rest)
+    by_first true same rest later = cc
+    by_first false same rest later = All-cons (λ c. same_name c.name name ≡ false) column columns same (later rest)
 
 named_holds : (d : Dialect) (place : ℕ) (ls : List Lexed) (f : Facts) (name : List ℕ) → IsName name → IsFine f
     → Holds (named_column d place ls f (Some name))
