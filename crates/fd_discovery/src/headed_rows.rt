@@ -61,7 +61,14 @@ pub fn read_headed(
         Ok(names) => names,
         Err(failure) => return Err(failure),
     };
-    match read_body(alloc, limits.rows, names.len(), unclosed, &mut reader, text.len()) {
+    match read_body(
+        alloc,
+        limits.rows,
+        names.len(),
+        unclosed,
+        &mut reader,
+        text.len(),
+    ) {
         Ok(rows) => Ok(Headed { names, rows }),
         Err(failure) => Err(failure),
     }

@@ -15,10 +15,10 @@ mod uniqueness;
 pub use answering::{
     basis_has_one_answer, check_cover_has_one_answer, check_derivation_has_one_answer,
     check_key_has_one_answer, check_proof_has_one_answer, check_same_has_one_answer,
-    closure_has_one_answer, cover_has_one_answer, discover_all_has_one_answer, discover_has_one_answer,
-    discover_keys_has_one_answer, discover_near_has_one_answer, discover_small_has_one_answer,
-    exhibit_has_one_answer, explanations_have_one_answer, implies_has_one_answer,
-    keys_has_one_answer, project_has_one_answer,
+    closure_has_one_answer, cover_has_one_answer, discover_all_has_one_answer,
+    discover_has_one_answer, discover_keys_has_one_answer, discover_near_has_one_answer,
+    discover_small_has_one_answer, exhibit_has_one_answer, explanations_have_one_answer,
+    implies_has_one_answer, keys_has_one_answer, project_has_one_answer,
 };
 pub use discovering::found_texts_mean_their_schema;
 pub use exhibiting::{

@@ -136,9 +136,9 @@ module _ (n : ℕ) (r : Relation) (left blocks : Attributes) (first : ℕ) (bloc
         | inl meet ↦ inl (same_from_within y block (one_block n r left y block meet.0 mine is_block meet.1 meet.2)
             (one_block n r left block y meet.0 is_block mine meet.2 meet.1))
         | inr beside ↦ inr (λ k m. elim (cases_Bool (blocks k)) [
-            | inr out ↦ out
-            | inl has ↦ absurd (true≢false (sym (there k has (beside k m)) ∙ sym (same_at is k) ∙ apart k m))
-          ])
+          | inr out ↦ out
+          | inl has ↦ absurd (true≢false (sym (there k has (beside k m)) ∙ sym (same_at is k) ∙ apart k m))
+        ])
       ]
     where
       there : (k : ℕ) → blocks k ≡ true → block k ≡ false → difference blocks block k ≡ true

@@ -32,11 +32,7 @@ pub fn obeys_multivalued(counts: &Counts, left: AttrSet, right: AttrSet) -> bool
     let both = left.union(right);
     let rest = AttrSet::full(counts.width).difference(both);
     let others = left.union(rest);
-    are_products(
-        counts.sizes(left),
-        counts.sizes(both),
-        counts.sizes(others),
-    )
+    are_products(counts.sizes(left), counts.sizes(both), counts.sizes(others))
 }
 
 // Whether two lists of one length are equal.

@@ -111,9 +111,9 @@ same_test : (a b c d : ℕ) → (a ≡ b → c ≡ d) → (c ≡ d → a ≡ b) 
 same_test a b c d to from = elim (cases_Bool (a == b)) [
   | inl same ↦ same ∙ sym (eq-eqb c d (to (eqb-true a b same)))
   | inr other ↦ other ∙ sym (elim (cases_Bool (c == d)) [
-      | inl found ↦ absurd (true≢false (sym (eq-eqb a b (from (eqb-true c d found))) ∙ other))
-      | inr none ↦ none
-    ])
+    | inl found ↦ absurd (true≢false (sym (eq-eqb a b (from (eqb-true c d found))) ∙ other))
+    | inr none ↦ none
+  ])
 ]
 
 cancel : (a b q : ℕ) → 0 < q → q * a ≡ q * b → a ≡ b
@@ -150,11 +150,14 @@ module _ (d : ℕ) (a b c : ℕ → ℕ) (b_finer : (i j : ℕ) → i < d → j 
   found_within : (i j : ℕ) → i < d → j < d → found i j ≤ (if a j == a i then 1 else 0)
   found_within i j i_in j_in = elim (cases_Bool (a j == a i)) [
     | inl same ↦ rw same (found_one i j i_in j_in)
-    | inr other ↦ rw other (omega (arith, count_below-none d (λ v. pairs i v j) (λ v low. elim (cases_Bool (pairs i v j)) [
+    | inr other ↦ rw other (omega (
+      arith,
+      count_below-none d (λ v. pairs i v j) (λ v low. elim (cases_Bool (pairs i v j)) [
         | inl h ↦ absurd (true≢false (sym (eq-eqb (a j) (a i)
             (c_finer j v j_in low (eqb-true (c j) (c v) (second_of_both _ _ h)) ∙ b_finer v i low i_in (eqb-true (b v) (b i) (first_of_both _ _ h)))) ∙ other))
         | inr none ↦ none
-      ])))
+      ]),
+    ))
   ]
 
   -- what is found beside the places of one number by b
@@ -236,7 +239,6 @@ module _ (d : ℕ) (a b c : ℕ → ℕ) (b_finer : (i j : ℕ) → i < d → j 
             rw same (omega (arith, some, found_one i k i_in low))
         | inr other ↦ rw other (omega (arith, at_most k low other))
       ]
-
 
 -- ---- a relation with its different rows
 module _ (n : ℕ) (r : Relation) (ones : List ℕ) (different : AreDifferentRows n r ones) (x y : Attributes) (x_in : IsSubset x (below n))
@@ -353,18 +355,18 @@ module _ (n : ℕ) (r : Relation) (ones : List ℕ) (different : AreDifferentRow
           k.1,
           (by_left.agreement k.0 i k.1 i_in).1 (λ a h. sym (k.2 a (left_in a h)) ∙ v.2 a h),
           (by_rest.agreement k.0 j k.1 j_in).1 (AgreeOn-union x rest (one k.0) (one j)
-          (λ a h. sym (k.2 a (x_in a h)) ∙ v.2 a (grind (arith, h)) ∙ agree a h)
-          (λ a h. sym (k.2 a (rest_in a h)) ∙ v.3 a h)),
+              (λ a h. sym (k.2 a (x_in a h)) ∙ v.2 a (grind (arith, h)) ∙ agree a h)
+              (λ a h. sym (k.2 a (rest_in a h)) ∙ v.3 a h)),
         )
 
     pub sizes_tell_mvd : ((j : ℕ) → j < length ones → number_at sx j ≡ number_at sl j * number_at sr j) ↔ ObeysMvd (below n) x y r
     sizes_tell_mvd = (
       (λ products. paired_obeyed (products_paired (length ones) by_x.numbers by_left.numbers by_rest.numbers left_finer rest_finer apart
-      (λ j low. sym (by_x.each j low) ∙ products j low ∙ ap (λ (m : ℕ). m * number_at sr j) (by_left.each j low)
-      ∙ ap (λ (m : ℕ). size_at by_left.numbers (length ones) j * m) (by_rest.each j low)))),
+          (λ j low. sym (by_x.each j low) ∙ products j low ∙ ap (λ (m : ℕ). m * number_at sr j) (by_left.each j low)
+          ∙ ap (λ (m : ℕ). size_at by_left.numbers (length ones) j * m) (by_rest.each j low)))),
       (λ obeys j low.
-      by_x.each j low
-      ∙ paired_products (length ones) by_x.numbers by_left.numbers by_rest.numbers left_finer rest_finer apart (obeyed_paired obeys) j low
-      ∙ sym (ap (λ (m : ℕ). m * number_at sr j) (by_left.each j low)
-      ∙ ap (λ (m : ℕ). size_at by_left.numbers (length ones) j * m) (by_rest.each j low))),
+          by_x.each j low
+          ∙ paired_products (length ones) by_x.numbers by_left.numbers by_rest.numbers left_finer rest_finer apart (obeyed_paired obeys) j low
+          ∙ sym (ap (λ (m : ℕ). m * number_at sr j) (by_left.each j low)
+          ∙ ap (λ (m : ℕ). size_at by_left.numbers (length ones) j * m) (by_rest.each j low))),
     )

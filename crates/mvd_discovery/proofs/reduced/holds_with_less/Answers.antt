@@ -37,7 +37,7 @@ returns c = record {
   holds = λ r are. (
     (λ t. absurd (false≢true t)),
     (λ found.
-    let low : found.0 < c.args.counts.now.width = ltb-true found.0 c.args.counts.now.width (c.requires.left found.0 found.1.0) in
-    absurd (c.loop-attribute.invariant.none r are found.0 (omega (arith, low, c.loop-attribute-test.false)) found.1)),
+        let low : found.0 < c.args.counts.now.width = ltb-true found.0 c.args.counts.now.width (c.requires.left found.0 found.1.0) in
+        absurd (c.loop-attribute.invariant.none r are found.0 (omega (arith, low, c.loop-attribute-test.false)) found.1)),
   );
 }

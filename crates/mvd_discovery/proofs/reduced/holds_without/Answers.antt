@@ -16,7 +16,7 @@ pub returns-then-obeys_multivalued : goal.returns-then-obeys_multivalued
 returns-then-obeys_multivalued c = record {
   holds = λ r are. (
     (λ t. inl (moved c.args.counts.now.width r _ (attributes c.args.right) _ _ c.without-less.ensures.members refl
-    ((c.obeys_multivalued.ensures.obeys r are).0 c.if-obeys_multivalued.true))),
+        ((c.obeys_multivalued.ensures.obeys r are).0 c.if-obeys_multivalued.true))),
     (λ either. refl),
   );
 }
@@ -27,9 +27,9 @@ returns c = record {
       let n = c.args.counts.now.width in (
         (λ t. inr (moved n r _ _ _ _ c.without-less.ensures.members c.with.ensures.members ((c.obeys_multivalued-2.ensures.obeys r are).0 t))),
         (λ either. ⊎_elim
-        (λ less. absurd (false≢true (sym c.if-obeys_multivalued.false ∙ (c.obeys_multivalued.ensures.obeys r are).1
-        (moved n r _ (attributes c.args.right) _ _ (sym c.without-less.ensures.members) refl less))))
-        (λ more. (c.obeys_multivalued-2.ensures.obeys r are).1 (moved n r _ _ _ _ (sym c.without-less.ensures.members) (sym c.with.ensures.members) more))
-        either),
+            (λ less. absurd (false≢true (sym c.if-obeys_multivalued.false ∙ (c.obeys_multivalued.ensures.obeys r are).1
+            (moved n r _ (attributes c.args.right) _ _ (sym c.without-less.ensures.members) refl less))))
+            (λ more. (c.obeys_multivalued-2.ensures.obeys r are).1 (moved n r _ _ _ _ (sym c.without-less.ensures.members) (sym c.with.ensures.members) more))
+            either),
       );
 }
