@@ -3,7 +3,6 @@ ghost use Rattle.csv.specs.Records.{fields_of};
 ghost use Rattle.csv_rows.specs.Records.{HasLeft};
 ghost use Rattle.dep_model.specs.Failures.{RefusesAs};
 ghost use Rattle.dep_model.specs.Tuples.{IsOver};
-ghost use Rattle.fd_discovery.specs.declared.headed_rows.TheConstants.{MOST_HEADED_ROWS};
 ghost use Rattle.fd_discovery.specs.Headings.{IsHeadedWithin, IsRefusedWithin, is_open_at, names_under, FitsRow, RefusesRow, RefusesRows, ReadsNames, RefusesNames};
 
 use crate::DiscoverRefusal;
