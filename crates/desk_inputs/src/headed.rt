@@ -116,6 +116,7 @@ fn open_headed_for<F: FileSource>(
     limits: Limits,
     name: &Argument,
 ) -> Result<Headed, EarlyExit>
+    requires rows { limits.rows ≤ MOST_HEADED_ROWS }
     ensures files { F.files source.new ≡ F.files source.old }
     ensures later { F.faults source.old ≤ F.faults source.new }
     ensures begins { OnOk result (Begins name.now (F.begun source.old) (F.begun source.new)) }

@@ -51,6 +51,7 @@ pub fn read_headed(
     limits: Limits,
     text: &[u8],
 ) -> Result<Headed, Failure<DiscoverRefusal>>
+    requires rows { limits.rows ≤ MOST_HEADED_ROWS }
     ensures ok { IfOk result (λ headed. IsHeadedWithin limits text.now headed) }
     ensures any_name { IfOk result (λ headed. 0 < length (names_under headed)) }
     ensures err { IfErr result (RefusesAs (IsRefusedWithin limits text.now)) }
@@ -104,6 +105,7 @@ fn read_body(
     reader: &mut Reader<&[u8]>,
     room: usize,
 ) -> Result<Rows, Failure<DiscoverRefusal>>
+    requires most { most ≤ MOST_HEADED_ROWS }
     ensures records { (rs : List (List (List ℕ))) → HasLeft reader.old rs
         → IfOk result (λ rows. rows ≡ rs) }
     ensures closed { IfOk result (λ rows. (i : ℕ) → i < length rows → is_open_at unclosed i ≡ false) }
@@ -139,6 +141,7 @@ fn row_refusal(
     count: u32,
     fields: &ByteRecord,
 ) -> Option<DiscoverRefusal>
+    requires most { most ≤ MOST_HEADED_ROWS }
     requires count { count ≤ most }
     ensures refusal { IfSome result (RefusesRow most unclosed columns count (fields_of fields.now)) }
     ensures none { result ≡ None → FitsRow most unclosed columns count (fields_of fields.now) }

@@ -1,6 +1,8 @@
 use attr_sets::AttrSet;
 use dep_model::{Dep, Failure};
-use fd_discovery::{DiscoverRefusal, Limits, MOST_HEADED_ROWS, WIDEST_HEADED, discover, read_headed};
+use fd_discovery::{
+    DiscoverRefusal, Limits, MOST_HEADED_ROWS, WIDEST_HEADED, discover, read_headed,
+};
 use row_store::Hashing;
 use std::alloc::Global;
 use std::process::Abort;
@@ -8,7 +10,14 @@ use std::test::Fail;
 
 // The dependencies of the rows of a text.
 fn discover_text(alloc: Global, text: &[u8]) -> Result<Vec<Dep>, Failure<DiscoverRefusal>> {
-    let headed = read_headed(alloc, Limits { columns: WIDEST_HEADED, rows: MOST_HEADED_ROWS }, text)?;
+    let headed = read_headed(
+        alloc,
+        Limits {
+            columns: WIDEST_HEADED,
+            rows: MOST_HEADED_ROWS,
+        },
+        text,
+    )?;
     let deps = discover(
         alloc,
         Hashing::Fixed,

@@ -1,5 +1,7 @@
 use dep_model::{Failure, Naming};
-use fd_discovery::{DiscoverRefusal, Limits, MOST_HEADED_ROWS, WIDEST_HEADED, naming_under, read_headed};
+use fd_discovery::{
+    DiscoverRefusal, Limits, MOST_HEADED_ROWS, WIDEST_HEADED, naming_under, read_headed,
+};
 use std::alloc::Global;
 use std::process::Abort;
 use std::test::Fail;
@@ -10,7 +12,15 @@ fn check(
     text: &[u8],
     want: Option<DiscoverRefusal>,
 ) -> Result<(), Fail> {
-    let failure = read_headed(rt.alloc(), Limits { columns: WIDEST_HEADED, rows: MOST_HEADED_ROWS }, text).err();
+    let failure = read_headed(
+        rt.alloc(),
+        Limits {
+            columns: WIDEST_HEADED,
+            rows: MOST_HEADED_ROWS,
+        },
+        text,
+    )
+    .err();
     assert_eq!(rt; failure, want.map(Failure::Refused));
     Ok(())
 }
@@ -19,7 +29,15 @@ fn check(
 fn rows_under_their_header(rt: HostRuntime) -> Result<(), Fail> {
     let alloc = rt.alloc();
     let text = "\u{feff}ZIP,City\r\n\n53111,\"Bonn, West\"\n\"\",\n";
-    let headed = read_headed(alloc, Limits { columns: WIDEST_HEADED, rows: MOST_HEADED_ROWS }, text.as_bytes()).expect(&rt, "rows");
+    let headed = read_headed(
+        alloc,
+        Limits {
+            columns: WIDEST_HEADED,
+            rows: MOST_HEADED_ROWS,
+        },
+        text.as_bytes(),
+    )
+    .expect(&rt, "rows");
     assert_eq!(rt; headed.names.len(), 2);
     let want = ["ZIP", "City"];
     for (i, name) in want.iter().enumerate() {
@@ -51,7 +69,15 @@ fn texts_that_are_read(rt: HostRuntime) -> Result<(), Fail> {
         ("aaaaaaaaaabbbbbbbbbbccccccccccdd\n", 1, 0),
     ];
     for (text, columns, rows) in cases {
-        let headed = read_headed(alloc, Limits { columns: WIDEST_HEADED, rows: MOST_HEADED_ROWS }, text.as_bytes()).expect(&rt, "rows");
+        let headed = read_headed(
+            alloc,
+            Limits {
+                columns: WIDEST_HEADED,
+                rows: MOST_HEADED_ROWS,
+            },
+            text.as_bytes(),
+        )
+        .expect(&rt, "rows");
         assert_eq!(rt; headed.names.len(), columns);
         assert_eq!(rt; headed.rows.len(), rows);
     }
@@ -73,7 +99,15 @@ fn names_that_stand_bare(rt: HostRuntime) -> Result<(), Fail> {
         ("VERSION,A\n", Naming::Any),
     ];
     for (text, want) in cases {
-        let headed = read_headed(alloc, Limits { columns: WIDEST_HEADED, rows: MOST_HEADED_ROWS }, text.as_bytes()).expect(&rt, "rows");
+        let headed = read_headed(
+            alloc,
+            Limits {
+                columns: WIDEST_HEADED,
+                rows: MOST_HEADED_ROWS,
+            },
+            text.as_bytes(),
+        )
+        .expect(&rt, "rows");
         assert!(rt; naming_under(&headed.names) == want);
     }
     Ok(())
