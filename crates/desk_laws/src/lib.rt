@@ -45,21 +45,10 @@ pub use complete_reasons::{
 };
 pub use complete_scripts::{draw_is_answered, sql_check_is_answered, sql_migrate_is_answered};
 pub use complete_tables::{
-<<<<<<< ours
     check_form_is_answered, check_keeps_is_answered, ddl_is_answered, discover_all_is_answered,
     discover_is_answered, discover_near_is_answered, exhibit_is_answered, import_csv_is_answered,
     import_sql_is_answered, migrate_is_answered, rejoin_is_answered, sample_is_answered,
     small_universes_are_split, split_is_answered,
-||||||| base
-    check_form_is_answered, check_keeps_is_answered, ddl_is_answered, discover_all_is_answered, discover_is_answered,
-    discover_near_is_answered, exhibit_is_answered, import_csv_is_answered, migrate_is_answered,
-    rejoin_is_answered, sample_is_answered, small_universes_are_split, split_is_answered,
-=======
-    check_form_is_answered, check_keeps_is_answered, ddl_is_answered, discover_all_is_answered,
-    discover_is_answered, discover_near_is_answered, exhibit_is_answered, import_csv_is_answered,
-    migrate_is_answered, rejoin_is_answered, sample_is_answered, small_universes_are_split,
-    split_is_answered,
->>>>>>> theirs
 };
 pub use one_answer::{
     tasks_have_one_answer, texts_of_files_have_one_reading, words_have_one_answer,
