@@ -11,6 +11,9 @@ use indexmap::IndexSet;
 use row_store::Hashing;
 use std::alloc::Global;
 
+// The most pairs that are kept: in wide rows by chance nearly every pair agrees on other columns.
+const MOST_PAIRS: usize = 200_000;
+
 // Rows by their numbers, those of one row side by side.
 #[derive(Debug, Drop)]
 struct RowTable {
@@ -186,7 +189,7 @@ fn look_at(
     Ok(looked)
 }
 
-// Looks at two rows, and keeps them where they agree on other columns than all before.
+// Looks at two rows, and keeps them where they agree on other columns than all before and there is room.
 fn look(table: &RowTable, first: u32, second: u32, sample: &mut Sample) -> Result<(), OutOfMemory>
     ensures pairs { (n : ℕ) → first < n → second < n → All (IsRowPair n) sample.old.pairs.items
         → OnOk result (All (IsRowPair n) sample.new.pairs.items) }

@@ -1,5 +1,5 @@
 -- What the loop of `look_through` keeps: `order`, `pairs`.
-use Rattle.std.proofs.Common.{◌<◌, length}
+use Rattle.std.proofs.Common.{◌<◌}
 use Rattle.std.specs.Prelude.{All}
 use Rattle.csv_rows.specs.Interning.{count_of}
 use Rattle.candidate_search.specs.Pairs.{IsRowPair}

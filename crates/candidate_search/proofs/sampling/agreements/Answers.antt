@@ -1,5 +1,5 @@
 -- What is left to prove of `agreements`: that the invariant of its loop stays, by `TestLemmas`.
-use Rattle.std.proofs.Common.{ℕ, List, sym, subst, arith}
+use Rattle.std.proofs.Common.{List, sym, subst, arith}
 use Rattle.attr_sets.specs.declared.set.AttrSet.{AttrSet}
 use Rattle.candidate_laws.specs.Evidence.{AreEvidence, IsEvidence}
 use Rattle.dep_model.specs.Plans.{schemes_of}

@@ -1,10 +1,8 @@
 -- What is left to prove of `first_evidence`: its clause `evidence`.
-use Rattle.std.proofs.Common.{◌++◌, List, sym, subst, ◌∙◌, ap}
+use Rattle.std.proofs.Common.{sym, subst, ◌∙◌, ap}
 use Rattle.std.proofs.lemmas.List.{map-append}
 use Rattle.std.proofs.lemmas.List.Elements.{All-append}
-use Rattle.attr_sets.specs.Attributes.{Attributes}
 use Rattle.attr_sets.specs.Sets.{attributes}
-use Rattle.attr_sets.specs.declared.set.AttrSet.{AttrSet}
 use Rattle.candidate_laws.specs.Evidence.{AreEvidence, IsEvidence}
 use Rattle.dep_model.specs.Plans.{schemes_of}
 use Rattle.candidate_search.proofs.sampling.first_evidence.Goals as goal
