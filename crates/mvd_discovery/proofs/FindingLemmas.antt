@@ -10,6 +10,7 @@ use Rattle.dep_model.specs.Tuples.{Relation}
 use Rattle.dep_model.specs.declared.dep.Dep.{Dep}
 use Rattle.dep_model.proofs.DepLemmas.{dependencies_all-to}
 use Rattle.fd_discovery.specs.Minimal.{AreAllMinimal, IsMinimalFd}
+use Rattle.min_cover.specs.Covers.{IsThinned}
 use Rattle.mvd_laws.specs.Reduced.{AreAllReduced, IsReducedMvd}
 
 pub minimal_obeyed : (n : ℕ) (r : Relation) (fds : List Dependency) → AreAllMinimal n r fds → All (λ d. Obeys n d r) fds
@@ -29,3 +30,11 @@ reduced_kind n r ds are = dependencies_all-to (λ (d : Dependency). is_fd d ≡ 
 pub parted : {X : Type 0} (whole xs ys : List X) (from : ℕ) → whole ≡ xs ++ ys → from ≡ length xs → (take from whole ≡ xs) × (drop from whole ≡ ys)
 parted {X} whole xs ys from is at =
     (ap (λ (zs : List X). take from zs) is ∙ take_at xs ys from (sym at), ap (λ (zs : List X). drop from zs) is ∙ drop_at xs ys from (sym at))
+
+-- what is left of the second part, after the first
+pub thinned_parts : (n : ℕ) (whole xs ys : List Dep) (from : ℕ) (rest : List Dependency) → whole ≡ xs ++ ys → from ≡ length xs
+    → IsThinned n (dependencies_of (take from whole)) (dependencies_of (drop from whole)) rest → IsThinned n (dependencies_of xs) (dependencies_of ys) rest
+thinned_parts n whole xs ys from rest is at thinned =
+    let parts = parted whole xs ys from is at in
+    subst (λ (ds : List Dep). IsThinned n (dependencies_of xs) (dependencies_of ds) rest) parts.1
+    (subst (λ (ds : List Dep). IsThinned n (dependencies_of ds) (dependencies_of (drop from whole)) rest) parts.0 thinned)

@@ -1,5 +1,5 @@
 -- Multivalued dependencies that one relation obeys: the blocks of a set, and the reduced dependencies. For
--- `discover_all` and the command that prints what it gives.
+-- the law of mvd_laws, and for lists of all that rows obey.
 use Rattle.std.specs.Prelude.{◌≡◌, ◌<◌, ◌⊎◌, ℕ, true, List, All, AllPairs, Contains}
 use Rattle.attr_sets.specs.Attributes.{Attributes, below, only, union, difference, IsSubset, IsEmpty, Disjoint, IsBefore, IsFirstFrom}
 use Rattle.dep_model.specs.Tuples.{Relation}

@@ -11,23 +11,6 @@ use Rattle.mvd_discovery.proofs.CountLemmas.{few_sets, more_sets}
 use Rattle.mvd_discovery.proofs.NumberLemmas.{within_from_number}
 use Rattle.mvd_discovery.proofs.TableLemmas.{different_rows, firsts_few, sizes_by_groups, sizes_more}
 use Rattle.mvd_discovery.proofs.counts.Counts.count.Goals as goal
-use Rattle.mvd_discovery.proofs.counts.Counts.count.Goals.{After-in_ok-different, After-in_ok-groups}
-
--- the groups by all columns, and their first rows
-by_all : (c : After-in_ok-different) → AreGroups c.args.rows.now (below c.args.width) (groups_of c.in_ok-different.different)
-by_all c = subst (λ (x : Attributes). AreGroups c.args.rows.now x (groups_of c.in_ok-different.different)) c.full.ensures.members
-    (c.in_ok-different.ensures.groups c.args.width c.args.rows.now c.in_ok-codes.ensures.codes)
-
-first_of_all : (c : After-in_ok-different) → AreFirsts (groups_of c.in_ok-different.different) (firsts_of c.in_ok-different.different)
-first_of_all c = c.in_ok-different.ensures.firsts c.args.width c.args.rows.now c.in_ok-codes.ensures.codes
-
-ones_low : (c : After-in_ok-different) (j : ℕ) → j < length (firsts_of c.in_ok-different.different)
-    → number_at (firsts_of c.in_ok-different.different) j < length c.args.rows.now
-ones_low c j low = omega (arith, (first_of_all c).within j low, (by_all c).one_each)
-
--- the groups by the set at hand
-by_set_at : (c : After-in_ok-groups) → AreGroups c.args.rows.now (attributes (set_of c.loop-number.number)) (groups_of c.in_ok-groups.groups)
-by_set_at c = c.in_ok-groups.ensures.groups c.args.width c.args.rows.now c.in_ok-codes.ensures.codes
 
 pub by_agreement-requires-in-loop-number : goal.by_agreement-requires-in-loop-number
 by_agreement-requires-in-loop-number c =
@@ -40,25 +23,38 @@ by_agreement-requires-in-loop-number c =
 
 pub sizes_by-requires-clause-same_length : goal.sizes_by-requires-clause-same_length
 sizes_by-requires-clause-same_length c =
-    (by_set_at (goal.at.sizes_by-requires-clause-same_length c).After-in_ok-groups).one_each
-    ∙ sym (by_all (goal.at.sizes_by-requires-clause-same_length c).After-in_ok-different).one_each
+    let all : AreGroups c.args.rows.now (below c.args.width) (groups_of c.in_ok-different.different) =
+    subst (λ (x : Attributes). AreGroups c.args.rows.now x (groups_of c.in_ok-different.different)) c.full.ensures.members
+    (c.in_ok-different.ensures.groups c.args.width c.args.rows.now c.in_ok-codes.ensures.codes) in
+    let here : AreGroups c.args.rows.now (attributes (set_of c.loop-number.number)) (groups_of c.in_ok-groups.groups) =
+    c.in_ok-groups.ensures.groups c.args.width c.args.rows.now c.in_ok-codes.ensures.codes in
+    here.one_each ∙ sym all.one_each
 
 pub sizes_by-requires-clause-groups : goal.sizes_by-requires-clause-groups
 sizes_by-requires-clause-groups c = c.in_ok-groups.ensures.firsts c.args.width c.args.rows.now c.in_ok-codes.ensures.codes
 
 pub sizes_by-requires-clause-different : goal.sizes_by-requires-clause-different
-sizes_by-requires-clause-different c = first_of_all (goal.at.sizes_by-requires-clause-different c).After-in_ok-different
+sizes_by-requires-clause-different c = c.in_ok-different.ensures.firsts c.args.width c.args.rows.now c.in_ok-codes.ensures.codes
 
 pub sizes_by-requires-clause-fits_u32 : goal.sizes_by-requires-clause-fits_u32
 sizes_by-requires-clause-fits_u32 c =
-    let at = (goal.at.sizes_by-requires-clause-fits_u32 c).After-in_ok-different in
-    omega (arith, firsts_few _ _ (first_of_all at), (by_all at).one_each, c.requires.fits_u32)
+    let all : AreGroups c.args.rows.now (below c.args.width) (groups_of c.in_ok-different.different) =
+    subst (λ (x : Attributes). AreGroups c.args.rows.now x (groups_of c.in_ok-different.different)) c.full.ensures.members
+    (c.in_ok-different.ensures.groups c.args.width c.args.rows.now c.in_ok-codes.ensures.codes) in
+    let first : AreFirsts (groups_of c.in_ok-different.different) (firsts_of c.in_ok-different.different) =
+    c.in_ok-different.ensures.firsts c.args.width c.args.rows.now c.in_ok-codes.ensures.codes in
+    omega (arith, firsts_few _ _ first, all.one_each, c.requires.fits_u32)
 
 pub loop-number-preserved : goal.loop-number-preserved
 loop-number-preserved c =
     let old = c.loop-number.invariant in
-    let at = (goal.at.loop-number-preserved c).After-in_ok-different in
-    let here = (goal.at.loop-number-preserved c).After-in_ok-groups in
+    let all : AreGroups c.args.rows.now (below c.args.width) (groups_of c.in_ok-different.different) =
+    subst (λ (x : Attributes). AreGroups c.args.rows.now x (groups_of c.in_ok-different.different)) c.full.ensures.members
+    (c.in_ok-different.ensures.groups c.args.width c.args.rows.now c.in_ok-codes.ensures.codes) in
+    let first : AreFirsts (groups_of c.in_ok-different.different) (firsts_of c.in_ok-different.different) =
+    c.in_ok-different.ensures.firsts c.args.width c.args.rows.now c.in_ok-codes.ensures.codes in
+    let here : AreGroups c.args.rows.now (attributes (set_of c.loop-number.number)) (groups_of c.in_ok-groups.groups) =
+    c.in_ok-groups.ensures.groups c.args.width c.args.rows.now c.in_ok-codes.ensures.codes in
     let each = c.in_ok-each.each.items in
     let pushed : c.push.new.self.items ≡ c.loop-number.by_set.items ++ each ∷ [] = c.in_ok-push.ensures.items in
     record {
@@ -66,12 +62,16 @@ loop-number-preserved c =
       sizes = sizes_more c.args.rows.now (firsts_of c.in_ok-different.different) c.loop-number.by_set.items c.push.new.self.items each c.loop-number.number
           old.all pushed old.sizes
           (sizes_by_groups c.args.rows.now (attributes (set_of c.loop-number.number)) (groups_of c.in_ok-groups.groups) (firsts_of c.in_ok-different.different)
-          each (by_set_at here) (ones_low at) c.in_ok-each.ensures.sizes);
+          each here (λ j low. omega (arith, first.within j low, all.one_each)) c.in_ok-each.ensures.sizes);
     }
 
 pub returns-clause-counts : goal.returns-clause-counts
 returns-clause-counts c =
-    let at = (goal.at.returns-clause-counts c).After-in_ok-different in
+    let all : AreGroups c.args.rows.now (below c.args.width) (groups_of c.in_ok-different.different) =
+    subst (λ (x : Attributes). AreGroups c.args.rows.now x (groups_of c.in_ok-different.different)) c.full.ensures.members
+    (c.in_ok-different.ensures.groups c.args.width c.args.rows.now c.in_ok-codes.ensures.codes) in
+    let first : AreFirsts (groups_of c.in_ok-different.different) (firsts_of c.in_ok-different.different) =
+    c.in_ok-different.ensures.firsts c.args.width c.args.rows.now c.in_ok-codes.ensures.codes in
     let few : 2 ^ c.args.width ≤ 2 ^ 10 = more_sets c.args.width 10 c.requires.width in
     let end : c.loop-number.number ≡ 2 ^ c.args.width = omega (arith, c.loop-number-test.false, c.loop-number.auto.number-end, few) in
     record {
@@ -79,6 +79,6 @@ returns-clause-counts c =
       all = c.loop-number.invariant.all ∙ end;
       ones = firsts_of c.in_ok-different.different;
       different = different_rows c.args.width c.args.rows.now (groups_of c.in_ok-different.different) (firsts_of c.in_ok-different.different)
-          (by_all at) (first_of_all at);
+          all first;
       sizes = λ k low. c.loop-number.invariant.sizes k (omega (arith, low, end));
     }
