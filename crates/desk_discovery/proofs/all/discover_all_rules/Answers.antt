@@ -5,7 +5,7 @@ use Rattle.attr_sets.specs.Attributes.{below}
 use Rattle.dep_model.specs.Deps.{dependencies_of, IsDepWithin}
 use Rattle.dep_model.specs.declared.dep.Dep.{Dep}
 use Rattle.fd_discovery.specs.Headings.{names_under, rows_under}
-use Rattle.desk_responses.specs.ResponseValues.{Says}
+use Rattle.desk_responses.specs.ResponseValues.{ResponseValue, Says}
 use Rattle.desk_responses.specs.declared.status.Status.TheVariants.{Yes}
 use Rattle.desk_discovery.specs.AllDiscoveries.{AreAllRulesOf}
 use Rattle.desk_discovery.specs.Discoveries.{found_text}
@@ -23,6 +23,12 @@ rules_response-requires-clause-within c =
     subst (λ (ds : List Dep). All (IsDepWithin (below (length c.args.headed.names.items))) ds) (sym c.deref.ensures.value)
     (subst (λ (n : ℕ). All (IsDepWithin (below n)) c.in_ok-deps.deps.items) width c.in_ok-deps.ensures.within)
 
+-- the text of the same dependencies
+says_of : (names : List (List ℕ)) (deps same : List Dep) (response : ResponseValue) → deps ≡ same
+    → Says Yes (found_text names (dependencies_of deps)) response → Says Yes (found_text names (dependencies_of same)) response
+says_of names deps same response is says =
+    subst (λ (ds : List Dep). Says Yes (found_text names (dependencies_of ds)) response) is says
+
 pub returns : goal.returns
 returns c =
     let h = c.args.headed in
@@ -33,7 +39,6 @@ returns c =
       response = (
         ds,
         subst (λ (n : ℕ). AreAllRulesOf n (rows_under h) ds) width rules,
-        subst (λ (deps : List Dep). Says Yes (found_text (names_under h) (dependencies_of deps)) _) c.deref.ensures.value
-            c.in_ok-rules_response.ensures.says,
+        says_of (names_under h) _ _ _ c.deref.ensures.value c.in_ok-rules_response.ensures.says,
       );
     }
