@@ -1,0 +1,26 @@
+-- The statements of the text of a design: for the law of the pieces, and for the laws that read a design back.
+use Rattle.std.specs.Prelude.{◌≡◌, ℕ, List, [], ◌∷◌, Option, None}
+use Rattle.dep_model.specs.declared.schema.Schema.{Schema}
+use Rattle.ddl_text.specs.declared.table.TableDesign.{TableDesign}
+use Rattle.sql_lexemes.specs.Statements.{Stated}
+use Rattle.ddl_pieces.specs.Pieces.{create_lexemes}
+
+-- a statement creates a table, and no flaw ends it
+pub record IsCreated (s : Schema) (tables : List TableDesign) (table : TableDesign) (statement : Stated) : Type 0 where
+  pub place : ℕ
+  pub lexemes : statement.lexemes ≡ create_lexemes place s tables table
+  pub whole : statement.flaw ≡ None
+
+-- nothing stands in a statement, and no flaw ends it
+pub record IsNothing (statement : Stated) : Type 0 where
+  pub lexemes : statement.lexemes ≡ []
+  pub whole : statement.flaw ≡ None
+
+-- statements create tables, one each, in order, and nothing stands after them
+abbrev pub AreCreated : Schema → List TableDesign → List TableDesign → List Stated → Type 0
+AreCreated s all [] [] = ⊥
+AreCreated s all [] (last ∷ []) = IsNothing last
+AreCreated s all [] (last ∷ other ∷ others) = ⊥
+AreCreated s all (table ∷ tables) [] = ⊥
+AreCreated s all (table ∷ tables) (statement ∷ statements) =
+    IsCreated s all table statement × AreCreated s all tables statements

@@ -1,0 +1,154 @@
+-- The statements that create the tables of a design, piece by piece, and the lexemes that stand in them: for the
+-- laws that read these statements back.
+use Rattle.std.specs.Prelude.{ℕ, ◌+◌, Bool, true, false, if◌then◌else◌, List, [], ◌∷◌, ◌++◌, map, filter, codes, decimal, slice_get, slice_index_or, Option, Some, None, length}
+use Rattle.std.specs.List.{flat_map}
+use Rattle.attr_sets.specs.Attributes.{Attributes}
+use Rattle.attr_sets.specs.Sets.{attributes}
+use Rattle.dep_model.specs.declared.column_type.ColumnType.{ColumnType}
+use Rattle.dep_model.specs.declared.column_type.ColumnType.TheVariants as type
+use Rattle.dep_model.specs.declared.schema.Schema.{Schema}
+use Rattle.dep_model.specs.Projections.{members_below}
+use Rattle.dep_model.specs.Schemas.{names_of, width_of, types_of, nullable_of}
+use Rattle.schema_printer.specs.Printing.{members_from}
+use Rattle.sql_names.specs.Names.{quoted_name}
+use Rattle.ddl_text.specs.Ddl.{comment, is_empty, is_never_missing}
+use Rattle.ddl_text.specs.Designs.{known_keys}
+use Rattle.ddl_text.specs.declared.table.TableDesign.{TableDesign}
+use Rattle.sql_lexemes.specs.declared.lexeme.LexemeKind.{LexemeKind}
+use Rattle.sql_lexemes.specs.declared.lexeme.LexemeKind.TheVariants as kind
+use Rattle.sql_lexemes.specs.Lexemes.{Lexed}
+use Rattle.sql_lexemes.specs.Statements.{depth_around, depth_after}
+
+-- a piece of a text: a lexeme of a kind, or bytes between lexemes, with its bytes
+pub record TextPiece : Type 0 where
+  pub kind : Option LexemeKind
+  pub bytes : List ℕ
+
+abbrev pub gap : List ℕ → TextPiece
+gap bytes = record { kind = None; bytes = bytes }
+
+abbrev pub word : List ℕ → TextPiece
+word bytes = record { kind = Some kind.Word; bytes = bytes }
+
+abbrev pub number : List ℕ → TextPiece
+number bytes = record { kind = Some kind.Number; bytes = bytes }
+
+abbrev pub quoted_piece : List ℕ → TextPiece
+quoted_piece name = record { kind = Some kind.Quoted; bytes = quoted_name name }
+
+abbrev pub mark : ℕ → TextPiece
+mark b = record { kind = Some kind.Mark; bytes = b ∷ [] }
+
+abbrev pub blank : TextPiece
+blank = gap (32 ∷ [])
+
+-- the bytes of pieces
+abbrev pub text_of : List TextPiece → List ℕ
+text_of pieces = flat_map (λ p. p.bytes) pieces
+
+-- a lexeme of a kind at a place, after so many brackets that are open
+abbrev pub lexeme_at : ℕ → ℕ → LexemeKind → List ℕ → Lexed
+lexeme_at place depth kind bytes =
+    record { kind = kind; place = place; depth = depth_around depth kind bytes; text = bytes }
+
+-- the lexemes of pieces that begin at a place, after so many brackets that are open
+abbrev pub led_by_kind : ℕ → ℕ → Option LexemeKind → List ℕ → (ℕ → List Lexed) → List Lexed
+led_by_kind place depth None bytes rest = rest depth
+led_by_kind place depth (Some kind) bytes rest =
+    lexeme_at place depth kind bytes ∷ rest (depth_after (lexeme_at place depth kind bytes))
+
+unfoldable pub lexemes_from : ℕ → ℕ → List TextPiece → List Lexed
+lexemes_from place depth [] = []
+lexemes_from place depth (p ∷ ps) =
+    led_by_kind place depth p.kind p.bytes (λ after. lexemes_from (place + length p.bytes) after ps)
+
+-- a type of columns that a schema states by a word of its own
+abbrev pub is_own_type : ColumnType → Bool
+is_own_type (type.Other text) = false
+is_own_type column = true
+
+-- a type in SQL
+abbrev pub type_pieces : ColumnType → List TextPiece
+type_pieces type.Text = word (codes "TEXT") ∷ []
+type_pieces type.Integer = word (codes "BIGINT") ∷ []
+type_pieces type.Date = word (codes "DATE") ∷ []
+type_pieces type.Timestamp = word (codes "TIMESTAMP") ∷ []
+type_pieces (type.Decimal scale) =
+    word (codes "DECIMAL") ∷ mark 40 ∷ number (codes "15") ∷ mark 44 ∷ blank ∷ number (decimal scale) ∷ mark 41 ∷ []
+type_pieces type.Uuid = word (codes "UUID") ∷ []
+type_pieces (type.Other text) = word text ∷ []
+
+abbrev pub not_null : List TextPiece
+not_null = blank ∷ word (codes "NOT") ∷ blank ∷ word (codes "NULL") ∷ []
+
+-- the column of an attribute
+abbrev pub column_pieces : Schema → ℕ → List TextPiece
+column_pieces s k =
+    quoted_piece (slice_index_or (names_of s) k []) ∷ blank
+    ∷ (type_pieces (slice_index_or (types_of s) k type.Text) ++ (if nullable_of s k then [] else not_null))
+
+-- names, with a comma and a blank between two
+abbrev pub names_after : List (List ℕ) → List TextPiece
+names_after names = flat_map (λ name. mark 44 ∷ blank ∷ quoted_piece name ∷ []) names
+
+abbrev pub name_pieces : List (List ℕ) → List TextPiece
+name_pieces [] = []
+name_pieces (name ∷ names) = quoted_piece name ∷ names_after names
+
+-- names of attributes in round brackets
+abbrev pub list_pieces : Schema → Attributes → List TextPiece
+list_pieces s x = mark 40 ∷ (name_pieces (members_from x 0 (names_of s)) ++ mark 41 ∷ [])
+
+abbrev pub key_pieces : Schema → Attributes → List TextPiece
+key_pieces s key = word (codes "PRIMARY") ∷ blank ∷ word (codes "KEY") ∷ blank ∷ list_pieces s key
+
+abbrev pub unique_pieces : Schema → Attributes → List TextPiece
+unique_pieces s key = word (codes "UNIQUE") ∷ blank ∷ list_pieces s key
+
+-- a reference to a table by its key
+abbrev pub reference_pieces : Schema → TableDesign → List TextPiece
+reference_pieces s other =
+    word (codes "FOREIGN") ∷ blank ∷ word (codes "KEY") ∷ blank ∷ (list_pieces s (attributes other.key)
+    ++ blank ∷ word (codes "REFERENCES") ∷ blank ∷ quoted_piece other.name ∷ blank
+    ∷ list_pieces s (attributes other.key))
+
+-- the columns of a table
+abbrev pub columns_pieces : Schema → TableDesign → List (List TextPiece)
+columns_pieces s table = map (column_pieces s) (members_below (width_of s) (attributes table.scheme))
+
+-- the keys of a table that are stated
+abbrev pub keys_pieces : Schema → TableDesign → List (List TextPiece)
+keys_pieces s table =
+    (if is_empty (attributes table.key) then [] else key_pieces s (attributes table.key) ∷ [])
+    ++ map (unique_pieces s) (filter (is_never_missing s) (known_keys table.other_keys))
+
+-- a reference to the table at a position, where there is one
+abbrev pub referred : Schema → Option TableDesign → List TextPiece
+referred s None = []
+referred s (Some other) = reference_pieces s other
+
+abbrev pub references_pieces : Schema → List TableDesign → TableDesign → List (List TextPiece)
+references_pieces s tables table = map (λ j. referred s (slice_get tables j)) table.refs.items
+
+-- the elements of a table
+abbrev pub elements_pieces : Schema → List TableDesign → TableDesign → List (List TextPiece)
+elements_pieces s tables table =
+    columns_pieces s table ++ keys_pieces s table ++ references_pieces s tables table
+
+-- elements, each on a line, with a comma between two
+abbrev pub lines_after : List (List TextPiece) → List TextPiece
+lines_after elements = flat_map (λ element. mark 44 ∷ gap (codes "\n  ") ∷ element) elements
+
+abbrev pub lines_pieces : List (List TextPiece) → List TextPiece
+lines_pieces [] = []
+lines_pieces (element ∷ elements) = gap (codes "  ") ∷ (element ++ lines_after elements)
+
+-- what the statement that creates a table has, but for what stands before it and for the semicolon that ends it
+abbrev pub create_pieces : Schema → List TableDesign → TableDesign → List TextPiece
+create_pieces s tables table =
+    word (codes "CREATE") ∷ blank ∷ word (codes "TABLE") ∷ blank ∷ quoted_piece table.name ∷ blank ∷ mark 40
+    ∷ gap (10 ∷ []) ∷ (lines_pieces (elements_pieces s tables table) ++ gap (10 ∷ []) ∷ mark 41 ∷ [])
+
+-- the lexemes of the statement that creates a table, the first of which stands at a place
+abbrev pub create_lexemes : ℕ → Schema → List TableDesign → TableDesign → List Lexed
+create_lexemes place s tables table = lexemes_from place 0 (create_pieces s tables table)
