@@ -2,3 +2,4 @@ pub mod PairLemmas
 pub mod SideLemmas
 pub mod TestLemmas
 pub mod AskLemmas
+pub mod FindingLemmas

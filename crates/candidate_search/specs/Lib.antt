@@ -4,3 +4,4 @@ pub mod Pairs
 pub mod Levels
 pub mod Sides
 pub mod Asking
+pub mod Findings

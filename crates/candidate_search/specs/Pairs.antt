@@ -17,9 +17,9 @@ pub record IsBroken (r : Relation) (x : Attributes) (a i j : ℕ) : Type 0 where
   pub differ : value_at (row_at r i) a ≡ value_at (row_at r j) a → ⊥
 
 -- two such rows; or there are none, and the rows obey x -> a
-abbrev pub Tells : Relation → Attributes → ℕ → Option (ℕ × ℕ) → Type 0
-Tells r x a None = ObeysFd x (only a) r
-Tells r x a (Some p) = IsBroken r x a p.0 p.1
+abbrev pub FindsBroken : Relation → Attributes → ℕ → Option (ℕ × ℕ) → Type 0
+FindsBroken r x a None = ObeysFd x (only a) r
+FindsBroken r x a (Some p) = IsBroken r x a p.0 p.1
 
 -- the columns below a bound in which two rows have one number
 abbrev pub same_codes : Interned → ℕ → ℕ → ℕ → Attributes

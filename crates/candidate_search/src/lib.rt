@@ -6,6 +6,7 @@
 #![tactic(auto)]
 
 mod asking;
+mod findings;
 mod learning;
 mod levels;
 mod neighbours;

@@ -7,7 +7,7 @@ ghost use Rattle.dep_model.specs.Tuples.{Relation};
 ghost use Rattle.row_store.specs.Rows.{row_at};
 ghost use Rattle.candidate_laws.specs.Evidence.{agreement};
 ghost use Rattle.candidate_search.specs.Levels.{IsLevel};
-ghost use Rattle.candidate_search.specs.Pairs.{Tells};
+ghost use Rattle.candidate_search.specs.Pairs.{FindsBroken};
 
 use crate::levels::Level;
 use attr_sets::{AttrSet, MOST_ATTRIBUTES};
@@ -45,7 +45,7 @@ pub fn broken_pair(
     requires set { IsSubset (attributes set) (below width) }
     requires right { right < width }
     ensures pair { (r : Relation) → IsInterned width r codes.now
-        → IfOk result (Tells r (attributes set) right) }
+        → IfOk result (FindsBroken r (attributes set) right) }
 {
     let groups = Groups::by_agreement(alloc, codes, set)?;
     let level = Level { set, groups };
@@ -57,7 +57,7 @@ pub fn broken_in(codes: &Interned, width: u8, level: &Level, right: u8) -> Optio
     requires rows { (r : Relation) × IsInterned width r codes.now × IsLevel r level.now }
     requires right { right < width }
     ensures pair { (r : Relation) → IsInterned width r codes.now → IsLevel r level.now
-        → Tells r (attributes level.now.set) right result }
+        → FindsBroken r (attributes level.now.set) right result }
 {
     let groups = &level.groups;
     let column = codes.column(right);

@@ -7,6 +7,7 @@ ghost use Rattle.dep_model.specs.Plans.{schemes_of};
 ghost use Rattle.dep_model.specs.Tuples.{Relation};
 
 use crate::asking::asked_of_size;
+use crate::findings::Findings;
 use crate::learning::sides_after;
 use crate::sampling::first_evidence;
 use crate::side::{Side, TooManyLeftSides, first_sides};
@@ -67,9 +68,10 @@ fn search_from(
 {
     let first = first_sides(alloc, rights)?;
     let mut sides = sides_after(alloc, width, most, &first, seen)?;
+    let mut findings = Findings::new(alloc);
     for size in 0..most + 1 {
         let asked = asked_of_size(alloc, &sides, size)?;
-        let found = refuting_evidence(alloc, codes, width, &asked)?;
+        let found = refuting_evidence(alloc, codes, width, &asked, &mut findings)?;
         sides = sides_after(alloc, width, most, &sides, &found)?;
     }
     Ok(sides)

@@ -3,13 +3,15 @@ ghost use Rattle.attr_sets.specs.Sets.{attributes};
 ghost use Rattle.attr_sets.specs.declared.set.TheConstants.{MOST_ATTRIBUTES};
 ghost use Rattle.candidate_laws.specs.Evidence.{AreEvidence};
 ghost use Rattle.candidate_search.specs.Asking.{IsAskedWithin, IsSettled, Settles};
+ghost use Rattle.candidate_search.specs.Findings.{AreFindings};
 ghost use Rattle.candidate_search.specs.Levels.{IsLevel};
-ghost use Rattle.candidate_search.specs.Pairs.{Tells};
+ghost use Rattle.candidate_search.specs.Pairs.{FindsBroken};
 ghost use Rattle.candidate_search.specs.Sides.{AreCoded, IsRefutedBy};
 ghost use Rattle.dep_model.specs.Plans.{schemes_of};
 ghost use Rattle.dep_model.specs.Tuples.{Relation};
 
 use crate::asking::Asked;
+use crate::findings::{Findings, dependency_asked, is_implied};
 use crate::levels::{Level, ends_at, lead_to};
 use crate::pairs::{broken_in, broken_pair, row_agreement};
 use attr_sets::{AttrSet, MOST_ATTRIBUTES};
@@ -17,25 +19,28 @@ use csv_rows::Interned;
 use dep_model::OutOfMemory;
 use std::alloc::Global;
 
-// Evidence that refutes each of the dependencies that the rows do not obey.
+// Evidence that refutes each of the dependencies that the rows do not obey. Those that they are found to
+// obey are kept, and what these imply is not looked for in the rows.
 pub fn refuting_evidence(
     alloc: Global,
     codes: &Interned,
     width: u8,
     asked: &[Asked],
+    findings: &mut Findings,
 ) -> Result<Vec<AttrSet>, OutOfMemory>
     requires width { width ≤ MOST_ATTRIBUTES }
-    requires rows { (r : Relation) × AreCoded width r codes.now }
+    requires rows { (r : Relation) × AreCoded width r codes.now × AreFindings width r findings.old }
     requires within { All (IsAskedWithin width) asked.now }
-    ensures evidence { (r : Relation) → AreCoded width r codes.now
+    ensures findings { (r : Relation) → AreCoded width r codes.now → AreFindings width r findings.old
+        → IfOk result (λ _. AreFindings width r findings.new) }
+    ensures evidence { (r : Relation) → AreCoded width r codes.now → AreFindings width r findings.old
         → IfOk result (λ found. AreEvidence width r (schemes_of found.items)) }
-    ensures settled { (r : Relation) → AreCoded width r codes.now
+    ensures settled { (r : Relation) → AreCoded width r codes.now → AreFindings width r findings.old
         → IfOk result (λ found. All (IsSettled r (schemes_of found.items)) asked.now) }
 {
     let mut found = Vec::new(alloc);
-    let mut levels = Vec::new(alloc);
     for one in asked {
-        match refutation(alloc, codes, width, *one, &found, &mut levels)? {
+        match refutation(alloc, codes, width, *one, &found, findings)? {
             Some(evidence) => found.push(evidence)?,
             None => {}
         }
@@ -50,23 +55,29 @@ fn refutation(
     width: u8,
     asked: Asked,
     found: &[AttrSet],
-    levels: &mut Vec<Level>,
+    findings: &mut Findings,
 ) -> Result<Option<AttrSet>, OutOfMemory>
     requires width { width ≤ MOST_ATTRIBUTES }
-    requires rows { (r : Relation) × AreCoded width r codes.now × All (IsLevel r) levels.old.items }
+    requires rows { (r : Relation) × AreCoded width r codes.now × AreFindings width r findings.old }
     requires within { IsAskedWithin width asked }
-    ensures levels { (r : Relation) → AreCoded width r codes.now → All (IsLevel r) levels.old.items
-        → IfOk result (λ _. All (IsLevel r) levels.new.items) }
-    ensures settles { (r : Relation) → AreCoded width r codes.now → All (IsLevel r) levels.old.items
+    ensures findings { (r : Relation) → AreCoded width r codes.now → AreFindings width r findings.old
+        → IfOk result (λ _. AreFindings width r findings.new) }
+    ensures settles { (r : Relation) → AreCoded width r codes.now → AreFindings width r findings.old
         → IfOk result (Settles width r (schemes_of found.now) asked) }
 {
     if is_refuted(found, asked) {
         return Ok(None);
     }
-    lead_to(alloc, codes, width, asked.left, levels)?;
-    match broken_at(alloc, codes, width, asked, levels)? {
+    if is_implied(&findings.obeyed, asked) {
+        return Ok(None);
+    }
+    lead_to(alloc, codes, width, asked.left, &mut findings.levels)?;
+    match broken_at(alloc, codes, width, asked, &findings.levels)? {
         Some((first, second)) => Ok(Some(row_agreement(codes, width, first, second))),
-        None => Ok(None),
+        None => {
+            findings.obeyed.push(dependency_asked(asked))?;
+            Ok(None)
+        }
     }
 }
 
@@ -95,7 +106,7 @@ fn broken_at(
     requires rows { (r : Relation) × AreCoded width r codes.now × All (IsLevel r) levels.now }
     requires within { IsAskedWithin width asked }
     ensures pair { (r : Relation) → AreCoded width r codes.now → All (IsLevel r) levels.now
-        → IfOk result (Tells r (attributes asked.left) asked.right) }
+        → IfOk result (FindsBroken r (attributes asked.left) asked.right) }
 {
     if ends_at(levels, asked.left) {
         return Ok(broken_in(codes, width, &levels[levels.len() - 1], asked.right));

@@ -11,6 +11,7 @@ use Rattle.dep_model.specs.Plans.{schemes_of}
 use Rattle.candidate_search.specs.Asking.{AsksAll, IsAskedWithin, IsSettled}
 use Rattle.candidate_search.specs.Sides.{HasCandidates, HasMinimal, IsAnsweredAt, IsTested, rights_of}
 use Rattle.candidate_search.specs.declared.side.TooManyLeftSides.{TooManyLeftSides}
+use Rattle.candidate_search.proofs.FindingLemmas.{none_found}
 use Rattle.candidate_search.proofs.SideLemmas.{side_minimal, sides_candidates}
 use Rattle.candidate_search.proofs.TestLemmas.{sides_answered}
 use Rattle.candidate_search.proofs.searching.search_from.Goals as goal
@@ -41,7 +42,12 @@ loop-size-init c = record {
   tested = λ r coded seen. c.in_ok-sides.ensures.untested r
       (All-same (IsTested c.args.width c.args.most r 0) c.deref.result.now c.in_ok-first.first.items c.deref.ensures.value
       (c.in_ok-first.ensures.tested c.args.width c.args.most r c.requires.rights)) seen;
+  findings = λ r coded. none_found c.args.width r c.new-findings.result c.new-findings.ensures.levels c.new-findings.ensures.obeyed;
 }
+
+pub refuting_evidence-requires-clause-rows : goal.refuting_evidence-requires-clause-rows
+refuting_evidence-requires-clause-rows c =
+    let (r, coded, seen) = c.requires.rows in (r, coded, c.loop-size.invariant.findings r coded)
 
 pub refuting_evidence-requires-clause-within : goal.refuting_evidence-requires-clause-within
 refuting_evidence-requires-clause-within c =
@@ -68,7 +74,7 @@ returns-in_err-sides-2-clause-refusal c = λ r coded seen.
     (All-same (IsTested c.args.width c.args.most r c.loop-size.size) c.deref-in-loop-size-3.result.now
     c.loop-size.sides.items c.deref-in-loop-size-3.ensures.value (c.loop-size.invariant.tested r coded seen))
     (subst (λ (sets : List AttrSet). AreEvidence c.args.width r (schemes_of sets))
-    (sym c.deref-in-loop-size-4.ensures.value) (c.in_ok-found.ensures.evidence r coded)))
+    (sym c.deref-in-loop-size-4.ensures.value) (c.in_ok-found.ensures.evidence r coded (c.loop-size.invariant.findings r coded))))
 
 pub returns-in_err-sides-2-clause-named : goal.returns-in_err-sides-2-clause-named
 returns-in_err-sides-2-clause-named c =
@@ -86,13 +92,14 @@ loop-size-preserved c =
     record {
       rights = c.in_ok-sides-2.ensures.rights ∙ ap rights_of c.deref-in-loop-size-3.ensures.value
           ∙ c.loop-size.invariant.rights;
+      findings = λ r coded. c.in_ok-found.ensures.findings r coded (c.loop-size.invariant.findings r coded);
       tested = λ r coded seen.
           let tested : All (IsTested c.args.width c.args.most r size) sides = c.loop-size.invariant.tested r coded seen in
           c.in_ok-sides-2.ensures.tested r size
           (All-same (IsTested c.args.width c.args.most r size) c.deref-in-loop-size-3.result.now sides
           c.deref-in-loop-size-3.ensures.value tested)
           (subst (λ (sets : List AttrSet). AreEvidence c.args.width r (schemes_of sets))
-          (sym c.deref-in-loop-size-4.ensures.value) (c.in_ok-found.ensures.evidence r coded))
+          (sym c.deref-in-loop-size-4.ensures.value) (c.in_ok-found.ensures.evidence r coded (c.loop-size.invariant.findings r coded)))
           (All-same (IsAnsweredAt c.args.width r (schemes_of found) size) c.deref-in-loop-size-3.result.now sides
           c.deref-in-loop-size-3.ensures.value
           (sides_answered c.args.width c.args.most r (schemes_of found) size asked sides c.requires.width
@@ -102,7 +109,7 @@ loop-size-preserved c =
           (subst (λ (sets : List AttrSet). All (IsSettled r (schemes_of sets)) asked)
           (sym c.deref-in-loop-size-4.ensures.value)
           (All-same (IsSettled r (schemes_of c.in_ok-found.found.items)) asked c.deref-in-loop-size-2.result.now
-          (sym c.deref-in-loop-size-2.ensures.value) (c.in_ok-found.ensures.settled r coded)))));
+          (sym c.deref-in-loop-size-2.ensures.value) (c.in_ok-found.ensures.settled r coded (c.loop-size.invariant.findings r coded))))));
     }
 
 pub returns-clause-minimal : goal.returns-clause-minimal

@@ -9,6 +9,7 @@ use Rattle.dep_model.specs.Plans.{schemes_of}
 use Rattle.dep_model.specs.Tuples.{Relation}
 use Rattle.candidate_laws.specs.Evidence.{AreEvidence}
 use Rattle.candidate_search.specs.Asking.{IsSettled, Settles}
+use Rattle.candidate_search.specs.Findings.{AreFindings}
 use Rattle.candidate_search.specs.Sides.{AreCoded}
 use Rattle.candidate_search.specs.declared.asking.Asked.{Asked}
 use Rattle.candidate_search.proofs.TestLemmas.{all_settled_push, evidence_push, refutation_settles}
@@ -22,41 +23,43 @@ loop-one-preserved c =
     let one : Asked = get_or c.args.asked.now i d in
     let old : List AttrSet = c.loop-one.found.items in
     let new : List AttrSet = c.match-branch-2.found.items in
-    let told : (r : Relation) → AreCoded c.args.width r c.args.codes.now
+    let settles : (r : Relation) → AreCoded c.args.width r c.args.codes.now → AreFindings c.args.width r c.args.findings.now
     → Settles c.args.width r (schemes_of old) one c.in_ok-evidence.field-0 =
-    λ r coded. subst (λ (sets : List AttrSet). Settles c.args.width r (schemes_of sets) one c.in_ok-evidence.field-0)
-    c.deref.ensures.value (c.in_ok-evidence.ensures.settles r coded (c.loop-one.invariant.levels r coded)) in
+    λ r coded are. subst (λ (sets : List AttrSet). Settles c.args.width r (schemes_of sets) one c.in_ok-evidence.field-0)
+    c.deref.ensures.value (c.in_ok-evidence.ensures.settles r coded (c.loop-one.invariant.findings r coded are)) in
     elim c.match-branch-2.branch [
       | in-Some+in_ok-push-in-Some w ↦
           let s : AttrSet = w.in-Some.evidence in
           let is : new ≡ old ++ s ∷ [] = ap (λ (v : Vec AttrSet Global). v.items) w.found-is ∙ w.in_ok-push-in-Some.ensures.items in
           record {
-            levels = λ r coded. c.in_ok-evidence.ensures.levels r coded (c.loop-one.invariant.levels r coded);
-            evidence = λ r coded. subst (λ (sets : List AttrSet). AreEvidence c.args.width r (schemes_of sets)) (sym is)
-                (evidence_push c.args.width r old s (c.loop-one.invariant.evidence r coded)
-                (subst (Settles c.args.width r (schemes_of old) one) w.in-Some.is (told r coded)).0);
-            settled = λ r coded.
+            findings = λ r coded are.
+                c.in_ok-evidence.ensures.findings r coded (c.loop-one.invariant.findings r coded are);
+            evidence = λ r coded are. subst (λ (sets : List AttrSet). AreEvidence c.args.width r (schemes_of sets)) (sym is)
+                (evidence_push c.args.width r old s (c.loop-one.invariant.evidence r coded are)
+                (subst (Settles c.args.width r (schemes_of old) one) w.in-Some.is (settles r coded are)).0);
+            settled = λ r coded are.
                 subst (λ (sets : List AttrSet). All (IsSettled r (schemes_of sets)) (take (i + 1) c.args.asked.now)) (sym is)
                 (All-more (IsSettled r (schemes_of (old ++ s ∷ []))) c.args.asked.now i d c.loop-one-test.true
-                (all_settled_push r old s (take i c.args.asked.now) (c.loop-one.invariant.settled r coded))
+                (all_settled_push r old s (take i c.args.asked.now) (c.loop-one.invariant.settled r coded are))
                 (refutation_settles r old s one
-                (subst (Settles c.args.width r (schemes_of old) one) w.in-Some.is (told r coded)).1));
+                (subst (Settles c.args.width r (schemes_of old) one) w.in-Some.is (settles r coded are)).1));
           }
       | in-None w ↦
           let is : new ≡ old = ap (λ (v : Vec AttrSet Global). v.items) w.found-is in
           record {
-            levels = λ r coded. c.in_ok-evidence.ensures.levels r coded (c.loop-one.invariant.levels r coded);
-            evidence = λ r coded. subst (λ (sets : List AttrSet). AreEvidence c.args.width r (schemes_of sets)) (sym is)
-                (c.loop-one.invariant.evidence r coded);
-            settled = λ r coded.
+            findings = λ r coded are.
+                c.in_ok-evidence.ensures.findings r coded (c.loop-one.invariant.findings r coded are);
+            evidence = λ r coded are. subst (λ (sets : List AttrSet). AreEvidence c.args.width r (schemes_of sets)) (sym is)
+                (c.loop-one.invariant.evidence r coded are);
+            settled = λ r coded are.
                 subst (λ (sets : List AttrSet). All (IsSettled r (schemes_of sets)) (take (i + 1) c.args.asked.now)) (sym is)
                 (All-more (IsSettled r (schemes_of old)) c.args.asked.now i d c.loop-one-test.true
-                (c.loop-one.invariant.settled r coded)
-                (subst (Settles c.args.width r (schemes_of old) one) w.in-None.is (told r coded)));
+                (c.loop-one.invariant.settled r coded are)
+                (subst (Settles c.args.width r (schemes_of old) one) w.in-None.is (settles r coded are)));
           }
     ]
 
 pub returns-clause-settled : goal.returns-clause-settled
-returns-clause-settled c = λ r coded. All-same (IsSettled r (schemes_of c.loop-one.found.items)) c.args.asked.now _
+returns-clause-settled c = λ r coded are. All-same (IsSettled r (schemes_of c.loop-one.found.items)) c.args.asked.now _
     (sym (take_all c.loop-one.one-index c.args.asked.now (omega (arith, c.loop-one-test.false))))
-    (c.loop-one.invariant.settled r coded)
+    (c.loop-one.invariant.settled r coded are)

@@ -1,19 +1,21 @@
--- What the loop of `refuting_evidence` keeps: `levels`, `evidence`, `settled`.
+-- What the loop of `refuting_evidence` keeps: `findings`, `evidence`, `settled`.
 use Rattle.std.proofs.Common.{take}
 use Rattle.std.specs.Prelude.{All}
 use Rattle.dep_model.specs.Plans.{schemes_of}
 use Rattle.dep_model.specs.Tuples.{Relation}
 use Rattle.candidate_laws.specs.Evidence.{AreEvidence}
 use Rattle.candidate_search.specs.Asking.{IsSettled}
-use Rattle.candidate_search.specs.Levels.{IsLevel}
+use Rattle.candidate_search.specs.Findings.{AreFindings}
 use Rattle.candidate_search.specs.Sides.{AreCoded}
 use Rattle.candidate_search.proofs.testing.refuting_evidence.Given as goal
 
 -- what was asked so far is settled
 abbrev pub invariant-loop-one : goal.invariant-loop-one
 invariant-loop-one l = record {
-  levels : (r : Relation) → AreCoded l.width r l.codes → All (IsLevel r) l.levels.items;
-  evidence : (r : Relation) → AreCoded l.width r l.codes → AreEvidence l.width r (schemes_of l.found.items);
-  settled : (r : Relation) → AreCoded l.width r l.codes
+  findings : (r : Relation) → AreCoded l.width r l.codes → AreFindings l.width r l.fn.findings
+      → AreFindings l.width r l.findings;
+  evidence : (r : Relation) → AreCoded l.width r l.codes → AreFindings l.width r l.fn.findings
+      → AreEvidence l.width r (schemes_of l.found.items);
+  settled : (r : Relation) → AreCoded l.width r l.codes → AreFindings l.width r l.fn.findings
       → All (IsSettled r (schemes_of l.found.items)) (take l.one-index l.asked);
 }
