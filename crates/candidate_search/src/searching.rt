@@ -43,31 +43,8 @@ pub fn minimal_left_sides(
     ensures named { IfErr result (RefusesAs (λ refusal. Contains rights.now refusal.right)) }
 {
     let begun = first_evidence(alloc, codes, width, seen)?;
-    search_from(alloc, codes, width, most, rights, &begun)
-}
-
-// The same with this evidence and no other to begin with.
-fn search_from(
-    alloc: Global,
-    codes: &Interned,
-    width: u8,
-    most: u8,
-    rights: &[u8],
-    seen: &[AttrSet],
-) -> Result<Vec<Side>, Failure<TooManyLeftSides>>
-    requires width { width ≤ MOST_ATTRIBUTES }
-    requires most { most ≤ MOST_ATTRIBUTES }
-    requires rights { All (λ right. right < width) rights.now }
-    requires rows { (r : Relation) × AreCoded width r codes.now × AreEvidence width r (schemes_of seen.now) }
-    ensures rights { IfOk result (λ sides. rights_of sides.items ≡ rights.now) }
-    ensures minimal { (r : Relation) → AreCoded width r codes.now → AreEvidence width r (schemes_of seen.now)
-        → IfOk result (λ sides. All (HasMinimal width most r) sides.items) }
-    ensures refusal { (r : Relation) → AreCoded width r codes.now → AreEvidence width r (schemes_of seen.now)
-        → IfErr result (RefusesAs (IsExceeded width most r)) }
-    ensures named { IfErr result (RefusesAs (λ refusal. Contains rights.now refusal.right)) }
-{
     let first = first_sides(alloc, rights)?;
-    let mut sides = sides_after(alloc, width, most, &first, seen)?;
+    let mut sides = sides_after(alloc, width, most, &first, &begun)?;
     let mut findings = Findings::new(alloc);
     for size in 0..most + 1 {
         let asked = asked_of_size(alloc, &sides, size)?;

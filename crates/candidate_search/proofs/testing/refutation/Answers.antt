@@ -1,11 +1,9 @@
 -- What is left to prove of `refutation`: its clauses, by `TestLemmas` and `FindingLemmas`.
-use Rattle.std.proofs.Common.{◌∷◌, [], ◌++◌, Vec, Global, List, Option, None, ℕ, inl, sym, subst}
-use Rattle.std.specs.Prelude.{All}
+use Rattle.std.proofs.Common.{None, inl, sym, subst}
 use Rattle.std.proofs.lemmas.List.Elements.{All-same}
 use Rattle.attr_sets.specs.Sets.{attributes}
 use Rattle.candidate_laws.specs.Evidence.{IsEvidence}
 use Rattle.dep_model.specs.Tuples.{Relation}
-use Rattle.dep_model.specs.declared.dep.Dep.{Dep}
 use Rattle.candidate_search.specs.Findings.{AreFindings, AreObeyed}
 use Rattle.candidate_search.specs.Levels.{IsLevel}
 use Rattle.candidate_search.specs.Pairs.{IsBroken, FindsBroken}
@@ -16,9 +14,9 @@ use Rattle.candidate_search.proofs.testing.refutation.Goals as goal
 
 pub returns-then-is_implied-clause-settles : goal.returns-then-is_implied-clause-settles
 returns-then-is_implied-clause-settles c = λ r coded are. inl (
-  c.is_implied.ensures.obeys c.args.width r coded.over
-      (subst (AreObeyed c.args.width r) (sym c.deref.ensures.value) are.obeyed) c.requires.within c.if-is_implied.true
-)
+    c.is_implied.ensures.obeys c.args.width r coded.over
+    (subst (AreObeyed c.args.width r) (sym c.deref.ensures.value) are.obeyed) c.requires.within c.if-is_implied.true
+    )
 
 pub returns-in-Some-clause-findings : goal.returns-in-Some-clause-findings
 returns-in-Some-clause-findings c = λ r coded are. record {

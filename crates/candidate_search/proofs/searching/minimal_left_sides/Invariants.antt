@@ -1,4 +1,4 @@
--- What the loop of `search_from` keeps: `rights`, `findings`, `tested`.
+-- What the loop of `minimal_left_sides` keeps: `rights`, `findings`, `tested`.
 use Rattle.std.proofs.Common.{◌≡◌}
 use Rattle.std.specs.Prelude.{All}
 use Rattle.dep_model.specs.Plans.{schemes_of}
@@ -6,7 +6,7 @@ use Rattle.dep_model.specs.Tuples.{Relation}
 use Rattle.candidate_laws.specs.Evidence.{AreEvidence}
 use Rattle.candidate_search.specs.Findings.{AreFindings}
 use Rattle.candidate_search.specs.Sides.{AreCoded, IsTested, rights_of}
-use Rattle.candidate_search.proofs.searching.search_from.Given as goal
+use Rattle.candidate_search.proofs.searching.minimal_left_sides.Given as goal
 
 -- the candidates of fewer members are obeyed
 abbrev pub invariant-loop-size : goal.invariant-loop-size
