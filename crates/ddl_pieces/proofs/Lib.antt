@@ -1,0 +1,6 @@
+pub mod Cutting
+pub mod Fronts
+pub mod Elements
+pub mod Texts
+pub mod Comments
+pub mod Statements
