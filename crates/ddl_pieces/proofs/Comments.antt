@@ -1,9 +1,9 @@
 -- The lines of comments before a statement are passed over.
-use Rattle.std.proofs.Common.{◌≡◌, ◌+◌, ℕ, Bool, true, false, not, ◌||◌, None, Some, Option, All, List, [], ◌∷◌, ◌++◌, length, filter, refl, sym, ap, subst, ◌∙◌, arith, append_assoc, append-nil, length-append}
+use Rattle.std.proofs.Common.{◌≡◌, ◌+◌, ℕ, Bool, true, false, not, ◌||◌, None, Some, Option, All, List, [], ◌∷◌, ◌++◌, length, filter, refl, sym, ap, subst, ◌∙◌, inl, inr, arith, append_assoc, length-append}
 use Rattle.std.specs.Prelude.{codes, if◌then◌else◌, ◌==◌, Vec}
 use Rattle.std.specs.declared.alloc.Global.{Global}
 use Rattle.std.specs.List.{flat_map, list_all, list_any}
-use Rattle.std.proofs.lemmas.Bool.{and_from, cases_Bool, or_parts}
+use Rattle.std.proofs.lemmas.Bool.{and_from, and_parts, cases_Bool, or_parts}
 use Rattle.std.proofs.lemmas.Bool.Decides.{nat_tests}
 use Rattle.std.proofs.lemmas.List.Elements.{All-cons, All-head, All-nil, All-tail}
 use Rattle.std.proofs.lemmas.List.Folds.{list_all-append}
@@ -100,7 +100,12 @@ doubled_plain : (bytes : List ℕ) → IsPlain bytes → IsPlain (quotes_doubled
 unfolding quotes_doubled
 doubled_plain [] plain = refl
 doubled_plain (b ∷ bytes) plain =
-    ?
+    let parts = and_parts (not (is_line_feed b)) (list_all (λ b. not (is_line_feed b)) bytes) plain in
+    let this : IsPlain (if b == 34 then 34 ∷ 34 ∷ [] else b ∷ []) = elim (cases_Bool (b == 34)) [
+      | inl quote ↦ rw quote refl
+      | inr other ↦ rw other (and_from (not (is_line_feed b)) true parts.0 refl)
+    ] in
+    plain_both (if b == 34 then 34 ∷ 34 ∷ [] else b ∷ []) (quotes_doubled bytes) this (doubled_plain bytes parts.1)
 
 quoted_plain : (name : List ℕ) → IsName name → IsPlain (quoted_name name)
 quoted_plain name is =
@@ -131,7 +136,9 @@ listed_plain (name ∷ names) all =
 left_out : (s : Schema) (key : Attributes)
     → left_out_line s key ≡ comment_line (codes " UNIQUE (" ++ (name_list s key ++ codes ") is left out: missing values are not compared"))
 unfolding left_out_line
-left_out s key = ?
+left_out s key =
+    ap (λ (t : List ℕ). codes "-- UNIQUE (" ++ t)
+    (sym (append_assoc (name_list s key) (codes ") is left out: missing values are not compared") (10 ∷ [])))
 
 left_out_passed : (d : Dialect) (scan : Scan) (s : Schema) (keys : List Attributes) (rest : List ℕ) → All IsName (names_of s)
     → IsPassed d scan (flat_map (left_out_line s) keys) rest
