@@ -133,36 +133,41 @@ listed_plain (name ∷ names) all =
     (quoted_plain name (All-head IsName name names all)) (further_plain names (All-tail IsName name names all))
 
 -- ---- comments
-left_out : (s : Schema) (key : Attributes)
-    → left_out_line s key ≡ comment_line (codes " UNIQUE (" ++ (name_list s key ++ codes ") is left out: missing values are not compared"))
+-- what a comment says of a key that is left out
+abbrev said : Schema → Attributes → List ℕ
+said s key = codes " UNIQUE (" ++ (name_list s key ++ codes ") is left out: missing values are not compared")
+
+left_out : (s : Schema) (key : Attributes) → left_out_line s key ≡ comment_line (said s key)
 unfolding left_out_line
 left_out s key =
     ap (λ (t : List ℕ). codes "-- UNIQUE (" ++ t)
     (sym (append_assoc (name_list s key) (codes ") is left out: missing values are not compared") (10 ∷ [])))
 
+said_plain : (s : Schema) (key : Attributes) → All IsName (names_of s) → IsPlain (said s key)
+said_plain s key names =
+    plain_both (name_list s key) (codes ") is left out: missing values are not compared")
+    (listed_plain (members_from key 0 (names_of s)) (members_are key 0 (names_of s) names)) refl
+
 left_out_passed : (d : Dialect) (scan : Scan) (s : Schema) (keys : List Attributes) (rest : List ℕ) → All IsName (names_of s)
     → IsPassed d scan (flat_map (left_out_line s) keys) rest
-left_out_passed d scan s [] rest all = none_passed d scan rest
-left_out_passed d scan s (key ∷ keys) rest all =
+left_out_passed d scan s [] rest names = none_passed d scan rest
+left_out_passed d scan s (key ∷ keys) rest names =
     both_passed d scan (left_out_line s key) (flat_map (left_out_line s) keys) rest
     (subst (λ (t : List ℕ). IsPassed d scan t (flat_map (left_out_line s) keys ++ rest)) (sym (left_out s key))
-    (line_passed d scan _ _
-    (plain_both (codes " UNIQUE (") (name_list s key ++ codes ") is left out: missing values are not compared") refl
-    (plain_both (name_list s key) (codes ") is left out: missing values are not compared")
-    (listed_plain (members_from key 0 (names_of s)) (members_are key 0 (names_of s) all)) refl))))
-    (λ next. left_out_passed d next s keys rest all)
+    (line_passed d scan (said s key) (flat_map (left_out_line s) keys ++ rest) (said_plain s key names)))
+    (λ next. left_out_passed d next s keys rest names)
 
 keys_passed : (d : Dialect) (scan : Scan) (s : Schema) (keys : Option (Vec AttrSet Global)) (rest : List ℕ) → All IsName (names_of s)
     → IsPassed d scan (key_comment s keys) rest
-keys_passed d scan s None rest all = line_passed d scan (codes " further keys are not looked for") rest refl
-keys_passed d scan s (Some keys) rest all =
-    left_out_passed d scan s (filter (λ key. not (is_never_missing s key)) (schemes_of keys.items)) rest all
+keys_passed d scan s None rest names = line_passed d scan (codes " further keys are not looked for") rest refl
+keys_passed d scan s (Some keys) rest names =
+    left_out_passed d scan s (filter (λ key. not (is_never_missing s key)) (schemes_of keys.items)) rest names
 
 pub comment_passed : (d : Dialect) (scan : Scan) (s : Schema) (table : TableDesign) (rest : List ℕ) → All IsName (names_of s)
     → IsPassed d scan (comment s table) rest
-comment_passed d scan s table rest all = by_key (is_empty (attributes table.key))
+comment_passed d scan s table rest names = by_key (is_empty (attributes table.key))
   where
     by_key : (empty : Bool)
         → IsPassed d scan (if empty then codes "-- at most one row\n" else key_comment s table.other_keys) rest
     by_key true = line_passed d scan (codes " at most one row") rest refl
-    by_key false = keys_passed d scan s table.other_keys rest all
+    by_key false = keys_passed d scan s table.other_keys rest names
