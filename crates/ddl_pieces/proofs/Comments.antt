@@ -1,5 +1,5 @@
 -- The lines of comments before a statement are passed over.
-use Rattle.std.proofs.Common.{◌≡◌, ◌+◌, ℕ, Bool, true, false, not, ◌||◌, None, Some, Option, All, List, [], ◌∷◌, ◌++◌, length, filter, refl, sym, ap, subst, ◌∙◌, inl, inr, arith, append_assoc, length-append}
+use Rattle.std.proofs.Common.{◌≡◌, ◌+◌, ℕ, Bool, true, false, not, None, Some, Option, All, List, [], ◌∷◌, ◌++◌, length, filter, refl, sym, ap, subst, ◌∙◌, inl, inr, arith, append_assoc, length-append}
 use Rattle.std.specs.Prelude.{codes, if◌then◌else◌, ◌==◌, Vec}
 use Rattle.std.specs.declared.alloc.Global.{Global}
 use Rattle.std.specs.List.{flat_map, list_all, list_any}
@@ -22,7 +22,7 @@ use Rattle.sql_lexemes.specs.Statements.{Scan, after_gap, led_by, statements_aft
 use Rattle.sql_lexemes.specs.declared.dialect.Dialect.{Dialect}
 use Rattle.sql_lexemes.specs.declared.piece.Before.{Before}
 use Rattle.sql_lexemes.specs.declared.piece.Piece.TheVariants as piece
-use Rattle.ddl_text.specs.Ddl.{comment, is_empty, is_never_missing, key_comment, left_out_line, left_out_lines}
+use Rattle.ddl_text.specs.Ddl.{comment, is_empty, is_never_missing, key_comment, left_out_line}
 use Rattle.ddl_text.specs.declared.table.TableDesign.{TableDesign}
 use Rattle.ddl_pieces.proofs.Cutting.{IsPassed, blanks_passed, skipped}
 use Rattle.ddl_pieces.proofs.Fronts.{prefix_past}

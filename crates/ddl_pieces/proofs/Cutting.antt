@@ -1,8 +1,8 @@
 -- A text of pieces is cut into just these, where each of them stands right before what follows it.
-use Rattle.std.proofs.Common.{◌≡◌, ◌+◌, ◌-◌, ℕ, zero, suc, Bool, true, false, cond, ◌&&◌, Some, None, Option, List, [], ◌∷◌, ◌++◌, length, take, drop, bytes_eq, refl, sym, ap, subst, ◌∙◌, arith, append_assoc, append-nil, length-append}
+use Rattle.std.proofs.Common.{◌≡◌, ◌+◌, ℕ, zero, suc, true, false, ◌&&◌, Some, None, Option, List, [], ◌∷◌, ◌++◌, length, take, bytes_eq, refl, sym, ap, subst, ◌∙◌, arith, append_assoc, append-nil}
 use Rattle.std.specs.List.{list_all}
 use Rattle.std.proofs.lemmas.Bool.{and_parts}
-use Rattle.std.proofs.Math.Seq.{take-append_seam, drop-append_seam}
+use Rattle.std.proofs.Math.Seq.{take-append_seam}
 use Rattle.sql_lexemes.specs.Bytes.{is_blank}
 use Rattle.sql_lexemes.specs.declared.dialect.Dialect.{Dialect}
 use Rattle.sql_lexemes.specs.declared.lexeme.LexemeKind.{LexemeKind}
@@ -10,7 +10,7 @@ use Rattle.sql_lexemes.specs.declared.piece.Before.{Before}
 use Rattle.sql_lexemes.specs.declared.piece.Piece.TheVariants as piece
 use Rattle.sql_lexemes.specs.Lexemes.{Lexed}
 use Rattle.sql_lexemes.specs.Pieces.{front_piece}
-use Rattle.sql_lexemes.specs.Statements.{Scan, after_gap, after_lexeme, depth_after, ends_statement, is_a_mark, lexeme_in, led_by, statements_after}
+use Rattle.sql_lexemes.specs.Statements.{Scan, after_gap, after_lexeme, depth_after, is_a_mark, lexeme_in, led_by, statements_after}
 use Rattle.ddl_pieces.specs.Pieces.{TextPiece, lexeme_at, lexemes_from, text_of}
 
 -- ---- where pieces stand right

@@ -1,6 +1,6 @@
 -- The pieces of a statement stand right, and close the brackets that they open.
-use Rattle.std.proofs.Common.{◌≡◌, ◌+◌, ◌-◌, ◌<◌, ◌≤◌, ℕ, zero, suc, Bool, true, false, cond, Some, None, Option, All, IsTrue, List, [], ◌∷◌, ◌++◌, length, get_or, map, filter, refl, sym, ap, subst, ◌∙◌, inl, inr, ⊎_elim, arith, add-sub_cancel}
-use Rattle.std.specs.Prelude.{codes, decimal, if◌then◌else◌, slice_get, slice_index_or}
+use Rattle.std.proofs.Common.{◌≡◌, ◌+◌, ◌<◌, ℕ, Bool, true, false, Some, None, Option, All, IsTrue, List, [], ◌∷◌, ◌++◌, length, get_or, map, filter, refl, sym, ap, subst, ◌∙◌, ⊎_elim, arith}
+use Rattle.std.specs.Prelude.{codes, decimal, if◌then◌else◌, slice_get}
 use Rattle.std.specs.Char.{is_ascii_digit}
 use Rattle.std.proofs.lemmas.Bool.{cases_lt, leb-true, true≢false}
 use Rattle.std.proofs.lemmas.Bool.Decides.{nat_tests}
@@ -51,8 +51,19 @@ type_right type.Date rest own parted = (word_right (codes "DATE") rest refl part
 type_right type.Timestamp rest own parted = (word_right (codes "TIMESTAMP") rest refl parted, tt)
 type_right (type.Decimal scale) rest own parted = (
   word_right (codes "DECIMAL") _ refl refl,
-  (opens _, (number_right (codes "15") _ refl refl, (parts _, (refl,
-  (number_right (decimal scale) _ (scale_is scale (scale_within scale own.valid)) refl, (closes _, tt)))))),
+  (
+    opens _,
+    (
+      number_right (codes "15") _ refl refl,
+      (
+        parts _,
+        (
+          refl,
+          (number_right (decimal scale) _ (scale_is scale (scale_within scale own.valid)) refl, (closes _, tt)),
+        ),
+      ),
+    ),
+  ),
 )
 type_right type.Uuid rest own parted = (word_right (codes "UUID") rest refl parted, tt)
 type_right (type.Other text) rest own parted = absurd (true≢false (sym own.own))
@@ -96,9 +107,12 @@ column_is : (s : Schema) → All (λ column. IsTrue (is_own_type column)) (types
 column_is s own k = record {
   right = λ rest parted. (
     quoted_right (get_or (names_of s) k []) _ refl,
-    (refl, right_append (type_pieces column) tail rest
-    (type_right column (text_of tail ++ rest) (type_at s k own) (missing_parted (nullable_of s k) rest parted))
-    (missing_right (nullable_of s k) rest parted)),
+    (
+      refl,
+      right_append (type_pieces column) tail rest
+          (type_right column (text_of tail ++ rest) (type_at s k own) (missing_parted (nullable_of s k) rest parted))
+          (missing_right (nullable_of s k) rest parted),
+    ),
   );
   depth = λ n. depth_append n (type_pieces column) tail
       ∙ ap (λ (m : ℕ). depth_past m tail) (let is = type_at s k own in type_depth column n is.own)
@@ -168,9 +182,17 @@ reference_is : (s : Schema) (other : TableDesign) → IsElement (reference_piece
 reference_is s other = record {
   right = λ rest parted. (
     word_right (codes "FOREIGN") _ refl refl,
-    (refl, (word_right (codes "KEY") _ refl refl, (refl,
-    right_append (list_pieces s key) (target s other) rest (list_right s key _)
-    (refl, (word_right (codes "REFERENCES") _ refl refl, (refl, (quoted_right other.name _ refl, (refl, list_right s key rest)))))))),
+    (
+      refl,
+      (
+        word_right (codes "KEY") _ refl refl,
+        (
+          refl,
+          right_append (list_pieces s key) (target s other) rest (list_right s key _)
+              (refl, (word_right (codes "REFERENCES") _ refl refl, (refl, (quoted_right other.name _ refl, (refl, list_right s key rest))))),
+        ),
+      ),
+    ),
   );
   depth = λ n. depth_append n (list_pieces s key) (target s other)
       ∙ ap (λ (m : ℕ). depth_past m (list_pieces s key)) (list_depth s key n)
@@ -221,8 +243,11 @@ after_right [] rest are parted = tt
 after_right (element ∷ elements) rest are parted =
     let this = All-head IsElement element elements are in (
       parts _,
-      (refl, right_append element (lines_after elements) rest (this.right _ (after_parted elements rest parted))
-      (after_right elements rest (All-tail IsElement element elements are) parted)),
+      (
+        refl,
+        right_append element (lines_after elements) rest (this.right _ (after_parted elements rest parted))
+            (after_right elements rest (All-tail IsElement element elements are) parted),
+      ),
     )
 
 after_depth : (elements : List (List TextPiece)) (n : ℕ) → All IsElement elements → depth_past n (lines_after elements) ≡ n
@@ -237,9 +262,11 @@ lines_right : (elements : List (List TextPiece)) (rest : List ℕ) → All IsEle
     → AreRight (lines_pieces elements) rest
 lines_right [] rest are parted = tt
 lines_right (element ∷ elements) rest are parted =
-    let this = All-head IsElement element elements are in
-    (refl, right_append element (lines_after elements) rest (this.right _ (after_parted elements rest parted))
-    (after_right elements rest (All-tail IsElement element elements are) parted))
+    let this = All-head IsElement element elements are in (
+      refl,
+      right_append element (lines_after elements) rest (this.right _ (after_parted elements rest parted))
+          (after_right elements rest (All-tail IsElement element elements are) parted),
+    )
 
 lines_depth : (elements : List (List TextPiece)) (n : ℕ) → All IsElement elements → depth_past n (lines_pieces elements) ≡ n
 lines_depth [] n are = refl
@@ -254,9 +281,29 @@ pub create_right : (s : Schema) (tables : List TableDesign) (table : TableDesign
     → All (λ column. IsTrue (is_own_type column)) (types_of s) → AreRight (create_pieces s tables table) rest
 create_right s tables table rest own = (
   word_right (codes "CREATE") _ refl refl,
-  (refl, (word_right (codes "TABLE") _ refl refl, (refl, (quoted_right table.name _ refl, (refl, (opens _, (refl,
-  right_append (lines_pieces (elements_pieces s tables table)) (gap (10 ∷ []) ∷ mark 41 ∷ []) rest
-  (lines_right (elements_pieces s tables table) _ (elements_are s tables table own) refl) (refl, (closes rest, tt))))))))),
+  (
+    refl,
+    (
+      word_right (codes "TABLE") _ refl refl,
+      (
+        refl,
+        (
+          quoted_right table.name _ refl,
+          (
+            refl,
+            (
+              opens _,
+              (
+                refl,
+                right_append (lines_pieces (elements_pieces s tables table)) (gap (10 ∷ []) ∷ mark 41 ∷ []) rest
+                    (lines_right (elements_pieces s tables table) _ (elements_are s tables table own) refl) (refl, (closes rest, tt)),
+              ),
+            ),
+          ),
+        ),
+      ),
+    ),
+  ),
 )
 
 pub create_depth : (s : Schema) (tables : List TableDesign) (table : TableDesign)

@@ -1,5 +1,5 @@
 -- Words, numbers, quoted names and marks stand right before a byte that parts lexemes.
-use Rattle.std.proofs.Common.{◌≡◌, ◌+◌, ℕ, zero, suc, Bool, true, false, cond, not, ◌&&◌, Some, List, [], ◌∷◌, ◌++◌, length, refl, sym, ap, subst, ◌∙◌, inl, inr, ⊎_elim, arith, append_assoc, length-append}
+use Rattle.std.proofs.Common.{◌≡◌, ◌+◌, ℕ, Bool, true, false, cond, ◌&&◌, Some, List, [], ◌∷◌, ◌++◌, length, refl, sym, ap, subst, ◌∙◌, ⊎_elim, arith, append_assoc, length-append}
 use Rattle.std.specs.Prelude.{◌==◌, codes}
 use Rattle.std.specs.Char.{is_ascii_digit, is_ascii_uppercase}
 use Rattle.std.specs.List.{list_all, list_any, prefix_len}
@@ -7,7 +7,7 @@ use Rattle.std.proofs.lemmas.Bool.{and_parts, or_cases, eqb-true, true≢false}
 use Rattle.std.proofs.lemmas.Bool.Decides.{nat_tests}
 use Rattle.dep_model.specs.Names.{quotes_doubled}
 use Rattle.sql_names.specs.Names.{quoted_name}
-use Rattle.sql_lexemes.specs.Bytes.{begins_word, is_blank, is_number_byte, is_strange, is_word_byte}
+use Rattle.sql_lexemes.specs.Bytes.{begins_word, is_blank, is_number_byte, is_word_byte}
 use Rattle.sql_lexemes.specs.Ends.{quote_end}
 use Rattle.sql_lexemes.specs.Pieces.{closed_or_open, front_piece}
 use Rattle.sql_lexemes.specs.declared.dialect.Dialect.{Dialect}

@@ -1,15 +1,15 @@
 -- The statements of the text of a design create its tables.
-use Rattle.std.proofs.Common.{◌≡◌, ◌+◌, ℕ, Bool, true, false, None, All, IsTrue, List, [], ◌∷◌, ◌++◌, length, refl, sym, ap, subst, ◌∙◌, arith, append_assoc}
+use Rattle.std.proofs.Common.{◌≡◌, ◌+◌, ℕ, false, All, IsTrue, List, [], ◌∷◌, ◌++◌, refl, sym, ap, subst, ◌∙◌, arith, append_assoc}
 use Rattle.std.specs.Prelude.{codes}
 use Rattle.std.specs.List.{flat_map}
 use Rattle.dep_model.specs.Names.{IsName}
 use Rattle.dep_model.specs.Schemas.{names_of, types_of}
 use Rattle.dep_model.specs.declared.schema.Schema.{Schema}
-use Rattle.ddl_text.specs.Ddl.{comment, ddl_text, table_text}
+use Rattle.ddl_text.specs.Ddl.{comment, table_text}
 use Rattle.ddl_text.specs.declared.table.TableDesign.{TableDesign}
 use Rattle.sql_lexemes.specs.Lexemes.{Lexed}
 use Rattle.sql_lexemes.specs.Pieces.{front_piece}
-use Rattle.sql_lexemes.specs.Statements.{Scan, Stated, before_statement, data_after, is_before_data, scan_from, stated, statements_after}
+use Rattle.sql_lexemes.specs.Statements.{Scan, Stated, before_statement, is_before_data, scan_from, stated, statements_after}
 use Rattle.sql_lexemes.specs.declared.dialect.Dialect.{Dialect}
 use Rattle.sql_lexemes.specs.declared.dialect.Dialect.TheVariants.{Sqlite, Postgres}
 use Rattle.ddl_pieces.specs.Created.{AreCreated, IsCreated}

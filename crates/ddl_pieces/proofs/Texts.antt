@@ -12,7 +12,7 @@ use Rattle.dep_model.specs.declared.column_type.ColumnType.TheVariants as type
 use Rattle.dep_model.specs.declared.schema.Schema.{Schema}
 use Rattle.schema_printer.specs.Printing.{members_from}
 use Rattle.sql_names.specs.Names.{comma_list, name_list, quoted_name, separator}
-use Rattle.ddl_text.specs.Ddl.{column_element, column_elements, column_type, comment, element_lines, elements, is_empty, is_never_missing, key_element, key_elements, keys_elements, reference_element, reference_elements, sql_type, table_text, unique_element, unique_elements}
+use Rattle.ddl_text.specs.Ddl.{column_element, column_type, comment, element_lines, elements, is_empty, is_never_missing, key_element, keys_elements, reference_element, sql_type, table_text, unique_element}
 use Rattle.ddl_text.specs.Designs.{known_keys}
 use Rattle.ddl_text.specs.declared.table.TableDesign.{TableDesign}
 use Rattle.ddl_pieces.specs.Pieces.{TextPiece, column_pieces, columns_pieces, create_pieces, elements_pieces, gap, key_pieces, keys_pieces, lines_after, lines_pieces, list_pieces, mark, name_pieces, names_after, not_null, reference_pieces, references_pieces, referred, text_of, type_pieces, unique_pieces}
