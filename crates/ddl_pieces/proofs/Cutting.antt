@@ -14,35 +14,35 @@ use Rattle.sql_lexemes.specs.Statements.{Scan, after_gap, after_lexeme, depth_af
 use Rattle.ddl_pieces.specs.Pieces.{TextPiece, lexeme_at, lexemes_from, text_of}
 
 -- ---- where pieces stand right
--- a lexeme of a kind has these bytes, wherever it stands before this rest, and is no `;`
-pub record IsLexemeBefore (kind : LexemeKind) (bytes rest : List ℕ) : Type 0 where
+-- a lexeme of a kind has these bytes, whatever stands before it, before this rest, and is no `;`
+pub record IsLexemeBefore (d : Dialect) (kind : LexemeKind) (bytes rest : List ℕ) : Type 0 where
   pub more : ℕ
   pub long : length bytes ≡ more + 1
-  pub front : (d : Dialect) (before : Before) → front_piece d before (bytes ++ rest) ≡ piece.Lexeme kind more
+  pub front : (before : Before) → front_piece d before (bytes ++ rest) ≡ piece.Lexeme kind more
   pub goes_on : (is_a_mark kind && bytes_eq bytes (59 ∷ [])) ≡ false
 
-abbrev pub IsRight : Option LexemeKind → List ℕ → List ℕ → Type 0
-IsRight None bytes rest = list_all is_blank bytes ≡ true
-IsRight (Some kind) bytes rest = IsLexemeBefore kind bytes rest
+abbrev pub IsRight : Dialect → Option LexemeKind → List ℕ → List ℕ → Type 0
+IsRight d None bytes rest = list_all is_blank bytes ≡ true
+IsRight d (Some kind) bytes rest = IsLexemeBefore d kind bytes rest
 
 -- each piece stands right before those after it and the rest
-abbrev pub AreRight : List TextPiece → List ℕ → Type 0
-AreRight [] rest = Unit {0}
-AreRight (p ∷ ps) rest = IsRight p.kind p.bytes (text_of ps ++ rest) × AreRight ps rest
+abbrev pub AreRight : Dialect → List TextPiece → List ℕ → Type 0
+AreRight d [] rest = Unit {0}
+AreRight d (p ∷ ps) rest = IsRight d p.kind p.bytes (text_of ps ++ rest) × AreRight d ps rest
 
 pub text_append : (ps qs : List TextPiece) → text_of (ps ++ qs) ≡ text_of ps ++ text_of qs
 text_append [] qs = refl
 text_append (p ∷ ps) qs =
     ap (λ (t : List ℕ). p.bytes ++ t) (text_append ps qs) ∙ sym (append_assoc p.bytes (text_of ps) (text_of qs))
 
-pub right_append : (ps qs : List TextPiece) (rest : List ℕ) → AreRight ps (text_of qs ++ rest) → AreRight qs rest
-    → AreRight (ps ++ qs) rest
-right_append [] qs rest first second = second
-right_append (p ∷ ps) qs rest first second =
+pub right_append : (d : Dialect) (ps qs : List TextPiece) (rest : List ℕ) → AreRight d ps (text_of qs ++ rest)
+    → AreRight d qs rest → AreRight d (ps ++ qs) rest
+right_append d [] qs rest first second = second
+right_append d (p ∷ ps) qs rest first second =
     let same : text_of (ps ++ qs) ++ rest ≡ text_of ps ++ (text_of qs ++ rest) =
     ap (λ (t : List ℕ). t ++ rest) (text_append ps qs) ∙ append_assoc (text_of ps) (text_of qs) rest in (
-      subst (IsRight p.kind p.bytes) (sym same) first.0,
-      right_append ps qs rest first.1 second,
+      subst (IsRight d p.kind p.bytes) (sym same) first.0,
+      right_append d ps qs rest first.1 second,
     )
 
 -- ---- brackets
@@ -97,7 +97,7 @@ skipped d s [] rest (suc n) long = absurd (omega (arith, long))
 skipped d s (b ∷ bytes) rest zero long = absurd (omega (arith, long))
 skipped d s (b ∷ bytes) rest (suc n) long = skipped d s bytes rest n (omega (arith, long))
 
-lexeme_passed : (d : Dialect) (s : Scan) (kind : LexemeKind) (bytes rest : List ℕ) (is : IsLexemeBefore kind bytes rest)
+lexeme_passed : (d : Dialect) (s : Scan) (kind : LexemeKind) (bytes rest : List ℕ) (is : IsLexemeBefore d kind bytes rest)
     → statements_after d 0 s (bytes ++ rest) ≡ statements_after d 0 (after_lexeme s (lexeme_in s kind bytes) is.more) rest
 unfolding statements_after
 lexeme_passed d s kind [] rest is = let long = is.long in absurd (omega (arith, long))
@@ -106,7 +106,7 @@ lexeme_passed d s kind (b ∷ bytes) rest is =
     let short : length bytes ≡ is.more = omega (arith, long) in
     let whole : take (is.more + 1) ((b ∷ bytes) ++ rest) ≡ b ∷ bytes =
     ap (λ n. take n ((b ∷ bytes) ++ rest)) (sym long) ∙ take-append_seam (b ∷ bytes) rest in
-    ap (λ front. led_by d s b (bytes ++ rest) front (λ skip next. statements_after d skip next (bytes ++ rest))) (is.front d s.before)
+    ap (λ front. led_by d s b (bytes ++ rest) front (λ skip next. statements_after d skip next (bytes ++ rest))) (is.front s.before)
     ∙ rw whole (rw is.goes_on (skipped d (after_lexeme s (lexeme_in s kind (b ∷ bytes)) is.more) bytes rest is.more short))
 
 -- ---- past pieces
@@ -118,7 +118,7 @@ pub record ArePast (d : Dialect) (s : Scan) (ps : List TextPiece) (rest : List �
   pub lexemes : after.lexemes ≡ s.lexemes ++ lexemes_from s.place s.depth ps
 
 past_one : (d : Dialect) (s : Scan) (kind : Option LexemeKind) (bytes : List ℕ) (ps : List TextPiece) (rest : List ℕ)
-    → IsRight kind bytes (text_of ps ++ rest) → ((next : Scan) → ArePast d next ps rest)
+    → IsRight d kind bytes (text_of ps ++ rest) → ((next : Scan) → ArePast d next ps rest)
     → ArePast d s (record { kind = kind; bytes = bytes } ∷ ps) rest
 unfolding lexemes_from
 past_one d s None bytes ps rest right later =
@@ -145,7 +145,7 @@ past_one d s (Some kind) bytes ps rest right later =
           ∙ ap (λ (n : ℕ). s.lexemes ++ l ∷ lexemes_from (s.place + n) (depth_after l) ps) (sym right.long);
     }
 
-pub past : (d : Dialect) (s : Scan) (ps : List TextPiece) (rest : List ℕ) → AreRight ps rest → ArePast d s ps rest
+pub past : (d : Dialect) (s : Scan) (ps : List TextPiece) (rest : List ℕ) → AreRight d ps rest → ArePast d s ps rest
 unfolding lexemes_from
 past d s [] rest right = record { after = s; same = refl; depth = refl; lexemes = sym (append-nil s.lexemes) }
 past d s (p ∷ ps) rest right = past_one d s p.kind p.bytes ps rest right.0 (λ next. past d next ps rest right.1)

@@ -1,5 +1,6 @@
 pub mod Cutting
 pub mod Fronts
+pub mod Types
 pub mod Elements
 pub mod Texts
 pub mod Comments

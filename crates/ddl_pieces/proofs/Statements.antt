@@ -1,9 +1,9 @@
 -- The statements of the text of a design create its tables.
-use Rattle.std.proofs.Common.{◌≡◌, ◌+◌, ℕ, false, All, IsTrue, List, [], ◌∷◌, ◌++◌, refl, sym, ap, subst, ◌∙◌, arith, append_assoc}
+use Rattle.std.proofs.Common.{◌≡◌, ◌+◌, ℕ, false, All, List, [], ◌∷◌, ◌++◌, refl, sym, ap, subst, ◌∙◌, arith, append_assoc}
 use Rattle.std.specs.Prelude.{codes}
 use Rattle.std.specs.List.{flat_map}
 use Rattle.dep_model.specs.Names.{IsName}
-use Rattle.dep_model.specs.Schemas.{names_of, types_of}
+use Rattle.dep_model.specs.Schemas.{names_of}
 use Rattle.dep_model.specs.declared.schema.Schema.{Schema}
 use Rattle.ddl_text.specs.Ddl.{comment, table_text}
 use Rattle.ddl_text.specs.declared.table.TableDesign.{TableDesign}
@@ -13,10 +13,10 @@ use Rattle.sql_lexemes.specs.Statements.{Scan, Stated, before_statement, is_befo
 use Rattle.sql_lexemes.specs.declared.dialect.Dialect.{Dialect}
 use Rattle.sql_lexemes.specs.declared.dialect.Dialect.TheVariants.{Sqlite, Postgres}
 use Rattle.ddl_pieces.specs.Created.{AreCreated, IsCreated}
-use Rattle.ddl_pieces.specs.Pieces.{create_lexemes, create_pieces, is_own_type, lexemes_from, text_of}
+use Rattle.ddl_pieces.specs.Pieces.{create_lexemes, create_pieces, lexemes_from, text_of}
 use Rattle.ddl_pieces.proofs.Cutting.{ArePast, IsPassed, blanks_passed, depth_past, past}
 use Rattle.ddl_pieces.proofs.Comments.{comment_passed}
-use Rattle.ddl_pieces.proofs.Elements.{create_depth, create_right}
+use Rattle.ddl_pieces.proofs.Elements.{AreSound, create_depth, create_right}
 use Rattle.ddl_pieces.proofs.Texts.{statement_text}
 
 -- a semicolon outside brackets ends a statement, where no data follows it
@@ -44,9 +44,9 @@ record IsStatement (d : Dialect) (scan : Scan) (s : Schema) (all : List TableDes
   pub outside : next.depth ≡ 0
 
 table_stated : (d : Dialect) (scan : Scan) (s : Schema) (all : List TableDesign) (table : TableDesign) (rest : List ℕ)
-    → All IsName (names_of s) → All (λ column. IsTrue (is_own_type column)) (types_of s)
+    → All IsName (names_of s) → AreSound d s
     → scan.lexemes ≡ [] → scan.depth ≡ 0 → IsStatement d scan s all table rest
-table_stated d scan s all table rest names own nothing outside = record {
+table_stated d scan s all table rest names sound nothing outside = record {
   scanned = past_all.after;
   next = gap.after;
   same = ap (λ (t : List ℕ). statements_after d 0 scan (t ++ rest)) (statement_text s all table)
@@ -68,13 +68,13 @@ table_stated d scan s all table rest names own nothing outside = record {
     before = comment_passed d scan s table (text ++ 59 ∷ 10 ∷ rest) names
 
     past_all : ArePast d before.after (create_pieces s all table) (59 ∷ 10 ∷ rest)
-    past_all = past d before.after (create_pieces s all table) (59 ∷ 10 ∷ rest) (create_right s all table (59 ∷ 10 ∷ rest) own)
+    past_all = past d before.after (create_pieces s all table) (59 ∷ 10 ∷ rest) (create_right d s all table (59 ∷ 10 ∷ rest) sound)
 
     depth : before.after.depth ≡ 0
     depth = before.depth ∙ outside
 
     closed : past_all.after.depth ≡ 0
-    closed = past_all.depth ∙ ap (λ (n : ℕ). depth_past n (create_pieces s all table)) depth ∙ create_depth s all table own
+    closed = past_all.depth ∙ ap (λ (n : ℕ). depth_past n (create_pieces s all table)) depth ∙ create_depth d s all table sound
 
     lexemes : past_all.after.lexemes ≡ create_lexemes before.after.place s all table
     lexemes = past_all.lexemes
@@ -85,12 +85,12 @@ table_stated d scan s all table rest names own nothing outside = record {
     gap = blanks_passed d (scan_from (before_statement 0) (past_all.after.place + 1)) (10 ∷ []) rest refl
 
 pub tables_created : (d : Dialect) (scan : Scan) (s : Schema) (all tables : List TableDesign)
-    → All IsName (names_of s) → All (λ column. IsTrue (is_own_type column)) (types_of s)
+    → All IsName (names_of s) → AreSound d s
     → scan.lexemes ≡ [] → scan.depth ≡ 0
     → AreCreated s all tables (statements_after d 0 scan (flat_map (table_text s all) tables))
 unfolding statements_after
-tables_created d scan s all [] names own nothing outside = record { lexemes = nothing; whole = refl }
-tables_created d scan s all (table ∷ tables) names own nothing outside =
-    let is = table_stated d scan s all table (flat_map (table_text s all) tables) names own nothing outside in
+tables_created d scan s all [] names sound nothing outside = record { lexemes = nothing; whole = refl }
+tables_created d scan s all (table ∷ tables) names sound nothing outside =
+    let is = table_stated d scan s all table (flat_map (table_text s all) tables) names sound nothing outside in
     subst (AreCreated s all (table ∷ tables)) (sym is.same)
-    (is.created, tables_created d is.next s all tables names own is.nothing is.outside)
+    (is.created, tables_created d is.next s all tables names sound is.nothing is.outside)

@@ -1,5 +1,5 @@
 -- The text of a statement is that of its pieces.
-use Rattle.std.proofs.Common.{◌≡◌, ℕ, Bool, true, false, Some, None, Option, List, [], ◌∷◌, ◌++◌, map, filter, refl, sym, ap, ap₂, ◌∙◌, append_assoc, append-nil}
+use Rattle.std.proofs.Common.{◌≡◌, ℕ, Bool, true, false, Some, None, Option, List, [], ◌∷◌, ◌++◌, map, filter, refl, sym, ap, ap₂, ◌∙◌, append_assoc}
 use Rattle.std.specs.Prelude.{codes, if◌then◌else◌, slice_get, slice_index_or, unwrap_or, option_map}
 use Rattle.std.specs.List.{flat_map}
 use Rattle.std.proofs.lemmas.List.{map-append}
@@ -18,20 +18,12 @@ use Rattle.ddl_text.specs.declared.table.TableDesign.{TableDesign}
 use Rattle.ddl_pieces.specs.Pieces.{TextPiece, column_pieces, columns_pieces, create_pieces, elements_pieces, gap, key_pieces, keys_pieces, lines_after, lines_pieces, list_pieces, mark, name_pieces, names_after, not_null, reference_pieces, references_pieces, referred, text_of, type_pieces, unique_pieces}
 use Rattle.ddl_pieces.proofs.Cutting.{text_append}
 use Rattle.ddl_pieces.proofs.Elements.{target}
+use Rattle.ddl_pieces.proofs.Types.{type_text}
 
 six_parts : (a b c d e f : List ℕ) → a ++ b ++ c ++ d ++ e ++ f ≡ a ++ (b ++ (c ++ (d ++ (e ++ f))))
 six_parts a b c d e f = simp append_assoc
 
 -- ---- columns
-type_text : (column : ColumnType) → text_of (type_pieces column) ≡ sql_type column
-type_text type.Text = refl
-type_text type.Integer = refl
-type_text type.Date = refl
-type_text type.Timestamp = refl
-type_text (type.Decimal scale) = refl
-type_text type.Uuid = refl
-type_text (type.Other text) = append-nil text
-
 missing_text : (nullable : Bool) → text_of (if nullable then [] else not_null) ≡ (if nullable then [] else codes " NOT NULL")
 missing_text true = refl
 missing_text false = refl

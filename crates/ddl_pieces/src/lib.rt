@@ -12,12 +12,12 @@ ghost use Rattle.ddl_text.specs.declared.table.TableDesign.{TableDesign};
 ghost use Rattle.sql_lexemes.specs.Statements.{statements_of};
 ghost use Rattle.sql_lexemes.specs.declared.dialect.Dialect.{Dialect};
 ghost use Rattle.ddl_pieces.specs.Created.{AreCreated};
-ghost use Rattle.ddl_pieces.specs.Pieces.{is_own_type};
+ghost use Rattle.ddl_pieces.specs.Pieces.{is_sound_type};
 
 /// The statements of the text of a design create its tables, one each, in order.
 pub fn statements_create_the_tables()
     ensures law { (d : Dialect) (s : Schema) (tables : List TableDesign)
         → All IsName (names_of s)
-        → All (λ column. IsTrue (is_own_type column)) (types_of s)
+        → All (λ column. IsTrue (is_sound_type d column)) (types_of s)
         → AreCreated s tables tables (statements_of d (ddl_text s tables)) }
 {}
