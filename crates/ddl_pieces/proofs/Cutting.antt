@@ -33,9 +33,11 @@ AreRight d (p ∷ ps) rest = IsRight d p.kind p.bytes (text_of ps ++ rest) × Ar
 pub text_append : (ps qs : List TextPiece) → text_of (ps ++ qs) ≡ text_of ps ++ text_of qs
 text_append [] qs = refl
 text_append (p ∷ ps) qs =
-    ap (λ (t : List ℕ). p.bytes ++ t) (text_append ps qs) ∙ sym (append_assoc p.bytes (text_of ps) (text_of qs))
+    ap (λ (t : List ℕ). p.bytes ++ t) (text_append ps qs)
+    ∙ sym (append_assoc p.bytes (text_of ps) (text_of qs))
 
-pub right_append : (d : Dialect) (ps qs : List TextPiece) (rest : List ℕ) → AreRight d ps (text_of qs ++ rest)
+pub right_append : (d : Dialect) (ps qs : List TextPiece) (rest : List ℕ)
+    → AreRight d ps (text_of qs ++ rest)
     → AreRight d qs rest → AreRight d (ps ++ qs) rest
 right_append d [] qs rest first second = second
 right_append d (p ∷ ps) qs rest first second =
@@ -55,7 +57,8 @@ abbrev pub depth_past : ℕ → List TextPiece → ℕ
 depth_past depth [] = depth
 depth_past depth (p ∷ ps) = depth_past (depth_of depth p.kind p.bytes) ps
 
-pub depth_append : (depth : ℕ) (ps qs : List TextPiece) → depth_past depth (ps ++ qs) ≡ depth_past (depth_past depth ps) qs
+pub depth_append : (depth : ℕ) (ps qs : List TextPiece)
+    → depth_past depth (ps ++ qs) ≡ depth_past (depth_past depth ps) qs
 depth_append depth [] qs = refl
 depth_append depth (p ∷ ps) qs = depth_append (depth_of depth p.kind p.bytes) ps qs
 
@@ -73,7 +76,8 @@ blank_passed : (d : Dialect) (s : Scan) (b : ℕ) (text : List ℕ) → is_blank
 unfolding statements_after front_piece
 blank_passed d s b text blank = rw blank refl
 
-pub blanks_passed : (d : Dialect) (s : Scan) (bytes rest : List ℕ) → list_all is_blank bytes ≡ true → IsPassed d s bytes rest
+pub blanks_passed : (d : Dialect) (s : Scan) (bytes rest : List ℕ) → list_all is_blank bytes ≡ true
+    → IsPassed d s bytes rest
 blanks_passed d s [] rest all =
     record { after = s; same = refl; place = omega arith; depth = refl; lexemes = refl }
 blanks_passed d s (b ∷ bytes) rest all =
@@ -97,8 +101,10 @@ skipped d s [] rest (suc n) long = absurd (omega (arith, long))
 skipped d s (b ∷ bytes) rest zero long = absurd (omega (arith, long))
 skipped d s (b ∷ bytes) rest (suc n) long = skipped d s bytes rest n (omega (arith, long))
 
-lexeme_passed : (d : Dialect) (s : Scan) (kind : LexemeKind) (bytes rest : List ℕ) (is : IsLexemeBefore d kind bytes rest)
-    → statements_after d 0 s (bytes ++ rest) ≡ statements_after d 0 (after_lexeme s (lexeme_in s kind bytes) is.more) rest
+lexeme_passed : (d : Dialect) (s : Scan) (kind : LexemeKind) (bytes rest : List ℕ)
+    (is : IsLexemeBefore d kind bytes rest)
+    → statements_after d 0 s (bytes ++ rest)
+    ≡ statements_after d 0 (after_lexeme s (lexeme_in s kind bytes) is.more) rest
 unfolding statements_after
 lexeme_passed d s kind [] rest is = let long = is.long in absurd (omega (arith, long))
 lexeme_passed d s kind (b ∷ bytes) rest is =
@@ -106,8 +112,10 @@ lexeme_passed d s kind (b ∷ bytes) rest is =
     let short : length bytes ≡ is.more = omega (arith, long) in
     let whole : take (is.more + 1) ((b ∷ bytes) ++ rest) ≡ b ∷ bytes =
     ap (λ n. take n ((b ∷ bytes) ++ rest)) (sym long) ∙ take-append_seam (b ∷ bytes) rest in
-    ap (λ front. led_by d s b (bytes ++ rest) front (λ skip next. statements_after d skip next (bytes ++ rest))) (is.front s.before)
-    ∙ rw whole (rw is.goes_on (skipped d (after_lexeme s (lexeme_in s kind (b ∷ bytes)) is.more) bytes rest is.more short))
+    let text = bytes ++ rest in
+    ap (λ front. led_by d s b text front (λ skip next. statements_after d skip next text)) (is.front s.before)
+    ∙ rw whole (rw is.goes_on
+    (skipped d (after_lexeme s (lexeme_in s kind (b ∷ bytes)) is.more) bytes rest is.more short))
 
 -- ---- past pieces
 -- a scan has passed these pieces
@@ -117,7 +125,8 @@ pub record ArePast (d : Dialect) (s : Scan) (ps : List TextPiece) (rest : List �
   pub depth : after.depth ≡ depth_past s.depth ps
   pub lexemes : after.lexemes ≡ s.lexemes ++ lexemes_from s.place s.depth ps
 
-past_one : (d : Dialect) (s : Scan) (kind : Option LexemeKind) (bytes : List ℕ) (ps : List TextPiece) (rest : List ℕ)
+past_one : (d : Dialect) (s : Scan) (kind : Option LexemeKind) (bytes : List ℕ) (ps : List TextPiece)
+    (rest : List ℕ)
     → IsRight d kind bytes (text_of ps ++ rest) → ((next : Scan) → ArePast d next ps rest)
     → ArePast d s (record { kind = kind; bytes = bytes } ∷ ps) rest
 unfolding lexemes_from
@@ -128,7 +137,8 @@ past_one d s None bytes ps rest right later =
       after = past.after;
       same = ap (statements_after d 0 s) (append_assoc bytes (text_of ps) rest) ∙ (gap.same ∙ past.same);
       depth = past.depth ∙ ap (λ (n : ℕ). depth_past n ps) gap.depth;
-      lexemes = past.lexemes ∙ ap (λ (ls : List Lexed). ls ++ lexemes_from gap.after.place gap.after.depth ps) gap.lexemes
+      lexemes = past.lexemes
+          ∙ ap (λ (ls : List Lexed). ls ++ lexemes_from gap.after.place gap.after.depth ps) gap.lexemes
           ∙ ap (λ (n : ℕ). s.lexemes ++ lexemes_from n gap.after.depth ps) gap.place
           ∙ ap (λ (n : ℕ). s.lexemes ++ lexemes_from (s.place + length bytes) n ps) gap.depth;
     }
@@ -145,7 +155,10 @@ past_one d s (Some kind) bytes ps rest right later =
           ∙ ap (λ (n : ℕ). s.lexemes ++ l ∷ lexemes_from (s.place + n) (depth_after l) ps) (sym right.long);
     }
 
-pub past : (d : Dialect) (s : Scan) (ps : List TextPiece) (rest : List ℕ) → AreRight d ps rest → ArePast d s ps rest
+pub past : (d : Dialect) (s : Scan) (ps : List TextPiece) (rest : List ℕ) → AreRight d ps rest
+    → ArePast d s ps rest
 unfolding lexemes_from
-past d s [] rest right = record { after = s; same = refl; depth = refl; lexemes = sym (append-nil s.lexemes) }
-past d s (p ∷ ps) rest right = past_one d s p.kind p.bytes ps rest right.0 (λ next. past d next ps rest right.1)
+past d s [] rest right =
+    record { after = s; same = refl; depth = refl; lexemes = sym (append-nil s.lexemes) }
+past d s (p ∷ ps) rest right =
+    past_one d s p.kind p.bytes ps rest right.0 (λ next. past d next ps rest right.1)

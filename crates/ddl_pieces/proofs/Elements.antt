@@ -32,7 +32,8 @@ abbrev pub AreSound : Dialect → Schema → Type 0
 AreSound d s = All (λ column. IsTrue (is_sound_type d column)) (types_of s)
 
 -- ---- columns
-type_at : (d : Dialect) (s : Schema) (k : ℕ) → AreSound d s → IsSound d (get_or (types_of s) k type.Text)
+type_at : (d : Dialect) (s : Schema) (k : ℕ) → AreSound d s
+    → IsSound d (get_or (types_of s) k type.Text)
 type_at d s k sound = ⊎_elim
     (λ (here : k < length (types_of s)). record {
       sound = All-get_or (λ column. IsTrue (is_sound_type d column)) (types_of s) k type.Text here sound;
@@ -47,12 +48,15 @@ type_at d s k sound = ⊎_elim
 abbrev missing : Bool → List TextPiece
 missing nullable = if nullable then [] else not_null
 
-missing_right : (d : Dialect) (nullable : Bool) (rest : List ℕ) → IsParted rest → AreRight d (missing nullable) rest
+missing_right : (d : Dialect) (nullable : Bool) (rest : List ℕ) → IsParted rest
+    → AreRight d (missing nullable) rest
 missing_right d true rest parted = tt
 missing_right d false rest parted =
-    (refl, word_then d (codes "NOT") (word (codes "NULL") ∷ []) rest refl (word_right d (codes "NULL") rest refl parted, tt))
+    let last = word_right d (codes "NULL") rest refl parted in
+    (refl, word_then d (codes "NOT") (word (codes "NULL") ∷ []) rest refl (last, tt))
 
-missing_parted : (nullable : Bool) (rest : List ℕ) → IsParted rest → IsParted (text_of (missing nullable) ++ rest)
+missing_parted : (nullable : Bool) (rest : List ℕ) → IsParted rest
+    → IsParted (text_of (missing nullable) ++ rest)
 missing_parted true rest parted = parted
 missing_parted false rest parted = refl
 
@@ -81,20 +85,24 @@ column_is d s sound k = record {
     is = type_at d s k sound
 
 -- ---- lists of names
-after_parted : (names : List (List ℕ)) (rest : List ℕ) → IsParted rest → IsParted (text_of (names_after names) ++ rest)
+after_parted : (names : List (List ℕ)) (rest : List ℕ) → IsParted rest
+    → IsParted (text_of (names_after names) ++ rest)
 after_parted [] rest parted = parted
 after_parted (name ∷ names) rest parted = refl
 
-after_right : (d : Dialect) (names : List (List ℕ)) (rest : List ℕ) → IsParted rest → AreRight d (names_after names) rest
+after_right : (d : Dialect) (names : List (List ℕ)) (rest : List ℕ) → IsParted rest
+    → AreRight d (names_after names) rest
 after_right d [] rest parted = tt
 after_right d (name ∷ names) rest parted =
-    (parts d _, (refl, (quoted_right d name _ (after_parted names rest parted), after_right d names rest parted)))
+    let here = quoted_right d name _ (after_parted names rest parted) in
+    (parts d _, (refl, (here, after_right d names rest parted)))
 
 after_depth : (names : List (List ℕ)) (n : ℕ) → depth_past n (names_after names) ≡ n
 after_depth [] n = refl
 after_depth (name ∷ names) n = after_depth names n
 
-names_right : (d : Dialect) (names : List (List ℕ)) (rest : List ℕ) → IsParted rest → AreRight d (name_pieces names) rest
+names_right : (d : Dialect) (names : List (List ℕ)) (rest : List ℕ) → IsParted rest
+    → AreRight d (name_pieces names) rest
 names_right d [] rest parted = tt
 names_right d (name ∷ names) rest parted =
     (quoted_right d name _ (after_parted names rest parted), after_right d names rest parted)
@@ -103,11 +111,13 @@ names_depth : (names : List (List ℕ)) (n : ℕ) → depth_past n (name_pieces 
 names_depth [] n = refl
 names_depth (name ∷ names) n = after_depth names n
 
-list_right : (d : Dialect) (s : Schema) (x : Attributes) (rest : List ℕ) → AreRight d (list_pieces s x) rest
+list_right : (d : Dialect) (s : Schema) (x : Attributes) (rest : List ℕ)
+    → AreRight d (list_pieces s x) rest
 list_right d s x rest =
     let names = members_from x 0 (names_of s) in (
       opens d _,
-      right_append d (name_pieces names) (mark 41 ∷ []) rest (names_right d names (41 ∷ rest) refl) (closes d rest, tt),
+      right_append d (name_pieces names) (mark 41 ∷ []) rest (names_right d names (41 ∷ rest) refl)
+          (closes d rest, tt),
     )
 
 list_depth : (s : Schema) (x : Attributes) (n : ℕ) → depth_past n (list_pieces s x) ≡ n
@@ -120,14 +130,16 @@ list_depth s x n =
 -- ---- keys and references
 key_is : (d : Dialect) (s : Schema) (key : Attributes) → IsElement d (key_pieces s key)
 key_is d s key = record {
-  right = λ rest parted. word_then d (codes "PRIMARY") (word (codes "KEY") ∷ blank ∷ list_pieces s key) rest refl
+  right = λ rest parted.
+      word_then d (codes "PRIMARY") (word (codes "KEY") ∷ blank ∷ list_pieces s key) rest refl
       (word_then d (codes "KEY") (list_pieces s key) rest refl (list_right d s key rest));
   depth = λ n. list_depth s key n;
 }
 
 unique_is : (d : Dialect) (s : Schema) (key : Attributes) → IsElement d (unique_pieces s key)
 unique_is d s key = record {
-  right = λ rest parted. word_then d (codes "UNIQUE") (list_pieces s key) rest refl (list_right d s key rest);
+  right = λ rest parted.
+      word_then d (codes "UNIQUE") (list_pieces s key) rest refl (list_right d s key rest);
   depth = λ n. list_depth s key n;
 }
 
@@ -137,7 +149,8 @@ target s other =
     blank ∷ word (codes "REFERENCES") ∷ blank ∷ quoted_piece other.name ∷ blank
     ∷ list_pieces s (attributes other.key)
 
-target_right : (d : Dialect) (s : Schema) (other : TableDesign) (rest : List ℕ) → AreRight d (target s other) rest
+target_right : (d : Dialect) (s : Schema) (other : TableDesign) (rest : List ℕ)
+    → AreRight d (target s other) rest
 target_right d s other rest =
     let key = list_pieces s (attributes other.key) in (
       refl,
@@ -147,10 +160,12 @@ target_right d s other rest =
 
 reference_is : (d : Dialect) (s : Schema) (other : TableDesign) → IsElement d (reference_pieces s other)
 reference_is d s other = record {
-  right = λ rest parted. word_then d (codes "FOREIGN") (word (codes "KEY") ∷ blank ∷ (key ++ target s other)) rest refl
+  right = λ rest parted.
+      word_then d (codes "FOREIGN") (word (codes "KEY") ∷ blank ∷ (key ++ target s other)) rest refl
       (word_then d (codes "KEY") (key ++ target s other) rest refl
       (right_append d key (target s other) rest
-      (list_right d s (attributes other.key) (text_of (target s other) ++ rest)) (target_right d s other rest)));
+      (list_right d s (attributes other.key) (text_of (target s other) ++ rest))
+      (target_right d s other rest)));
   depth = λ n. depth_append n key (target s other)
       ∙ ap (λ (m : ℕ). depth_past m key) (list_depth s (attributes other.key) n)
       ∙ list_depth s (attributes other.key) n;
@@ -164,16 +179,19 @@ referred_is d s None = record { right = λ rest parted. tt; depth = λ n. refl }
 referred_is d s (Some other) = reference_is d s other
 
 -- ---- elements
-mapped : (d : Dialect) {X : Type 0} (f : X → List TextPiece) → ((x : X) → IsElement d (f x)) → (xs : List X)
+mapped : (d : Dialect) {X : Type 0} (f : X → List TextPiece) → ((x : X) → IsElement d (f x))
+    → (xs : List X)
     → All (IsElement d) (map f xs)
 mapped d f each xs = All-map (IsElement d) f xs (λ k default within. each (get_or xs k default))
 
 abbrev primary : Schema → Attributes → Bool → List (List TextPiece)
 primary s key empty = if empty then [] else key_pieces s key ∷ []
 
-primary_is : (d : Dialect) (s : Schema) (key : Attributes) (empty : Bool) → All (IsElement d) (primary s key empty)
+primary_is : (d : Dialect) (s : Schema) (key : Attributes) (empty : Bool)
+    → All (IsElement d) (primary s key empty)
 primary_is d s key true = All-nil (IsElement d)
-primary_is d s key false = All-cons (IsElement d) (key_pieces s key) [] (key_is d s key) (All-nil (IsElement d))
+primary_is d s key false =
+    All-cons (IsElement d) (key_pieces s key) [] (key_is d s key) (All-nil (IsElement d))
 
 keys_are : (d : Dialect) (s : Schema) (table : TableDesign) → All (IsElement d) (keys_pieces s table)
 keys_are d s table =
@@ -186,14 +204,17 @@ keys_are d s table =
     others : List Attributes
     others = filter (is_never_missing s) (known_keys table.other_keys)
 
-elements_are : (d : Dialect) (s : Schema) (tables : List TableDesign) (table : TableDesign) → AreSound d s
+elements_are : (d : Dialect) (s : Schema) (tables : List TableDesign) (table : TableDesign)
+    → AreSound d s
     → All (IsElement d) (elements_pieces s tables table)
 elements_are d s tables table sound =
-    All-append (IsElement d) (columns_pieces s table ++ keys_pieces s table) (references_pieces s tables table)
+    All-append (IsElement d) (columns_pieces s table ++ keys_pieces s table)
+    (references_pieces s tables table)
     (All-append (IsElement d) (columns_pieces s table) (keys_pieces s table)
     (mapped d (column_pieces s) (column_is d s sound) (members_below (width_of s) (attributes table.scheme)))
     (keys_are d s table))
-    (mapped d (λ j. referred s (slice_get tables j)) (λ j. referred_is d s (slice_get tables j)) table.refs.items)
+    (mapped d (λ j. referred s (slice_get tables j)) (λ j. referred_is d s (slice_get tables j))
+    table.refs.items)
 
 -- ---- lines
 further_parted : (elements : List (List TextPiece)) (rest : List ℕ) → IsParted rest
@@ -201,7 +222,8 @@ further_parted : (elements : List (List TextPiece)) (rest : List ℕ) → IsPart
 further_parted [] rest parted = parted
 further_parted (element ∷ elements) rest parted = refl
 
-further_right : (d : Dialect) (elements : List (List TextPiece)) (rest : List ℕ) → All (IsElement d) elements
+further_right : (d : Dialect) (elements : List (List TextPiece)) (rest : List ℕ)
+    → All (IsElement d) elements
     → IsParted rest → AreRight d (lines_after elements) rest
 further_right d [] rest are parted = tt
 further_right d (element ∷ elements) rest are parted =
@@ -210,10 +232,12 @@ further_right d (element ∷ elements) rest are parted =
     let here = this.right _ (further_parted elements rest parted) in
     (parts d _, (refl, right_append d element (lines_after elements) rest here others))
 
-element_depth : (d : Dialect) (element : List TextPiece) (elements : List (List TextPiece)) (n : ℕ) → IsElement d element
+element_depth : (d : Dialect) (element : List TextPiece) (elements : List (List TextPiece)) (n : ℕ)
+    → IsElement d element
     → depth_past n (element ++ lines_after elements) ≡ depth_past n (lines_after elements)
 element_depth d element elements n is =
-    depth_append n element (lines_after elements) ∙ ap (λ (m : ℕ). depth_past m (lines_after elements)) (is.depth n)
+    depth_append n element (lines_after elements)
+    ∙ ap (λ (m : ℕ). depth_past m (lines_after elements)) (is.depth n)
 
 further_depth : (d : Dialect) (elements : List (List TextPiece)) (n : ℕ) → All (IsElement d) elements
     → depth_past n (lines_after elements) ≡ n
@@ -222,7 +246,8 @@ further_depth d (element ∷ elements) n are =
     element_depth d element elements n (All-head (IsElement d) element elements are)
     ∙ further_depth d elements n (All-tail (IsElement d) element elements are)
 
-lines_right : (d : Dialect) (elements : List (List TextPiece)) (rest : List ℕ) → All (IsElement d) elements
+lines_right : (d : Dialect) (elements : List (List TextPiece)) (rest : List ℕ)
+    → All (IsElement d) elements
     → IsParted rest → AreRight d (lines_pieces elements) rest
 lines_right d [] rest are parted = tt
 lines_right d (element ∷ elements) rest are parted =
@@ -243,10 +268,11 @@ lines_depth d (element ∷ elements) n are =
 abbrev last : List TextPiece
 last = gap (10 ∷ []) ∷ mark 41 ∷ []
 
-pub create_right : (d : Dialect) (s : Schema) (tables : List TableDesign) (table : TableDesign) (rest : List ℕ)
-    → AreSound d s → AreRight d (create_pieces s tables table) rest
+pub create_right : (d : Dialect) (s : Schema) (tables : List TableDesign) (table : TableDesign)
+    (rest : List ℕ) → AreSound d s → AreRight d (create_pieces s tables table) rest
 create_right d s tables table rest sound =
-    word_then d (codes "CREATE") (word (codes "TABLE") ∷ blank ∷ quoted_piece table.name ∷ blank ∷ bracketed) rest refl
+    word_then d (codes "CREATE") (word (codes "TABLE") ∷ blank ∷ quoted_piece table.name ∷ blank ∷ bracketed)
+    rest refl
     (word_then d (codes "TABLE") (quoted_piece table.name ∷ blank ∷ bracketed) rest refl
     (name_then d table.name bracketed rest (opens d _, (refl, within))))
   where
@@ -262,7 +288,8 @@ create_right d s tables table rest sound =
         (lines_right d (elements_pieces s tables table) _ (elements_are d s tables table sound) refl)
         (refl, (closes d rest, tt))
 
-pub create_depth : (d : Dialect) (s : Schema) (tables : List TableDesign) (table : TableDesign) → AreSound d s
+pub create_depth : (d : Dialect) (s : Schema) (tables : List TableDesign) (table : TableDesign)
+    → AreSound d s
     → depth_past 0 (create_pieces s tables table) ≡ 0
 create_depth d s tables table sound =
     depth_append 1 (lines_pieces (elements_pieces s tables table)) last

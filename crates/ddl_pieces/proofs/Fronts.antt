@@ -35,7 +35,8 @@ abbrev pub IsParted : List ℕ → Type 0
 IsParted [] = Unit {0}
 IsParted (b ∷ bs) = parts_lexemes b ≡ true
 
-fails_among : (test : ℕ → Bool) (b : ℕ) (bytes : List ℕ) → list_all (λ other. not (test other)) bytes ≡ true
+fails_among : (test : ℕ → Bool) (b : ℕ) (bytes : List ℕ)
+    → list_all (λ other. not (test other)) bytes ≡ true
     → list_any (λ other. b == other) bytes ≡ true → test b ≡ false
 fails_among test b [] fail among = absurd (true≢false (sym among))
 fails_among test b (other ∷ bytes) fail among =
@@ -46,7 +47,8 @@ fails_among test b (other ∷ bytes) fail among =
     (λ later. fails_among test b bytes parts.1 later)
     (or_cases (b == other) (list_any (λ a. b == a) bytes) among)
 
-pub stops_parted : (test : ℕ → Bool) (rest : List ℕ) → list_all (λ other. not (test other)) parting ≡ true
+pub stops_parted : (test : ℕ → Bool) (rest : List ℕ)
+    → list_all (λ other. not (test other)) parting ≡ true
     → IsParted rest → prefix_len test rest ≡ 0
 stops_parted test [] fail parted = refl
 stops_parted test (b ∷ rest) fail parted =
@@ -70,7 +72,8 @@ prefix_past test (b ∷ bytes) rest all stops =
 -- a byte with the longest front of what follows it is a lexeme, whatever stands before it
 abbrev pub Fronts : Dialect → LexemeKind → (ℕ → Bool) → ℕ → Type 0
 Fronts d kind test b =
-    (before : Before) (text : List ℕ) → front_piece d before (b ∷ text) ≡ piece.Lexeme kind (prefix_len test text)
+    (before : Before) (text : List ℕ)
+    → front_piece d before (b ∷ text) ≡ piece.Lexeme kind (prefix_len test text)
 
 pub run_right : (d : Dialect) (kind : LexemeKind) (test : ℕ → Bool) (b : ℕ) (bytes rest after : List ℕ)
     → Fronts d kind test b → ((text : List ℕ) → (is_a_mark kind && bytes_eq text (59 ∷ [])) ≡ false)
@@ -104,7 +107,8 @@ word_front d b begins before text =
     let quote : (b == 34) ≡ false = grind (arith, nat_tests, begins) in
     let back : (b == 96) ≡ false = grind (arith, nat_tests, begins) in
     let bracket : (b == 91) ≡ false = grind (arith, nat_tests, begins) in
-    rw blank (rw backslash (rw hyphen (rw slash (rw string (rw dollar (rw quote (rw back (rw bracket (rw begins refl)))))))))
+    rw blank (rw backslash (rw hyphen (rw slash (rw string (rw dollar
+    (rw quote (rw back (rw bracket (rw begins refl)))))))))
 
 -- a byte that begins a word, and bytes of words
 abbrev pub is_word_text : List ℕ → Bool
@@ -126,12 +130,15 @@ word_right d (b ∷ bytes) rest word parted =
     }
 
 -- a word and a blank before pieces
-pub word_then : (d : Dialect) (bytes : List ℕ) (ps : List TextPiece) (rest : List ℕ) → is_word_text bytes ≡ true
+pub word_then : (d : Dialect) (bytes : List ℕ) (ps : List TextPiece) (rest : List ℕ)
+    → is_word_text bytes ≡ true
     → AreRight d ps rest → AreRight d (word bytes ∷ blank ∷ ps) rest
-word_then d bytes ps rest is right = (word_right d bytes (32 ∷ (text_of ps ++ rest)) is refl, (refl, right))
+word_then d bytes ps rest is right =
+    (word_right d bytes (32 ∷ (text_of ps ++ rest)) is refl, (refl, right))
 
 -- ---- numbers
-pub number_front : (d : Dialect) (b : ℕ) → is_ascii_digit b ≡ true → Fronts d kind.Number is_number_byte b
+pub number_front : (d : Dialect) (b : ℕ) → is_ascii_digit b ≡ true
+    → Fronts d kind.Number is_number_byte b
 unfolding front_piece
 number_front d b digit before text =
     let blank : is_blank b ≡ false = grind (arith, nat_tests, digit) in
@@ -183,7 +190,8 @@ name_ends (b ∷ name) rest passed parted = at (b == 34) refl (λ n. name_ends n
     at : (q : Bool) → (b == 34) ≡ q
         → ((n : ℕ) → quote_end 34 false Inside n (quotes_doubled name ++ 34 ∷ rest)
         ≡ Some (n + (length (quotes_doubled name) + 1)))
-        → quote_end 34 false Inside passed ((cond q (34 ∷ 34 ∷ []) (b ∷ []) ++ quotes_doubled name) ++ 34 ∷ rest)
+        → quote_end 34 false Inside passed
+        ((cond q (34 ∷ 34 ∷ []) (b ∷ []) ++ quotes_doubled name) ++ 34 ∷ rest)
         ≡ Some (passed + (length (cond q (34 ∷ 34 ∷ []) (b ∷ []) ++ quotes_doubled name) + 1))
     at true is later = later (passed + 1 + 1) ∙ ap (λ (n : ℕ). Some n) (omega arith)
     at false is later = rw is (later (passed + 1) ∙ ap (λ (n : ℕ). Some n) (omega arith))
@@ -259,10 +267,14 @@ mark_front d before b text is =
     rw blank (rw backslash (rw hyphen (rw slash (rw string (rw dollar
     (rw quote (rw back (rw bracket (rw begins (rw digit (rw strange refl)))))))))))
 
-pub mark_right : (d : Dialect) (b : ℕ) (rest : List ℕ) → IsTypeMark d b → IsLexemeBefore d kind.Mark (b ∷ []) rest
+no_semicolon : (b : ℕ) → is_type_byte b ≡ true → (b == 59) ≡ false
+no_semicolon b known = grind (arith, nat_tests, known)
+
+pub mark_right : (d : Dialect) (b : ℕ) (rest : List ℕ) → IsTypeMark d b
+    → IsLexemeBefore d kind.Mark (b ∷ []) rest
 mark_right d b rest is = record {
   more = 0;
   long = refl;
   front = λ before. mark_front d before b rest is;
-  goes_on = let known = is.known in let other : (b == 59) ≡ false = grind (arith, nat_tests, known) in rw other refl;
+  goes_on = rw (no_semicolon b is.known) refl;
 }

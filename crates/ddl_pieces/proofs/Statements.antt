@@ -20,8 +20,10 @@ use Rattle.ddl_pieces.proofs.Elements.{AreSound, create_depth, create_right}
 use Rattle.ddl_pieces.proofs.Texts.{statement_text}
 
 -- a semicolon outside brackets ends a statement, where no data follows it
-statement_ends : (d : Dialect) (s : Scan) (rest : List ℕ) → s.depth ≡ 0 → is_before_data d s.lexemes ≡ false
-    → statements_after d 0 s (59 ∷ rest) ≡ stated s ∷ statements_after d 0 (scan_from (before_statement 0) (s.place + 1)) rest
+statement_ends : (d : Dialect) (s : Scan) (rest : List ℕ) → s.depth ≡ 0
+    → is_before_data d s.lexemes ≡ false
+    → statements_after d 0 s (59 ∷ rest)
+    ≡ stated s ∷ statements_after d 0 (scan_from (before_statement 0) (s.place + 1)) rest
 unfolding statements_after front_piece
 statement_ends d s rest outside no_data =
     rw outside (rw no_data
@@ -35,16 +37,18 @@ no_data Sqlite place s tables table = refl
 no_data Postgres place s tables table = refl
 
 -- the statement of a table, and then those of what follows it
-record IsStatement (d : Dialect) (scan : Scan) (s : Schema) (all : List TableDesign) (table : TableDesign) (rest : List ℕ) : Type 0 where
+record IsStatement (d : Dialect) (scan : Scan) (s : Schema) (all : List TableDesign) (table : TableDesign)
+    (rest : List ℕ) : Type 0 where
   pub scanned : Scan
   pub next : Scan
-  pub same : statements_after d 0 scan (table_text s all table ++ rest) ≡ stated scanned ∷ statements_after d 0 next rest
+  pub same : statements_after d 0 scan (table_text s all table ++ rest)
+      ≡ stated scanned ∷ statements_after d 0 next rest
   pub created : IsCreated s all table (stated scanned)
   pub nothing : next.lexemes ≡ []
   pub outside : next.depth ≡ 0
 
-table_stated : (d : Dialect) (scan : Scan) (s : Schema) (all : List TableDesign) (table : TableDesign) (rest : List ℕ)
-    → All IsName (names_of s) → AreSound d s
+table_stated : (d : Dialect) (scan : Scan) (s : Schema) (all : List TableDesign) (table : TableDesign)
+    (rest : List ℕ) → All IsName (names_of s) → AreSound d s
     → scan.lexemes ≡ [] → scan.depth ≡ 0 → IsStatement d scan s all table rest
 table_stated d scan s all table rest names sound nothing outside = record {
   scanned = past_all.after;
@@ -68,17 +72,22 @@ table_stated d scan s all table rest names sound nothing outside = record {
     before = comment_passed d scan s table (text ++ 59 ∷ 10 ∷ rest) names
 
     past_all : ArePast d before.after (create_pieces s all table) (59 ∷ 10 ∷ rest)
-    past_all = past d before.after (create_pieces s all table) (59 ∷ 10 ∷ rest) (create_right d s all table (59 ∷ 10 ∷ rest) sound)
+    past_all =
+        past d before.after (create_pieces s all table) (59 ∷ 10 ∷ rest)
+        (create_right d s all table (59 ∷ 10 ∷ rest) sound)
 
     depth : before.after.depth ≡ 0
     depth = before.depth ∙ outside
 
     closed : past_all.after.depth ≡ 0
-    closed = past_all.depth ∙ ap (λ (n : ℕ). depth_past n (create_pieces s all table)) depth ∙ create_depth d s all table sound
+    closed = past_all.depth
+        ∙ ap (λ (n : ℕ). depth_past n (create_pieces s all table)) depth
+        ∙ create_depth d s all table sound
 
     lexemes : past_all.after.lexemes ≡ create_lexemes before.after.place s all table
     lexemes = past_all.lexemes
-        ∙ ap (λ (ls : List Lexed). ls ++ lexemes_from before.after.place before.after.depth (create_pieces s all table)) (before.lexemes ∙ nothing)
+        ∙ ap (λ (ls : List Lexed). ls
+        ++ lexemes_from before.after.place before.after.depth (create_pieces s all table)) (before.lexemes ∙ nothing)
         ∙ ap (λ (n : ℕ). lexemes_from before.after.place n (create_pieces s all table)) depth
 
     gap : IsPassed d (scan_from (before_statement 0) (past_all.after.place + 1)) (10 ∷ []) rest
@@ -91,6 +100,7 @@ pub tables_created : (d : Dialect) (scan : Scan) (s : Schema) (all tables : List
 unfolding statements_after
 tables_created d scan s all [] names sound nothing outside = record { lexemes = nothing; whole = refl }
 tables_created d scan s all (table ∷ tables) names sound nothing outside =
-    let is = table_stated d scan s all table (flat_map (table_text s all) tables) names sound nothing outside in
+    let rest = flat_map (table_text s all) tables in
+    let is = table_stated d scan s all table rest names sound nothing outside in
     subst (AreCreated s all (table ∷ tables)) (sym is.same)
     (is.created, tables_created d is.next s all tables names sound is.nothing is.outside)

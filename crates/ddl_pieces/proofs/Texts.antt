@@ -24,7 +24,8 @@ six_parts : (a b c d e f : List ℕ) → a ++ b ++ c ++ d ++ e ++ f ≡ a ++ (b 
 six_parts a b c d e f = simp append_assoc
 
 -- ---- columns
-missing_text : (nullable : Bool) → text_of (if nullable then [] else not_null) ≡ (if nullable then [] else codes " NOT NULL")
+missing_text : (nullable : Bool)
+    → text_of (if nullable then [] else not_null) ≡ (if nullable then [] else codes " NOT NULL")
 missing_text true = refl
 missing_text false = refl
 
@@ -40,7 +41,8 @@ column_text s k =
     column = slice_index_or (types_of s) k type.Text
 
 -- ---- lists of names
-after_text : (names : List (List ℕ)) → text_of (names_after names) ≡ flat_map (λ name. separator ++ quoted_name name) names
+after_text : (names : List (List ℕ))
+    → text_of (names_after names) ≡ flat_map (λ name. separator ++ quoted_name name) names
 after_text [] = refl
 after_text (name ∷ names) = ap (λ (t : List ℕ). separator ++ (quoted_name name ++ t)) (after_text names)
 
@@ -48,7 +50,8 @@ names_text : (names : List (List ℕ)) → text_of (name_pieces names) ≡ comma
 names_text [] = refl
 names_text (name ∷ names) = ap (λ (t : List ℕ). quoted_name name ++ t) (after_text names)
 
-list_text : (s : Schema) (x : Attributes) → text_of (list_pieces s x) ≡ codes "(" ++ name_list s x ++ codes ")"
+list_text : (s : Schema) (x : Attributes)
+    → text_of (list_pieces s x) ≡ codes "(" ++ name_list s x ++ codes ")"
 list_text s x =
     ap (λ (t : List ℕ). 40 ∷ t)
     (text_append (name_pieces (members_from x 0 (names_of s))) (mark 41 ∷ [])
@@ -63,20 +66,23 @@ unique_text : (s : Schema) (key : Attributes) → text_of (unique_pieces s key) 
 unfolding unique_element
 unique_text s key = ap (λ (t : List ℕ). codes "UNIQUE " ++ t) (list_text s key)
 
-reference_text : (s : Schema) (other : TableDesign) → text_of (reference_pieces s other) ≡ reference_element s other
+reference_text : (s : Schema) (other : TableDesign)
+    → text_of (reference_pieces s other) ≡ reference_element s other
 unfolding reference_element
 reference_text s other =
     ap (λ (t : List ℕ). codes "FOREIGN KEY " ++ t)
     (text_append (list_pieces s (attributes other.key)) (target s other)
     ∙ ap₂ (λ (t u : List ℕ). t ++ (codes " REFERENCES " ++ (quoted_name other.name ++ 32 ∷ u))) key key
     ∙ ap (λ (t : List ℕ). 40 ∷ t)
-    (append_assoc names (codes ")") (codes " REFERENCES " ++ (quoted_name other.name ++ (codes " (" ++ (names ++ codes ")"))))
+    (append_assoc names (codes ")")
+    (codes " REFERENCES " ++ (quoted_name other.name ++ (codes " (" ++ (names ++ codes ")"))))
     ∙ sym (six_parts names (codes ") REFERENCES ") (quoted_name other.name) (codes " (") names (codes ")"))))
   where
     names : List ℕ
     names = name_list s (attributes other.key)
 
-    key : text_of (list_pieces s (attributes other.key)) ≡ codes "(" ++ name_list s (attributes other.key) ++ codes ")"
+    key : text_of (list_pieces s (attributes other.key))
+        ≡ codes "(" ++ name_list s (attributes other.key) ++ codes ")"
     key = list_text s (attributes other.key)
 
 referred_text : (s : Schema) (found : Option TableDesign)
@@ -85,18 +91,22 @@ referred_text s None = refl
 referred_text s (Some other) = reference_text s other
 
 -- ---- elements
-mapped_text : {X : Type 0} (f : X → List TextPiece) (g : X → List ℕ) → ((x : X) → text_of (f x) ≡ g x) → (xs : List X)
+mapped_text : {X : Type 0} (f : X → List TextPiece) (g : X → List ℕ) → ((x : X) → text_of (f x) ≡ g x)
+    → (xs : List X)
     → map text_of (map f xs) ≡ map g xs
 mapped_text f g same [] = refl
 mapped_text f g same (x ∷ xs) =
-    ap (λ (t : List ℕ). t ∷ map text_of (map f xs)) (same x) ∙ ap (λ (ts : List (List ℕ)). g x ∷ ts) (mapped_text f g same xs)
+    ap (λ (t : List ℕ). t ∷ map text_of (map f xs)) (same x)
+    ∙ ap (λ (ts : List (List ℕ)). g x ∷ ts) (mapped_text f g same xs)
 
 primary_text : (s : Schema) (key : Attributes) (empty : Bool)
-    → map text_of (if empty then [] else key_pieces s key ∷ []) ≡ (if empty then [] else key_element s key ∷ [])
+    → map text_of (if empty then [] else key_pieces s key ∷ [])
+    ≡ (if empty then [] else key_element s key ∷ [])
 primary_text s key true = refl
 primary_text s key false = ap (λ (t : List ℕ). t ∷ []) (key_text s key)
 
-keys_text : (s : Schema) (table : TableDesign) → map text_of (keys_pieces s table) ≡ keys_elements s table
+keys_text : (s : Schema) (table : TableDesign)
+    → map text_of (keys_pieces s table) ≡ keys_elements s table
 keys_text s table =
     map-append text_of (if is_empty key then [] else key_pieces s key ∷ []) (map (unique_pieces s) others)
     ∙ ap₂ (λ (a b : List (List ℕ)). a ++ b) (primary_text s key (is_empty key))
@@ -115,34 +125,45 @@ elements_text s tables table =
     ∙ ap₂ (λ (a b : List (List ℕ)). a ++ b)
     (map-append text_of (columns_pieces s table) (keys_pieces s table)
     ∙ ap₂ (λ (a b : List (List ℕ)). a ++ b)
-    (mapped_text (column_pieces s) (column_element s) (column_text s) (members_below (width_of s) (attributes table.scheme)))
+    (mapped_text (column_pieces s) (column_element s) (column_text s)
+    (members_below (width_of s) (attributes table.scheme)))
     (keys_text s table))
-    (mapped_text (λ j. referred s (slice_get tables j)) (λ j. unwrap_or (option_map (reference_element s) (slice_get tables j)) [])
+    (mapped_text (λ j. referred s (slice_get tables j))
+    (λ j. unwrap_or (option_map (reference_element s) (slice_get tables j)) [])
     (λ j. referred_text s (slice_get tables j)) table.refs.items)
 
-after_lines_text : (elements : List (List TextPiece)) → text_of (lines_after elements) ≡ element_lines true (map text_of elements)
+after_lines_text : (elements : List (List TextPiece))
+    → text_of (lines_after elements) ≡ element_lines true (map text_of elements)
 after_lines_text [] = refl
 after_lines_text (element ∷ elements) =
     ap (λ (t : List ℕ). codes ",\n  " ++ t)
-    (text_append element (lines_after elements) ∙ ap (λ (t : List ℕ). text_of element ++ t) (after_lines_text elements))
+    (text_append element (lines_after elements)
+    ∙ ap (λ (t : List ℕ). text_of element ++ t) (after_lines_text elements))
 
-lines_text : (elements : List (List TextPiece)) → text_of (lines_pieces elements) ≡ element_lines false (map text_of elements)
+lines_text : (elements : List (List TextPiece))
+    → text_of (lines_pieces elements) ≡ element_lines false (map text_of elements)
 lines_text [] = refl
 lines_text (element ∷ elements) =
     ap (λ (t : List ℕ). codes "  " ++ t)
-    (text_append element (lines_after elements) ∙ ap (λ (t : List ℕ). text_of element ++ t) (after_lines_text elements))
+    (text_append element (lines_after elements)
+    ∙ ap (λ (t : List ℕ). text_of element ++ t) (after_lines_text elements))
 
 -- ---- statements
 pub statement_text : (s : Schema) (tables : List TableDesign) (table : TableDesign)
-    → table_text s tables table ≡ comment s table ++ (text_of (create_pieces s tables table) ++ 59 ∷ 10 ∷ [])
+    → table_text s tables table
+    ≡ comment s table ++ (text_of (create_pieces s tables table) ++ 59 ∷ 10 ∷ [])
 unfolding table_text
 statement_text s tables table =
-    six_parts (comment s table) (codes "CREATE TABLE ") name (codes " (\n") (element_lines false (elements s tables table)) (codes "\n);\n")
+    six_parts (comment s table) (codes "CREATE TABLE ") name (codes " (\n")
+    (element_lines false (elements s tables table)) (codes "\n);\n")
     ∙ ap (λ (t : List ℕ). comment s table ++ (codes "CREATE TABLE " ++ t))
-    (ap (λ (es : List (List ℕ)). name ++ (codes " (\n" ++ (element_lines false es ++ codes "\n);\n"))) (sym (elements_text s tables table))
+    (ap (λ (es : List (List ℕ)). name ++ (codes " (\n" ++ (element_lines false es ++ codes "\n);\n")))
+    (sym (elements_text s tables table))
     ∙ ap (λ (t : List ℕ). name ++ (codes " (\n" ++ (t ++ codes "\n);\n"))) (sym (lines_text all))
-    ∙ ap (λ (t : List ℕ). name ++ (codes " (\n" ++ t)) (sym (append_assoc (text_of lines) (codes "\n)") (codes ";\n")))
-    ∙ ap (λ (t : List ℕ). name ++ (codes " (\n" ++ (t ++ codes ";\n"))) (sym (text_append lines (gap (10 ∷ []) ∷ mark 41 ∷ [])))
+    ∙ ap (λ (t : List ℕ). name ++ (codes " (\n" ++ t))
+    (sym (append_assoc (text_of lines) (codes "\n)") (codes ";\n")))
+    ∙ ap (λ (t : List ℕ). name ++ (codes " (\n" ++ (t ++ codes ";\n")))
+    (sym (text_append lines (gap (10 ∷ []) ∷ mark 41 ∷ [])))
     ∙ sym (append_assoc name (codes " (\n" ++ text_of (lines ++ gap (10 ∷ []) ∷ mark 41 ∷ [])) (codes ";\n")))
   where
     name : List ℕ

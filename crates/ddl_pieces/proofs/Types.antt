@@ -1,4 +1,4 @@
--- The pieces of the type of a column stand right, have the text of the type, and close the brackets that they open.
+-- The pieces of the type of a column have its text, stand right, and close the brackets that they open.
 use Rattle.std.proofs.Common.{◌≡◌, ◌+◌, ◌-◌, ◌<◌, ℕ, zero, suc, Bool, true, false, not, ◌&&◌, Some, None, Option, IsTrue, List, [], ◌∷◌, ◌++◌, length, take, drop, refl, sym, ap, subst, ◌∙◌, inl, inr, arith, one-add}
 use Rattle.std.specs.Prelude.{◌==◌, codes, decimal, nat_le, nat_lt}
 use Rattle.std.specs.Char.{is_ascii_digit}
@@ -63,7 +63,8 @@ begins b = elim (cases_Bool (b == 32)) [
 ]
 
 -- ---- pieces stand right
-front_right : (d : Dialect) (b : ℕ) (bytes rest after : List ℕ) (begun : Option LexemeKind) → Begins b begun
+front_right : (d : Dialect) (b : ℕ) (bytes rest after : List ℕ) (begun : Option LexemeKind)
+    → Begins b begun
     → is_type_byte b ≡ true → is_unquoted d b ≡ true → IsParted rest
     → after ≡ drop (more_in_type begun bytes) bytes ++ rest
     → IsRight d begun (b ∷ take (more_in_type begun bytes) bytes) after
@@ -75,12 +76,14 @@ front_right d b bytes rest after (Some kind.Number) is known unquoted parted sam
     run_right d kind.Number is_number_byte b bytes rest after (number_front d b is) (λ text. refl)
     (stops_parted is_number_byte rest refl parted) same
 front_right d b bytes rest after (Some kind.Mark) is known unquoted parted same =
-    mark_right d b after (record { known = known; unquoted = unquoted; blank = is.0; begins = is.1; digit = is.2 })
+    mark_right d b after
+    (record { known = known; unquoted = unquoted; blank = is.0; begins = is.1; digit = is.2 })
 front_right d b bytes rest after (Some kind.Quoted) is known unquoted parted same = absurd is
 front_right d b bytes rest after (Some kind.Text) is known unquoted parted same = absurd is
 
 rest_right : (d : Dialect) (skip : ℕ) (bytes rest : List ℕ) → list_all is_type_byte bytes ≡ true
-    → list_all (is_unquoted d) bytes ≡ true → IsParted rest → AreRight d (pieces_in_type skip bytes) rest
+    → list_all (is_unquoted d) bytes ≡ true → IsParted rest
+    → AreRight d (pieces_in_type skip bytes) rest
 unfolding pieces_in_type
 rest_right d skip [] rest known unquoted parted = tt
 rest_right d (suc n) (b ∷ bytes) rest known unquoted parted =
@@ -91,8 +94,8 @@ rest_right d zero (b ∷ bytes) rest known unquoted parted =
     let more = more_in_type (kind_in_type b) bytes in
     let type = and_parts (is_type_byte b) (list_all is_type_byte bytes) known in
     let plain = and_parts (is_unquoted d b) (list_all (is_unquoted d) bytes) unquoted in (
-      front_right d b bytes rest (text_of (pieces_in_type more bytes) ++ rest) (kind_in_type b) (begins b) type.0 plain.0
-          parted (ap (λ (t : List ℕ). t ++ rest) (rest_text more bytes)),
+      front_right d b bytes rest (text_of (pieces_in_type more bytes) ++ rest) (kind_in_type b) (begins b)
+          type.0 plain.0 parted (ap (λ (t : List ℕ). t ++ rest) (rest_text more bytes)),
       rest_right d more bytes rest type.1 plain.1 parted,
     )
 
@@ -106,7 +109,9 @@ all_taken : (test other : ℕ → Bool) → ((b : ℕ) → test b ≡ true → o
     → list_all other (take (prefix_len test bytes) bytes) ≡ true
 all_taken test other passes [] = refl
 all_taken test other passes (b ∷ bytes) = elim (cases_Bool (test b)) [
-  | inl is ↦ rw is (rw one-add (and_from (other b) (list_all other (take (prefix_len test bytes) bytes)) (passes b is) (all_taken test other passes bytes)))
+  | inl is ↦
+      rw is (rw one-add (and_from (other b) (list_all other (take (prefix_len test bytes) bytes))
+      (passes b is) (all_taken test other passes bytes)))
   | inr not_so ↦ rw not_so refl
 ]
 
@@ -116,7 +121,8 @@ flat_word b is = grind (arith, nat_tests, is)
 flat_number : (b : ℕ) → is_number_byte b ≡ true → is_flat b ≡ true
 flat_number b is = grind (arith, nat_tests, is)
 
-more_flat : (begun : Option LexemeKind) (bytes : List ℕ) → list_all is_flat (take (more_in_type begun bytes) bytes) ≡ true
+more_flat : (begun : Option LexemeKind) (bytes : List ℕ)
+    → list_all is_flat (take (more_in_type begun bytes) bytes) ≡ true
 more_flat None bytes = refl
 more_flat (Some kind.Word) bytes = all_taken is_word_byte is_flat flat_word bytes
 more_flat (Some kind.Number) bytes = all_taken is_number_byte is_flat flat_number bytes
@@ -124,7 +130,8 @@ more_flat (Some kind.Mark) bytes = refl
 more_flat (Some kind.Quoted) bytes = refl
 more_flat (Some kind.Text) bytes = refl
 
-paired_flat : (depth b : ℕ) (bytes : List ℕ) → is_flat b ≡ true → are_paired depth (b ∷ bytes) ≡ are_paired depth bytes
+paired_flat : (depth b : ℕ) (bytes : List ℕ) → is_flat b ≡ true
+    → are_paired depth (b ∷ bytes) ≡ are_paired depth bytes
 paired_flat depth b bytes flat =
     let neither = and_parts (not (b == 40)) (not (b == 41)) flat in
     rw (not-true (b == 40) neither.0) (rw (not-true (b == 41) neither.1) refl)
@@ -204,7 +211,8 @@ pub record IsSound (d : Dialect) (column : ColumnType) : Type 0 where
   pub valid : IsTrue (is_column_type column)
 
 -- a type that a schema states by a word of its own is sound in each dialect
-pub own_sound : (d : Dialect) (column : ColumnType) → IsTrue (is_own_type column) → IsTrue (is_sound_type d column)
+pub own_sound : (d : Dialect) (column : ColumnType) → IsTrue (is_own_type column)
+    → IsTrue (is_sound_type d column)
 own_sound d type.Text own = refl
 own_sound d type.Integer own = refl
 own_sound d type.Date own = refl
@@ -217,16 +225,19 @@ scale_within : (scale : ℕ) → IsTrue (is_column_type (type.Decimal scale)) �
 scale_within scale valid = let within = leb-true scale 9 valid in omega (arith, within)
 
 digit_is : (n : ℕ) → n < 10 → is_number_text ((48 + n) ∷ []) ≡ true
-digit_is n within = let is : is_ascii_digit (48 + n) ≡ true = grind (arith, nat_tests, within) in rw is refl
+digit_is n within =
+    let is : is_ascii_digit (48 + n) ≡ true = grind (arith, nat_tests, within) in rw is refl
 
 scale_is : (scale : ℕ) → scale < 10 → is_number_text (decimal scale) ≡ true
 scale_is scale within =
-    subst (λ (bytes : List ℕ). is_number_text bytes ≡ true) (sym (decimal_digit scale within)) (digit_is scale within)
+    subst (λ (bytes : List ℕ). is_number_text bytes ≡ true) (sym (decimal_digit scale within))
+    (digit_is scale within)
 
 -- what stands after DECIMAL
 scale_right : (d : Dialect) (scale : ℕ) (rest : List ℕ) → is_number_text (decimal scale) ≡ true
     → AreRight d (mark 44 ∷ blank ∷ number (decimal scale) ∷ mark 41 ∷ []) rest
-scale_right d scale rest is = (parts d _, (refl, (number_right d (decimal scale) _ is refl, (closes d rest, tt))))
+scale_right d scale rest is =
+    (parts d _, (refl, (number_right d (decimal scale) _ is refl, (closes d rest, tt))))
 
 pub type_right : (d : Dialect) (column : ColumnType) (rest : List ℕ) → IsSound d column → IsParted rest
     → AreRight d (type_pieces column) rest

@@ -1,5 +1,5 @@
--- The statements that create the tables of a design, piece by piece, and the lexemes that stand in them: for the
--- laws that read these statements back.
+-- The statements that create the tables of a design, piece by piece, and the lexemes that stand in them: for
+-- the laws that read these statements back.
 use Rattle.std.specs.Prelude.{ℕ, ◌+◌, ◌-◌, ◌==◌, nat_lt, zero, suc, Bool, true, false, not, ◌&&◌, if◌then◌else◌, List, [], ◌∷◌, ◌++◌, map, filter, take, codes, decimal, slice_get, slice_index_or, Option, Some, None, length}
 use Rattle.std.specs.Char.{is_ascii_digit}
 use Rattle.std.specs.List.{flat_map, list_all, prefix_len}
@@ -116,7 +116,8 @@ type_pieces type.Integer = word (codes "BIGINT") ∷ []
 type_pieces type.Date = word (codes "DATE") ∷ []
 type_pieces type.Timestamp = word (codes "TIMESTAMP") ∷ []
 type_pieces (type.Decimal scale) =
-    word (codes "DECIMAL") ∷ mark 40 ∷ number (codes "15") ∷ mark 44 ∷ blank ∷ number (decimal scale) ∷ mark 41 ∷ []
+    word (codes "DECIMAL") ∷ mark 40 ∷ number (codes "15") ∷ mark 44 ∷ blank ∷ number (decimal scale)
+    ∷ mark 41 ∷ []
 type_pieces type.Uuid = word (codes "UUID") ∷ []
 type_pieces (type.Other text) = pieces_in_type 0 text
 
@@ -185,7 +186,7 @@ abbrev pub lines_pieces : List (List TextPiece) → List TextPiece
 lines_pieces [] = []
 lines_pieces (element ∷ elements) = gap (codes "  ") ∷ (element ++ lines_after elements)
 
--- what the statement that creates a table has, but for what stands before it and for the semicolon that ends it
+-- what the statement that creates a table has, but for what stands before it and the semicolon that ends it
 abbrev pub create_pieces : Schema → List TableDesign → TableDesign → List TextPiece
 create_pieces s tables table =
     word (codes "CREATE") ∷ blank ∷ word (codes "TABLE") ∷ blank ∷ quoted_piece table.name ∷ blank ∷ mark 40

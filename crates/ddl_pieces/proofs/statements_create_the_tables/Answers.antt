@@ -7,5 +7,6 @@ use Rattle.ddl_pieces.proofs.statements_create_the_tables.Goals as goal
 
 pub returns : goal.returns
 returns c = record {
-  law = λ d s tables names sound. tables_created d (scan_from LineStart 0) s tables tables names sound refl refl;
+  law = λ d s tables names sound.
+      tables_created d (scan_from LineStart 0) s tables tables names sound refl refl;
 }
