@@ -1,4 +1,5 @@
--- The statements of the text of a design: for the law of the pieces, and for laws that read a design back.
+-- When statements create the tables of a design: for the law of its text, and for the laws that read it back.
+-- `Desk` does not cite it.
 use Rattle.std.specs.Prelude.{◌≡◌, ℕ, List, [], ◌∷◌, None}
 use Rattle.dep_model.specs.declared.schema.Schema.{Schema}
 use Rattle.ddl_text.specs.declared.table.TableDesign.{TableDesign}

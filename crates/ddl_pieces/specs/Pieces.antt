@@ -1,5 +1,5 @@
 -- The statements that create the tables of a design, piece by piece, and the lexemes that stand in them: for
--- the laws that read these statements back.
+-- the law of its text, and for the laws that read it back. `Desk` does not cite it.
 use Rattle.std.specs.Prelude.{ℕ, ◌+◌, ◌-◌, ◌==◌, nat_lt, zero, suc, Bool, true, false, not, ◌&&◌, if◌then◌else◌, List, [], ◌∷◌, ◌++◌, map, filter, take, codes, decimal, slice_get, slice_index_or, Option, Some, None, length}
 use Rattle.std.specs.Char.{is_ascii_digit}
 use Rattle.std.specs.List.{flat_map, list_all, prefix_len}
@@ -55,12 +55,13 @@ abbrev pub lexeme_at : ℕ → ℕ → LexemeKind → List ℕ → Lexed
 lexeme_at place depth kind bytes =
     record { kind = kind; place = place; depth = depth_around depth kind bytes; text = bytes }
 
--- the lexemes of pieces that begin at a place, after so many brackets that are open
+-- what a piece puts before the lexemes that follow it
 abbrev pub led_by_kind : ℕ → ℕ → Option LexemeKind → List ℕ → (ℕ → List Lexed) → List Lexed
 led_by_kind place depth None bytes rest = rest depth
 led_by_kind place depth (Some kind) bytes rest =
     lexeme_at place depth kind bytes ∷ rest (depth_after (lexeme_at place depth kind bytes))
 
+-- the lexemes of pieces that begin at a place, after so many brackets that are open
 unfoldable pub lexemes_from : ℕ → ℕ → List TextPiece → List Lexed
 lexemes_from place depth [] = []
 lexemes_from place depth (p ∷ ps) =
@@ -79,7 +80,7 @@ more_in_type (Some kind.Word) bs = prefix_len is_word_byte bs
 more_in_type (Some kind.Number) bs = prefix_len is_number_byte bs
 more_in_type other bs = 0
 
--- the text of a type, after some bytes that belong to what was before
+-- the pieces of the text of a type, after some bytes that belong to what was before
 unfoldable pub pieces_in_type : ℕ → List ℕ → List TextPiece
 pieces_in_type skip [] = []
 pieces_in_type (suc n) (b ∷ bs) = pieces_in_type n bs
