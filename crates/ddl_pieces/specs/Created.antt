@@ -1,12 +1,14 @@
--- The statements of the text of a design: for the law of the pieces, and for the laws that read a design back.
-use Rattle.std.specs.Prelude.{◌≡◌, ℕ, List, [], ◌∷◌, Option, None}
+-- When statements create the tables of a design: for the law of its text, and for the laws that read it back.
+-- `Desk` does not cite it.
+use Rattle.std.specs.Prelude.{◌≡◌, ℕ, List, [], ◌∷◌, None}
 use Rattle.dep_model.specs.declared.schema.Schema.{Schema}
 use Rattle.ddl_text.specs.declared.table.TableDesign.{TableDesign}
 use Rattle.sql_lexemes.specs.Statements.{Stated}
 use Rattle.ddl_pieces.specs.Pieces.{create_lexemes}
 
 -- a statement creates a table, and no flaw ends it
-pub record IsCreated (s : Schema) (tables : List TableDesign) (table : TableDesign) (statement : Stated) : Type 0 where
+pub record IsCreated (s : Schema) (tables : List TableDesign) (table : TableDesign) (statement : Stated)
+    : Type 0 where
   pub place : ℕ
   pub lexemes : statement.lexemes ≡ create_lexemes place s tables table
   pub whole : statement.flaw ≡ None

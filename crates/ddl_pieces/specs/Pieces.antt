@@ -1,7 +1,8 @@
--- The statements that create the tables of a design, piece by piece, and the lexemes that stand in them: for the
--- laws that read these statements back.
-use Rattle.std.specs.Prelude.{ℕ, ◌+◌, Bool, true, false, if◌then◌else◌, List, [], ◌∷◌, ◌++◌, map, filter, codes, decimal, slice_get, slice_index_or, Option, Some, None, length}
-use Rattle.std.specs.List.{flat_map}
+-- The statements that create the tables of a design, piece by piece, and the lexemes that stand in them: for
+-- the law of its text, and for the laws that read it back. `Desk` does not cite it.
+use Rattle.std.specs.Prelude.{ℕ, ◌+◌, ◌-◌, ◌==◌, nat_lt, zero, suc, Bool, true, false, not, ◌&&◌, if◌then◌else◌, List, [], ◌∷◌, ◌++◌, map, filter, take, codes, decimal, slice_get, slice_index_or, Option, Some, None, length}
+use Rattle.std.specs.Char.{is_ascii_digit}
+use Rattle.std.specs.List.{flat_map, list_all, prefix_len}
 use Rattle.attr_sets.specs.Attributes.{Attributes}
 use Rattle.attr_sets.specs.Sets.{attributes}
 use Rattle.dep_model.specs.declared.column_type.ColumnType.{ColumnType}
@@ -11,12 +12,15 @@ use Rattle.dep_model.specs.Projections.{members_below}
 use Rattle.dep_model.specs.Schemas.{names_of, width_of, types_of, nullable_of}
 use Rattle.schema_printer.specs.Printing.{members_from}
 use Rattle.sql_names.specs.Names.{quoted_name}
-use Rattle.ddl_text.specs.Ddl.{comment, is_empty, is_never_missing}
+use Rattle.ddl_text.specs.Ddl.{is_empty, is_never_missing}
 use Rattle.ddl_text.specs.Designs.{known_keys}
 use Rattle.ddl_text.specs.declared.table.TableDesign.{TableDesign}
 use Rattle.sql_lexemes.specs.declared.lexeme.LexemeKind.{LexemeKind}
 use Rattle.sql_lexemes.specs.declared.lexeme.LexemeKind.TheVariants as kind
+use Rattle.sql_lexemes.specs.declared.dialect.Dialect.{Dialect}
+use Rattle.sql_lexemes.specs.Bytes.{begins_word, is_number_byte, is_word_byte}
 use Rattle.sql_lexemes.specs.Lexemes.{Lexed}
+use Rattle.sql_lexemes.specs.Pieces.{is_sqlite}
 use Rattle.sql_lexemes.specs.Statements.{depth_around, depth_after}
 
 -- a piece of a text: a lexeme of a kind, or bytes between lexemes, with its bytes
@@ -51,16 +55,55 @@ abbrev pub lexeme_at : ℕ → ℕ → LexemeKind → List ℕ → Lexed
 lexeme_at place depth kind bytes =
     record { kind = kind; place = place; depth = depth_around depth kind bytes; text = bytes }
 
--- the lexemes of pieces that begin at a place, after so many brackets that are open
+-- what a piece puts before the lexemes that follow it
 abbrev pub led_by_kind : ℕ → ℕ → Option LexemeKind → List ℕ → (ℕ → List Lexed) → List Lexed
 led_by_kind place depth None bytes rest = rest depth
 led_by_kind place depth (Some kind) bytes rest =
     lexeme_at place depth kind bytes ∷ rest (depth_after (lexeme_at place depth kind bytes))
 
+-- the lexemes of pieces that begin at a place, after so many brackets that are open
 unfoldable pub lexemes_from : ℕ → ℕ → List TextPiece → List Lexed
 lexemes_from place depth [] = []
 lexemes_from place depth (p ∷ ps) =
     led_by_kind place depth p.kind p.bytes (λ after. lexemes_from (place + length p.bytes) after ps)
+
+-- what begins with a byte of the text of a type, and how many bytes it has after this one
+abbrev pub kind_in_type : ℕ → Option LexemeKind
+kind_in_type b =
+    if b == 32 then None
+    else if begins_word b then Some kind.Word
+    else if is_ascii_digit b then Some kind.Number
+    else Some kind.Mark
+
+abbrev pub more_in_type : Option LexemeKind → List ℕ → ℕ
+more_in_type (Some kind.Word) bs = prefix_len is_word_byte bs
+more_in_type (Some kind.Number) bs = prefix_len is_number_byte bs
+more_in_type other bs = 0
+
+-- the pieces of the text of a type, after some bytes that belong to what was before
+unfoldable pub pieces_in_type : ℕ → List ℕ → List TextPiece
+pieces_in_type skip [] = []
+pieces_in_type (suc n) (b ∷ bs) = pieces_in_type n bs
+pieces_in_type zero (b ∷ bs) =
+    record { kind = kind_in_type b; bytes = b ∷ take (more_in_type (kind_in_type b) bs) bs }
+    ∷ pieces_in_type (more_in_type (kind_in_type b) bs) bs
+
+-- each round bracket is paired with one that closes it, where so many are open
+abbrev pub are_paired : ℕ → List ℕ → Bool
+are_paired depth [] = depth == 0
+are_paired depth (b ∷ bs) =
+    if b == 40 then are_paired (depth + 1) bs
+    else if b == 41 then nat_lt 0 depth && are_paired (depth - 1) bs
+    else are_paired depth bs
+
+-- a byte begins no quoted name: in SQLite `[` does
+abbrev pub is_unquoted : Dialect → ℕ → Bool
+is_unquoted d b = not (is_sqlite d && (b == 91))
+
+-- a type whose round brackets are paired, and that quotes nothing
+abbrev pub is_sound_type : Dialect → ColumnType → Bool
+is_sound_type d (type.Other text) = are_paired 0 text && list_all (is_unquoted d) text
+is_sound_type d column = true
 
 -- a type of columns that a schema states by a word of its own
 abbrev pub is_own_type : ColumnType → Bool
@@ -74,9 +117,10 @@ type_pieces type.Integer = word (codes "BIGINT") ∷ []
 type_pieces type.Date = word (codes "DATE") ∷ []
 type_pieces type.Timestamp = word (codes "TIMESTAMP") ∷ []
 type_pieces (type.Decimal scale) =
-    word (codes "DECIMAL") ∷ mark 40 ∷ number (codes "15") ∷ mark 44 ∷ blank ∷ number (decimal scale) ∷ mark 41 ∷ []
+    word (codes "DECIMAL") ∷ mark 40 ∷ number (codes "15") ∷ mark 44 ∷ blank ∷ number (decimal scale)
+    ∷ mark 41 ∷ []
 type_pieces type.Uuid = word (codes "UUID") ∷ []
-type_pieces (type.Other text) = word text ∷ []
+type_pieces (type.Other text) = pieces_in_type 0 text
 
 abbrev pub not_null : List TextPiece
 not_null = blank ∷ word (codes "NOT") ∷ blank ∷ word (codes "NULL") ∷ []
@@ -143,7 +187,7 @@ abbrev pub lines_pieces : List (List TextPiece) → List TextPiece
 lines_pieces [] = []
 lines_pieces (element ∷ elements) = gap (codes "  ") ∷ (element ++ lines_after elements)
 
--- what the statement that creates a table has, but for what stands before it and for the semicolon that ends it
+-- what the statement that creates a table has, but for what stands before it and the semicolon that ends it
 abbrev pub create_pieces : Schema → List TableDesign → TableDesign → List TextPiece
 create_pieces s tables table =
     word (codes "CREATE") ∷ blank ∷ word (codes "TABLE") ∷ blank ∷ quoted_piece table.name ∷ blank ∷ mark 40

@@ -3,22 +3,21 @@
 //! Each law is a function that does nothing, whose clause is the law; so the gate asks for its proof.
 #![tactic(auto)]
 
-ghost use Rattle.std.specs.Prelude.{◌≡◌, ℕ, List, All, IsTrue, length};
-ghost use Rattle.attr_sets.specs.Sets.{attributes};
+ghost use Rattle.std.specs.Prelude.{List, All, IsTrue};
 ghost use Rattle.dep_model.specs.Names.{IsName};
-ghost use Rattle.dep_model.specs.Schemas.{types_of};
+ghost use Rattle.dep_model.specs.Schemas.{names_of, types_of};
 ghost use Rattle.dep_model.specs.declared.schema.Schema.{Schema};
 ghost use Rattle.ddl_text.specs.Ddl.{ddl_text};
 ghost use Rattle.ddl_text.specs.declared.table.TableDesign.{TableDesign};
 ghost use Rattle.sql_lexemes.specs.Statements.{statements_of};
 ghost use Rattle.sql_lexemes.specs.declared.dialect.Dialect.{Dialect};
 ghost use Rattle.ddl_pieces.specs.Created.{AreCreated};
-ghost use Rattle.ddl_pieces.specs.Pieces.{is_own_type};
+ghost use Rattle.ddl_pieces.specs.Pieces.{is_sound_type};
 
 /// The statements of the text of a design create its tables, one each, in order.
 pub fn statements_create_the_tables()
     ensures law { (d : Dialect) (s : Schema) (tables : List TableDesign)
-        → All (λ column. IsTrue (is_own_type column)) (types_of s)
-        → All (λ table. IsName table.name) tables
+        → All IsName (names_of s)
+        → All (λ column. IsTrue (is_sound_type d column)) (types_of s)
         → AreCreated s tables tables (statements_of d (ddl_text s tables)) }
 {}

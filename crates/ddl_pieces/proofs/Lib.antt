@@ -1,0 +1,7 @@
+pub mod Cutting
+pub mod Fronts
+pub mod Types
+pub mod Elements
+pub mod Texts
+pub mod Comments
+pub mod Statements
