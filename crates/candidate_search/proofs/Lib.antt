@@ -3,3 +3,4 @@ pub mod SideLemmas
 pub mod TestLemmas
 pub mod AskLemmas
 pub mod FindingLemmas
+pub mod LevelLemmas

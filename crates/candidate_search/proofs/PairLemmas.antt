@@ -1,19 +1,20 @@
 -- Rows by the numbers of their values: what two of them agree on, and whether all obey a dependency.
-use Rattle.std.proofs.Common.{inl, inr, ◌≡◌, ◌+◌, ◌<◌, ◌&&◌, ◌==◌, nat_lt, ℕ, Bool, true, false, List, length, refl, sym, ap, subst, ◌∙◌, arith}
+use Rattle.std.proofs.Common.{inl, inr, ◌≡◌, ◌+◌, ◌<◌, ◌&&◌, ◌==◌, nat_lt, ℕ, Bool, true, false, List, length, refl, sym, subst, arith}
 use mathlib.Core.Path.{fun_ext}
 use Rattle.std.proofs.lemmas.Bool.{cases_eq, eq-eqb, eqb-true, ltb-true, true≢false}
 use Rattle.std.proofs.lemmas.Bool.Decides.{nat_tests}
 use Rattle.attr_sets.specs.Attributes.{Attributes, none, only, union}
 use Rattle.attr_sets.proofs.AttributesLemmas.{same_from_within}
 use Rattle.csv_rows.specs.Interning.{IsInterned, codes_at}
-use Rattle.csv_rows.specs.Numberings.{AreFirsts, AreGroups, number_at}
+use Rattle.csv_rows.specs.Numberings.{number_at}
 use Rattle.csv_rows.specs.declared.interning.Interned.{Interned}
-use Rattle.csv_rows.proofs.NumberingLemmas.{row_of}
 use Rattle.dep_model.specs.Dependencies.{ObeysFd}
-use Rattle.dep_model.specs.Tuples.{Tuple, Relation, value_at}
+use Rattle.dep_model.specs.Tuples.{Relation, value_at}
 use Rattle.row_store.specs.Rows.{row_at}
 use Rattle.candidate_laws.specs.Evidence.{agreement}
 use Rattle.candidate_laws.proofs.EvidenceLemmas.{agreement-from, agreement-to}
+use Rattle.fd_discovery.specs.Leaders.{AreLeaders}
+use Rattle.fd_discovery.proofs.LeaderLemmas.{led_obeys}
 use Rattle.candidate_search.specs.Pairs.{IsBroken, same_codes}
 
 -- ---- equal numbers are equal values
@@ -76,39 +77,24 @@ agreement_is n r t i j coded i_in j_in = same_from_within (same_codes t i j n) (
     whole k low same = grind (arith, nat_tests, low, same)
 
 -- ---- whether rows obey a dependency
--- where each row has the number of the first row of its group
-pub obeyed_by : (n : ℕ) (r : Relation) (t : Interned) (x : Attributes) (a : ℕ) (groups firsts : List ℕ)
-    → IsInterned n r t → a < n → AreGroups r x groups → AreFirsts groups firsts
-    → ((j : ℕ) → j < length r
-    → number_at (codes_at t a) (number_at firsts (number_at groups j)) ≡ number_at (codes_at t a) j)
+-- where each row has the number of its leader
+pub obeyed_by : (n : ℕ) (r : Relation) (t : Interned) (x : Attributes) (a : ℕ) (leaders : List ℕ) → IsInterned n r t → a < n
+    → AreLeaders r x leaders
+    → ((j : ℕ) → j < length r → number_at (codes_at t a) (number_at leaders j) ≡ number_at (codes_at t a) j)
     → ObeysFd x (only a) r
-obeyed_by n r t x a groups firsts coded a_in grouped first same u v u_in v_in agree k is =
-    let (i, i_in, u_is) = row_of r u u_in in
-    let (j, j_in, v_is) = row_of r v v_in in
-    let one : number_at groups i ≡ number_at groups j =
-    (grouped.equal i j i_in j_in).1 (λ m has. ap (λ (s : Tuple). value_at s m) u_is ∙ agree m has
-    ∙ ap (λ (s : Tuple). value_at s m) (sym v_is)) in
-    let alike : number_at (codes_at t a) i ≡ number_at (codes_at t a) j =
-    sym (same i i_in) ∙ ap (λ (g : ℕ). number_at (codes_at t a) (number_at firsts g)) one ∙ same j j_in in
-    let at : a ≡ k = sym (eqb-true k a is) in
-    subst (λ (m : ℕ). value_at u m ≡ value_at v m) at
-    (ap (λ (s : Tuple). value_at s a) (sym u_is) ∙ same_value n r t coded i j i_in j_in a a_in alike
-    ∙ ap (λ (s : Tuple). value_at s a) v_is)
+obeyed_by n r t x a leaders coded a_in led same =
+    led_obeys r x leaders led a (codes_at t a) (coded.codes a a_in) (λ j j_in. sym (same j j_in))
 
--- a row that has another number than the first row of its group
-pub broken_by : (n : ℕ) (r : Relation) (t : Interned) (x : Attributes) (a : ℕ) (groups firsts : List ℕ) (i j : ℕ)
-    → IsInterned n r t → a < n → AreGroups r x groups → AreFirsts groups firsts → j < length r
-    → i ≡ number_at firsts (number_at groups j)
+-- a row that has another number than its leader
+pub broken_by : (n : ℕ) (r : Relation) (t : Interned) (x : Attributes) (a : ℕ) (leaders : List ℕ) (i j : ℕ)
+    → IsInterned n r t → a < n → AreLeaders r x leaders → j < length r → i ≡ number_at leaders j
     → (number_at (codes_at t a) i ≡ number_at (codes_at t a) j → ⊥) → IsBroken r x a i j
-broken_by n r t x a groups firsts i j coded a_in grouped first j_in is other =
-    let short : j < length groups = omega (arith, j_in, grouped.one_each) in
-    let group : number_at groups j < length firsts = first.each j short in
-    let low : i < length r = omega (arith, is, first.within (number_at groups j) group, grouped.one_each) in
-    let one : number_at groups i ≡ number_at groups j =
-    ap (number_at groups) is ∙ first.number (number_at groups j) group in
+broken_by n r t x a leaders i j coded a_in led j_in is other =
+    let low : i < length r = subst (λ (k : ℕ). k < length r) (sym is) (led.within j j_in) in
     record {
       first = low;
       second = j_in;
-      agree = (grouped.equal i j low j_in).0 one;
+      agree = λ k m. subst (λ (l : ℕ). value_at (row_at r l) k ≡ value_at (row_at r j) k) (sym is)
+          (sym (led.agrees j j_in k m));
       differ = λ same. other (same_number n r t coded i j low j_in a a_in same);
     }

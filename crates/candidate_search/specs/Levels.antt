@@ -1,12 +1,16 @@
--- Levels: rows in groups by what they have on a set. For `broken_pair` and `refuting_evidence`, and the
--- functions below them. `Desk` does not cite it.
-use Rattle.csv_rows.specs.Interning.{firsts_of, groups_of}
-use Rattle.csv_rows.specs.Numberings.{AreFirsts, AreGroups}
+-- Levels: rows by their leaders on a set. For `refuting_evidence` and the functions below it. `Desk` does not cite it.
+use Rattle.std.specs.Prelude.{ℕ}
 use Rattle.attr_sets.specs.Sets.{attributes}
-use Rattle.dep_model.specs.Tuples.{Relation}
+use Rattle.dep_model.specs.Tuples.{Relation, IsOver}
+use Rattle.fd_discovery.specs.Leaders.{AreLeaders, IsTableOfRows}
+use Rattle.fd_discovery.specs.declared.table.CodeColumns.{CodeColumns}
 use Rattle.candidate_search.specs.declared.levels.Level.{Level}
 
--- the groups of the rows that agree on the set of a level, and the first row of each
-pub record IsLevel (r : Relation) (level : Level) : Type 0 where
-  pub groups : AreGroups r (attributes level.set) (groups_of level.groups)
-  pub firsts : AreFirsts (groups_of level.groups) (firsts_of level.groups)
+-- rows of n values each, and the table of their numbers
+pub record AreTabled (n : ℕ) (r : Relation) (t : CodeColumns) : Type 0 where
+  pub over : IsOver n r
+  pub table : IsTableOfRows n r t
+
+-- the leaders of the rows on the set of a level
+abbrev pub IsLevel : Relation → Level → Type 0
+IsLevel r level = AreLeaders r (attributes level.set) level.leaders.items

@@ -1,8 +1,9 @@
-ghost use Rattle.std.specs.Prelude.{◌≡◌, ◌<◌, ◌≤◌, ℕ, IfOk};
+ghost use Rattle.std.specs.Prelude.{◌≡◌, ◌<◌, ◌≤◌, ℕ, length, map, All, IfOk};
 ghost use Rattle.attr_sets.specs.Attributes.{IsSubset, below};
 ghost use Rattle.attr_sets.specs.Sets.{attributes};
 ghost use Rattle.attr_sets.specs.declared.set.TheConstants.{MOST_ATTRIBUTES};
-ghost use Rattle.csv_rows.specs.Interning.{IsInterned, count_of, width_of_rows};
+ghost use Rattle.csv_rows.specs.Interning.{IsInterned, count_of, firsts_of, groups_of, width_of_rows};
+ghost use Rattle.csv_rows.specs.Numberings.{number_at};
 ghost use Rattle.dep_model.specs.Tuples.{Relation};
 ghost use Rattle.row_store.specs.Rows.{row_at};
 ghost use Rattle.candidate_laws.specs.Evidence.{agreement};
@@ -33,7 +34,7 @@ pub fn row_agreement(codes: &Interned, width: u8, first: usize, second: usize) -
     agreed
 }
 
-/// Two rows that agree on a set and differ on an attribute: the first of a group and a later one.
+/// Two rows that agree on a set and differ on an attribute.
 pub fn broken_pair(
     alloc: Global,
     codes: &Interned,
@@ -48,22 +49,33 @@ pub fn broken_pair(
         → IfOk result (FindsBroken r (attributes set) right) }
 {
     let groups = Groups::by_agreement(alloc, codes, set)?;
-    let level = Level { set, groups };
+    let leaders = first_of_each(alloc, &groups)?;
+    let level = Level { set, leaders };
     Ok(broken_in(codes, width, &level, right))
 }
 
-// The same by the groups of the set.
+// For each row the first one of its group.
+fn first_of_each(alloc: Global, groups: &Groups) -> Result<Vec<u32>, OutOfMemory>
+    requires groups { All (λ group. group < length (firsts_of groups.now)) (groups_of groups.now) }
+    ensures firsts { IfOk result (λ v. v.items ≡ map (number_at (firsts_of groups.now)) (groups_of groups.now)) }
+{
+    let mut firsts = Vec::with_capacity(alloc, groups.numbers().len())?;
+    for group in groups.numbers() {
+        firsts.push(groups.firsts()[*group as usize])?;
+    }
+    Ok(firsts)
+}
+
+// The same by the leaders of the rows on the set.
 pub fn broken_in(codes: &Interned, width: u8, level: &Level, right: u8) -> Option<(usize, usize)>
     requires rows { (r : Relation) × IsInterned width r codes.now × IsLevel r level.now }
     requires right { right < width }
     ensures pair { (r : Relation) → IsInterned width r codes.now → IsLevel r level.now
         → FindsBroken r (attributes level.now.set) right result }
 {
-    let groups = &level.groups;
     let column = codes.column(right);
     for second in 0..codes.count() {
-        let group = groups.numbers()[second] as usize;
-        let first = groups.firsts()[group] as usize;
+        let first = level.leaders[second] as usize;
         if column[first] != column[second] {
             return Some((first, second));
         }

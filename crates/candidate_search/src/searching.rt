@@ -1,7 +1,8 @@
 ghost use Rattle.std.specs.Prelude.{◌≡◌, ◌<◌, ◌≤◌, All, Contains, IfOk, IfErr};
 ghost use Rattle.attr_sets.specs.declared.set.TheConstants.{MOST_ATTRIBUTES};
 ghost use Rattle.candidate_laws.specs.Evidence.{AreEvidence};
-ghost use Rattle.candidate_search.specs.Sides.{AreCoded, HasMinimal, IsExceeded, rights_of};
+ghost use Rattle.candidate_search.specs.Levels.{AreTabled};
+ghost use Rattle.candidate_search.specs.Sides.{HasMinimal, IsExceeded, rights_of};
 ghost use Rattle.dep_model.specs.Failures.{RefusesAs};
 ghost use Rattle.dep_model.specs.Plans.{schemes_of};
 ghost use Rattle.dep_model.specs.Tuples.{Relation};
@@ -13,8 +14,8 @@ use crate::sampling::first_evidence;
 use crate::side::{Side, TooManyLeftSides, first_sides};
 use crate::testing::refuting_evidence;
 use attr_sets::{AttrSet, MOST_ATTRIBUTES};
-use csv_rows::Interned;
 use dep_model::Failure;
+use fd_discovery::CodeColumns;
 use std::alloc::Global;
 
 /// The left sides of the minimal dependencies on each of some attributes, of at most `most` columns;
@@ -25,7 +26,7 @@ use std::alloc::Global;
 /// columns agree on: the more there is, the fewer candidates ever arise.
 pub fn minimal_left_sides(
     alloc: Global,
-    codes: &Interned,
+    table: &CodeColumns,
     width: u8,
     most: u8,
     rights: &[u8],
@@ -34,21 +35,21 @@ pub fn minimal_left_sides(
     requires width { width ≤ MOST_ATTRIBUTES }
     requires most { most ≤ MOST_ATTRIBUTES }
     requires rights { All (λ right. right < width) rights.now }
-    requires rows { (r : Relation) × AreCoded width r codes.now × AreEvidence width r (schemes_of seen.now) }
+    requires rows { (r : Relation) × AreTabled width r table.now × AreEvidence width r (schemes_of seen.now) }
     ensures rights { IfOk result (λ sides. rights_of sides.items ≡ rights.now) }
-    ensures minimal { (r : Relation) → AreCoded width r codes.now → AreEvidence width r (schemes_of seen.now)
+    ensures minimal { (r : Relation) → AreTabled width r table.now → AreEvidence width r (schemes_of seen.now)
         → IfOk result (λ sides. All (HasMinimal width most r) sides.items) }
-    ensures refusal { (r : Relation) → AreCoded width r codes.now → AreEvidence width r (schemes_of seen.now)
+    ensures refusal { (r : Relation) → AreTabled width r table.now → AreEvidence width r (schemes_of seen.now)
         → IfErr result (RefusesAs (IsExceeded width most r)) }
     ensures named { IfErr result (RefusesAs (λ refusal. Contains rights.now refusal.right)) }
 {
-    let begun = first_evidence(alloc, codes, width, seen)?;
+    let begun = first_evidence(alloc, &table.codes, width, seen)?;
     let first = first_sides(alloc, rights)?;
     let mut sides = sides_after(alloc, width, most, &first, &begun)?;
     let mut findings = Findings::new(alloc);
     for size in 0..most + 1 {
         let asked = asked_of_size(alloc, &sides, size)?;
-        let found = refuting_evidence(alloc, codes, width, &asked, &mut findings)?;
+        let found = refuting_evidence(alloc, table, width, &asked, &mut findings)?;
         sides = sides_after(alloc, width, most, &sides, &found)?;
     }
     Ok(sides)

@@ -8,9 +8,12 @@ ghost use Rattle.fd_discovery.specs.Leaders.{AreLeaders, IsOrderOf};
 use dep_model::OutOfMemory;
 use std::alloc::Global;
 
-// The leaders on a set and one column more. The rows are gone through in the order of that column's
-// numbers, so those of one leader that have one number follow each other among the rows of that leader,
-// and the first of them leads the others.
+/// The leaders of rows on a set and one column more, from their leaders on the set, the column's numbers
+/// and the order of the rows by these. A leader is one of the rows that agree on a set, the same for all
+/// of them.
+///
+/// The rows are gone through in that order, so those of one leader that have one number follow each
+/// other among the rows of that leader, and the first of them leads the others.
 pub fn refine_leaders(
     alloc: Global,
     leaders: &[u32],

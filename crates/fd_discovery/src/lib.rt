@@ -24,4 +24,7 @@ pub use headed_rows::{
     read_headed,
 };
 pub use laws::one_reading;
+pub use leaders::refine_leaders;
+pub use ordering::RowOrder;
 pub use refusal::DiscoverRefusal;
+pub use table::CodeColumns;

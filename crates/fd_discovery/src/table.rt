@@ -9,7 +9,7 @@ use dep_model::OutOfMemory;
 use row_store::{Hashing, Rows};
 use std::alloc::Global;
 
-// Rows by numbers in place of their values, and for each column the order of the rows by its numbers.
+/// Rows by numbers in place of their values, and for each column the order of the rows by its numbers.
 #[derive(Debug, Drop)]
 pub struct CodeColumns {
     pub width: u8,
@@ -18,7 +18,7 @@ pub struct CodeColumns {
 }
 
 impl CodeColumns {
-    // The table of rows that have `width` values each.
+    /// The table of rows that have `width` values each.
     pub fn new(
         alloc: Global,
         hashing: Hashing,

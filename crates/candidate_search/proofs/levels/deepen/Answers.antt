@@ -11,7 +11,7 @@ returns-in_ok-push-in-Some c =
     let old : List Level = c.args.levels.now.items in
     let level : Level = c.in-Some.level in
     record {
-      levels = λ r coded are. All-same (IsLevel r) c.push.new.self.items (old ++ level ∷ []) c.in_ok-push-in-Some.ensures.items
+      levels = λ r tabled are. All-same (IsLevel r) c.push.new.self.items (old ++ level ∷ []) c.in_ok-push-in-Some.ensures.items
           (All-push (IsLevel r) old level are (subst (λ (o : Option Level). IfSome o (IsLevel r)) c.in-Some.is
-          (c.in_ok-level.ensures.level r coded (All-same (IsLevel r) c.deref.result.now old c.deref.ensures.value are))));
+          (c.in_ok-level.ensures.level r tabled (All-same (IsLevel r) c.deref.result.now old c.deref.ensures.value are))));
     }

@@ -9,11 +9,11 @@ use Rattle.candidate_search.proofs.levels.lead_to.Goals.{then-contains+in_ok-dee
 pub loop-step-preserved : goal.loop-step-preserved
 loop-step-preserved c = elim c.if-contains.branch [
   | then-contains+in_ok-deepen w ↦ record {
-    levels = λ r coded are. subst (λ (v : Vec Level Global). All (IsLevel r) v.items) (sym w.levels-is)
-        (w.in_ok-deepen.ensures.levels r coded (c.loop-step.invariant.levels r coded are));
+    levels = λ r tabled are. subst (λ (v : Vec Level Global). All (IsLevel r) v.items) (sym w.levels-is)
+        (w.in_ok-deepen.ensures.levels r tabled (c.loop-step.invariant.levels r tabled are));
   }
   | else-contains w ↦ record {
-    levels = λ r coded are. subst (λ (v : Vec Level Global). All (IsLevel r) v.items) (sym w.levels-is)
-        (c.loop-step.invariant.levels r coded are);
+    levels = λ r tabled are. subst (λ (v : Vec Level Global). All (IsLevel r) v.items) (sym w.levels-is)
+        (c.loop-step.invariant.levels r tabled are);
   }
 ]

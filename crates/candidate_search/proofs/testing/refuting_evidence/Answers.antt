@@ -8,9 +8,9 @@ use Rattle.attr_sets.specs.declared.set.AttrSet.{AttrSet}
 use Rattle.dep_model.specs.Plans.{schemes_of}
 use Rattle.dep_model.specs.Tuples.{Relation}
 use Rattle.candidate_laws.specs.Evidence.{AreEvidence}
+use Rattle.candidate_search.specs.Levels.{AreTabled}
 use Rattle.candidate_search.specs.Asking.{IsSettled, Settles}
 use Rattle.candidate_search.specs.Findings.{AreFindings}
-use Rattle.candidate_search.specs.Sides.{AreCoded}
 use Rattle.candidate_search.specs.declared.asking.Asked.{Asked}
 use Rattle.candidate_search.proofs.TestLemmas.{all_settled_push, evidence_push, refutation_settles}
 use Rattle.candidate_search.proofs.testing.refuting_evidence.Goals as goal
@@ -23,43 +23,43 @@ loop-one-preserved c =
     let one : Asked = get_or c.args.asked.now i d in
     let old : List AttrSet = c.loop-one.found.items in
     let new : List AttrSet = c.match-branch-2.found.items in
-    let settles : (r : Relation) → AreCoded c.args.width r c.args.codes.now → AreFindings c.args.width r c.args.findings.now
+    let settles : (r : Relation) → AreTabled c.args.width r c.args.table.now → AreFindings c.args.width r c.args.findings.now
     → Settles c.args.width r (schemes_of old) one c.in_ok-evidence.field-0 =
-    λ r coded are. subst (λ (sets : List AttrSet). Settles c.args.width r (schemes_of sets) one c.in_ok-evidence.field-0)
-    c.deref.ensures.value (c.in_ok-evidence.ensures.settles r coded (c.loop-one.invariant.findings r coded are)) in
+    λ r tabled are. subst (λ (sets : List AttrSet). Settles c.args.width r (schemes_of sets) one c.in_ok-evidence.field-0)
+    c.deref.ensures.value (c.in_ok-evidence.ensures.settles r tabled (c.loop-one.invariant.findings r tabled are)) in
     elim c.match-branch-2.branch [
       | in-Some+in_ok-push-in-Some w ↦
           let s : AttrSet = w.in-Some.evidence in
           let is : new ≡ old ++ s ∷ [] = ap (λ (v : Vec AttrSet Global). v.items) w.found-is ∙ w.in_ok-push-in-Some.ensures.items in
           record {
-            findings = λ r coded are.
-                c.in_ok-evidence.ensures.findings r coded (c.loop-one.invariant.findings r coded are);
-            evidence = λ r coded are. subst (λ (sets : List AttrSet). AreEvidence c.args.width r (schemes_of sets)) (sym is)
-                (evidence_push c.args.width r old s (c.loop-one.invariant.evidence r coded are)
-                (subst (Settles c.args.width r (schemes_of old) one) w.in-Some.is (settles r coded are)).0);
-            settled = λ r coded are.
+            findings = λ r tabled are.
+                c.in_ok-evidence.ensures.findings r tabled (c.loop-one.invariant.findings r tabled are);
+            evidence = λ r tabled are. subst (λ (sets : List AttrSet). AreEvidence c.args.width r (schemes_of sets)) (sym is)
+                (evidence_push c.args.width r old s (c.loop-one.invariant.evidence r tabled are)
+                (subst (Settles c.args.width r (schemes_of old) one) w.in-Some.is (settles r tabled are)).0);
+            settled = λ r tabled are.
                 subst (λ (sets : List AttrSet). All (IsSettled r (schemes_of sets)) (take (i + 1) c.args.asked.now)) (sym is)
                 (All-more (IsSettled r (schemes_of (old ++ s ∷ []))) c.args.asked.now i d c.loop-one-test.true
-                (all_settled_push r old s (take i c.args.asked.now) (c.loop-one.invariant.settled r coded are))
+                (all_settled_push r old s (take i c.args.asked.now) (c.loop-one.invariant.settled r tabled are))
                 (refutation_settles r old s one
-                (subst (Settles c.args.width r (schemes_of old) one) w.in-Some.is (settles r coded are)).1));
+                (subst (Settles c.args.width r (schemes_of old) one) w.in-Some.is (settles r tabled are)).1));
           }
       | in-None w ↦
           let is : new ≡ old = ap (λ (v : Vec AttrSet Global). v.items) w.found-is in
           record {
-            findings = λ r coded are.
-                c.in_ok-evidence.ensures.findings r coded (c.loop-one.invariant.findings r coded are);
-            evidence = λ r coded are. subst (λ (sets : List AttrSet). AreEvidence c.args.width r (schemes_of sets)) (sym is)
-                (c.loop-one.invariant.evidence r coded are);
-            settled = λ r coded are.
+            findings = λ r tabled are.
+                c.in_ok-evidence.ensures.findings r tabled (c.loop-one.invariant.findings r tabled are);
+            evidence = λ r tabled are. subst (λ (sets : List AttrSet). AreEvidence c.args.width r (schemes_of sets)) (sym is)
+                (c.loop-one.invariant.evidence r tabled are);
+            settled = λ r tabled are.
                 subst (λ (sets : List AttrSet). All (IsSettled r (schemes_of sets)) (take (i + 1) c.args.asked.now)) (sym is)
                 (All-more (IsSettled r (schemes_of old)) c.args.asked.now i d c.loop-one-test.true
-                (c.loop-one.invariant.settled r coded are)
-                (subst (Settles c.args.width r (schemes_of old) one) w.in-None.is (settles r coded are)));
+                (c.loop-one.invariant.settled r tabled are)
+                (subst (Settles c.args.width r (schemes_of old) one) w.in-None.is (settles r tabled are)));
           }
     ]
 
 pub returns-clause-settled : goal.returns-clause-settled
-returns-clause-settled c = λ r coded are. All-same (IsSettled r (schemes_of c.loop-one.found.items)) c.args.asked.now _
+returns-clause-settled c = λ r tabled are. All-same (IsSettled r (schemes_of c.loop-one.found.items)) c.args.asked.now _
     (sym (take_all c.loop-one.one-index c.args.asked.now (omega (arith, c.loop-one-test.false))))
-    (c.loop-one.invariant.settled r coded are)
+    (c.loop-one.invariant.settled r tabled are)

@@ -4,18 +4,18 @@ use Rattle.std.specs.Prelude.{All}
 use Rattle.dep_model.specs.Plans.{schemes_of}
 use Rattle.dep_model.specs.Tuples.{Relation}
 use Rattle.candidate_laws.specs.Evidence.{AreEvidence}
+use Rattle.candidate_search.specs.Levels.{AreTabled}
 use Rattle.candidate_search.specs.Asking.{IsSettled}
 use Rattle.candidate_search.specs.Findings.{AreFindings}
-use Rattle.candidate_search.specs.Sides.{AreCoded}
 use Rattle.candidate_search.proofs.testing.refuting_evidence.Given as goal
 
 -- what was asked so far is settled
 abbrev pub invariant-loop-one : goal.invariant-loop-one
 invariant-loop-one l = record {
-  findings : (r : Relation) → AreCoded l.width r l.codes → AreFindings l.width r l.fn.findings
+  findings : (r : Relation) → AreTabled l.width r l.table → AreFindings l.width r l.fn.findings
       → AreFindings l.width r l.findings;
-  evidence : (r : Relation) → AreCoded l.width r l.codes → AreFindings l.width r l.fn.findings
+  evidence : (r : Relation) → AreTabled l.width r l.table → AreFindings l.width r l.fn.findings
       → AreEvidence l.width r (schemes_of l.found.items);
-  settled : (r : Relation) → AreCoded l.width r l.codes → AreFindings l.width r l.fn.findings
+  settled : (r : Relation) → AreTabled l.width r l.table → AreFindings l.width r l.fn.findings
       → All (IsSettled r (schemes_of l.found.items)) (take l.one-index l.asked);
 }
