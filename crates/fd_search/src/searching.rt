@@ -13,8 +13,8 @@ ghost use Rattle.fd_search.specs.Small.{AreAllSmall};
 
 use crate::listing::in_order;
 use candidate_search::{TooManyLeftSides, minimal_left_sides};
-use csv_rows::Interned;
 use dep_model::{Dep, Failure, OutOfMemory};
+use fd_discovery::CodeColumns;
 use row_store::{Hashing, Rows};
 use std::alloc::Global;
 
@@ -57,9 +57,9 @@ pub fn small_dependencies(
     ensures within { IfOk result (λ found. All (IsDepWithin (below width)) found.items) }
     ensures refusal { IfErr result (RefusesAs (IsExceeded width most rows.now)) }
 {
-    let codes = Interned::intern(alloc, hashing, width, rows)?;
+    let table = CodeColumns::new(alloc, hashing, width, rows)?;
     let rights = columns(alloc, width)?;
-    let sides = minimal_left_sides(alloc, &codes, width, most, &rights, &[])?;
+    let sides = minimal_left_sides(alloc, &table, width, most, &rights, &[])?;
     Ok(in_order(alloc, width, most, &sides)?)
 }
 

@@ -11,14 +11,15 @@ use Rattle.attr_sets.proofs.AttributesLemmas.{count_below-le, count_below-outsid
 use Rattle.candidate_laws.specs.Evidence.{AreEvidence, IsEvidence}
 use Rattle.candidate_laws.specs.Standing.{ExceedsCandidates, HasMoreCandidates, IsCandidate}
 use Rattle.candidate_sets.specs.declared.refusal.TheConstants.{MOST_CANDIDATES}
-use Rattle.csv_rows.specs.Interning.{IsInterned}
-use Rattle.csv_rows.specs.declared.interning.Interned.{Interned}
+use Rattle.fd_discovery.specs.Leaders.{IsTableOfRows}
+use Rattle.fd_discovery.specs.declared.table.CodeColumns.{CodeColumns}
 use Rattle.dep_model.specs.Dependencies.{ObeysFd}
 use Rattle.dep_model.specs.Tuples.{Tuple, Relation, AgreeExactly, AgreeOn, IsOver, value_at}
 use Rattle.dep_model.proofs.DistinctLemmas.{filter-keeps, filter-member}
 use Rattle.dep_model.proofs.ListLemmas.{Contains-cases, Contains-map, map-member}
 use Rattle.dep_model.proofs.TupleLemmas.{IsOver-length, same_tuple-Contains}
-use Rattle.candidate_search.specs.Sides.{AreCoded, AreMinimalLeftSides, HasMinimal, IsExceeded, lefts_of, rights_of}
+use Rattle.candidate_search.specs.Levels.{AreTabled}
+use Rattle.candidate_search.specs.Sides.{AreMinimalLeftSides, HasMinimal, IsExceeded, lefts_of, rights_of}
 use Rattle.candidate_search.specs.declared.side.Side.{Side}
 use Rattle.candidate_search.specs.declared.side.TooManyLeftSides.{TooManyLeftSides}
 use Rattle.fd_discovery.specs.Minimal.{IsMinimalWithin}
@@ -48,11 +49,11 @@ wholes_over n r over = All-map (λ (t : Tuple). length t ≡ n + 1) with_whole r
     (All-weaker (λ (t : Tuple). length t ≡ n) (λ (t : Tuple). length (with_whole t) ≡ n + 1)
     (λ t long. length-append t (row_bytes t ∷ []) ∙ ap (λ (k : ℕ). k + 1) long) r over)
 
-pub wholes_coded : (n : ℕ) (r made : Relation) (codes : Interned) → IsOver n r → made ≡ with_wholes r
-    → IsInterned (n + 1) made codes → AreCoded (n + 1) (with_wholes r) codes
-wholes_coded n r made codes over is interned = record {
+pub wholes_tabled : (n : ℕ) (r made : Relation) (table : CodeColumns) → IsOver n r → made ≡ with_wholes r
+    → IsTableOfRows (n + 1) made table → AreTabled (n + 1) (with_wholes r) table
+wholes_tabled n r made table over is made_table = record {
   over = wholes_over n r over;
-  interned = subst (λ (rows : Relation). IsInterned (n + 1) rows codes) is interned;
+  table = subst (λ (rows : Relation). IsTableOfRows (n + 1) rows table) is made_table;
 }
 
 below_more : (n : ℕ) (x : Attributes) → IsSubset x (below n) → IsSubset x (below (n + 1))

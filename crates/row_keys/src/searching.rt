@@ -9,8 +9,8 @@ ghost use Rattle.row_keys.specs.Keys.{AreRowKeys, HasTooManyKeys};
 use crate::whole::with_whole_rows;
 use attr_sets::AttrSet;
 use candidate_search::{Side, minimal_left_sides};
-use csv_rows::Interned;
 use dep_model::Failure;
+use fd_discovery::CodeColumns;
 use row_store::{Hashing, Rows};
 use std::alloc::Global;
 
@@ -33,9 +33,9 @@ pub fn row_keys(
     ensures refusal { IfErr result (RefusesAs (λ _. HasTooManyKeys width rows.now)) }
 {
     let whole = with_whole_rows(alloc, rows)?;
-    let codes = Interned::intern(alloc, hashing, width + 1, &whole)?;
+    let table = CodeColumns::new(alloc, hashing, width + 1, &whole)?;
     let rights = [width];
-    match minimal_left_sides(alloc, &codes, width + 1, width, &rights, &[]) {
+    match minimal_left_sides(alloc, &table, width + 1, width, &rights, &[]) {
         Ok(sides) => Ok(lefts_of_first(sides)),
         Err(Failure::Refused(_)) => Err(Failure::Refused(TooManyKeys)),
         Err(Failure::OutOfMemory) => Err(Failure::OutOfMemory),

@@ -5,7 +5,8 @@ use Rattle.std.specs.Prelude.{All}
 use Rattle.std.specs.List.{range_with_len}
 use Rattle.std.proofs.lemmas.List.Elements.{All-same}
 use Rattle.attr_sets.specs.Attributes.{below}
-use Rattle.candidate_search.specs.Sides.{AreCoded, HasMinimal, rights_of}
+use Rattle.candidate_search.specs.Levels.{AreTabled}
+use Rattle.candidate_search.specs.Sides.{HasMinimal, rights_of}
 use Rattle.dep_model.specs.Dependencies.{IsWithin}
 use Rattle.dep_model.specs.Deps.{dependencies_of}
 use Rattle.dep_model.proofs.DepLemmas.{dependencies_all-to}
@@ -15,13 +16,13 @@ use Rattle.fd_search.proofs.searching.small_dependencies.Goals as goal
 use Rattle.fd_search.proofs.searching.small_dependencies.Goals.{After-deref-2}
 
 -- the sides, once they are found
-coded : (c : After-deref-2) → AreCoded c.args.width c.args.rows.now c.in_ok-codes.codes
-coded c = record { over = c.requires.over; interned = c.in_ok-codes.ensures.codes }
+tabled : (c : After-deref-2) → AreTabled c.args.width c.args.rows.now c.in_ok-table.table
+tabled c = record { over = c.requires.over; table = c.in_ok-table.ensures.table }
 
 minimal_sides : (c : After-deref-2) → All (HasMinimal c.args.width c.args.most c.args.rows.now) c.deref-2.result.now
 minimal_sides c =
     All-same (HasMinimal c.args.width c.args.most c.args.rows.now) c.deref-2.result.now c.in_ok-sides.sides.items
-    c.deref-2.ensures.value (c.in_ok-sides.ensures.minimal c.args.rows.now (coded c) (λ i d l. absurd (omega (arith, l))))
+    c.deref-2.ensures.value (c.in_ok-sides.ensures.minimal c.args.rows.now (tabled c) (λ i d l. absurd (omega (arith, l))))
 
 sides_rights : (c : After-deref-2) → rights_of c.deref-2.result.now ≡ range_with_len 0 c.args.width
 sides_rights c = ap rights_of c.deref-2.ensures.value ∙ c.in_ok-sides.ensures.rights ∙ c.deref.ensures.value
