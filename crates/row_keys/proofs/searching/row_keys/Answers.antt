@@ -14,8 +14,8 @@ use Rattle.row_keys.specs.Whole.{with_wholes}
 use Rattle.row_keys.proofs.KeyLemmas.{keys_of_first, keys_refused, wholes_tabled, wholes_over}
 use Rattle.row_keys.proofs.searching.row_keys.Goals as goal
 
-pub new-table-requires-clause-over : goal.new-table-requires-clause-over
-new-table-requires-clause-over c =
+pub new-requires-clause-over : goal.new-requires-clause-over
+new-requires-clause-over c =
     subst (IsOver (c.args.width + 1)) (sym c.in_ok-whole.ensures.rows) (wholes_over c.args.width c.args.rows.now c.requires.over)
 
 pub minimal_left_sides-requires-clause-rows : goal.minimal_left_sides-requires-clause-rows
