@@ -1,0 +1,5 @@
+-- The proofs of import_laws.
+pub mod PieceLemmas
+pub mod NameLemmas
+pub mod ListLemmas
+pub mod TypeLemmas
