@@ -3,3 +3,5 @@ pub mod PieceLemmas
 pub mod NameLemmas
 pub mod ListLemmas
 pub mod TypeLemmas
+pub mod ElementLemmas
+pub mod ChainLemmas
