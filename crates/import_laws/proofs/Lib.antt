@@ -5,3 +5,4 @@ pub mod ListLemmas
 pub mod TypeLemmas
 pub mod ElementLemmas
 pub mod ChainLemmas
+pub mod TableLemmas
