@@ -6,3 +6,5 @@ pub mod TypeLemmas
 pub mod ElementLemmas
 pub mod ChainLemmas
 pub mod TableLemmas
+pub mod StatementLemmas
+pub mod DefinitionLemmas
