@@ -8,3 +8,4 @@ pub mod ChainLemmas
 pub mod TableLemmas
 pub mod StatementLemmas
 pub mod DefinitionLemmas
+pub mod FitLemmas

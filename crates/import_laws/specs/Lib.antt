@@ -1,2 +1,4 @@
--- The definitions of import_laws, in reading order: what is read of a table, and the facts that state it.
+-- The definitions of import_laws, in reading order: what is read of a table, the designs that are printed, and what is
+-- imported of them.
 pub mod ReadTables
+pub mod PrintedDesigns
