@@ -1,13 +1,17 @@
 -- The SQL of a design defines each table of it: its columns and its keys.
-use Rattle.std.proofs.Common.{◌≡◌, ◌<◌, ◌==◌, ℕ, Bool, true, false, AllPairs, List, length, refl, sym, ap, ◌∙◌, arith, Some, Ok}
+use Rattle.std.proofs.Common.{◌≡◌, ◌<◌, ◌==◌, ℕ, Bool, true, false, IsTrue, AllPairs, List, length, refl, sym, ap, ◌∙◌, arith, Some, Ok}
 use Rattle.std.specs.Prelude.{slice_get}
 use Rattle.std.proofs.lemmas.Bool.Decides.{nat_tests}
+use Rattle.std.proofs.lemmas.List.Elements.{All-weaker}
 use Rattle.attr_sets.specs.Sets.{attributes}
 use Rattle.dep_model.specs.Names.{same_name}
+use Rattle.dep_model.specs.Schemas.{types_of}
 use Rattle.dep_model.specs.declared.schema.Schema.{Schema}
 use Rattle.ddl_text.specs.Ddl.{ddl_text}
 use Rattle.ddl_text.specs.declared.table.TableDesign.{TableDesign}
 use Rattle.ddl_pieces.proofs.Statements.{tables_created}
+use Rattle.ddl_pieces.proofs.Types.{own_sound}
+use Rattle.ddl_pieces.specs.Pieces.{is_own_type, is_sound_type}
 use Rattle.sql_lexemes.specs.declared.dialect.Dialect.{Dialect}
 use Rattle.sql_lexemes.specs.Statements.{scan_from, statements_of}
 use Rattle.sql_lexemes.specs.declared.piece.Before.TheVariants.{LineStart}
@@ -22,7 +26,9 @@ pub table_defined : (d : Dialect) (s : Schema) (tables : List TableDesign) (k : 
     → 0 < length (read_columns d s (attributes table.scheme))
     → (f : Facts) × (definition_of d (named table.name) (ddl_text s tables) ≡ Ok f) × StatesTable d s table f
 table_defined d s tables k table is apart here readable some =
-    let created = tables_created d (scan_from LineStart 0) s tables tables is.names is.types refl refl in
+    let created = tables_created d (scan_from LineStart 0) s tables tables is.names
+    (All-weaker (λ column. IsTrue (is_own_type column)) (λ column. IsTrue (is_sound_type d column)) (own_sound d) (types_of s) is.types)
+    refl refl in
     let known = known_by (read_columns d s (attributes table.scheme)) (read_keys s table) in
     let (f, read, states) = statements_read d s tables tables (statements_of d (ddl_text s tables)) k table known created apart here
     (table_leads d s tables table is readable) some in

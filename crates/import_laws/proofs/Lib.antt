@@ -9,3 +9,4 @@ pub mod TableLemmas
 pub mod StatementLemmas
 pub mod DefinitionLemmas
 pub mod FitLemmas
+pub mod LawLemmas
