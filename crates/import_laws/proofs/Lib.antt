@@ -9,4 +9,5 @@ pub mod TableLemmas
 pub mod StatementLemmas
 pub mod DefinitionLemmas
 pub mod FitLemmas
+pub mod PlaceLemmas
 pub mod LawLemmas

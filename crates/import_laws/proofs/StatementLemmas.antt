@@ -83,7 +83,7 @@ lines_read d place end after (e ∷ es) leads some =
       states,
     )
 
-same_itself : (name : List ℕ) → same_name name name ≡ true
+pub same_itself : (name : List ℕ) → same_name name name ≡ true
 same_itself name = (bytes_eq-Decides (str_to_ascii_lowercase name) (str_to_ascii_lowercase name)).1 refl
 
 pub wanted_read : (d : Dialect) (place end : ℕ) (name : List ℕ) (after : Known) (es : List (List TextPiece)) → Leads d nothing after es

@@ -2,3 +2,4 @@
 -- imported of them.
 pub mod ReadTables
 pub mod PrintedDesigns
+pub mod ImportedTables
