@@ -10,4 +10,6 @@ pub mod StatementLemmas
 pub mod DefinitionLemmas
 pub mod FitLemmas
 pub mod PlaceLemmas
+pub mod KeyLemmas
+pub mod ImportedLemmas
 pub mod LawLemmas
