@@ -1,6 +1,5 @@
 -- The elements of a table are read one after the other, with a comma between two, up to the bracket that closes it.
-use Rattle.std.proofs.Common.{◌≡◌, ◌<◌, ◌+◌, ◌==◌, ◌||◌, ℕ, zero, suc, Bool, true, false, cond, List, [], ◌∷◌, ◌++◌, map, length, take, drop, refl, sym, ap, subst, ◌∙◌, arith, Ok, append_assoc}
-use Rattle.std.specs.Prelude.{codes}
+use Rattle.std.proofs.Common.{◌≡◌, ◌<◌, ◌+◌, ◌==◌, ℕ, suc, true, false, List, [], ◌∷◌, ◌++◌, length, take, drop, refl, sym, ap, subst, ◌∙◌, arith, Ok, append_assoc}
 use Rattle.std.specs.List.{list_any}
 use Rattle.std.proofs.Math.Seq.{drop-append_seam, take-append_seam}
 use Rattle.std.proofs.lemmas.Bool.Decides.{nat_tests}
@@ -8,8 +7,8 @@ use Rattle.sql_lexemes.specs.declared.dialect.Dialect.{Dialect}
 use Rattle.sql_lexemes.specs.Lexemes.{Lexed}
 use Rattle.sql_definitions.specs.Elements.{element}
 use Rattle.sql_definitions.specs.Facts.{Facts, Outcome, StatedColumn, then_read, with_binding}
-use Rattle.sql_definitions.specs.Tables.{after_element, binds_keys, closed_table, element_length, elements, ends_element, place_of}
-use Rattle.ddl_pieces.specs.Pieces.{TextPiece, gap, lexemes_from, lines_after, lines_pieces, mark}
+use Rattle.sql_definitions.specs.Tables.{after_element, closed_table, elements, ends_element, place_of}
+use Rattle.ddl_pieces.specs.Pieces.{TextPiece, gap, lexemes_from, lines_after, mark}
 use Rattle.import_laws.proofs.ElementLemmas.{IsElement, Known, Reads, States}
 use Rattle.import_laws.proofs.PieceLemmas.{depth_end, first_at, lexemes_append, place_after}
 
@@ -94,7 +93,7 @@ elements_read d place end before after e [] leads some f states =
     let whole = cut_off place e closing is.back ∙ ap (λ (t : List Lexed). t ++ lexemes_from (place_after place e) 1 closing) own in (
       h,
       ap (λ (t : List Lexed). elements d end 0 t f) whole
-      ∙ one_read d end l ls _ [] f g none refl (ap (λ (t : List Lexed). element d bracket t f) (sym own) ∙ read) ∙ last,
+          ∙ one_read d end l ls _ [] f g none refl (ap (λ (t : List Lexed). element d bracket t f) (sym own) ∙ read) ∙ last,
       subst (λ (k : Known). States k h) same known,
     )
 elements_read d place end before after e (next ∷ es) leads some f states =
@@ -110,8 +109,8 @@ elements_read d place end before after e (next ∷ es) leads some f states =
     let after_comma = lexemes_from ((comma + 1) + 3) 1 ((next ++ lines_after es) ++ closing) in (
       h,
       ap (λ (t : List Lexed). elements d end 0 t f) whole
-      ∙ one_read d end l ls _ after_comma f g none refl (ap (λ (t : List Lexed). element d comma t f) (sym own) ∙ read)
-      ∙ passed d end ls _ after_comma g
-      ∙ ap (λ (t : List Lexed). elements d end 0 t g) regrouped ∙ later,
+          ∙ one_read d end l ls _ after_comma f g none refl (ap (λ (t : List Lexed). element d comma t f) (sym own) ∙ read)
+          ∙ passed d end ls _ after_comma g
+          ∙ ap (λ (t : List Lexed). elements d end 0 t g) regrouped ∙ later,
       known,
     )

@@ -1,5 +1,5 @@
 -- The SQL of a design defines each table of it: its columns and its keys.
-use Rattle.std.proofs.Common.{◌≡◌, ◌<◌, ◌==◌, ℕ, Bool, true, false, IsTrue, AllPairs, List, length, refl, sym, ap, ◌∙◌, arith, Some, Ok}
+use Rattle.std.proofs.Common.{◌≡◌, ◌<◌, ◌==◌, ℕ, false, IsTrue, AllPairs, List, length, refl, ap, ◌∙◌, arith, Some, Ok}
 use Rattle.std.specs.Prelude.{slice_get}
 use Rattle.std.proofs.lemmas.Bool.Decides.{nat_tests}
 use Rattle.std.proofs.lemmas.List.Elements.{All-weaker}
@@ -15,8 +15,8 @@ use Rattle.ddl_pieces.specs.Pieces.{is_own_type, is_sound_type}
 use Rattle.sql_lexemes.specs.declared.dialect.Dialect.{Dialect}
 use Rattle.sql_lexemes.specs.Statements.{scan_from, statements_of}
 use Rattle.sql_lexemes.specs.declared.piece.Before.TheVariants.{LineStart}
-use Rattle.sql_definitions.specs.Definitions.{definition_of, is_there, read_statements}
-use Rattle.sql_definitions.specs.Facts.{Facts, Outcome, StatedColumn, no_facts, then_read}
+use Rattle.sql_definitions.specs.Definitions.{definition_of, is_there}
+use Rattle.sql_definitions.specs.Facts.{Facts, Outcome, StatedColumn, then_read}
 use Rattle.import_laws.specs.ReadTables.{StatesTable, named, read_columns, read_keys}
 use Rattle.import_laws.proofs.StatementLemmas.{statements_read}
 use Rattle.import_laws.proofs.TableLemmas.{IsPrinted, IsReadable, known_by, table_leads}

@@ -1,5 +1,5 @@
 -- The elements of a table are read back, each alone: a column, a key, and a reference, which is passed over.
-use Rattle.std.proofs.Common.{◌≡◌, ◌<◌, ◌+◌, ◌||◌, ℕ, Bool, true, false, cond, All, IsTrue, List, [], ◌∷◌, ◌++◌, map, length, refl, sym, ap, ◌∙◌, arith, Option, Some, None, Ok}
+use Rattle.std.proofs.Common.{◌≡◌, ◌<◌, ◌+◌, ℕ, Bool, true, false, All, IsTrue, List, [], ◌∷◌, ◌++◌, map, length, refl, ap, ◌∙◌, arith, Option, Some, Ok}
 use Rattle.std.specs.Prelude.{codes, nat_lt}
 use Rattle.std.specs.List.{list_any}
 use Rattle.std.proofs.lemmas.Bool.Decides.{nat_tests}
@@ -12,7 +12,7 @@ use Rattle.dep_model.specs.declared.schema.TheConstants.{MOST_DEPENDENCIES}
 use Rattle.sql_names.specs.Names.{quoted_name}
 use Rattle.sql_lexemes.specs.declared.dialect.Dialect.{Dialect}
 use Rattle.sql_lexemes.specs.Lexemes.{Lexed}
-use Rattle.sql_definitions.specs.Elements.{column_of, element, is_taken, named_column, type_length}
+use Rattle.sql_definitions.specs.Elements.{element, is_taken, named_column}
 use Rattle.sql_definitions.specs.Facts.{Facts, Outcome, StatedColumn, StatedPart, state_key, then_read, with_column, with_key}
 use Rattle.sql_definitions.specs.Tables.{ends_element}
 use Rattle.ddl_pieces.specs.Pieces.{TextPiece, blank, is_own_type, lexemes_from, quoted_piece, type_pieces, word}
@@ -70,7 +70,7 @@ column_read d known name nullable column is own typed free room place end f stat
     let space : nat_lt (length f.columns) MOST_ATTRIBUTES ≡ true = grind (arith, nat_tests, same, room) in (
       with_column f (column_typed name nullable (read_type d column)),
       ap (named_column d place type f) (name_known d place 1 name is)
-      ∙ rw here (rw space (keys _ _ ∙ ap (λ (c : StatedColumn). Ok (with_column f c)) (stated name))),
+          ∙ rw here (rw space (keys _ _ ∙ ap (λ (c : StatedColumn). Ok (with_column f c)) (stated name))),
       record {
         found = states.found;
         columns = ap (λ (cs : List StatedColumn). cs ++ column_typed name nullable (read_type d column) ∷ []) states.columns;

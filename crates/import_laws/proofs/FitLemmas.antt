@@ -1,8 +1,8 @@
 -- Each table of a design can be read: its scheme has attributes, its keys lie within it and differ, and its references
 -- name tables.
-use Rattle.std.proofs.Common.{◌≡◌, ◌<◌, ◌≤◌, ◌+◌, ℕ, zero, suc, inl, inr, ⊎_elim, Bool, true, false, cond, not, All, AllPairs, List, [], ◌∷◌, ◌++◌, map, length, get_or, take, drop, refl, sym, ap, subst, ◌∙◌, arith, Option, Some, None, length-append, length-take, take_all, Vec, Global}
+use Rattle.std.proofs.Common.{◌≡◌, ◌<◌, ◌≤◌, ◌+◌, ℕ, zero, suc, inl, inr, ⊎_elim, Bool, true, false, cond, not, All, AllPairs, List, [], ◌∷◌, ◌++◌, map, length, get_or, take, refl, sym, ap, subst, ◌∙◌, arith, Option, Some, None, length-take, take_all, Vec, Global}
 use Rattle.std.specs.Prelude.{Contains, IsSomeAnd, filter, slice_get}
-use Rattle.std.proofs.lemmas.Bool.{cases_Bool, cases_eq, cases_lt, false_from_ne_true, true≢false}
+use Rattle.std.proofs.lemmas.Bool.{cases_Bool, cases_eq, true≢false}
 use Rattle.std.proofs.lemmas.Bool.Decides.{nat_tests}
 use Rattle.std.proofs.lemmas.List.{get_or-map, length-map, map-append}
 use Rattle.std.proofs.lemmas.List.Elements.{All-contains_itself, All-filter, All-map, All-nil, All-weaker, filter_passes}
@@ -18,7 +18,6 @@ use Rattle.dep_model.specs.Plans.{schemes_of}
 use Rattle.dep_model.specs.Projections.{members_below}
 use Rattle.dep_model.specs.Schemas.{names_of, nullable_of, theory_of, width_of}
 use Rattle.dep_model.specs.declared.schema.Schema.{Schema}
-use Rattle.dep_model.specs.declared.schema.TheConstants.{MOST_DEPENDENCIES}
 use Rattle.key_listing.specs.Listing.{AreAllKeys}
 use Rattle.key_listing.specs.declared.refusal.TheConstants.{MOST_KEYS}
 use Rattle.primary_keys.proofs.PrimaryLemmas.{primary_is_key}
@@ -27,7 +26,7 @@ use Rattle.schema_printer.specs.Printing.{members_from}
 use Rattle.sql_names.proofs.NameLemmas.{names_inside, names_outside}
 use Rattle.table_names.specs.TableNames.{GivenNames}
 use Rattle.ddl_text.specs.Ddl.{is_empty, is_never_missing}
-use Rattle.ddl_text.specs.Designs.{AreOtherKeys, AreReferences, IsDesign, IsTableOf, RefersTo, known_keys, without_key}
+use Rattle.ddl_text.specs.Designs.{AreOtherKeys, AreReferences, IsTableOf, RefersTo, known_keys, without_key}
 use Rattle.ddl_text.specs.declared.table.TableDesign.{TableDesign}
 use Rattle.sql_lexemes.specs.declared.dialect.Dialect.{Dialect}
 use Rattle.import_laws.specs.PrintedDesigns.{IsPrintedDesign}
@@ -62,11 +61,11 @@ members_named x names =
 some_members : (n : ℕ) (x : Attributes) → IsSubset x (below n) → (IsEmpty x → ⊥) → 0 < length (members_below n x)
 some_members n x within some = elim (cases_eq (count_below x n) 0) [
   | inl nothing ↦ absurd (some (λ k. elim (cases_Bool (x k)) [
-      | inl member ↦
-          let low : k < n = grind (arith, nat_tests, within k member) in
-          let more = count_below-pos n x k low member in absurd (omega (arith, nothing, more))
-      | inr outside ↦ outside
-    ]))
+    | inl member ↦
+        let low : k < n = grind (arith, nat_tests, within k member) in
+        let more = count_below-pos n x k low member in absurd (omega (arith, nothing, more))
+    | inr outside ↦ outside
+  ]))
   | inr other ↦ let size = length-members_below n x in omega (arith, other, size)
 ]
 
@@ -197,7 +196,7 @@ refs_within : (k : ℕ) (tables : List TableDesign) (scheme : Attributes) (refs 
 refs_within k tables scheme refs are =
     All-weaker (Contains refs) (λ j. j < length tables)
     (λ j has. let low = some_within (RefersTo scheme) (take k tables) j ((are.exactly j).0 has) in
-        let less = shorter k tables in omega (arith, low, less))
+    let less = shorter k tables in omega (arith, low, less))
     refs (All-contains_itself refs)
 
 -- ---- each table of a design

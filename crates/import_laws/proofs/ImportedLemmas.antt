@@ -1,40 +1,35 @@
 -- The schema that is imported of a table of a design: what its text declares.
 use Rattle.std.proofs.Common.{◌≡◌, ◌<◌, ◌≤◌, ◌&&◌, ◌++◌, ℕ, zero, suc, Bool, true, false, cond, not, All, AllPairs, List, [], ◌∷◌, map, length, get_or, refl, sym, ap, subst, ◌∙◌, arith, Option, Some, None, Result, Ok}
 use Rattle.std.specs.Prelude.{IsSomeAnd, filter, option_map, slice_get, slice_index_or}
-use Rattle.std.specs.List.{list_any}
 use Rattle.std.proofs.lemmas.Bool.{false_from_ne_true, true≢false}
 use Rattle.std.proofs.lemmas.Bool.Decides.{nat_tests}
 use Rattle.std.proofs.lemmas.List.{get_or-map, length-map}
-use Rattle.std.proofs.lemmas.List.Elements.{All-append, All-cons, All-filter, All-head, All-map, All-nil, All-tail, filter_passes}
+use Rattle.std.proofs.lemmas.List.Elements.{All-cons, All-filter, All-head, All-map, All-tail, filter_passes}
 use Rattle.std.proofs.lemmas.List.Folds.{list_any_none}
 use Rattle.std.proofs.lemmas.List.Kept.{AllPairs-filter}
 use Rattle.std.proofs.lemmas.Option.{slice_get-map}
 use Rattle.std.proofs.lemmas.Simd.{map-map}
 use Rattle.attr_sets.proofs.AttributesLemmas.{is_disjoint-from, is_disjoint-true, is_same-from}
 use Rattle.attr_sets.specs.Attributes.{Attributes, Disjoint, IsSubset, below}
-use Rattle.attr_sets.specs.Sets.{attributes, is_disjoint, is_same}
+use Rattle.attr_sets.specs.Sets.{attributes, is_same}
 use Rattle.attr_sets.specs.declared.set.TheConstants.{MOST_ATTRIBUTES}
-use Rattle.dep_model.specs.Dependencies.{Dependency}
-use Rattle.dep_model.specs.Projections.{members_below}
 use Rattle.dep_model.specs.Schemas.{names_of, nullable_of, types_of, width_of}
-use Rattle.dep_model.specs.declared.column_type.ColumnType.{ColumnType}
 use Rattle.dep_model.specs.declared.column_type.ColumnType.TheVariants as type
 use Rattle.dep_model.specs.declared.naming.Naming.TheVariants.{Any}
 use Rattle.dep_model.specs.declared.schema.Schema.{Schema}
 use Rattle.missing_values.specs.Missing.{NeverMissing}
-use Rattle.schema_grammar.specs.Declarations.{Declarations}
 use Rattle.schema_grammar.specs.Schemas.{MeansSchema}
 use Rattle.ddl_text.specs.Ddl.{is_empty, is_never_missing}
 use Rattle.ddl_text.specs.Designs.{known_keys}
 use Rattle.ddl_text.specs.declared.table.TableDesign.{TableDesign}
 use Rattle.sql_lexemes.specs.declared.dialect.Dialect.{Dialect}
 use Rattle.sql_definitions.specs.Definitions.{definition_of}
-use Rattle.sql_definitions.specs.Facts.{Facts, Outcome, StatedColumn, StatedKey}
+use Rattle.sql_definitions.specs.Facts.{Facts, Outcome, StatedColumn}
 use Rattle.sql_definitions.specs.Wanted.{TableName}
 use Rattle.sql_definitions.specs.declared.refusal.Refusal.{Refusal}
 use Rattle.sql_schemas.proofs.LawLemmas.{text_means}
 use Rattle.sql_schemas.proofs.ReadLemmas.{definition_reads}
-use Rattle.sql_schemas.specs.Keys.{KeyColumns, and_then, key_dependency, keys_of, new_keys}
+use Rattle.sql_schemas.specs.Keys.{KeyColumns, and_then, key_dependency, new_keys}
 use Rattle.sql_schemas.specs.Meaning.{declared_table, whole_keys}
 use Rattle.sql_schemas.specs.Texts.{column_names, column_types, columns_missing, imported_text, is_bound, is_whole, says_nothing, table_text, text_of_facts}
 use Rattle.import_laws.specs.ImportedTables.{columns_of, determines_others, has, imported_keys, imported_table, places_in, stated_keys}
@@ -199,9 +194,9 @@ module _ (s : Schema) (tables : List TableDesign) (k : ℕ) (table : TableDesign
         unbound : (b : ℕ) → slice_get (columns_of s table) j ≡ Some b → nullable_of s b ≡ true → is_bound keys j ≡ false
         unbound b at nullable =
             list_any_none (λ (key : KeyColumns). key.binds && key.columns j) keys (λ i e low.
-                let key = get_or keys i e in
-                either key.binds (key.columns j) (false_from_ne_true (key.columns j) (λ member.
-                true≢false (sym nullable ∙ sym (ap (has (nullable_of s)) at) ∙ keys_never i e low j member))))
+            let key = get_or keys i e in
+            either key.binds (key.columns j) (false_from_ne_true (key.columns j) (λ member.
+            true≢false (sym nullable ∙ sym (ap (has (nullable_of s)) at) ∙ keys_never i e low j member))))
           where
             either : (b c : Bool) → c ≡ false → (b && c) ≡ false
             either true c is = is
@@ -255,7 +250,7 @@ module _ (s : Schema) (tables : List TableDesign) (k : ℕ) (table : TableDesign
         table_text f.columns keys,
         lines,
         ap (λ (o : Outcome). and_then o (text_of_facts d)) defined
-        ∙ ap (λ (o : Result (List KeyColumns) Refusal). and_then o (λ ks. Ok (table_text f.columns ks))) read,
+            ∙ ap (λ (o : Result (List KeyColumns) Refusal). and_then o (λ ks. Ok (table_text f.columns ks))) read,
         subst (MeansSchema (table_text f.columns keys)) same means,
       )
     where

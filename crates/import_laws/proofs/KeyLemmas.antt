@@ -1,8 +1,7 @@
 -- The keys that facts of a table state, by the places of their attributes, and which of them a schema declares.
-use Rattle.std.proofs.Common.{◌≡◌, ◌<◌, ◌≤◌, ◌+◌, ◌==◌, ◌&&◌, ◌||◌, ℕ, zero, suc, Bool, true, false, cond, not, All, AllPairs, List, [], ◌∷◌, ◌++◌, map, length, get_or, refl, sym, ap, subst, ◌∙◌, arith, Option, Some, None, Ok, append-nil, append_assoc}
+use Rattle.std.proofs.Common.{◌≡◌, ◌≤◌, ◌==◌, ◌||◌, ℕ, suc, Bool, true, false, cond, not, All, AllPairs, List, [], ◌∷◌, ◌++◌, map, length, get_or, refl, sym, ap, ◌∙◌, arith, Option, Some, Ok, append-nil, append_assoc}
 use Rattle.std.specs.Prelude.{filter, option_and_then, slice_index_or}
 use Rattle.std.specs.List.{list_any}
-use Rattle.std.proofs.lemmas.List.{get_or-map, length-map}
 use Rattle.std.proofs.lemmas.List.Elements.{All-head, All-tail}
 use Rattle.std.proofs.lemmas.List.Folds.{list_any-append}
 use Rattle.std.proofs.lemmas.Simd.{map-map}
@@ -16,7 +15,7 @@ use Rattle.dep_model.specs.declared.schema.Schema.{Schema}
 use Rattle.schema_printer.specs.Printing.{members_from}
 use Rattle.sql_lexemes.specs.declared.dialect.Dialect.{Dialect}
 use Rattle.sql_definitions.specs.Facts.{Facts, StatedColumn, StatedKey, StatedPart}
-use Rattle.sql_schemas.specs.Keys.{KeyColumns, and_then, binds_key, column_named, columns_of_parts, is_new, key_dependency, key_of, keys_after, new_keys, with_part}
+use Rattle.sql_schemas.specs.Keys.{KeyColumns, and_then, binds_key, column_named, columns_of_parts, is_new, key_dependency, keys_after, new_keys, with_part}
 use Rattle.import_laws.specs.ImportedTables.{determines_others, places_in}
 use Rattle.import_laws.specs.ReadTables.{read_columns}
 use Rattle.import_laws.proofs.FitLemmas.{members_named}
@@ -73,7 +72,7 @@ set_read d s scheme x limit within parts same =
     let members = members_below (width_of s) x in
     let named = same ∙ ap (map Some) (members_named x (names_of s)) ∙ map-map Some (λ (a : ℕ). slice_index_or (names_of s) a []) members in
     let are : All (IsMember (width_of s) scheme) members = λ i d low.
-        let is = members_are (width_of s) x i d low in record { low = is.low; inside = within (get_or members i d) is.inside } in
+    let is = members_are (width_of s) x i d low in record { low = is.low; inside = within (get_or members i d) is.inside } in
     parts_read d s scheme members are parts named none ∙ ap Ok equal
   where
     one : (j : ℕ) → with_places scheme none (members_below (width_of s) x) j ≡ places_in (members_below (width_of s) scheme) x j
@@ -109,8 +108,8 @@ keys_read d s scheme f limit columns before (key ∷ stated) (x ∷ sets) within
     (All-tail (λ (y : Attributes). IsSubset y scheme) x sets within) rest in (
       made ∷ keys,
       ap (λ r. and_then (and_then r (λ z. Ok (record { primary = key.primary; binds = binds_key d f key; columns = z })))
-      (λ k. keys_after d f (before ++ k ∷ []) stated)) read
-      ∙ later ∙ ap Ok (append_assoc before (made ∷ []) keys),
+          (λ k. keys_after d f (before ++ k ∷ []) stated)) read
+          ∙ later ∙ ap Ok (append_assoc before (made ∷ []) keys),
       ap (λ (cs : List Attributes). places ∷ cs) are,
     )
 
@@ -148,8 +147,8 @@ new_are n before (key ∷ keys) apart far =
 
     by_test : (b : Bool) → is_subset (below n) key.columns ≡ b
         → ((front : List KeyColumns)
-            → All (λ (k : KeyColumns). list_any (λ (other : KeyColumns). is_same other.columns k.columns) front ≡ false) keys
-            → new_keys n front keys ≡ front ++ filter (has_others n) keys)
+        → All (λ (k : KeyColumns). list_any (λ (other : KeyColumns). is_same other.columns k.columns) front ≡ false) keys
+        → new_keys n front keys ≡ front ++ filter (has_others n) keys)
         → new_keys n (cond (is_new n before key) (before ++ key ∷ []) before) keys
         ≡ before ++ cond (has_others n key) (key ∷ filter (has_others n) keys) (filter (has_others n) keys)
     by_test true all next = rw all (next before rest)

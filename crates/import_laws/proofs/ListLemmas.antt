@@ -1,5 +1,5 @@
 -- Lists of names in brackets are read back, and none of their lexemes ends an element of a table.
-use Rattle.std.proofs.Common.{◌≡◌, ◌+◌, ℕ, Bool, true, false, All, List, [], ◌∷◌, ◌++◌, map, length, refl, sym, ap, ◌∙◌, arith, Option, Some, None, Result, Ok, Err, append-nil, append_assoc}
+use Rattle.std.proofs.Common.{◌≡◌, ◌+◌, ℕ, false, All, List, [], ◌∷◌, ◌++◌, map, length, refl, sym, ap, ◌∙◌, Option, Some, Result, Ok, append-nil, append_assoc}
 use Rattle.std.specs.List.{list_any}
 use Rattle.std.proofs.lemmas.List.{map-append}
 use Rattle.std.proofs.lemmas.List.Elements.{All-head, All-tail}
@@ -37,8 +37,8 @@ after_read d end place before (name ∷ names) all =
       parts,
       read,
       same ∙ ap (λ (xs : List (Option (List ℕ))). xs ++ map Some names) (map-append (λ (p : StatedPart). p.name) before (part ∷ []))
-      ∙ append_assoc (map (λ (p : StatedPart). p.name) before) (part.name ∷ []) (map Some names)
-      ∙ ap (λ (x : Option (List ℕ)). map (λ (p : StatedPart). p.name) before ++ x ∷ map Some names) is,
+          ∙ append_assoc (map (λ (p : StatedPart). p.name) before) (part.name ∷ []) (map Some names)
+          ∙ ap (λ (x : Option (List ℕ)). map (λ (p : StatedPart). p.name) before ++ x ∷ map Some names) is,
     )
 
 pub list_read : (d : Dialect) (end place : ℕ) (name : List ℕ) (names : List (List ℕ)) → All IsName (name ∷ names)

@@ -1,8 +1,8 @@
 -- The places of attributes among the columns of a table: those of a set, and that of the column of a name.
-use Rattle.std.proofs.Common.{◌≡◌, ◌<◌, ◌≤◌, ◌+◌, ◌==◌, ◌&&◌, ◌||◌, ℕ, zero, suc, inl, inr, Bool, true, false, cond, not, All, AllPairs, List, [], ◌∷◌, ◌++◌, map, length, get_or, refl, sym, ap, subst, ◌∙◌, arith, Option, Some, None}
+use Rattle.std.proofs.Common.{◌≡◌, ◌<◌, ◌≤◌, ◌==◌, ℕ, zero, suc, inl, inr, Bool, true, false, cond, All, AllPairs, List, [], map, length, get_or, refl, sym, ap, subst, ◌∙◌, arith, Option, Some, None}
 use Rattle.std.specs.Prelude.{nat_lt, position, slice_get, slice_index_or}
 use Rattle.std.specs.List.{list_any, position_or_len}
-use Rattle.std.proofs.lemmas.Bool.{cases_Bool, cases_eq, cases_lt, false_from_ne_true, true≢false}
+use Rattle.std.proofs.lemmas.Bool.{cases_Bool, cases_lt, false_from_ne_true, true≢false}
 use Rattle.std.proofs.lemmas.Bool.Decides.{nat_tests}
 use Rattle.std.proofs.lemmas.List.{get_or-map, length-map}
 use Rattle.std.proofs.lemmas.List.Elements.{All-nil, All-push, All-weaker}
@@ -11,7 +11,7 @@ use Rattle.std.proofs.lemmas.List.Quantifiers.{all_pairs_push}
 use Rattle.std.proofs.lemmas.List.Sums.{position_or_len_is}
 use Rattle.std.proofs.lemmas.Option.{slice_get-get_or, slice_get_cases}
 use Rattle.attr_sets.proofs.AttributesLemmas.{count_below-before_member, count_below-le, is_same-true, is_subset-from, is_subset-true}
-use Rattle.attr_sets.specs.Attributes.{Attributes, Disjoint, IsSubset, below, count_below, none, only, union}
+use Rattle.attr_sets.specs.Attributes.{Attributes, Disjoint, IsSubset, below, count_below}
 use Rattle.attr_sets.specs.Sets.{is_same, is_subset}
 use Rattle.attr_sets.specs.declared.set.TheConstants.{MOST_ATTRIBUTES}
 use Rattle.dep_model.proofs.SchemeLemmas.{length-members_below, members_below-at, members_below-member, members_below-none, members_below-outside}
@@ -78,10 +78,10 @@ module _ (n : ℕ) (scheme : Attributes) where
           | inl before ↦
               let rise = members_rise n scheme (count_below scheme b) j b before low in absurd (omega (arith, rise, here, there))
           | inr from ↦ elim (cases_lt j (count_below scheme b)) [
-              | inl after ↦
-                  let rise = members_rise n scheme j (count_below scheme b) b after other in absurd (omega (arith, rise, here, there))
-              | inr upto ↦ omega (arith, from, upto)
-            ]
+            | inl after ↦
+                let rise = members_rise n scheme j (count_below scheme b) b after other in absurd (omega (arith, rise, here, there))
+            | inr upto ↦ omega (arith, from, upto)
+          ]
         ],
       )
 
@@ -94,7 +94,7 @@ module _ (n : ℕ) (scheme : Attributes) where
         list_any_none (λ a. j == count_below scheme a) (members_below n x)
         (All-weaker (IsMember n x) (λ a. (j == count_below scheme a) ≡ false)
         (λ a is. let low = place_low a (record { low = is.low; inside = within a is.inside }) in
-            let far = past.0 in grind (arith, nat_tests, low, far)) (members_below n x) (members_are n x))
+        let far = past.0 in grind (arith, nat_tests, low, far)) (members_below n x) (members_are n x))
         ∙ ap (has x) (sym past.1)
   ]
     where
@@ -117,10 +117,10 @@ module _ (n : ℕ) (scheme : Attributes) where
                 list_any_none (λ a. j == count_below scheme a) (members_below n x)
                 (All-weaker (IsMember n x) (λ a. (j == count_below scheme a) ≡ false)
                 (λ a m. false_from_ne_true (j == count_below scheme a) (λ same.
-                    let equal : count_below scheme a ≡ j = grind (arith, nat_tests, same) in
-                    let at = members_below-at n scheme a b m.low (within a m.inside) in
-                    let there : get_or (members_below n scheme) j b ≡ a = subst (λ (i : ℕ). get_or (members_below n scheme) i b ≡ a) equal at in
-                    true≢false (sym m.inside ∙ ap x (sym there ∙ here) ∙ outside)))
+                let equal : count_below scheme a ≡ j = grind (arith, nat_tests, same) in
+                let at = members_below-at n scheme a b m.low (within a m.inside) in
+                let there : get_or (members_below n scheme) j b ≡ a = subst (λ (i : ℕ). get_or (members_below n scheme) i b ≡ a) equal at in
+                true≢false (sym m.inside ∙ ap x (sym there ∙ here) ∙ outside)))
                 (members_below n x) (members_are n x))
                 ∙ sym (ap (has x) found ∙ outside)
           ]
@@ -177,18 +177,18 @@ module _ (n : ℕ) (scheme : Attributes) where
     | inl all ↦
         let whole = is_subset-true scheme x (λ k m. narrow k (limit k m)) all in
         is_subset-from (below (length (members_below n scheme))) (places_in (members_below n scheme) x) (λ j low.
-            elim (slice_get_cases (members_below n scheme) j).1 [
-              | inl found ↦
-                  let (is, place) = at_place j found.0 found.1 found.3 in ap (has x) found.2 ∙ whole found.0 is.inside
-              | inr past ↦ let far = past.0 in absurd (grind (arith, nat_tests, low, far))
-            ]) ∙ sym all
+        elim (slice_get_cases (members_below n scheme) j).1 [
+          | inl found ↦
+              let (is, place) = at_place j found.0 found.1 found.3 in ap (has x) found.2 ∙ whole found.0 is.inside
+          | inr past ↦ let far = past.0 in absurd (grind (arith, nat_tests, low, far))
+        ]) ∙ sym all
     | inr some ↦
         false_from_ne_true (is_subset (below (length (members_below n scheme))) (places_in (members_below n scheme) x)) (λ every.
-            let whole = is_subset-true (below (length (members_below n scheme))) (places_in (members_below n scheme) x) wide every in
-            true≢false (sym (is_subset-from scheme x (λ a inside.
-                let is : IsMember n scheme a = record { low = grind (arith, nat_tests, limit a inside); inside = inside } in
-                let low = place_low a is in
-                sym (placed x a is) ∙ whole (count_below scheme a) (grind (arith, nat_tests, low)))) ∙ some)) ∙ sym some
+        let whole = is_subset-true (below (length (members_below n scheme))) (places_in (members_below n scheme) x) wide every in
+        true≢false (sym (is_subset-from scheme x (λ a inside.
+        let is : IsMember n scheme a = record { low = grind (arith, nat_tests, limit a inside); inside = inside } in
+        let low = place_low a is in
+        sym (placed x a is) ∙ whole (count_below scheme a) (grind (arith, nat_tests, low)))) ∙ some)) ∙ sym some
   ]
     where
       narrow : (k : ℕ) → below n k ≡ true → below MOST_ATTRIBUTES k ≡ true

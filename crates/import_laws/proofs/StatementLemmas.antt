@@ -1,9 +1,8 @@
 -- The statements that create the tables of a design are read: that of the table that is wanted, and no other.
-use Rattle.std.proofs.Common.{◌≡◌, ◌<◌, ◌+◌, ◌==◌, ◌&&◌, ℕ, zero, suc, Bool, true, false, cond, All, AllPairs, List, [], ◌∷◌, ◌++◌, length, get_or, refl, sym, ap, subst, ◌∙◌, arith, Option, Some, None, Ok, append_assoc}
+use Rattle.std.proofs.Common.{◌≡◌, ◌<◌, ◌+◌, ◌&&◌, ℕ, zero, suc, Bool, true, false, cond, All, AllPairs, List, [], ◌∷◌, ◌++◌, length, get_or, refl, sym, ap, subst, ◌∙◌, arith, Option, Some, Ok, append_assoc}
 use Rattle.std.specs.Prelude.{codes, slice_get}
 use Rattle.std.specs.Str.{str_to_ascii_lowercase}
 use Rattle.std.proofs.lemmas.Bool.{false_from_ne_true, true≢false}
-use Rattle.std.proofs.lemmas.Bool.Decides.{nat_tests}
 use Rattle.std.proofs.lemmas.List.Elements.{All-head, All-tail}
 use Rattle.std.proofs.lemmas.Option.{slice_get_within}
 use Rattle.std.proofs.lemmas.Slice.Eq.{bytes_eq-Decides}
@@ -16,14 +15,14 @@ use Rattle.sql_lexemes.specs.declared.lexeme.LexemeKind.TheVariants as kind
 use Rattle.sql_lexemes.specs.declared.piece.Flaw.{Flaw}
 use Rattle.sql_lexemes.specs.Lexemes.{Lexed}
 use Rattle.sql_lexemes.specs.Statements.{Stated}
-use Rattle.sql_definitions.specs.Definitions.{ended, is_there, read_statement, read_statements}
-use Rattle.sql_definitions.specs.Facts.{Facts, Outcome, StatedColumn, as_found, no_facts, then_read}
+use Rattle.sql_definitions.specs.Definitions.{ended, read_statement, read_statements}
+use Rattle.sql_definitions.specs.Facts.{Facts, Outcome, as_found, no_facts, then_read}
 use Rattle.sql_definitions.specs.Tables.{create_table, elements, read_lexemes}
 use Rattle.ddl_pieces.specs.Created.{AreCreated, IsCreated}
-use Rattle.ddl_pieces.specs.Pieces.{TextPiece, blank, create_lexemes, create_pieces, elements_pieces, gap, lexeme_at, lexemes_from, lines_after, lines_pieces, mark, quoted_piece, word}
+use Rattle.ddl_pieces.specs.Pieces.{TextPiece, blank, create_lexemes, elements_pieces, gap, lexeme_at, lexemes_from, lines_after, lines_pieces, mark, quoted_piece, word}
 use Rattle.import_laws.specs.ReadTables.{named}
 use Rattle.import_laws.proofs.ChainLemmas.{Leads, closing, elements_read}
-use Rattle.import_laws.proofs.ElementLemmas.{Known, Reads, States}
+use Rattle.import_laws.proofs.ElementLemmas.{Known, Reads}
 use Rattle.import_laws.proofs.NameLemmas.{unquoted_quoted}
 
 -- ---- one statement
@@ -79,7 +78,7 @@ lines_read d place end after (e ∷ es) leads some =
     (record { found = refl; columns = refl; keys = refl; binds = refl }) in (
       f,
       ap (λ (ps : List TextPiece). elements d end 0 (lexemes_from (place + 2) 1 ps) (as_found no_facts))
-      (append_assoc e (lines_after es) closing) ∙ read,
+          (append_assoc e (lines_after es) closing) ∙ read,
       states,
     )
 
@@ -97,8 +96,8 @@ wanted_read d place end name after es leads some =
     let (f, read, states) = lines_read d start end after es leads some in (
       f,
       front_read d name end place name rest no_facts
-      ∙ ap (λ (b : Bool). cond b (create_table d end (named_front at name rest) no_facts) (Ok no_facts)) (same_itself name)
-      ∙ opened d end at name rest ∙ read,
+          ∙ ap (λ (b : Bool). cond b (create_table d end (named_front at name rest) no_facts) (Ok no_facts)) (same_itself name)
+          ∙ opened d end at name rest ∙ read,
       states,
     )
 
@@ -170,8 +169,8 @@ statements_read d s all (first ∷ tables) (statement ∷ statements) zero table
     (subst (λ (t : TableDesign). same_name t.name (get_or tables i e).name ≡ false) same (apart 0 (suc i) e (omega arith) (omega (arith, low)))) in (
       f,
       ap (λ (o : Outcome). then_read o (read_statements d (named table.name) statements))
-      (statement_is d table.name s all first statement no_facts own ∙ whole ∙ read)
-      ∙ others_passed d table.name s all tables statements f rest others,
+          (statement_is d table.name s all first statement no_facts own ∙ whole ∙ read)
+          ∙ others_passed d table.name s all tables statements f rest others,
       states,
     )
 statements_read d s all (first ∷ tables) (statement ∷ statements) (suc k) table after (own, rest) apart here leads some =
@@ -182,9 +181,9 @@ statements_read d s all (first ∷ tables) (statement ∷ statements) (suc k) ta
     subst (λ (t : TableDesign). same_name first.name t.name ≡ false) is (apart 0 (suc k) table (omega arith) (omega (arith, low))) in (
       f,
       ap (λ (o : Outcome). then_read o (read_statements d (named table.name) statements))
-      (statement_is d table.name s all first statement no_facts own
-      ∙ other_passed d table.name own.place statement.end first.name (elements_pieces s all first) no_facts far)
-      ∙ read,
+          (statement_is d table.name s all first statement no_facts own
+          ∙ other_passed d table.name own.place statement.end first.name (elements_pieces s all first) no_facts far)
+          ∙ read,
       states,
     )
   where

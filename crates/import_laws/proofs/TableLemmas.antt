@@ -1,7 +1,6 @@
 -- The elements of a table of a design lead to its columns and its keys.
-use Rattle.std.proofs.Common.{◌≡◌, ◌<◌, ◌≤◌, ◌+◌, ℕ, zero, suc, inl, inr, Bool, true, false, cond, All, IsTrue, List, [], ◌∷◌, ◌++◌, map, length, get_or, refl, sym, ap, subst, ◌∙◌, arith, Option, Some, None, append-nil, append_assoc, length-append}
+use Rattle.std.proofs.Common.{◌≡◌, ◌<◌, ◌≤◌, ◌+◌, ℕ, zero, suc, inl, inr, Bool, true, false, cond, All, IsTrue, List, [], ◌∷◌, ◌++◌, map, length, get_or, refl, sym, ap, subst, arith, Option, append-nil, append_assoc, length-append}
 use Rattle.std.specs.Prelude.{filter, slice_get, slice_index_or}
-use Rattle.std.specs.List.{list_any}
 use Rattle.std.proofs.lemmas.Bool.{cases_Bool}
 use Rattle.std.proofs.lemmas.List.{length-map, map-append}
 use Rattle.std.proofs.lemmas.List.Elements.{All-cons, All-head, All-map, All-nil, All-push, All-tail, All-weaker}
@@ -62,7 +61,7 @@ members_low (suc n) x =
       | inl inside ↦ subst (λ (ms : List ℕ). All (λ k. k < suc n) ms × (length ms ≤ suc n)) (sym (members_below-member n x inside)) (
         All-push (λ k. k < suc n) (members_below n x) n wider (omega arith),
         let size : length (members_below n x ++ n ∷ []) ≡ length (members_below n x) + 1 = length-append (members_below n x) (n ∷ []) in
-        omega (arith, few, size),
+            omega (arith, few, size),
       )
       | inr outside ↦ subst (λ (ms : List ℕ). All (λ k. k < suc n) ms × (length ms ≤ suc n)) (sym (members_below-outside n x outside)) (
         wider,
@@ -144,9 +143,9 @@ others_lead d s is columns before (key ∷ keys) have limit =
     let rest = others_lead d s is columns (before ++ more ∷ []) keys (All-tail (HasColumn s) key keys have) (omega (arith, size, limit)) in (
       known_by columns (before ++ more ∷ []),
       unique_element d (known_by columns before) (members_from key 0 (names_of s)) (All-head (HasColumn s) key keys have)
-      (key_names s is.names key 0) (omega (arith, limit)),
+          (key_names s is.names key 0) (omega (arith, limit)),
       subst (λ (ks : List NamedKey). Leads d (known_by columns (before ++ more ∷ [])) (known_by columns ks) (map (unique_pieces s) keys))
-      (append_assoc before (more ∷ []) (map (key_named s false) keys)) rest,
+          (append_assoc before (more ∷ []) (map (key_named s false) keys)) rest,
     )
 
 keys_lead : (d : Dialect) (s : Schema) (tables : List TableDesign) (table : TableDesign) → IsPrinted s → IsReadable s tables table
@@ -167,7 +166,7 @@ keys_lead d s tables table is readable columns = by_key (is_empty (attributes ta
     by_key false some = (
       known_by columns (key_named s true (attributes table.key) ∷ []),
       primary_element d (known_by columns []) (members_from (attributes table.key) 0 (names_of s)) (readable.key some)
-      (key_names s is.names (attributes table.key) 0) (omega arith),
+          (key_names s is.names (attributes table.key) 0) (omega arith),
       others_lead d s is columns (key_named s true (attributes table.key) ∷ []) others readable.others limit,
     )
 

@@ -1,5 +1,5 @@
 -- The designs that `ddl` prints, of schemas whose types have words of their own: for the laws.
-use Rattle.std.specs.Prelude.{◌≡◌, ℕ, false, IsTrue, List, All, AllPairs}
+use Rattle.std.specs.Prelude.{◌≡◌, false, IsTrue, List, All, AllPairs}
 use Rattle.attr_sets.specs.declared.set.AttrSet.{AttrSet}
 use Rattle.dep_model.specs.Names.{IsName, same_name}
 use Rattle.dep_model.specs.Schemas.{names_of, types_of, width_of}
