@@ -12,4 +12,5 @@ pub mod FitLemmas
 pub mod PlaceLemmas
 pub mod KeyLemmas
 pub mod ImportedLemmas
+pub mod ApartLemmas
 pub mod LawLemmas

@@ -116,7 +116,7 @@ same_turned : (a b : List ℕ) → same_name a b ≡ true → same_name b a ≡ 
 same_turned a b same = (bytes_eq-Decides (str_to_ascii_lowercase b) (str_to_ascii_lowercase a)).1
     (sym ((bytes_eq-Decides (str_to_ascii_lowercase a) (str_to_ascii_lowercase b)).0 same))
 
-apart_turned : (a b : List ℕ) → same_name a b ≡ false → same_name b a ≡ false
+pub apart_turned : (a b : List ℕ) → same_name a b ≡ false → same_name b a ≡ false
 apart_turned a b apart = false_from_ne_true (same_name b a) (λ same. true≢false (sym (same_turned b a same) ∙ apart))
 
 statement_is : (d : Dialect) (wanted : List ℕ) (s : Schema) (all : List TableDesign) (table : TableDesign) (statement : Stated) (f : Facts)
