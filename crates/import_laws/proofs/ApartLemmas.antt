@@ -19,8 +19,7 @@ use Rattle.table_names.specs.TableNames.{GivenNames, is_taken, name_of_table, ta
 use Rattle.table_names.specs.declared.numbered.TheConstants.{MOST_TABLES}
 use Rattle.ddl_text.specs.Designs.{IsDesign}
 use Rattle.ddl_text.specs.declared.table.TableDesign.{TableDesign}
-use Rattle.import_laws.specs.PrintedDesigns.{NamesDiffer}
-use Rattle.import_laws.proofs.StatementLemmas.{apart_turned}
+use Rattle.import_laws.proofs.StatementLemmas.{NamesApart, apart_turned}
 
 -- ---- digits
 digit_byte : (d : ℕ) → d < 10 → is_ascii_digit (48 + d) ≡ true
@@ -156,7 +155,7 @@ apart_by given i j (Some name) (Some next) apart less short first second =
 
 -- ---- the tables
 pub tables_apart : (s : Schema) (given : GivenNames) (schemes : List AttrSet) (tables : List TableDesign)
-    → IsDesign s given schemes tables → AreApart given → length tables ≤ MOST_TABLES → NamesDiffer tables
+    → IsDesign s given schemes tables → AreApart given → length tables ≤ MOST_TABLES → NamesApart tables
 tables_apart s given schemes tables design apart limit i j d less low =
     subst (λ (one : List ℕ). same_name one (get_or tables j d).name ≡ false) (sym (name i (omega (arith, less, low))))
     (subst (λ (other : List ℕ). same_name (name_of_table given i) other ≡ false) (sym (name j low))

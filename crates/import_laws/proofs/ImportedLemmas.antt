@@ -245,19 +245,19 @@ module _ (s : Schema) (tables : List TableDesign) (k : ℕ) (table : TableDesign
       let (keys, read, are) = keys_read d s (attributes table.scheme) f fit.within states.columns [] f.keys (stated_keys s table)
       (λ i e low. (stated_are i e low).within) named in
       let is = definition_reads d wanted text f defined in
-      let (lines, means) = text_means d f keys is.fine.columns is.some is.fine.keys read in
-      let same : declared_table f.columns keys lines ≡ imported_table d s table lines = declared d f states keys are lines in (
+      let (lines, means) = text_means d f keys is.fine.columns is.some is.fine.keys read in (
         table_text f.columns keys,
         lines,
         ap (λ (o : Outcome). and_then o (text_of_facts d)) defined
             ∙ ap (λ (o : Result (List KeyColumns) Refusal). and_then o (λ ks. Ok (table_text f.columns ks))) read,
-        subst (MeansSchema (table_text f.columns keys)) same means,
+        declared f states keys are lines means,
       )
     where
-      declared : (d : Dialect) (f : Facts) → StatesTable d s table f → (keys : List KeyColumns)
-          → map (λ key. key.columns) keys ≡ map (places_in (columns_of s table)) (stated_keys s table)
-          → (lines : List ℕ) → declared_table f.columns keys lines ≡ imported_table d s table lines
-      declared d f states keys are lines =
+      declared : (f : Facts) → StatesTable d s table f → (keys : List KeyColumns)
+          → map (λ key. key.columns) keys ≡ map (places_in (columns_of s table)) (stated_keys s table) → (lines : List ℕ)
+          → MeansSchema (table_text f.columns keys) (declared_table f.columns keys lines)
+          → MeansSchema (table_text f.columns keys) (imported_table d s table lines)
+      declared f states keys are lines means =
           let names : column_names f.columns ≡ map (λ a. slice_index_or (names_of s) a []) (columns_of s table) =
           ap column_names states.columns ∙ map-map (λ (c : StatedColumn). c.name) (read_column d s) (columns_of s table) in
           let types : column_types f.columns ≡ map (λ a. read_type d (slice_index_or (types_of s) a type.Text)) (columns_of s table) =
@@ -265,4 +265,6 @@ module _ (s : Schema) (tables : List TableDesign) (k : ℕ) (table : TableDesign
           let deps = dependencies_are d keys are f states.columns in
           let nullable : columns_missing f.columns keys ≡ places_in (columns_of s table) (nullable_of s) =
           ap (λ (cs : List StatedColumn). columns_missing cs keys) states.columns ∙ missing_are d keys are in
-          λ i. record { names = names i; columns = types i; deps = deps i; lines = lines; naming = Any; nullable = nullable i }
+          let same : declared_table f.columns keys lines ≡ imported_table d s table lines =
+          (λ i. record { names = names i; columns = types i; deps = deps i; lines = lines; naming = Any; nullable = nullable i }) in
+          subst (MeansSchema (table_text f.columns keys)) same means

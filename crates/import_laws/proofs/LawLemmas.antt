@@ -16,6 +16,7 @@ use Rattle.sql_schemas.specs.Texts.{imported_text}
 use Rattle.import_laws.specs.ImportedTables.{imported_table}
 use Rattle.import_laws.specs.PrintedDesigns.{IsPrintedDesign}
 use Rattle.import_laws.specs.ReadTables.{StatesTable, named}
+use Rattle.import_laws.proofs.ApartLemmas.{tables_apart}
 use Rattle.import_laws.proofs.DefinitionLemmas.{table_defined}
 use Rattle.import_laws.proofs.FitLemmas.{fit_readable, some_columns, table_fits}
 use Rattle.import_laws.proofs.ImportedLemmas.{facts_imported}
@@ -25,7 +26,7 @@ pub design_defined : (d : Dialect) (s : Schema) (given : GivenNames) (schemes : 
     → (f : Facts) × (definition_of d (named table.name) (ddl_text s tables) ≡ Ok f) × StatesTable d s table f
 design_defined d s given schemes tables k table is here =
     let fit = table_fits s given schemes tables k table is here in
-    table_defined d s tables k table (record { names = is.names; types = is.types }) is.differ here (fit_readable s tables table fit)
+    table_defined d s tables k table (record { names = is.names; types = is.types }) (tables_apart s given schemes tables is.design is.apart is.limit) here (fit_readable s tables table fit)
     (some_columns d s tables table fit)
 
 pub table_imported : (d : Dialect) (s : Schema) (given : GivenNames) (schemes : List AttrSet) (tables : List TableDesign)

@@ -147,7 +147,8 @@ others_passed d wanted s all (table ∷ tables) (statement ∷ statements) f (he
     ∙ others_passed d wanted s all tables statements f rest
     (All-tail (λ (t : TableDesign). same_name t.name wanted ≡ false) table tables apart)
 
-abbrev NamesApart : List TableDesign → Type 0
+-- the names of tables differ, ASCII case aside
+abbrev pub NamesApart : List TableDesign → Type 0
 NamesApart tables = AllPairs (λ a b. same_name a.name b.name ≡ false) tables
 
 later_apart : (table : TableDesign) (tables : List TableDesign) → NamesApart (table ∷ tables) → NamesApart tables
