@@ -1,0 +1,5 @@
+-- The definitions of import_laws, in reading order: what is read of a table, the designs that are printed, and what is
+-- imported of them.
+pub mod ReadTables
+pub mod PrintedDesigns
+pub mod ImportedTables

@@ -1,0 +1,24 @@
+-- The designs that `ddl` prints, of schemas whose types have words of their own: for the laws.
+use Rattle.std.specs.Prelude.{◌≤◌, IsTrue, List, length, All}
+use Rattle.attr_sets.specs.declared.set.AttrSet.{AttrSet}
+use Rattle.dep_model.specs.Names.{IsName}
+use Rattle.dep_model.specs.Schemas.{names_of, types_of, width_of}
+use Rattle.dep_model.specs.declared.schema.Schema.{Schema}
+use Rattle.plans.specs.Schemes.{AreSchemes}
+use Rattle.named_plans.specs.NamedPlans.{AreApart}
+use Rattle.table_names.specs.TableNames.{GivenNames}
+use Rattle.table_names.specs.declared.numbered.TheConstants.{MOST_TABLES}
+use Rattle.ddl_text.specs.Designs.{IsDesign}
+use Rattle.ddl_text.specs.declared.table.TableDesign.{TableDesign}
+use Rattle.ddl_pieces.specs.Pieces.{is_own_type}
+
+-- the design of a plan of a schema: the names of attributes are names, each type of columns has a word of its own,
+-- the names that are given to tables are apart, and there are not too many tables
+pub record IsPrintedDesign (s : Schema) (given : GivenNames) (schemes : List AttrSet) (tables : List TableDesign)
+    : Type 0 where
+  pub names : All IsName (names_of s)
+  pub types : All (λ column. IsTrue (is_own_type column)) (types_of s)
+  pub plan : AreSchemes (width_of s) schemes
+  pub design : IsDesign s given schemes tables
+  pub apart : AreApart given
+  pub limit : length tables ≤ MOST_TABLES

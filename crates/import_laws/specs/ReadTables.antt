@@ -1,0 +1,66 @@
+-- What `import` reads of a table that `ddl` prints: for the laws.
+use Rattle.std.specs.Prelude.{◌≡◌, ℕ, Bool, true, false, not, if◌then◌else◌, List, [], ◌∷◌, ◌++◌, map, filter, slice_index_or, Option, Some, None}
+use Rattle.attr_sets.specs.Attributes.{Attributes}
+use Rattle.attr_sets.specs.Sets.{attributes}
+use Rattle.dep_model.specs.declared.column_type.ColumnType.{ColumnType}
+use Rattle.dep_model.specs.declared.column_type.ColumnType.TheVariants as type
+use Rattle.dep_model.specs.declared.schema.Schema.{Schema}
+use Rattle.dep_model.specs.Projections.{members_below}
+use Rattle.dep_model.specs.Schemas.{names_of, nullable_of, types_of, width_of}
+use Rattle.schema_printer.specs.Printing.{members_from}
+use Rattle.ddl_text.specs.Ddl.{is_empty, is_never_missing, sql_type}
+use Rattle.ddl_text.specs.Designs.{known_keys}
+use Rattle.ddl_text.specs.declared.table.TableDesign.{TableDesign}
+use Rattle.sql_lexemes.specs.declared.dialect.Dialect.{Dialect}
+use Rattle.sql_lexemes.specs.Pieces.{is_postgres}
+use Rattle.sql_definitions.specs.Facts.{Facts, StatedColumn, StatedKey}
+use Rattle.sql_definitions.specs.Names.{lower_text}
+use Rattle.sql_definitions.specs.Wanted.{TableName}
+
+-- the table of a name
+abbrev pub named : List ℕ → TableName
+named name = record { last = name; middle = None; outer = None }
+
+-- the type that is read of one that is printed: PostgreSQL has it; SQLite has text and integers, and of any other type
+-- its words in lower case
+abbrev pub read_type : Dialect → ColumnType → ColumnType
+read_type d type.Text = type.Text
+read_type d type.Integer = type.Integer
+read_type d column = if is_postgres d then column else type.Other (lower_text (sql_type column))
+
+-- the column of an attribute: a value may be missing exactly where the schema says so
+abbrev pub read_column : Dialect → Schema → ℕ → StatedColumn
+read_column d s k = record {
+  name = slice_index_or (names_of s) k [];
+  kind = read_type d (slice_index_or (types_of s) k type.Text);
+  never_missing = not (nullable_of s k);
+  is_integer = false;
+}
+
+-- the columns of a scheme, in order
+abbrev pub read_columns : Dialect → Schema → Attributes → List StatedColumn
+read_columns d s scheme = map (read_column d s) (members_below (width_of s) scheme)
+
+-- a key that is stated, by the names of its parts
+pub record NamedKey : Type 0 where
+  pub primary : Bool
+  pub names : List (Option (List ℕ))
+
+abbrev pub named_key : StatedKey → NamedKey
+named_key key = record { primary = key.primary; names = map (λ part. part.name) key.parts }
+
+abbrev pub key_named : Schema → Bool → Attributes → NamedKey
+key_named s primary key = record { primary = primary; names = map Some (members_from key 0 (names_of s)) }
+
+-- the keys of a table that are read: its key, if it is not empty, then the others of which no value may be missing
+abbrev pub read_keys : Schema → TableDesign → List NamedKey
+read_keys s table =
+    (if is_empty (attributes table.key) then [] else key_named s true (attributes table.key) ∷ [])
+    ++ map (key_named s false) (filter (is_never_missing s) (known_keys table.other_keys))
+
+-- facts state a table: its columns, and its keys
+pub record StatesTable (d : Dialect) (s : Schema) (table : TableDesign) (f : Facts) : Type 0 where
+  pub found : f.found ≡ true
+  pub columns : f.columns ≡ read_columns d s (attributes table.scheme)
+  pub keys : map named_key f.keys ≡ read_keys s table
+  pub binds : f.binds ≡ false

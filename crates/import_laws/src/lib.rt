@@ -1,0 +1,39 @@
+//! What `import` reads of what `ddl` prints.
+//!
+//! Each law is a function that does nothing, whose clause is the law; so the gate asks for its proof.
+#![tactic(auto)]
+
+ghost use Rattle.std.specs.Prelude.{◌≡◌, ℕ, List, Ok, Some, slice_get};
+ghost use Rattle.attr_sets.specs.declared.set.AttrSet.{AttrSet};
+ghost use Rattle.dep_model.specs.Schemas.{nullable_of};
+ghost use Rattle.dep_model.specs.declared.schema.Schema.{Schema};
+ghost use Rattle.missing_values.specs.Missing.{NeverMissing};
+ghost use Rattle.schema_grammar.specs.Schemas.{MeansSchema};
+ghost use Rattle.table_names.specs.TableNames.{GivenNames};
+ghost use Rattle.ddl_text.specs.Ddl.{ddl_text};
+ghost use Rattle.ddl_text.specs.declared.table.TableDesign.{TableDesign};
+ghost use Rattle.sql_lexemes.specs.declared.dialect.Dialect.{Dialect};
+ghost use Rattle.sql_definitions.specs.Definitions.{definition_of};
+ghost use Rattle.sql_definitions.specs.Facts.{Facts};
+ghost use Rattle.sql_schemas.specs.Texts.{imported_text};
+ghost use Rattle.import_laws.specs.ImportedTables.{imported_table};
+ghost use Rattle.import_laws.specs.PrintedDesigns.{IsPrintedDesign};
+ghost use Rattle.import_laws.specs.ReadTables.{StatesTable, named};
+
+/// The SQL of a design defines each of its tables: the columns of its scheme, its key, if it is not empty, and those
+/// other keys of which no value may be missing.
+pub fn designs_define_their_tables()
+    ensures law { (d : Dialect) (s : Schema) (given : GivenNames) (schemes : List AttrSet) (tables : List TableDesign)
+        (k : ℕ) (table : TableDesign) → IsPrintedDesign s given schemes tables → slice_get tables k ≡ Some table
+        → (f : Facts) × (definition_of d (named table.name) (ddl_text s tables) ≡ Ok f) × StatesTable d s table f }
+{}
+
+/// The schema that is imported of a table of a design, where no value of a key may be missing, as `ddl` asks: its
+/// columns, those of which a value may be missing, and its keys, but for the empty one and one of all columns.
+pub fn designs_are_read_back()
+    ensures law { (d : Dialect) (s : Schema) (given : GivenNames) (schemes : List AttrSet) (tables : List TableDesign)
+        (k : ℕ) (table : TableDesign) → IsPrintedDesign s given schemes tables → NeverMissing (nullable_of s) tables
+        → slice_get tables k ≡ Some table
+        → (printed : List ℕ) × (lines : List ℕ) × (imported_text d (named table.name) (ddl_text s tables) ≡ Ok printed)
+        × MeansSchema printed (imported_table d s table lines) }
+{}
