@@ -21,6 +21,7 @@ use Rattle.sql_definitions.specs.Tables.{create_table, elements, read_lexemes}
 use Rattle.ddl_pieces.specs.Created.{AreCreated, IsCreated}
 use Rattle.ddl_pieces.specs.Pieces.{TextPiece, blank, create_lexemes, elements_pieces, gap, lexeme_at, lexemes_from, lines_after, lines_pieces, mark, quoted_piece, word}
 use Rattle.import_laws.specs.ReadTables.{named}
+use Rattle.table_name_laws.proofs.NameLemmas.{apart_turned}
 use Rattle.import_laws.proofs.ChainLemmas.{Leads, closing, elements_read}
 use Rattle.import_laws.proofs.ElementLemmas.{Known, Reads}
 use Rattle.import_laws.proofs.NameLemmas.{unquoted_quoted}
@@ -112,13 +113,6 @@ other_passed d wanted place end name es f apart =
     ∙ ap (λ (b : Bool). cond b (create_table d end (named_front at name rest) f) (Ok f)) apart
 
 -- ---- the statements
-same_turned : (a b : List ℕ) → same_name a b ≡ true → same_name b a ≡ true
-same_turned a b same = (bytes_eq-Decides (str_to_ascii_lowercase b) (str_to_ascii_lowercase a)).1
-    (sym ((bytes_eq-Decides (str_to_ascii_lowercase a) (str_to_ascii_lowercase b)).0 same))
-
-pub apart_turned : (a b : List ℕ) → same_name a b ≡ false → same_name b a ≡ false
-apart_turned a b apart = false_from_ne_true (same_name b a) (λ same. true≢false (sym (same_turned b a same) ∙ apart))
-
 statement_is : (d : Dialect) (wanted : List ℕ) (s : Schema) (all : List TableDesign) (table : TableDesign) (statement : Stated) (f : Facts)
     → (is : IsCreated s all table statement)
     → read_statement d (named wanted) statement f
