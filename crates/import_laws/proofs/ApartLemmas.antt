@@ -1,6 +1,6 @@
 -- The names of the tables of a design differ, ASCII case aside, where those that are given are apart.
 use Rattle.std.proofs.Common.{◌≡◌, ◌+◌, ◌<◌, ◌≤◌, ◌^◌, ◌%◌, ◌&&◌, ◌||◌, ◌∷◌, ◌++◌, ℕ, zero, suc, inl, inr, Bool, true, false, List, [], Option, Some, None, length, get_or, take, refl, ap, subst, ◌∙◌, sym, arith, length-take-le}
-use Rattle.std.specs.Prelude.{All, AllPairs, codes, nat_lt, unwrap_or}
+use Rattle.std.specs.Prelude.{All, codes, nat_lt, unwrap_or}
 use Rattle.std.specs.Char.{is_ascii_digit, to_ascii_lowercase}
 use Rattle.std.specs.Fmt.{decimal}
 use Rattle.std.specs.List.{list_all}
@@ -40,7 +40,8 @@ digits_are = decimal_by_steps (λ n ds. list_all is_ascii_digit ds ≡ true) one
         ∙ ap (λ (b : Bool). b && true) (digit_byte (n % 10) low)
 
 some_digits : (n : ℕ) → n < 2 ^ 64 → 0 < length (decimal n)
-some_digits = decimal_by_steps (λ n ds. 0 < length ds) (λ n small. omega arith) (λ n ds large some. longer ds (48 + n % 10))
+some_digits = decimal_by_steps (λ n ds. 0 < length ds) (λ n small. omega arith)
+    (λ n ds large some. longer ds (48 + n % 10))
   where
     longer : (ds : List ℕ) (b : ℕ) → 0 < length (ds ++ b ∷ [])
     longer [] b = omega arith
@@ -59,7 +60,8 @@ low_digits (b ∷ bs) all = by_first (is_ascii_digit b) refl all (low_digits bs)
         ap (λ (c : ℕ). c ∷ str_to_ascii_lowercase bs) same ∙ ap (λ (cs : List ℕ). b ∷ cs) (later rest)
     by_first false is rest later = cc
 
-digits_back : (bs : List ℕ) → list_all is_ascii_digit (str_to_ascii_lowercase bs) ≡ true → list_all is_ascii_digit bs ≡ true
+digits_back : (bs : List ℕ) → list_all is_ascii_digit (str_to_ascii_lowercase bs) ≡ true
+    → list_all is_ascii_digit bs ≡ true
 digits_back [] all = refl
 digits_back (b ∷ bs) all = by_first (is_ascii_digit (to_ascii_lowercase b)) refl all (digits_back bs)
   where
@@ -83,26 +85,29 @@ numbers_apart : (m n : ℕ) → m < n → n < 2 ^ 64 → same_name (table_name m
 numbers_apart m n less wide =
     let low : m < 2 ^ 64 = omega (arith, less, wide) in
     false_from_ne_true (same_name (table_name m) (table_name n)) (λ same.
-        let equal : table_name m ≡ table_name n =
-        sym (lower_numbered m low) ∙ lower_equal (table_name m) (table_name n) same ∙ lower_numbered n wide in
-        let digits : decimal m ≡ decimal n = cc in
-        let number = decimal_injective m n low wide digits in omega (arith, number, less))
+    let equal : table_name m ≡ table_name n =
+    sym (lower_numbered m low) ∙ lower_equal (table_name m) (table_name n) same ∙ lower_numbered n wide in
+    let digits : decimal m ≡ decimal n = cc in
+    let number = decimal_injective m n low wide digits in omega (arith, number, less))
 
 -- a name that is that of a number is taken
 numbered_taken : (name : List ℕ) (n : ℕ) → n < 2 ^ 64 → same_name name (table_name n) ≡ true → is_taken name ≡ true
 numbered_taken [] n wide same =
     let equal : [] ≡ table_name n = lower_equal [] (table_name n) same ∙ lower_numbered n wide in cc
 numbered_taken (c ∷ cs) n wide same =
-    let equal : str_to_ascii_lowercase (c ∷ cs) ≡ 116 ∷ decimal n = lower_equal (c ∷ cs) (table_name n) same ∙ lower_numbered n wide in
+    let equal : str_to_ascii_lowercase (c ∷ cs) ≡ 116 ∷ decimal n =
+    lower_equal (c ∷ cs) (table_name n) same ∙ lower_numbered n wide in
     let first : to_ascii_lowercase c ≡ 116 = cc in
     let rest : str_to_ascii_lowercase cs ≡ decimal n = cc in
-    let digits : list_all is_ascii_digit cs ≡ true = digits_back cs (ap (list_all is_ascii_digit) rest ∙ digits_are n wide) in
+    let digits : list_all is_ascii_digit cs ≡ true =
+    digits_back cs (ap (list_all is_ascii_digit) rest ∙ digits_are n wide) in
     let size : length (str_to_ascii_lowercase cs) ≡ length cs = length-map cs to_ascii_lowercase in
     let some = some_digits n wide in
     let many : length (str_to_ascii_lowercase cs) ≡ length (decimal n) = ap (λ (t : List ℕ). length t) rest in
     let long : nat_lt 1 (length (c ∷ cs)) ≡ true = grind (arith, nat_tests, size, some, many) in
     let head : same_name (c ∷ []) (codes "t") ≡ true =
-    (bytes_eq-Decides (str_to_ascii_lowercase (c ∷ [])) (str_to_ascii_lowercase (codes "t"))).1 (ap (λ (b : ℕ). b ∷ []) first) in
+    (bytes_eq-Decides (str_to_ascii_lowercase (c ∷ [])) (str_to_ascii_lowercase (codes "t"))).1
+    (ap (λ (b : ℕ). b ∷ []) first) in
     all_true (same_name (c ∷ cs) (codes "joined")) (nat_lt 1 (length (c ∷ cs))) (same_name (c ∷ []) (codes "t"))
     (list_all is_ascii_digit cs) long head digits
   where
