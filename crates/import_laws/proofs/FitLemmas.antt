@@ -1,11 +1,10 @@
 -- Each table of a design can be read: its scheme has attributes, its keys lie within it and differ, and its
--- references
--- name tables.
+-- references name tables.
 use Rattle.std.proofs.Common.{◌≡◌, ◌<◌, ◌≤◌, ◌+◌, ℕ, zero, suc, inl, inr, ⊎_elim, Bool, true, false, cond, not, All, AllPairs, List, [], ◌∷◌, ◌++◌, map, length, get_or, take, refl, sym, ap, subst, ◌∙◌, arith, Option, Some, None, length-take, take_all, Vec, Global}
 use Rattle.std.specs.Prelude.{Contains, IsSomeAnd, filter, slice_get}
 use Rattle.std.proofs.lemmas.Bool.{cases_Bool, cases_eq, true≢false}
 use Rattle.std.proofs.lemmas.Bool.Decides.{nat_tests}
-use Rattle.std.proofs.lemmas.List.{get_or-map, length-map, map-append}
+use Rattle.std.proofs.lemmas.List.{length-map, map-append}
 use Rattle.std.proofs.lemmas.List.Elements.{All-contains_itself, All-filter, All-map, All-nil, All-weaker, filter_passes}
 use Rattle.std.proofs.lemmas.List.Kept.{AllPairs-filter}
 use Rattle.std.proofs.lemmas.Option.{get_or_from_slice_get, slice_get_cases, slice_get_within}
@@ -32,6 +31,7 @@ use Rattle.ddl_text.specs.declared.table.TableDesign.{TableDesign}
 use Rattle.sql_lexemes.specs.declared.dialect.Dialect.{Dialect}
 use Rattle.import_laws.specs.PrintedDesigns.{IsPrintedDesign}
 use Rattle.import_laws.specs.ReadTables.{read_column, read_columns}
+use Rattle.import_laws.proofs.PairLemmas.{pairs_map}
 use Rattle.import_laws.proofs.TableLemmas.{HasColumn, IsReadable}
 
 -- ---- names of sets
@@ -163,28 +163,14 @@ module _ (s : Schema) (table : TableDesign) (within : IsSubset (attributes table
           some = other_some some (attributes (get_or keys i d)) (each i d low);
           apart = turned (is_same (attributes (get_or keys i d)) (attributes table.key)) (pass i d low);
         });
-        differ = pairs_map keys pairs;
+        differ = pairs_map attributes (λ x y. x ≡ y → ⊥) keys
+            (λ i j d less low. before_differ (attributes (get_or keys i d)) (attributes (get_or keys j d)) (pairs i j d less low));
         few = omega (arith, same, less, limit);
       }
     where
       turned : (b : Bool) → not b ≡ true → b ≡ false
       turned true is = sym is
       turned false is = refl
-
-      pairs_map : (keys : List AttrSet) → AllPairs (λ j k. IsBefore (attributes j) (attributes k)) keys
-          → AllPairs (λ x y. x ≡ y → ⊥) (map attributes keys)
-      pairs_map [] pairs i j d less low = absurd (omega (arith, low))
-      pairs_map (key ∷ keys) pairs i j d less low =
-          let size : length (map attributes (key ∷ keys)) ≡ length (key ∷ keys) =
-          length-map (key ∷ keys) attributes in
-          let second : j < length (key ∷ keys) = omega (arith, low, size) in
-          let first : i < length (key ∷ keys) = omega (arith, less, second) in
-          subst (λ (x : Attributes). x ≡ get_or (map attributes (key ∷ keys)) j d → ⊥)
-          (sym (get_or-map attributes (key ∷ keys) i key d first))
-          (subst (λ (y : Attributes). attributes (get_or (key ∷ keys) i key) ≡ y → ⊥)
-          (sym (get_or-map attributes (key ∷ keys) j key d second))
-          (before_differ (attributes (get_or (key ∷ keys) i key)) (attributes (get_or (key ∷ keys) j key))
-          (pairs i j key less second)))
 
   others_fit : (others : Option (Vec AttrSet Global))
       → AreOtherKeys s (attributes table.scheme) (attributes table.key) others

@@ -1,10 +1,10 @@
 -- The schema that is imported of a table of a design: what its text declares.
-use Rattle.std.proofs.Common.{◌≡◌, ◌<◌, ◌≤◌, ◌&&◌, ◌++◌, ℕ, zero, suc, Bool, true, false, cond, not, All, AllPairs, List, [], ◌∷◌, map, length, get_or, refl, sym, ap, subst, ◌∙◌, arith, Option, Some, None, Result, Ok}
+use Rattle.std.proofs.Common.{◌≡◌, ◌<◌, ◌≤◌, ◌&&◌, ◌++◌, ℕ, Bool, true, false, cond, not, All, AllPairs, List, [], ◌∷◌, map, length, get_or, refl, sym, ap, subst, ◌∙◌, arith, Option, Some, None, Result, Ok}
 use Rattle.std.specs.Prelude.{IsSomeAnd, filter, option_map, slice_get, slice_index_or}
 use Rattle.std.proofs.lemmas.Bool.{false_from_ne_true, true≢false}
 use Rattle.std.proofs.lemmas.Bool.Decides.{nat_tests}
-use Rattle.std.proofs.lemmas.List.{get_or-map, length-map}
-use Rattle.std.proofs.lemmas.List.Elements.{All-cons, All-filter, All-head, All-map, All-tail, filter_passes}
+use Rattle.std.proofs.lemmas.List.{length-map}
+use Rattle.std.proofs.lemmas.List.Elements.{All-cons, All-filter, All-map, filter_passes}
 use Rattle.std.proofs.lemmas.List.Folds.{list_any_none}
 use Rattle.std.proofs.lemmas.List.Kept.{AllPairs-filter}
 use Rattle.std.proofs.lemmas.Option.{slice_get-map}
@@ -36,51 +36,11 @@ use Rattle.import_laws.specs.ImportedTables.{columns_of, determines_others, has,
 use Rattle.import_laws.specs.ReadTables.{NamedKey, StatesTable, key_named, named_key, read_column, read_columns, read_keys, read_type}
 use Rattle.import_laws.proofs.FitLemmas.{IsFit}
 use Rattle.import_laws.proofs.KeyLemmas.{Apart, dependencies_same, has_others, keys_read, new_are, part_names, set_names}
+use Rattle.import_laws.proofs.PairLemmas.{all_back, keep_all, pairs_back, pairs_cons, pairs_map}
 use Rattle.import_laws.proofs.PlaceLemmas.{places_apart, places_disjoint}
-
--- ---- lists
-pairs_cons : {X : Type 0} (R : X → X → Type 0) (x : X) (xs : List X) → All (R x) xs → AllPairs R xs
-    → AllPairs R (x ∷ xs)
-pairs_cons R x xs each pairs zero zero d less low = absurd (omega (arith, less))
-pairs_cons R x xs each pairs zero (suc j) d less low = each j d (omega (arith, low))
-pairs_cons R x xs each pairs (suc i) zero d less low = absurd (omega (arith, less))
-pairs_cons R x xs each pairs (suc i) (suc j) d less low = pairs i j d (omega (arith, less)) (omega (arith, low))
-
--- what holds of the columns of sets holds of those of keys that have them
-all_back : {X Y : Type 0} (f : X → Y) (P : Y → Type 0) (xs : List X) → All P (map f xs) → All (λ x. P (f x)) xs
-all_back f P xs all i d low =
-    let size : length (map f xs) ≡ length xs = length-map xs f in
-    subst P (get_or-map f xs i d (f d) low) (all i (f d) (omega (arith, size, low)))
-
-pairs_back : {X Y : Type 0} (f : X → Y) (R : Y → Y → Type 0) (xs : List X) → AllPairs R (map f xs)
-    → AllPairs (λ x y. R (f x) (f y)) xs
-pairs_back f R xs pairs i j d less low =
-    let size : length (map f xs) ≡ length xs = length-map xs f in
-    subst (λ x. R x (f (get_or xs j d))) (get_or-map f xs i d (f d) (omega (arith, less, low)))
-    (subst (λ y. R (get_or (map f xs) i (f d)) y) (get_or-map f xs j d (f d) low)
-    (pairs i j (f d) less (omega (arith, size, low))))
-
-pairs_map : {X Y : Type 0} (f : X → Y) (R : Y → Y → Type 0) (xs : List X) → AllPairs (λ x y. R (f x) (f y)) xs
-    → AllPairs R (map f xs)
-pairs_map f R [] pairs i j d less low = absurd (omega (arith, low))
-pairs_map f R (x ∷ xs) pairs i j d less low =
-    let size : length (map f (x ∷ xs)) ≡ length (x ∷ xs) = length-map (x ∷ xs) f in
-    let second : j < length (x ∷ xs) = omega (arith, low, size) in
-    let first : i < length (x ∷ xs) = omega (arith, less, second) in
-    subst (λ z. R z (get_or (map f (x ∷ xs)) j d)) (sym (get_or-map f (x ∷ xs) i x d first))
-    (subst (λ z. R (f (get_or (x ∷ xs) i x)) z) (sym (get_or-map f (x ∷ xs) j x d second)) (pairs i j x less second))
-
-keep_all : {X : Type 0} (p : X → Bool) (xs : List X) → All (λ x. p x ≡ true) xs → filter p xs ≡ xs
-keep_all p [] all = refl
-keep_all p (x ∷ xs) all =
-    ap (λ (b : Bool). cond b (x ∷ filter p xs) (filter p xs)) (All-head (λ y. p y ≡ true) x xs all)
-    ∙ ap (λ ys. x ∷ ys) (keep_all p xs (All-tail (λ y. p y ≡ true) x xs all))
 
 module _ (s : Schema) (tables : List TableDesign) (k : ℕ) (table : TableDesign) (fit : IsFit s tables table)
     (never : NeverMissing (nullable_of s) tables) (here : slice_get tables k ≡ Some table) where
-  scheme : Attributes
-  scheme = attributes table.scheme
-
   few : width_of s ≤ MOST_ATTRIBUTES
   few = s.valid.names_within_limit
 
@@ -95,9 +55,6 @@ module _ (s : Schema) (tables : List TableDesign) (k : ℕ) (table : TableDesign
         missing = missing;
         in_key = subst (λ (o : Option TableDesign). IsSomeAnd o (λ t. attributes t.key a ≡ true)) (sym here) member;
       }))
-
-  others : List Attributes
-  others = filter (is_never_missing s) (known_keys table.other_keys)
 
   others_stated : All IsStated (filter (is_never_missing s) (known_keys table.other_keys))
   others_stated i d low =
@@ -142,9 +99,6 @@ module _ (s : Schema) (tables : List TableDesign) (k : ℕ) (table : TableDesign
       by_key false = ap (λ (ns : List (List (Option (List ℕ)))). set_names s (attributes table.key) ∷ ns) rest
 
   -- different keys have different places
-  PlacesApart : Attributes → Attributes → Type 0
-  PlacesApart x y = is_same (places_in (columns_of s table) x) (places_in (columns_of s table) y) ≡ false
-
   others_apart : AllPairs (λ x y. is_same (places_in (columns_of s table) x) (places_in (columns_of s table) y)
       ≡ false)
       (filter (is_never_missing s) (known_keys table.other_keys))
@@ -184,9 +138,6 @@ module _ (s : Schema) (tables : List TableDesign) (k : ℕ) (table : TableDesign
   -- ---- keys of these places
   module _ (d : Dialect) (keys : List KeyColumns)
       (are : map (λ key. key.columns) keys ≡ map (places_in (columns_of s table)) (stated_keys s table)) where
-    missing : Attributes
-    missing = places_in (columns_of s table) (nullable_of s)
-
     pub keys_never : All (λ (key : KeyColumns). Disjoint key.columns
         (places_in (columns_of s table) (nullable_of s))) keys
     keys_never =

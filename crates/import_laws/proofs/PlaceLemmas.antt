@@ -54,9 +54,6 @@ members_rise (suc n) x =
 
 -- ---- places
 module _ (n : ℕ) (scheme : Attributes) where
-  columns : List ℕ
-  columns = members_below n scheme
-
   -- a member has a place, where it stands
   pub place_low : (a : ℕ) → IsMember n scheme a → count_below scheme a < length (members_below n scheme)
   place_low a is =
