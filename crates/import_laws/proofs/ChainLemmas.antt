@@ -78,7 +78,8 @@ closed known place f some states =
       record { found = states.found; columns = states.columns; keys = states.keys; binds = refl },
     )
 
-pub elements_read : (d : Dialect) (place end : ℕ) (before after : Known) (e : List TextPiece) (es : List (List TextPiece))
+pub elements_read : (d : Dialect) (place end : ℕ) (before after : Known) (e : List TextPiece)
+    (es : List (List TextPiece))
     → Leads d before after (e ∷ es) → 0 < length after.columns → (f : Facts) → States before f
     → Reads (elements d end 0 (lexemes_from place 1 (e ++ (lines_after es ++ closing))) f) after
 unfolding lexemes_from
@@ -89,11 +90,14 @@ elements_read d place end before after e [] leads some f states =
     let bracket = place_after place e + 1 in
     let (g, read, now) = is.reads place bracket f states in
     let (h, last, known) = closed between bracket g after_all now in
-    let none : list_any ends_element (l ∷ ls) ≡ false = subst (λ (t : List Lexed). list_any ends_element t ≡ false) own (is.inside place) in
-    let whole = cut_off place e closing is.back ∙ ap (λ (t : List Lexed). t ++ lexemes_from (place_after place e) 1 closing) own in (
+    let none : list_any ends_element (l ∷ ls) ≡ false =
+    subst (λ (t : List Lexed). list_any ends_element t ≡ false) own (is.inside place) in
+    let whole = cut_off place e closing is.back
+    ∙ ap (λ (t : List Lexed). t ++ lexemes_from (place_after place e) 1 closing) own in (
       h,
       ap (λ (t : List Lexed). elements d end 0 t f) whole
-          ∙ one_read d end l ls _ [] f g none refl (ap (λ (t : List Lexed). element d bracket t f) (sym own) ∙ read) ∙ last,
+          ∙ one_read d end l ls _ [] f g none refl
+          (ap (λ (t : List Lexed). element d bracket t f) (sym own) ∙ read) ∙ last,
       subst (λ (k : Known). States k h) same known,
     )
 elements_read d place end before after e (next ∷ es) leads some f states =
@@ -102,14 +106,16 @@ elements_read d place end before after e (next ∷ es) leads some f states =
     let comma = place_after place e in
     let (g, read, now) = is.reads place comma f states in
     let (h, later, known) = elements_read d ((comma + 1) + 3) end between after next es rest some g now in
-    let none : list_any ends_element (l ∷ ls) ≡ false = subst (λ (t : List Lexed). list_any ends_element t ≡ false) own (is.inside place) in
+    let none : list_any ends_element (l ∷ ls) ≡ false =
+    subst (λ (t : List Lexed). list_any ends_element t ≡ false) own (is.inside place) in
     let tail = lines_after (next ∷ es) ++ closing in
     let whole = cut_off place e tail is.back ∙ ap (λ (t : List Lexed). t ++ lexemes_from comma 1 tail) own in
     let regrouped = ap (lexemes_from ((comma + 1) + 3) 1) (append_assoc next (lines_after es) closing) in
     let after_comma = lexemes_from ((comma + 1) + 3) 1 ((next ++ lines_after es) ++ closing) in (
       h,
       ap (λ (t : List Lexed). elements d end 0 t f) whole
-          ∙ one_read d end l ls _ after_comma f g none refl (ap (λ (t : List Lexed). element d comma t f) (sym own) ∙ read)
+          ∙ one_read d end l ls _ after_comma f g none refl
+          (ap (λ (t : List Lexed). element d comma t f) (sym own) ∙ read)
           ∙ passed d end ls _ after_comma g
           ∙ ap (λ (t : List Lexed). elements d end 0 t g) regrouped ∙ later,
       known,

@@ -22,15 +22,18 @@ use Rattle.import_laws.proofs.StatementLemmas.{statements_read}
 use Rattle.import_laws.proofs.TableLemmas.{IsPrinted, IsReadable, known_by, table_leads}
 
 pub table_defined : (d : Dialect) (s : Schema) (tables : List TableDesign) (k : ℕ) (table : TableDesign) → IsPrinted s
-    → AllPairs (λ a b. same_name a.name b.name ≡ false) tables → slice_get tables k ≡ Some table → IsReadable s tables table
+    → AllPairs (λ a b. same_name a.name b.name ≡ false) tables → slice_get tables k ≡ Some table
+    → IsReadable s tables table
     → 0 < length (read_columns d s (attributes table.scheme))
     → (f : Facts) × (definition_of d (named table.name) (ddl_text s tables) ≡ Ok f) × StatesTable d s table f
 table_defined d s tables k table is apart here readable some =
     let created = tables_created d (scan_from LineStart 0) s tables tables is.names
-    (All-weaker (λ column. IsTrue (is_own_type column)) (λ column. IsTrue (is_sound_type d column)) (own_sound d) (types_of s) is.types)
+    (All-weaker (λ column. IsTrue (is_own_type column)) (λ column. IsTrue (is_sound_type d column))
+    (own_sound d) (types_of s) is.types)
     refl refl in
     let known = known_by (read_columns d s (attributes table.scheme)) (read_keys s table) in
-    let (f, read, states) = statements_read d s tables tables (statements_of d (ddl_text s tables)) k table known created apart here
+    let (f, read, states) = statements_read d s tables tables
+    (statements_of d (ddl_text s tables)) k table known created apart here
     (table_leads d s tables table is readable) some in
     let same : length f.columns ≡ length known.columns = ap (λ (cs : List StatedColumn). length cs) states.columns in
     let any : (length f.columns == 0) ≡ false = grind (arith, nat_tests, same, some) in (

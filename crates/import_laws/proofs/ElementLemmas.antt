@@ -65,7 +65,8 @@ column_read d known name nullable column is own typed free room place end f stat
     let at = place + length (quoted_name name) in
     let type = column_lexemes at nullable (type_pieces column) in
     let (keys, stated, inside) = type_reads d nullable at column own typed in
-    let here : is_taken f.columns name ≡ false = ap (λ (cs : List StatedColumn). is_taken cs name) states.columns ∙ free in
+    let here : is_taken f.columns name ≡ false =
+    ap (λ (cs : List StatedColumn). is_taken cs name) states.columns ∙ free in
     let same : length f.columns ≡ length known.columns = ap (λ (cs : List StatedColumn). length cs) states.columns in
     let space : nat_lt (length f.columns) MOST_ATTRIBUTES ≡ true = grind (arith, nat_tests, same, room) in (
       with_column f (column_typed name nullable (read_type d column)),
@@ -73,7 +74,8 @@ column_read d known name nullable column is own typed free room place end f stat
           ∙ rw here (rw space (keys _ _ ∙ ap (λ (c : StatedColumn). Ok (with_column f c)) (stated name))),
       record {
         found = states.found;
-        columns = ap (λ (cs : List StatedColumn). cs ++ column_typed name nullable (read_type d column) ∷ []) states.columns;
+        columns = ap (λ (cs : List StatedColumn). cs ++ column_typed name nullable
+            (read_type d column) ∷ []) states.columns;
         keys = states.keys;
         binds = states.binds;
       },
@@ -81,7 +83,8 @@ column_read d known name nullable column is own typed free room place end f stat
 
 column_inside : (d : Dialect) (name : List ℕ) (nullable : Bool) (column : ColumnType)
     → IsTrue (is_own_type column) → IsTrue (is_column_type column) → (place : ℕ)
-    → list_any ends_element (lexemes_from place 1 (quoted_piece name ∷ after_name nullable (type_pieces column))) ≡ false
+    → list_any ends_element (lexemes_from place 1
+    (quoted_piece name ∷ after_name nullable (type_pieces column))) ≡ false
 unfolding lexemes_from
 column_inside d name nullable column own typed place =
     let (keys, stated, inside) = type_reads d nullable (place + length (quoted_name name)) column own typed in inside
@@ -100,15 +103,18 @@ column_element d known name nullable column is own typed free room = record {
 }
 
 -- ---- keys
-key_stated : (known : Known) (primary : Bool) (names : List (List ℕ)) (place : ℕ) (parts : List StatedPart) (f : Facts)
+key_stated : (known : Known) (primary : Bool) (names : List (List ℕ)) (place : ℕ) (parts : List StatedPart)
+    (f : Facts)
     → length known.keys < MOST_DEPENDENCIES → map (λ part. part.name) parts ≡ map Some names → States known f
     → Reads (state_key primary place parts f) (one_key known primary names)
 key_stated known primary names place parts f room same states =
-    let named : map named_key (f.keys ++ record { primary = primary; parts = parts } ∷ []) ≡ (one_key known primary names).keys =
+    let named : map named_key (f.keys ++ record { primary = primary; parts = parts } ∷ [])
+    ≡ (one_key known primary names).keys =
     map-append named_key f.keys (record { primary = primary; parts = parts } ∷ [])
     ∙ ap (λ (ks : List NamedKey). ks ++ named_key (record { primary = primary; parts = parts }) ∷ []) states.keys
     ∙ ap (λ (ns : List (Option (List ℕ))). known.keys ++ record { primary = primary; names = ns } ∷ []) same in
-    let count : length (map named_key f.keys) ≡ length known.keys = ap (λ (ks : List NamedKey). length ks) states.keys in
+    let count : length (map named_key f.keys) ≡ length known.keys =
+    ap (λ (ks : List NamedKey). length ks) states.keys in
     let each : length (map named_key f.keys) ≡ length f.keys = length-map f.keys named_key in
     let space : nat_lt (length f.keys) MOST_DEPENDENCIES ≡ true = grind (arith, nat_tests, count, each, room) in (
       with_key f primary parts,
@@ -180,7 +186,8 @@ reference_inside : (table : List ℕ) (names : List (List ℕ)) (place : ℕ)
     → list_any ends_element (lexemes_from place 1 (reference_by table names)) ≡ false
 unfolding lexemes_from
 reference_inside table names place =
-    none_append ends_element ((((place + 7) + 1) + 3) + 1) 1 1 (bracketed names) (after_referring table names) (list_end names)
+    none_append ends_element ((((place + 7) + 1) + 3) + 1) 1 1 (bracketed names) (after_referring table names)
+    (list_end names)
     (λ at. list_inside at names) (referring_inside table names)
 
 reference_end : (table : List ℕ) (names : List (List ℕ)) → depth_end 1 (reference_by table names) ≡ 1

@@ -1,10 +1,10 @@
--- Each table of a design can be read: its scheme has attributes, its keys lie within it and differ, and its references
--- name tables.
+-- Each table of a design can be read: its scheme has attributes, its keys lie within it and differ, and its
+-- references name tables.
 use Rattle.std.proofs.Common.{◌≡◌, ◌<◌, ◌≤◌, ◌+◌, ℕ, zero, suc, inl, inr, ⊎_elim, Bool, true, false, cond, not, All, AllPairs, List, [], ◌∷◌, ◌++◌, map, length, get_or, take, refl, sym, ap, subst, ◌∙◌, arith, Option, Some, None, length-take, take_all, Vec, Global}
 use Rattle.std.specs.Prelude.{Contains, IsSomeAnd, filter, slice_get}
 use Rattle.std.proofs.lemmas.Bool.{cases_Bool, cases_eq, true≢false}
 use Rattle.std.proofs.lemmas.Bool.Decides.{nat_tests}
-use Rattle.std.proofs.lemmas.List.{get_or-map, length-map, map-append}
+use Rattle.std.proofs.lemmas.List.{length-map, map-append}
 use Rattle.std.proofs.lemmas.List.Elements.{All-contains_itself, All-filter, All-map, All-nil, All-weaker, filter_passes}
 use Rattle.std.proofs.lemmas.List.Kept.{AllPairs-filter}
 use Rattle.std.proofs.lemmas.Option.{get_or_from_slice_get, slice_get_cases, slice_get_within}
@@ -31,6 +31,7 @@ use Rattle.ddl_text.specs.declared.table.TableDesign.{TableDesign}
 use Rattle.sql_lexemes.specs.declared.dialect.Dialect.{Dialect}
 use Rattle.import_laws.specs.PrintedDesigns.{IsPrintedDesign}
 use Rattle.import_laws.specs.ReadTables.{read_column, read_columns}
+use Rattle.import_laws.proofs.PairLemmas.{pairs_map}
 use Rattle.import_laws.proofs.TableLemmas.{HasColumn, IsReadable}
 
 -- ---- names of sets
@@ -55,7 +56,8 @@ members_upto x names (suc n) low =
 pub members_named : (x : Attributes) (names : List (List ℕ))
     → members_from x 0 names ≡ map (λ k. get_or names k []) (members_below (length names) x)
 members_named x names =
-    sym (ap (members_from x 0) (take_all (length names) names (omega arith))) ∙ members_upto x names (length names) (omega arith)
+    sym (ap (members_from x 0) (take_all (length names) names (omega arith)))
+    ∙ members_upto x names (length names) (omega arith)
 
 -- a set that is not empty has a member
 some_members : (n : ℕ) (x : Attributes) → IsSubset x (below n) → (IsEmpty x → ⊥) → 0 < length (members_below n x)
@@ -100,7 +102,8 @@ fewer : {X : Type 0} (test : X → Bool) (xs : List X) → length (filter test x
 fewer test [] = omega arith
 fewer test (x ∷ xs) = by_test (test x) (fewer test xs)
   where
-    by_test : (b : Bool) → length (filter test xs) ≤ length xs → length (cond b (x ∷ filter test xs) (filter test xs)) ≤ length (x ∷ xs)
+    by_test : (b : Bool) → length (filter test xs) ≤ length xs
+        → length (cond b (x ∷ filter test xs) (filter test xs)) ≤ length (x ∷ xs)
     by_test true less = omega (arith, less)
     by_test false less = omega (arith, less)
 
@@ -109,15 +112,18 @@ before_differ x y before same =
     true≢false (sym before.2 ∙ sym (ap (λ (z : Attributes). z before.0) same) ∙ before.1)
 
 module _ (s : Schema) (table : TableDesign) (within : IsSubset (attributes table.scheme) (below (width_of s)))
-    (primary : IsPrimaryKey (width_of s) (theory_of s) (nullable_of s) (attributes table.scheme) (attributes table.key)) where
+    (primary : IsPrimaryKey (width_of s) (theory_of s) (nullable_of s) (attributes table.scheme)
+    (attributes table.key)) where
   is_key : IsKey (width_of s) (theory_of s) (attributes table.scheme) (attributes table.key)
-  is_key = primary_is_key (width_of s) (theory_of s) (nullable_of s) (attributes table.scheme) (attributes table.key) within primary
+  is_key = primary_is_key (width_of s) (theory_of s) (nullable_of s) (attributes table.scheme)
+      (attributes table.key) within primary
 
   key_within : IsSubset (attributes table.key) (attributes table.scheme)
   key_within = is_key.superkey.within.0
 
   -- where the key has an attribute, so has each other key
-  other_some : (IsEmpty (attributes table.key) → ⊥) → (x : Attributes) → IsKey (width_of s) (theory_of s) (attributes table.scheme) x
+  other_some : (IsEmpty (attributes table.key) → ⊥) → (x : Attributes)
+      → IsKey (width_of s) (theory_of s) (attributes table.scheme) x
       → IsEmpty x → ⊥
   other_some some x other empty =
       some (λ k. elim (cases_Bool (attributes table.key k)) [
@@ -146,7 +152,8 @@ module _ (s : Schema) (table : TableDesign) (within : IsSubset (attributes table
   listed_fit some all are limit =
       let test = λ (k : AttrSet). not (is_same (attributes k) (attributes table.key)) in
       let keys = filter test all in
-      let each = All-filter test (λ k. IsKey (width_of s) (theory_of s) (attributes table.scheme) (attributes k)) all are.each in
+      let each = All-filter test (λ k. IsKey (width_of s) (theory_of s) (attributes table.scheme)
+      (attributes k)) all are.each in
       let pass = filter_passes test all in
       let pairs = AllPairs-filter (λ j k. IsBefore (attributes j) (attributes k)) test all are.ascending in
       let same : length (map attributes keys) ≡ length keys = length-map keys attributes in
@@ -156,7 +163,8 @@ module _ (s : Schema) (table : TableDesign) (within : IsSubset (attributes table
           some = other_some some (attributes (get_or keys i d)) (each i d low);
           apart = turned (is_same (attributes (get_or keys i d)) (attributes table.key)) (pass i d low);
         });
-        differ = pairs_map keys pairs;
+        differ = pairs_map attributes (λ x y. x ≡ y → ⊥) keys
+            (λ i j d less low. before_differ (attributes (get_or keys i d)) (attributes (get_or keys j d)) (pairs i j d less low));
         few = omega (arith, same, less, limit);
       }
     where
@@ -164,18 +172,8 @@ module _ (s : Schema) (table : TableDesign) (within : IsSubset (attributes table
       turned true is = sym is
       turned false is = refl
 
-      pairs_map : (keys : List AttrSet) → AllPairs (λ j k. IsBefore (attributes j) (attributes k)) keys
-          → AllPairs (λ x y. x ≡ y → ⊥) (map attributes keys)
-      pairs_map [] pairs i j d less low = absurd (omega (arith, low))
-      pairs_map (key ∷ keys) pairs i j d less low =
-          let size : length (map attributes (key ∷ keys)) ≡ length (key ∷ keys) = length-map (key ∷ keys) attributes in
-          let second : j < length (key ∷ keys) = omega (arith, low, size) in
-          let first : i < length (key ∷ keys) = omega (arith, less, second) in
-          subst (λ (x : Attributes). x ≡ get_or (map attributes (key ∷ keys)) j d → ⊥) (sym (get_or-map attributes (key ∷ keys) i key d first))
-          (subst (λ (y : Attributes). attributes (get_or (key ∷ keys) i key) ≡ y → ⊥) (sym (get_or-map attributes (key ∷ keys) j key d second))
-          (before_differ (attributes (get_or (key ∷ keys) i key)) (attributes (get_or (key ∷ keys) j key)) (pairs i j key less second)))
-
-  others_fit : (others : Option (Vec AttrSet Global)) → AreOtherKeys s (attributes table.scheme) (attributes table.key) others
+  others_fit : (others : Option (Vec AttrSet Global))
+      → AreOtherKeys s (attributes table.scheme) (attributes table.key) others
       → AreFit (known_keys others)
   others_fit None are = no_keys
   others_fit (Some keys) (inl only) = subst (λ (ks : List AttrSet). AreFit (schemes_of ks)) (sym only.1) no_keys
@@ -184,14 +182,17 @@ module _ (s : Schema) (table : TableDesign) (within : IsSubset (attributes table
       subst (λ (ks : List AttrSet). AreFit (schemes_of ks)) (sym same) (listed_fit listed.not_empty all are limit)
 
 -- ---- references
-some_within : (P : TableDesign → Type 0) (tables : List TableDesign) (j : ℕ) → IsSomeAnd (slice_get tables j) P → j < length tables
-some_within P tables j some = ⊎_elim (λ found. found.1) (λ past. absurd (subst (λ (o : Option TableDesign). IsSomeAnd o P) past.1 some))
+some_within : (P : TableDesign → Type 0) (tables : List TableDesign) (j : ℕ) → IsSomeAnd (slice_get tables j) P
+    → j < length tables
+some_within P tables j some = ⊎_elim (λ found. found.1)
+    (λ past. absurd (subst (λ (o : Option TableDesign). IsSomeAnd o P) past.1 some))
     (slice_get_cases tables j).1
 
 shorter : {X : Type 0} (k : ℕ) (xs : List X) → length (take k xs) ≤ length xs
 shorter k xs = let size = length-take k xs in omega (arith, size)
 
-refs_within : (k : ℕ) (tables : List TableDesign) (scheme : Attributes) (refs : List ℕ) → AreReferences (take k tables) scheme refs
+refs_within : (k : ℕ) (tables : List TableDesign) (scheme : Attributes) (refs : List ℕ)
+    → AreReferences (take k tables) scheme refs
     → All (λ j. j < length tables) refs
 refs_within k tables scheme refs are =
     All-weaker (Contains refs) (λ j. j < length tables)
@@ -200,7 +201,8 @@ refs_within k tables scheme refs are =
     refs (All-contains_itself refs)
 
 -- ---- each table of a design
-pub table_fits : (s : Schema) (names : GivenNames) (schemes : List AttrSet) (tables : List TableDesign) (k : ℕ) (table : TableDesign)
+pub table_fits : (s : Schema) (names : GivenNames) (schemes : List AttrSet) (tables : List TableDesign) (k : ℕ)
+    (table : TableDesign)
     → IsPrintedDesign s names schemes tables → slice_get tables k ≡ Some table → IsFit s tables table
 table_fits s names schemes tables k table is here =
     let low = slice_get_within tables k table here in
@@ -209,14 +211,19 @@ table_fits s names schemes tables k table is here =
     subst (λ (t : TableDesign). IsTableOf s names (take k tables) (get_or schemes k table.scheme) t)
     (get_or_from_slice_get tables k table table here) (is.design.each k bound table.scheme table) in
     let inside : IsSubset (attributes table.scheme) (below (width_of s)) =
-    subst (λ (x : AttrSet). IsSubset (attributes x) (below (width_of s))) (sym made.columns) (is.plan.within k table.scheme bound) in
-    let primary : IsPrimaryKey (width_of s) (theory_of s) (nullable_of s) (attributes table.scheme) (attributes table.key) =
-    subst (λ (x : AttrSet). IsPrimaryKey (width_of s) (theory_of s) (nullable_of s) (attributes x) (attributes table.key)) (sym made.columns) made.key in
+    subst (λ (x : AttrSet). IsSubset (attributes x) (below (width_of s))) (sym made.columns)
+    (is.plan.within k table.scheme bound) in
+    let primary : IsPrimaryKey (width_of s) (theory_of s) (nullable_of s) (attributes table.scheme)
+    (attributes table.key) =
+    subst (λ (x : AttrSet). IsPrimaryKey (width_of s) (theory_of s) (nullable_of s) (attributes x)
+    (attributes table.key)) (sym made.columns) made.key in
     let others = others_fit s table inside primary table.other_keys
-    (subst (λ (x : AttrSet). AreOtherKeys s (attributes x) (attributes table.key) table.other_keys) (sym made.columns) made.other_keys) in
+    (subst (λ (x : AttrSet). AreOtherKeys s (attributes x) (attributes table.key) table.other_keys)
+    (sym made.columns) made.other_keys) in
     record {
       within = inside;
-      some = subst (λ (x : AttrSet). IsEmpty (attributes x) → ⊥) (sym made.columns) (is.plan.not_empty k table.scheme bound);
+      some = subst (λ (x : AttrSet). IsEmpty (attributes x) → ⊥) (sym made.columns)
+          (is.plan.not_empty k table.scheme bound);
       key = key_within s table inside primary;
       others = others.others;
       differ = others.differ;
@@ -225,14 +232,17 @@ table_fits s names schemes tables k table is here =
     }
 
 not_empty : (x : Attributes) → is_empty x ≡ false → IsEmpty x → ⊥
-not_empty x some empty = true≢false (sym (is_subset-from x none (λ k member. absurd (true≢false (sym member ∙ empty k)))) ∙ some)
+not_empty x some empty = true≢false
+    (sym (is_subset-from x none (λ k member. absurd (true≢false (sym member ∙ empty k)))) ∙ some)
 
 -- so it can be read
-pub fit_readable : (s : Schema) (tables : List TableDesign) (table : TableDesign) → IsFit s tables table → IsReadable s tables table
+pub fit_readable : (s : Schema) (tables : List TableDesign) (table : TableDesign) → IsFit s tables table
+    → IsReadable s tables table
 fit_readable s tables table fit =
     let few = fit.few in
     let stated = fewer (is_never_missing s) (known_keys table.other_keys) in record {
-      key = λ some. has_column s (attributes table.key) (λ k member. fit.within k (fit.key k member)) (not_empty (attributes table.key) some);
+      key = λ some. has_column s (attributes table.key) (λ k member. fit.within k (fit.key k member))
+          (not_empty (attributes table.key) some);
       others = All-filter (is_never_missing s) (HasColumn s) (known_keys table.other_keys)
           (λ i d low. has_column s (get_or (known_keys table.other_keys) i d)
           (λ k member. fit.within k ((fit.others i d low).within k member)) (fit.others i d low).some);
@@ -244,6 +254,7 @@ pub some_columns : (d : Dialect) (s : Schema) (tables : List TableDesign) (table
     → 0 < length (read_columns d s (attributes table.scheme))
 some_columns d s tables table fit =
     let some = some_members (width_of s) (attributes table.scheme) fit.within fit.some in
-    let same : length (read_columns d s (attributes table.scheme)) ≡ length (members_below (width_of s) (attributes table.scheme)) =
+    let same : length (read_columns d s (attributes table.scheme))
+    ≡ length (members_below (width_of s) (attributes table.scheme)) =
     length-map (members_below (width_of s) (attributes table.scheme)) (read_column d s) in
     omega (arith, some, same)

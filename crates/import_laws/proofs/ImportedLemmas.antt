@@ -1,10 +1,10 @@
 -- The schema that is imported of a table of a design: what its text declares.
-use Rattle.std.proofs.Common.{◌≡◌, ◌<◌, ◌≤◌, ◌&&◌, ◌++◌, ℕ, zero, suc, Bool, true, false, cond, not, All, AllPairs, List, [], ◌∷◌, map, length, get_or, refl, sym, ap, subst, ◌∙◌, arith, Option, Some, None, Result, Ok}
+use Rattle.std.proofs.Common.{◌≡◌, ◌<◌, ◌≤◌, ◌&&◌, ◌++◌, ℕ, Bool, true, false, cond, not, All, AllPairs, List, [], ◌∷◌, map, length, get_or, refl, sym, ap, subst, ◌∙◌, arith, Option, Some, None, Result, Ok}
 use Rattle.std.specs.Prelude.{IsSomeAnd, filter, option_map, slice_get, slice_index_or}
 use Rattle.std.proofs.lemmas.Bool.{false_from_ne_true, true≢false}
 use Rattle.std.proofs.lemmas.Bool.Decides.{nat_tests}
-use Rattle.std.proofs.lemmas.List.{get_or-map, length-map}
-use Rattle.std.proofs.lemmas.List.Elements.{All-cons, All-filter, All-head, All-map, All-tail, filter_passes}
+use Rattle.std.proofs.lemmas.List.{length-map}
+use Rattle.std.proofs.lemmas.List.Elements.{All-cons, All-filter, All-map, filter_passes}
 use Rattle.std.proofs.lemmas.List.Folds.{list_any_none}
 use Rattle.std.proofs.lemmas.List.Kept.{AllPairs-filter}
 use Rattle.std.proofs.lemmas.Option.{slice_get-map}
@@ -36,47 +36,11 @@ use Rattle.import_laws.specs.ImportedTables.{columns_of, determines_others, has,
 use Rattle.import_laws.specs.ReadTables.{NamedKey, StatesTable, key_named, named_key, read_column, read_columns, read_keys, read_type}
 use Rattle.import_laws.proofs.FitLemmas.{IsFit}
 use Rattle.import_laws.proofs.KeyLemmas.{Apart, dependencies_same, has_others, keys_read, new_are, part_names, set_names}
+use Rattle.import_laws.proofs.PairLemmas.{all_back, keep_all, pairs_back, pairs_cons, pairs_map}
 use Rattle.import_laws.proofs.PlaceLemmas.{places_apart, places_disjoint}
-
--- ---- lists
-pairs_cons : {X : Type 0} (R : X → X → Type 0) (x : X) (xs : List X) → All (R x) xs → AllPairs R xs → AllPairs R (x ∷ xs)
-pairs_cons R x xs each pairs zero zero d less low = absurd (omega (arith, less))
-pairs_cons R x xs each pairs zero (suc j) d less low = each j d (omega (arith, low))
-pairs_cons R x xs each pairs (suc i) zero d less low = absurd (omega (arith, less))
-pairs_cons R x xs each pairs (suc i) (suc j) d less low = pairs i j d (omega (arith, less)) (omega (arith, low))
-
--- what holds of the columns of sets holds of those of keys that have them
-all_back : {X Y : Type 0} (f : X → Y) (P : Y → Type 0) (xs : List X) → All P (map f xs) → All (λ x. P (f x)) xs
-all_back f P xs all i d low =
-    let size : length (map f xs) ≡ length xs = length-map xs f in
-    subst P (get_or-map f xs i d (f d) low) (all i (f d) (omega (arith, size, low)))
-
-pairs_back : {X Y : Type 0} (f : X → Y) (R : Y → Y → Type 0) (xs : List X) → AllPairs R (map f xs) → AllPairs (λ x y. R (f x) (f y)) xs
-pairs_back f R xs pairs i j d less low =
-    let size : length (map f xs) ≡ length xs = length-map xs f in
-    subst (λ x. R x (f (get_or xs j d))) (get_or-map f xs i d (f d) (omega (arith, less, low)))
-    (subst (λ y. R (get_or (map f xs) i (f d)) y) (get_or-map f xs j d (f d) low) (pairs i j (f d) less (omega (arith, size, low))))
-
-pairs_map : {X Y : Type 0} (f : X → Y) (R : Y → Y → Type 0) (xs : List X) → AllPairs (λ x y. R (f x) (f y)) xs → AllPairs R (map f xs)
-pairs_map f R [] pairs i j d less low = absurd (omega (arith, low))
-pairs_map f R (x ∷ xs) pairs i j d less low =
-    let size : length (map f (x ∷ xs)) ≡ length (x ∷ xs) = length-map (x ∷ xs) f in
-    let second : j < length (x ∷ xs) = omega (arith, low, size) in
-    let first : i < length (x ∷ xs) = omega (arith, less, second) in
-    subst (λ z. R z (get_or (map f (x ∷ xs)) j d)) (sym (get_or-map f (x ∷ xs) i x d first))
-    (subst (λ z. R (f (get_or (x ∷ xs) i x)) z) (sym (get_or-map f (x ∷ xs) j x d second)) (pairs i j x less second))
-
-keep_all : {X : Type 0} (p : X → Bool) (xs : List X) → All (λ x. p x ≡ true) xs → filter p xs ≡ xs
-keep_all p [] all = refl
-keep_all p (x ∷ xs) all =
-    ap (λ (b : Bool). cond b (x ∷ filter p xs) (filter p xs)) (All-head (λ y. p y ≡ true) x xs all)
-    ∙ ap (λ ys. x ∷ ys) (keep_all p xs (All-tail (λ y. p y ≡ true) x xs all))
 
 module _ (s : Schema) (tables : List TableDesign) (k : ℕ) (table : TableDesign) (fit : IsFit s tables table)
     (never : NeverMissing (nullable_of s) tables) (here : slice_get tables k ≡ Some table) where
-  scheme : Attributes
-  scheme = attributes table.scheme
-
   few : width_of s ≤ MOST_ATTRIBUTES
   few = s.valid.names_within_limit
 
@@ -92,16 +56,15 @@ module _ (s : Schema) (tables : List TableDesign) (k : ℕ) (table : TableDesign
         in_key = subst (λ (o : Option TableDesign). IsSomeAnd o (λ t. attributes t.key a ≡ true)) (sym here) member;
       }))
 
-  others : List Attributes
-  others = filter (is_never_missing s) (known_keys table.other_keys)
-
   others_stated : All IsStated (filter (is_never_missing s) (known_keys table.other_keys))
   others_stated i d low =
-      let is = All-filter (is_never_missing s) (λ x. IsSubset x (attributes table.scheme)) (known_keys table.other_keys)
+      let is = All-filter (is_never_missing s) (λ x. IsSubset x (attributes table.scheme))
+      (known_keys table.other_keys)
       (λ j e less. (fit.others j e less).within) i d low in
       let pass = filter_passes (is_never_missing s) (known_keys table.other_keys) i d low in record {
         within = is;
-        never_missing = is_disjoint-true (get_or (filter (is_never_missing s) (known_keys table.other_keys)) i d) (nullable_of s)
+        never_missing = is_disjoint-true
+            (get_or (filter (is_never_missing s) (known_keys table.other_keys)) i d) (nullable_of s)
             (λ a member. bounded a (fit.within a (is a member))) pass;
       }
     where
@@ -111,7 +74,8 @@ module _ (s : Schema) (tables : List TableDesign) (k : ℕ) (table : TableDesign
   pub stated_are : All IsStated (stated_keys s table)
   stated_are = by_key (is_empty (attributes table.key))
     where
-      by_key : (b : Bool) → All IsStated (cond b [] (attributes table.key ∷ []) ++ filter (is_never_missing s) (known_keys table.other_keys))
+      by_key : (b : Bool) → All IsStated
+          (cond b [] (attributes table.key ∷ []) ++ filter (is_never_missing s) (known_keys table.other_keys))
       by_key true = others_stated
       by_key false =
           All-cons IsStated (attributes table.key) (filter (is_never_missing s) (known_keys table.other_keys))
@@ -120,44 +84,51 @@ module _ (s : Schema) (tables : List TableDesign) (k : ℕ) (table : TableDesign
   pub stated_names : map (λ (key : NamedKey). key.names) (read_keys s table) ≡ map (set_names s) (stated_keys s table)
   stated_names = by_key (is_empty (attributes table.key))
     where
-      rest : map (λ (key : NamedKey). key.names) (map (key_named s false) (filter (is_never_missing s) (known_keys table.other_keys)))
+      rest : map (λ (key : NamedKey). key.names)
+          (map (key_named s false) (filter (is_never_missing s) (known_keys table.other_keys)))
           ≡ map (set_names s) (filter (is_never_missing s) (known_keys table.other_keys))
-      rest = map-map (λ (key : NamedKey). key.names) (key_named s false) (filter (is_never_missing s) (known_keys table.other_keys))
+      rest = map-map (λ (key : NamedKey). key.names) (key_named s false)
+          (filter (is_never_missing s) (known_keys table.other_keys))
 
       by_key : (b : Bool)
           → map (λ (key : NamedKey). key.names) (cond b [] (key_named s true (attributes table.key) ∷ [])
           ++ map (key_named s false) (filter (is_never_missing s) (known_keys table.other_keys)))
-          ≡ map (set_names s) (cond b [] (attributes table.key ∷ []) ++ filter (is_never_missing s) (known_keys table.other_keys))
+          ≡ map (set_names s) (cond b [] (attributes table.key ∷ []) ++ filter (is_never_missing s)
+          (known_keys table.other_keys))
       by_key true = rest
       by_key false = ap (λ (ns : List (List (Option (List ℕ)))). set_names s (attributes table.key) ∷ ns) rest
 
   -- different keys have different places
-  PlacesApart : Attributes → Attributes → Type 0
-  PlacesApart x y = is_same (places_in (columns_of s table) x) (places_in (columns_of s table) y) ≡ false
-
-  others_apart : AllPairs (λ x y. is_same (places_in (columns_of s table) x) (places_in (columns_of s table) y) ≡ false)
+  others_apart : AllPairs (λ x y. is_same (places_in (columns_of s table) x) (places_in (columns_of s table) y)
+      ≡ false)
       (filter (is_never_missing s) (known_keys table.other_keys))
   others_apart i j d less low =
       let xs = filter (is_never_missing s) (known_keys table.other_keys) in
       let first : i < length xs = omega (arith, less, low) in
       places_apart (width_of s) (attributes table.scheme) (get_or xs i d) (get_or xs j d) few fit.within
       (others_stated i d first).within (others_stated j d low).within
-      (AllPairs-filter (λ x y. x ≡ y → ⊥) (is_never_missing s) (known_keys table.other_keys) fit.differ i j d less low)
+      (AllPairs-filter (λ x y. x ≡ y → ⊥) (is_never_missing s)
+      (known_keys table.other_keys) fit.differ i j d less low)
 
-  key_apart : All (λ x. is_same (places_in (columns_of s table) (attributes table.key)) (places_in (columns_of s table) x) ≡ false)
+  key_apart : All (λ x. is_same (places_in (columns_of s table) (attributes table.key))
+      (places_in (columns_of s table) x) ≡ false)
       (filter (is_never_missing s) (known_keys table.other_keys))
   key_apart i d low =
       let xs = filter (is_never_missing s) (known_keys table.other_keys) in
-      let far = All-filter (is_never_missing s) (λ x. is_same x (attributes table.key) ≡ false) (known_keys table.other_keys)
+      let far = All-filter (is_never_missing s) (λ x. is_same x (attributes table.key) ≡ false)
+      (known_keys table.other_keys)
       (λ j e less. (fit.others j e less).apart) i d low in
-      places_apart (width_of s) (attributes table.scheme) (attributes table.key) (get_or xs i d) few fit.within fit.key
+      places_apart (width_of s) (attributes table.scheme) (attributes table.key)
+      (get_or xs i d) few fit.within fit.key
       (others_stated i d low).within
       (λ same. true≢false (sym (is_same-from (get_or xs i d) (attributes table.key) (sym same)) ∙ far))
 
-  pub stated_apart : AllPairs (λ x y. is_same (places_in (columns_of s table) x) (places_in (columns_of s table) y) ≡ false) (stated_keys s table)
+  pub stated_apart : AllPairs (λ x y. is_same (places_in (columns_of s table) x)
+      (places_in (columns_of s table) y) ≡ false) (stated_keys s table)
   stated_apart = by_key (is_empty (attributes table.key))
     where
-      by_key : (b : Bool) → AllPairs (λ x y. is_same (places_in (columns_of s table) x) (places_in (columns_of s table) y) ≡ false)
+      by_key : (b : Bool) → AllPairs (λ x y. is_same (places_in (columns_of s table) x)
+          (places_in (columns_of s table) y) ≡ false)
           (cond b [] (attributes table.key ∷ []) ++ filter (is_never_missing s) (known_keys table.other_keys))
       by_key true = others_apart
       by_key false =
@@ -167,15 +138,16 @@ module _ (s : Schema) (tables : List TableDesign) (k : ℕ) (table : TableDesign
   -- ---- keys of these places
   module _ (d : Dialect) (keys : List KeyColumns)
       (are : map (λ key. key.columns) keys ≡ map (places_in (columns_of s table)) (stated_keys s table)) where
-    missing : Attributes
-    missing = places_in (columns_of s table) (nullable_of s)
-
-    pub keys_never : All (λ (key : KeyColumns). Disjoint key.columns (places_in (columns_of s table) (nullable_of s))) keys
+    pub keys_never : All (λ (key : KeyColumns). Disjoint key.columns
+        (places_in (columns_of s table) (nullable_of s))) keys
     keys_never =
-        all_back (λ (key : KeyColumns). key.columns) (λ c. Disjoint c (places_in (columns_of s table) (nullable_of s))) keys
+        all_back (λ (key : KeyColumns). key.columns)
+        (λ c. Disjoint c (places_in (columns_of s table) (nullable_of s))) keys
         (subst (All (λ c. Disjoint c (places_in (columns_of s table) (nullable_of s)))) (sym are)
-        (All-map (λ c. Disjoint c (places_in (columns_of s table) (nullable_of s))) (places_in (columns_of s table)) (stated_keys s table)
-        (λ i e low. places_disjoint (width_of s) (attributes table.scheme) (get_or (stated_keys s table) i e) (nullable_of s)
+        (All-map (λ c. Disjoint c (places_in (columns_of s table) (nullable_of s)))
+        (places_in (columns_of s table)) (stated_keys s table)
+        (λ i e low. places_disjoint (width_of s) (attributes table.scheme) (get_or (stated_keys s table) i e)
+        (nullable_of s)
         (stated_are i e low).never_missing)))
 
     pub keys_apart : AllPairs Apart keys
@@ -188,10 +160,12 @@ module _ (s : Schema) (tables : List TableDesign) (k : ℕ) (table : TableDesign
     missing_at : (j : ℕ) → columns_missing (read_columns d s (attributes table.scheme)) keys j
         ≡ places_in (columns_of s table) (nullable_of s) j
     missing_at j =
-        ap (λ (o : Option StatedColumn). says_nothing o && not (is_bound keys j)) (slice_get-map (read_column d s) (columns_of s table) j)
+        ap (λ (o : Option StatedColumn). says_nothing o && not (is_bound keys j))
+        (slice_get-map (read_column d s) (columns_of s table) j)
         ∙ by_column (slice_get (columns_of s table) j) refl
       where
-        unbound : (b : ℕ) → slice_get (columns_of s table) j ≡ Some b → nullable_of s b ≡ true → is_bound keys j ≡ false
+        unbound : (b : ℕ) → slice_get (columns_of s table) j ≡ Some b → nullable_of s b ≡ true
+            → is_bound keys j ≡ false
         unbound b at nullable =
             list_any_none (λ (key : KeyColumns). key.binds && key.columns j) keys (λ i e low.
             let key = get_or keys i e in
@@ -212,37 +186,47 @@ module _ (s : Schema) (tables : List TableDesign) (k : ℕ) (table : TableDesign
         by_column None at = refl
         by_column (Some b) at = by_nullable b at (nullable_of s b) refl
 
-    pub missing_are : columns_missing (read_columns d s (attributes table.scheme)) keys ≡ places_in (columns_of s table) (nullable_of s)
+    pub missing_are : columns_missing (read_columns d s (attributes table.scheme)) keys
+        ≡ places_in (columns_of s table) (nullable_of s)
     missing_are = λ i j. missing_at j i
 
     -- the dependencies that are declared
     pub dependencies_are : (f : Facts) → f.columns ≡ read_columns d s (attributes table.scheme)
         → map (key_dependency (length f.columns)) (whole_keys f.columns keys)
-        ≡ map (λ x. determines_others (length (columns_of s table)) (places_in (columns_of s table) x)) (imported_keys s table)
+        ≡ map (λ x. determines_others (length (columns_of s table)) (places_in (columns_of s table) x))
+        (imported_keys s table)
     dependencies_are f columns =
         let size : length f.columns ≡ length (columns_of s table) =
         ap (λ (cs : List StatedColumn). length cs) columns ∙ length-map (columns_of s table) (read_column d s) in
         let none_missing : columns_missing f.columns keys ≡ places_in (columns_of s table) (nullable_of s) =
         ap (λ (cs : List StatedColumn). columns_missing cs keys) columns ∙ missing_are in
         let m = length (columns_of s table) in
-        ap (λ (n : ℕ). map (key_dependency n) (filter (is_whole (columns_missing f.columns keys)) (new_keys n [] keys))) size
+        ap (λ (n : ℕ). map (key_dependency n)
+        (filter (is_whole (columns_missing f.columns keys)) (new_keys n [] keys))) size
         ∙ ap (λ (x : Attributes). map (key_dependency m) (filter (is_whole x) (new_keys m [] keys))) none_missing
-        ∙ ap (λ (ks : List KeyColumns). map (key_dependency m) (filter (is_whole (places_in (columns_of s table) (nullable_of s))) ks))
+        ∙ ap (λ (ks : List KeyColumns). map (key_dependency m)
+        (filter (is_whole (places_in (columns_of s table) (nullable_of s))) ks))
         (new_are m [] keys keys_apart (λ i e low. refl))
-        ∙ ap (map (key_dependency m)) (keep_all (is_whole (places_in (columns_of s table) (nullable_of s))) (filter (has_others m) keys)
-        (All-filter (has_others m) (λ (key : KeyColumns). is_whole (places_in (columns_of s table) (nullable_of s)) key ≡ true) keys
-        (λ i e low. is_disjoint-from (get_or keys i e).columns (places_in (columns_of s table) (nullable_of s)) (keys_never i e low))))
+        ∙ ap (map (key_dependency m)) (keep_all (is_whole (places_in (columns_of s table) (nullable_of s)))
+        (filter (has_others m) keys)
+        (All-filter (has_others m) (λ (key : KeyColumns). is_whole
+        (places_in (columns_of s table) (nullable_of s)) key ≡ true) keys
+        (λ i e low. is_disjoint-from (get_or keys i e).columns (places_in (columns_of s table) (nullable_of s))
+        (keys_never i e low))))
         ∙ dependencies_same (width_of s) (attributes table.scheme) few fit.within keys (stated_keys s table) are
 
   -- ---- the text that is imported
-  pub facts_imported : (d : Dialect) (wanted : TableName) (text : List ℕ) (f : Facts) → definition_of d wanted text ≡ Ok f
+  pub facts_imported : (d : Dialect) (wanted : TableName) (text : List ℕ) (f : Facts)
+      → definition_of d wanted text ≡ Ok f
       → StatesTable d s table f
       → (printed : List ℕ) × (lines : List ℕ) × (imported_text d wanted text ≡ Ok printed)
       × MeansSchema printed (imported_table d s table lines)
   facts_imported d wanted text f defined states =
       let named : map part_names f.keys ≡ map (set_names s) (stated_keys s table) =
-      sym (map-map (λ (key : NamedKey). key.names) named_key f.keys) ∙ ap (map (λ (key : NamedKey). key.names)) states.keys ∙ stated_names in
-      let (keys, read, are) = keys_read d s (attributes table.scheme) f fit.within states.columns [] f.keys (stated_keys s table)
+      sym (map-map (λ (key : NamedKey). key.names) named_key f.keys)
+      ∙ ap (map (λ (key : NamedKey). key.names)) states.keys ∙ stated_names in
+      let (keys, read, are) = keys_read d s (attributes table.scheme) f fit.within states.columns [] f.keys
+      (stated_keys s table)
       (λ i e low. (stated_are i e low).within) named in
       let is = definition_reads d wanted text f defined in
       let (lines, means) = text_means d f keys is.fine.columns is.some is.fine.keys read in (
@@ -254,17 +238,28 @@ module _ (s : Schema) (tables : List TableDesign) (k : ℕ) (table : TableDesign
       )
     where
       declared : (f : Facts) → StatesTable d s table f → (keys : List KeyColumns)
-          → map (λ key. key.columns) keys ≡ map (places_in (columns_of s table)) (stated_keys s table) → (lines : List ℕ)
+          → map (λ key. key.columns) keys ≡ map (places_in (columns_of s table)) (stated_keys s table)
+          → (lines : List ℕ)
           → MeansSchema (table_text f.columns keys) (declared_table f.columns keys lines)
           → MeansSchema (table_text f.columns keys) (imported_table d s table lines)
       declared f states keys are lines means =
           let names : column_names f.columns ≡ map (λ a. slice_index_or (names_of s) a []) (columns_of s table) =
-          ap column_names states.columns ∙ map-map (λ (c : StatedColumn). c.name) (read_column d s) (columns_of s table) in
-          let types : column_types f.columns ≡ map (λ a. read_type d (slice_index_or (types_of s) a type.Text)) (columns_of s table) =
-          ap column_types states.columns ∙ map-map (λ (c : StatedColumn). c.kind) (read_column d s) (columns_of s table) in
+          ap column_names states.columns ∙ map-map (λ (c : StatedColumn). c.name) (read_column d s)
+          (columns_of s table) in
+          let types : column_types f.columns
+          ≡ map (λ a. read_type d (slice_index_or (types_of s) a type.Text)) (columns_of s table) =
+          ap column_types states.columns ∙ map-map (λ (c : StatedColumn). c.kind) (read_column d s)
+          (columns_of s table) in
           let deps = dependencies_are d keys are f states.columns in
           let nullable : columns_missing f.columns keys ≡ places_in (columns_of s table) (nullable_of s) =
           ap (λ (cs : List StatedColumn). columns_missing cs keys) states.columns ∙ missing_are d keys are in
           let same : declared_table f.columns keys lines ≡ imported_table d s table lines =
-          (λ i. record { names = names i; columns = types i; deps = deps i; lines = lines; naming = Any; nullable = nullable i }) in
+          (λ i. record {
+            names = names i;
+            columns = types i;
+            deps = deps i;
+            lines = lines;
+            naming = Any;
+            nullable = nullable i;
+          }) in
           subst (MeansSchema (table_text f.columns keys)) same means

@@ -49,7 +49,8 @@ places_so_far scheme (a ∷ ks) y j =
     regrouped false q r = refl
 
 parts_read : (d : Dialect) (s : Schema) (scheme : Attributes) (ks : List ℕ) → All (IsMember (width_of s) scheme) ks
-    → (parts : List StatedPart) → map (λ part. part.name) parts ≡ map (λ a. Some (slice_index_or (names_of s) a [])) ks
+    → (parts : List StatedPart) → map (λ part. part.name) parts
+    ≡ map (λ a. Some (slice_index_or (names_of s) a [])) ks
     → (y : Attributes) → columns_of_parts (read_columns d s scheme) y parts ≡ Ok (with_places scheme y ks)
 unfolding columns_of_parts
 parts_read d s scheme [] are [] same y = refl
@@ -58,24 +59,31 @@ parts_read d s scheme (a ∷ ks) are [] same y = cc
 parts_read d s scheme (a ∷ ks) are (part ∷ parts) same y =
     let name : part.name ≡ Some (slice_index_or (names_of s) a []) = cc in
     let rest : map (λ (p : StatedPart). p.name) parts ≡ map (λ b. Some (slice_index_or (names_of s) b [])) ks = cc in
-    ap (λ (o : Option (List ℕ)). and_then (with_part y part.place (option_and_then (column_named (read_columns d s scheme)) o))
+    ap (λ (o : Option (List ℕ)). and_then
+    (with_part y part.place (option_and_then (column_named (read_columns d s scheme)) o))
     (λ z. columns_of_parts (read_columns d s scheme) z parts)) name
-    ∙ ap (λ (o : Option ℕ). and_then (with_part y part.place o) (λ z. columns_of_parts (read_columns d s scheme) z parts))
+    ∙ ap (λ (o : Option ℕ). and_then (with_part y part.place o)
+    (λ z. columns_of_parts (read_columns d s scheme) z parts))
     (column_found d s scheme a (All-head (IsMember (width_of s) scheme) a ks are))
-    ∙ parts_read d s scheme ks (All-tail (IsMember (width_of s) scheme) a ks are) parts rest (union y (only (count_below scheme a)))
+    ∙ parts_read d s scheme ks (All-tail (IsMember (width_of s) scheme) a ks are) parts rest
+    (union y (only (count_below scheme a)))
 
 -- a stated key of the names of a set has its places
-set_read : (d : Dialect) (s : Schema) (scheme x : Attributes) → IsSubset scheme (below (width_of s)) → IsSubset x scheme
+set_read : (d : Dialect) (s : Schema) (scheme x : Attributes) → IsSubset scheme (below (width_of s))
+    → IsSubset x scheme
     → (parts : List StatedPart) → map (λ part. part.name) parts ≡ set_names s x
     → columns_of_parts (read_columns d s scheme) none parts ≡ Ok (places_in (members_below (width_of s) scheme) x)
 set_read d s scheme x limit within parts same =
     let members = members_below (width_of s) x in
-    let named = same ∙ ap (map Some) (members_named x (names_of s)) ∙ map-map Some (λ (a : ℕ). slice_index_or (names_of s) a []) members in
+    let named = same ∙ ap (map Some) (members_named x (names_of s))
+    ∙ map-map Some (λ (a : ℕ). slice_index_or (names_of s) a []) members in
     let are : All (IsMember (width_of s) scheme) members = λ i d low.
-    let is = members_are (width_of s) x i d low in record { low = is.low; inside = within (get_or members i d) is.inside } in
+    let is = members_are (width_of s) x i d low in
+    record { low = is.low; inside = within (get_or members i d) is.inside } in
     parts_read d s scheme members are parts named none ∙ ap Ok equal
   where
-    one : (j : ℕ) → with_places scheme none (members_below (width_of s) x) j ≡ places_in (members_below (width_of s) scheme) x j
+    one : (j : ℕ) → with_places scheme none (members_below (width_of s) x) j
+        ≡ places_in (members_below (width_of s) scheme) x j
     one j =
         places_so_far scheme (members_below (width_of s) x) none j
         ∙ places_any (width_of s) scheme x within (λ k member. limit k (within k member)) j
@@ -86,10 +94,12 @@ set_read d s scheme x limit within parts same =
 -- ---- the keys
 abbrev pub ReadsKeys : Dialect → Facts → List KeyColumns → List StatedKey → List Attributes → Type 0
 ReadsKeys d f before stated sets =
-    (keys : List KeyColumns) × (keys_after d f before stated ≡ Ok (before ++ keys)) × (map (λ key. key.columns) keys ≡ sets)
+    (keys : List KeyColumns) × (keys_after d f before stated ≡ Ok (before ++ keys)) ×
+    (map (λ key. key.columns) keys ≡ sets)
 
 pub keys_read : (d : Dialect) (s : Schema) (scheme : Attributes) (f : Facts) → IsSubset scheme (below (width_of s))
-    → f.columns ≡ read_columns d s scheme → (before : List KeyColumns) (stated : List StatedKey) (sets : List Attributes)
+    → f.columns ≡ read_columns d s scheme
+    → (before : List KeyColumns) (stated : List StatedKey) (sets : List Attributes)
     → All (λ x. IsSubset x scheme) sets → map part_names stated ≡ map (set_names s) sets
     → ReadsKeys d f before stated (map (places_in (members_below (width_of s) scheme)) sets)
 unfolding keys_after
@@ -107,7 +117,8 @@ keys_read d s scheme f limit columns before (key ∷ stated) (x ∷ sets) within
     let (keys, later, are) = keys_read d s scheme f limit columns (before ++ made ∷ []) stated sets
     (All-tail (λ (y : Attributes). IsSubset y scheme) x sets within) rest in (
       made ∷ keys,
-      ap (λ r. and_then (and_then r (λ z. Ok (record { primary = key.primary; binds = binds_key d f key; columns = z })))
+      ap (λ r. and_then (and_then r (λ z. Ok
+          (record { primary = key.primary; binds = binds_key d f key; columns = z })))
           (λ k. keys_after d f (before ++ k ∷ []) stated)) read
           ∙ later ∙ ap Ok (append_assoc before (made ∷ []) keys),
       ap (λ (cs : List Attributes). places ∷ cs) are,
@@ -122,7 +133,8 @@ abbrev pub has_others : ℕ → KeyColumns → Bool
 has_others n key = not (is_subset (below n) key.columns)
 
 pub new_are : (n : ℕ) (before keys : List KeyColumns) → AllPairs Apart keys
-    → All (λ (key : KeyColumns). list_any (λ (other : KeyColumns). is_same other.columns key.columns) before ≡ false) keys
+    → All (λ (key : KeyColumns). list_any (λ (other : KeyColumns). is_same other.columns key.columns) before
+    ≡ false) keys
     → new_keys n before keys ≡ before ++ filter (has_others n) keys
 unfolding new_keys
 new_are n before [] apart far = sym (append-nil before)
@@ -133,12 +145,16 @@ new_are n before (key ∷ keys) apart far =
     later i j d less low = apart (suc i) (suc j) d (omega (arith, less)) (omega (arith, low))
 
     here : list_any (λ (other : KeyColumns). is_same other.columns key.columns) before ≡ false
-    here = All-head (λ (k : KeyColumns). list_any (λ (other : KeyColumns). is_same other.columns k.columns) before ≡ false) key keys far
+    here = All-head (λ (k : KeyColumns). list_any
+        (λ (other : KeyColumns). is_same other.columns k.columns) before ≡ false) key keys far
 
-    rest : All (λ (k : KeyColumns). list_any (λ (other : KeyColumns). is_same other.columns k.columns) before ≡ false) keys
-    rest = All-tail (λ (k : KeyColumns). list_any (λ (other : KeyColumns). is_same other.columns k.columns) before ≡ false) key keys far
+    rest : All (λ (k : KeyColumns). list_any (λ (other : KeyColumns). is_same other.columns k.columns) before
+        ≡ false) keys
+    rest = All-tail (λ (k : KeyColumns). list_any
+        (λ (other : KeyColumns). is_same other.columns k.columns) before ≡ false) key keys far
 
-    more : All (λ (k : KeyColumns). list_any (λ (other : KeyColumns). is_same other.columns k.columns) (before ++ key ∷ []) ≡ false) keys
+    more : All (λ (k : KeyColumns). list_any (λ (other : KeyColumns). is_same other.columns k.columns)
+        (before ++ key ∷ []) ≡ false) keys
     more i d low =
         let k = get_or keys i d in
         list_any-append (λ (other : KeyColumns). is_same other.columns k.columns) before (key ∷ [])
@@ -147,26 +163,30 @@ new_are n before (key ∷ keys) apart far =
 
     by_test : (b : Bool) → is_subset (below n) key.columns ≡ b
         → ((front : List KeyColumns)
-        → All (λ (k : KeyColumns). list_any (λ (other : KeyColumns). is_same other.columns k.columns) front ≡ false) keys
+        → All (λ (k : KeyColumns). list_any (λ (other : KeyColumns). is_same other.columns k.columns) front
+        ≡ false) keys
         → new_keys n front keys ≡ front ++ filter (has_others n) keys)
         → new_keys n (cond (is_new n before key) (before ++ key ∷ []) before) keys
         ≡ before ++ cond (has_others n key) (key ∷ filter (has_others n) keys) (filter (has_others n) keys)
     by_test true all next = rw all (next before rest)
     by_test false all next =
-        rw all (rw here (next (before ++ key ∷ []) more ∙ append_assoc before (key ∷ []) (filter (has_others n) keys)))
+        rw all (rw here (next (before ++ key ∷ []) more
+        ∙ append_assoc before (key ∷ []) (filter (has_others n) keys)))
 
 -- the dependencies of the keys that do not have all columns
 pub dependencies_same : (n : ℕ) (scheme : Attributes) → n ≤ MOST_ATTRIBUTES → IsSubset scheme (below n)
     → (keys : List KeyColumns) (sets : List Attributes)
     → map (λ key. key.columns) keys ≡ map (places_in (members_below n scheme)) sets
-    → map (key_dependency (length (members_below n scheme))) (filter (has_others (length (members_below n scheme))) keys)
+    → map (key_dependency (length (members_below n scheme)))
+    (filter (has_others (length (members_below n scheme))) keys)
     ≡ map (λ x. determines_others (length (members_below n scheme)) (places_in (members_below n scheme) x))
     (filter (λ x. not (is_subset scheme x)) sets)
 dependencies_same n scheme few limit [] [] same = refl
 dependencies_same n scheme few limit [] (x ∷ sets) same = cc
 dependencies_same n scheme few limit (key ∷ keys) [] same = cc
 dependencies_same n scheme few limit (key ∷ keys) (x ∷ sets) same =
-    ap (λ (b : Bool). map (key_dependency m) (cond (not b) (key ∷ filter (has_others m) keys) (filter (has_others m) keys)))
+    ap (λ (b : Bool). map (key_dependency m)
+    (cond (not b) (key ∷ filter (has_others m) keys) (filter (has_others m) keys)))
     (ap (is_subset (below m)) here ∙ all_places n scheme x few limit)
     ∙ by_test (is_subset scheme x) (dependencies_same n scheme few limit keys sets rest)
   where
@@ -181,7 +201,8 @@ dependencies_same n scheme few limit (key ∷ keys) (x ∷ sets) same =
 
     by_test : (b : Bool)
         → map (key_dependency m) (filter (has_others m) keys)
-        ≡ map (λ y. determines_others m (places_in (members_below n scheme) y)) (filter (λ y. not (is_subset scheme y)) sets)
+        ≡ map (λ y. determines_others m (places_in (members_below n scheme) y))
+        (filter (λ y. not (is_subset scheme y)) sets)
         → map (key_dependency m) (cond (not b) (key ∷ filter (has_others m) keys) (filter (has_others m) keys))
         ≡ map (λ y. determines_others m (places_in (members_below n scheme) y))
         (cond (not b) (x ∷ filter (λ y. not (is_subset scheme y)) sets) (filter (λ y. not (is_subset scheme y)) sets))

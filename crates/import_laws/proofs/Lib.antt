@@ -1,5 +1,6 @@
 -- The proofs of import_laws.
 pub mod PieceLemmas
+pub mod PairLemmas
 pub mod NameLemmas
 pub mod ListLemmas
 pub mod TypeLemmas

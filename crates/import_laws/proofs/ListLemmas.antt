@@ -36,7 +36,8 @@ after_read d end place before (name ∷ names) all =
     (All-tail IsName name names all) in (
       parts,
       read,
-      same ∙ ap (λ (xs : List (Option (List ℕ))). xs ++ map Some names) (map-append (λ (p : StatedPart). p.name) before (part ∷ []))
+      same ∙ ap (λ (xs : List (Option (List ℕ))). xs ++ map Some names)
+          (map-append (λ (p : StatedPart). p.name) before (part ∷ []))
           ∙ append_assoc (map (λ (p : StatedPart). p.name) before) (part.name ∷ []) (map Some names)
           ∙ ap (λ (x : Option (List ℕ)). map (λ (p : StatedPart). p.name) before ++ x ∷ map Some names) is,
     )
@@ -53,12 +54,14 @@ list_read d end place name names all =
     (parts, read, same ∙ ap (λ (x : Option (List ℕ)). x ∷ map Some names) is)
 
 -- ---- lists within an element
-names_inside : (place : ℕ) (names : List (List ℕ)) → list_any ends_element (lexemes_from place 2 (names_after names ++ mark 41 ∷ [])) ≡ false
+names_inside : (place : ℕ) (names : List (List ℕ))
+    → list_any ends_element (lexemes_from place 2 (names_after names ++ mark 41 ∷ [])) ≡ false
 unfolding lexemes_from
 names_inside place [] = refl
 names_inside place (name ∷ names) = names_inside (((place + 1) + 1) + length (quoted_name name)) names
 
-pub list_inside : (place : ℕ) (names : List (List ℕ)) → list_any ends_element (lexemes_from place 1 (bracketed names)) ≡ false
+pub list_inside : (place : ℕ) (names : List (List ℕ))
+    → list_any ends_element (lexemes_from place 1 (bracketed names)) ≡ false
 unfolding lexemes_from
 list_inside place [] = refl
 list_inside place (name ∷ names) = names_inside ((place + 1) + length (quoted_name name)) names

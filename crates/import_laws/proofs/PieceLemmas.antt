@@ -1,4 +1,5 @@
--- The lexemes of pieces that are joined, the brackets that are open after them, and the first of them that passes a test.
+-- The lexemes of pieces that are joined, the brackets that are open after them, and the first of them that passes a
+-- test.
 use Rattle.std.proofs.Common.{◌≡◌, ◌+◌, ℕ, Bool, true, false, ◌||◌, List, [], ◌∷◌, ◌++◌, length, refl, ap, ◌∙◌, arith, Option, Some, None}
 use Rattle.std.specs.List.{list_any, position_or_len}
 use Rattle.std.proofs.lemmas.List.Folds.{list_any-append}
@@ -23,10 +24,12 @@ depth_end depth (p ∷ ps) = depth_end (depth_by depth p.kind p.bytes) ps
 
 led_append : (place depth : ℕ) (kind : Option LexemeKind) (bytes : List ℕ) (all some rest : ℕ → List Lexed)
     → ((n : ℕ) → all n ≡ some n ++ rest n)
-    → led_by_kind place depth kind bytes all ≡ led_by_kind place depth kind bytes some ++ rest (depth_by depth kind bytes)
+    → led_by_kind place depth kind bytes all
+    ≡ led_by_kind place depth kind bytes some ++ rest (depth_by depth kind bytes)
 led_append place depth None bytes all some rest each = each depth
 led_append place depth (Some kind) bytes all some rest each =
-    ap (λ (ls : List Lexed). lexeme_at place depth kind bytes ∷ ls) (each (depth_after (lexeme_at place depth kind bytes)))
+    ap (λ (ls : List Lexed). lexeme_at place depth kind bytes ∷ ls)
+    (each (depth_after (lexeme_at place depth kind bytes)))
 
 pub lexemes_append : (place depth : ℕ) (xs ys : List TextPiece)
     → lexemes_from place depth (xs ++ ys)
@@ -39,12 +42,14 @@ lexemes_append place depth (p ∷ ps) ys =
     (λ n. lexemes_from (place_after (place + length p.bytes) ps) (depth_end n ps) ys)
     (λ n. lexemes_append (place + length p.bytes) n ps ys)
 
-pub depth_append : (depth : ℕ) (xs ys : List TextPiece) → depth_end depth (xs ++ ys) ≡ depth_end (depth_end depth xs) ys
+pub depth_append : (depth : ℕ) (xs ys : List TextPiece)
+    → depth_end depth (xs ++ ys) ≡ depth_end (depth_end depth xs) ys
 depth_append depth [] ys = refl
 depth_append depth (p ∷ ps) ys = depth_append (depth_by depth p.kind p.bytes) ps ys
 
 -- the first that passes a test stands after those that do not
-pub first_at : (p : Lexed → Bool) (xs : List Lexed) (x : Lexed) (rest : List Lexed) → list_any p xs ≡ false → p x ≡ true
+pub first_at : (p : Lexed → Bool) (xs : List Lexed) (x : Lexed) (rest : List Lexed) → list_any p xs ≡ false
+    → p x ≡ true
     → position_or_len p (xs ++ x ∷ rest) ≡ length xs
 first_at p [] x rest none here = rw here refl
 first_at p (y ∷ ys) x rest none here = by_first (p y) refl none (first_at p ys x rest)
@@ -63,6 +68,7 @@ pub none_append : (test : Lexed → Bool) (place depth after : ℕ) (xs ys : Lis
 none_append test place depth after xs ys ends first second =
     ap (list_any test) (lexemes_append place depth xs ys)
     ∙ list_any-append test (lexemes_from place depth xs) (lexemes_from (place_after place xs) (depth_end depth xs) ys)
-    ∙ ap (λ (b : Bool). b || list_any test (lexemes_from (place_after place xs) (depth_end depth xs) ys)) (first place)
+    ∙ ap (λ (b : Bool). b || list_any test (lexemes_from (place_after place xs) (depth_end depth xs) ys))
+    (first place)
     ∙ ap (λ (n : ℕ). list_any test (lexemes_from (place_after place xs) n ys)) ends
     ∙ second (place_after place xs)

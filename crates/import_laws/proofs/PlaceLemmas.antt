@@ -34,7 +34,8 @@ pub members_are : (n : ℕ) (x : Attributes) → All (IsMember n x) (members_bel
 members_are zero x = subst (All (IsMember 0 x)) (sym (members_below-none x)) (All-nil (IsMember 0 x))
 members_are (suc n) x =
     let wider = All-weaker (IsMember n x) (IsMember (suc n) x)
-    (λ k is. let low = is.low in record { low = omega (arith, low); inside = is.inside }) (members_below n x) (members_are n x) in
+    (λ k is. let low = is.low in record { low = omega (arith, low); inside = is.inside }) (members_below n x)
+    (members_are n x) in
     elim (cases_Bool (x n)) [
       | inl inside ↦ subst (All (IsMember (suc n) x)) (sym (members_below-member n x inside))
           (All-push (IsMember (suc n) x) (members_below n x) n wider (record { low = omega arith; inside = inside }))
@@ -42,7 +43,8 @@ members_are (suc n) x =
     ]
 
 members_rise : (n : ℕ) (x : Attributes) → AllPairs ◌<◌ (members_below n x)
-members_rise zero x = subst (AllPairs ◌<◌) (sym (members_below-none x)) (λ i j d less low. absurd (omega (arith, low)))
+members_rise zero x = subst (AllPairs ◌<◌) (sym (members_below-none x))
+    (λ i j d less low. absurd (omega (arith, low)))
 members_rise (suc n) x =
     elim (cases_Bool (x n)) [
       | inl inside ↦ subst (AllPairs ◌<◌) (sym (members_below-member n x inside))
@@ -52,9 +54,6 @@ members_rise (suc n) x =
 
 -- ---- places
 module _ (n : ℕ) (scheme : Attributes) where
-  columns : List ℕ
-  columns = members_below n scheme
-
   -- a member has a place, where it stands
   pub place_low : (a : ℕ) → IsMember n scheme a → count_below scheme a < length (members_below n scheme)
   place_low a is =
@@ -76,10 +75,12 @@ module _ (n : ℕ) (scheme : Attributes) where
         is,
         elim (cases_lt (count_below scheme b) j) [
           | inl before ↦
-              let rise = members_rise n scheme (count_below scheme b) j b before low in absurd (omega (arith, rise, here, there))
+              let rise = members_rise n scheme (count_below scheme b) j b before low in
+              absurd (omega (arith, rise, here, there))
           | inr from ↦ elim (cases_lt j (count_below scheme b)) [
             | inl after ↦
-                let rise = members_rise n scheme j (count_below scheme b) b after other in absurd (omega (arith, rise, here, there))
+                let rise = members_rise n scheme j (count_below scheme b) b after other in
+                absurd (omega (arith, rise, here, there))
             | inr upto ↦ omega (arith, from, upto)
           ]
         ],
@@ -100,7 +101,8 @@ module _ (n : ℕ) (scheme : Attributes) where
     where
       by_member : (b : ℕ) → j < length (members_below n scheme) → slice_get (members_below n scheme) j ≡ Some b
           → get_or (members_below n scheme) j b ≡ b
-          → list_any (λ a. j == count_below scheme a) (members_below n x) ≡ has x (slice_get (members_below n scheme) j)
+          → list_any (λ a. j == count_below scheme a) (members_below n x)
+          ≡ has x (slice_get (members_below n scheme) j)
       by_member b low found here =
           let (is, place) = at_place j b low here in
           elim (cases_Bool (x b)) [
@@ -119,17 +121,20 @@ module _ (n : ℕ) (scheme : Attributes) where
                 (λ a m. false_from_ne_true (j == count_below scheme a) (λ same.
                 let equal : count_below scheme a ≡ j = grind (arith, nat_tests, same) in
                 let at = members_below-at n scheme a b m.low (within a m.inside) in
-                let there : get_or (members_below n scheme) j b ≡ a = subst (λ (i : ℕ). get_or (members_below n scheme) i b ≡ a) equal at in
+                let there : get_or (members_below n scheme) j b ≡ a =
+                subst (λ (i : ℕ). get_or (members_below n scheme) i b ≡ a) equal at in
                 true≢false (sym m.inside ∙ ap x (sym there ∙ here) ∙ outside)))
                 (members_below n x) (members_are n x))
                 ∙ sym (ap (has x) found ∙ outside)
           ]
 
   -- a set by its places
-  pub placed : (x : Attributes) (a : ℕ) → IsMember n scheme a → places_in (members_below n scheme) x (count_below scheme a) ≡ x a
+  pub placed : (x : Attributes) (a : ℕ) → IsMember n scheme a
+      → places_in (members_below n scheme) x (count_below scheme a) ≡ x a
   placed x a is = ap (has x) (place_at a is)
 
-  pub places_within : (x : Attributes) → n ≤ MOST_ATTRIBUTES → IsSubset (places_in (members_below n scheme) x) (below MOST_ATTRIBUTES)
+  pub places_within : (x : Attributes) → n ≤ MOST_ATTRIBUTES
+      → IsSubset (places_in (members_below n scheme) x) (below MOST_ATTRIBUTES)
   places_within x few j member = elim (slice_get_cases (members_below n scheme) j).1 [
     | inl found ↦
         let (is, place) = at_place j found.0 found.1 found.3 in
@@ -140,17 +145,20 @@ module _ (n : ℕ) (scheme : Attributes) where
   ]
 
   -- different sets have different places
-  pub places_apart : (x y : Attributes) → n ≤ MOST_ATTRIBUTES → IsSubset scheme (below n) → IsSubset x scheme → IsSubset y scheme
+  pub places_apart : (x y : Attributes) → n ≤ MOST_ATTRIBUTES → IsSubset scheme (below n) → IsSubset x scheme
+      → IsSubset y scheme
       → (x ≡ y → ⊥) → is_same (places_in (members_below n scheme) x) (places_in (members_below n scheme) y) ≡ false
   places_apart x y few limit in_x in_y differ =
-      false_from_ne_true (is_same (places_in (members_below n scheme) x) (places_in (members_below n scheme) y)) (λ same.
+      false_from_ne_true (is_same (places_in (members_below n scheme) x) (places_in (members_below n scheme) y))
+      (λ same.
       differ (equal (is_same-true (places_in (members_below n scheme) x) (places_in (members_below n scheme) y)
       (places_within x few) (places_within y few) same)))
     where
       one : places_in (members_below n scheme) x ≡ places_in (members_below n scheme) y → (a : ℕ) → x a ≡ y a
       one same a = elim (cases_Bool (scheme a)) [
         | inl inside ↦
-            let is : IsMember n scheme a = record { low = grind (arith, nat_tests, limit a inside); inside = inside } in
+            let is : IsMember n scheme a =
+            record { low = grind (arith, nat_tests, limit a inside); inside = inside } in
             sym (placed x a is) ∙ ap (λ (z : Attributes). z (count_below scheme a)) same ∙ placed y a is
         | inr outside ↦
             let no_x : x a ≡ false = false_from_ne_true (x a) (λ m. true≢false (sym (in_x a m) ∙ outside)) in
@@ -172,7 +180,8 @@ module _ (n : ℕ) (scheme : Attributes) where
 
   -- a set has all columns exactly where its places are all places
   pub all_places : (x : Attributes) → n ≤ MOST_ATTRIBUTES → IsSubset scheme (below n)
-      → is_subset (below (length (members_below n scheme))) (places_in (members_below n scheme) x) ≡ is_subset scheme x
+      → is_subset (below (length (members_below n scheme))) (places_in (members_below n scheme) x)
+      ≡ is_subset scheme x
   all_places x few limit = elim (cases_Bool (is_subset scheme x)) [
     | inl all ↦
         let whole = is_subset-true scheme x (λ k m. narrow k (limit k m)) all in
@@ -183,8 +192,10 @@ module _ (n : ℕ) (scheme : Attributes) where
           | inr past ↦ let far = past.0 in absurd (grind (arith, nat_tests, low, far))
         ]) ∙ sym all
     | inr some ↦
-        false_from_ne_true (is_subset (below (length (members_below n scheme))) (places_in (members_below n scheme) x)) (λ every.
-        let whole = is_subset-true (below (length (members_below n scheme))) (places_in (members_below n scheme) x) wide every in
+        false_from_ne_true (is_subset (below (length (members_below n scheme)))
+        (places_in (members_below n scheme) x)) (λ every.
+        let whole = is_subset-true (below (length (members_below n scheme)))
+        (places_in (members_below n scheme) x) wide every in
         true≢false (sym (is_subset-from scheme x (λ a inside.
         let is : IsMember n scheme a = record { low = grind (arith, nat_tests, limit a inside); inside = inside } in
         let low = place_low a is in
@@ -201,11 +212,13 @@ module _ (n : ℕ) (scheme : Attributes) where
 
 -- ---- the column of a name
 pub column_found : (d : Dialect) (s : Schema) (scheme : Attributes) (a : ℕ) → IsMember (width_of s) scheme a
-    → position (λ (c : StatedColumn). same_name c.name (slice_index_or (names_of s) a [])) (map (read_column d s) (members_below (width_of s) scheme))
+    → position (λ (c : StatedColumn). same_name c.name (slice_index_or (names_of s) a []))
+    (map (read_column d s) (members_below (width_of s) scheme))
     ≡ Some (count_below scheme a)
 column_found d s scheme a is =
     let yes : nat_lt place (length columns) ≡ true = grind (arith, nat_tests, low) in
-    ap (λ (i : ℕ). cond (nat_lt i (length columns)) (Some i) None) first ∙ ap (λ (b : Bool). cond b (Some place) None) yes
+    ap (λ (i : ℕ). cond (nat_lt i (length columns)) (Some i) None) first
+    ∙ ap (λ (b : Bool). cond b (Some place) None) yes
   where
     members : List ℕ
     members = members_below (width_of s) scheme
@@ -228,7 +241,9 @@ column_found d s scheme a is =
     at : get_or members place a ≡ a
     at = members_below-at (width_of s) scheme a a is.low is.inside
 
-    got : (k : ℕ) → k < length members → test (get_or columns k (read_column d s a)) ≡ same_name (slice_index_or (names_of s) (get_or members k a) []) (slice_index_or (names_of s) a [])
+    got : (k : ℕ) → k < length members
+        → test (get_or columns k (read_column d s a))
+        ≡ same_name (slice_index_or (names_of s) (get_or members k a) []) (slice_index_or (names_of s) a [])
     got k less = ap test (get_or-map (read_column d s) members k a (read_column d s a) less)
 
     first : position_or_len test columns ≡ place
@@ -236,7 +251,8 @@ column_found d s scheme a is =
         position_or_len_is test columns place (read_column d s a) (omega (arith, low))
         (λ k before. got k (omega (arith, before, bound))
         ∙ s.valid.names_differ (get_or members k a) a [] (earlier k before) is.low)
-        (λ within. got place bound ∙ ap (λ (b : ℕ). same_name (slice_index_or (names_of s) b []) (slice_index_or (names_of s) a [])) at
+        (λ within. got place bound ∙ ap
+        (λ (b : ℕ). same_name (slice_index_or (names_of s) b []) (slice_index_or (names_of s) a [])) at
         ∙ same_itself (slice_index_or (names_of s) a []))
       where
         earlier : (k : ℕ) → k < place → get_or members k a < a

@@ -51,7 +51,8 @@ front_read d wanted end place name [] f =
     ap (λ (b : Bool). cond b (create_table d end (named_front ((((place + 6) + 1) + 5) + 1) name []) f) (Ok f))
     (both_true _ ∙ ap (λ (t : List ℕ). same_name t wanted) (unquoted_quoted name))
 front_read d wanted end place name (l ∷ rest) f =
-    ap (λ (b : Bool). cond b (create_table d end (named_front ((((place + 6) + 1) + 5) + 1) name (l ∷ rest)) f) (Ok f))
+    ap (λ (b : Bool). cond b (create_table d end (named_front ((((place + 6) + 1) + 5) + 1) name (l ∷ rest)) f)
+    (Ok f))
     (both_true _ ∙ ap (λ (t : List ℕ). same_name t wanted) (unquoted_quoted name))
 
 opened : (d : Dialect) (end place : ℕ) (name : List ℕ) (rest : List Lexed)
@@ -73,7 +74,8 @@ lines_read : (d : Dialect) (place end : ℕ) (after : Known) (es : List (List Te
     → Reads (elements d end 0 (lexemes_from place 1 (lines_pieces es ++ closing)) (as_found no_facts)) after
 unfolding lexemes_from
 lines_read d place end after [] leads some =
-    let none : 0 ≡ length after.columns = ap (λ (k : Known). length k.columns) leads in absurd (omega (arith, none, some))
+    let none : 0 ≡ length after.columns =
+    ap (λ (k : Known). length k.columns) leads in absurd (omega (arith, none, some))
 lines_read d place end after (e ∷ es) leads some =
     let (f, read, states) = elements_read d (place + 2) end nothing after e es leads some (as_found no_facts)
     (record { found = refl; columns = refl; keys = refl; binds = refl }) in (
@@ -86,7 +88,8 @@ lines_read d place end after (e ∷ es) leads some =
 pub same_itself : (name : List ℕ) → same_name name name ≡ true
 same_itself name = (bytes_eq-Decides (str_to_ascii_lowercase name) (str_to_ascii_lowercase name)).1 refl
 
-pub wanted_read : (d : Dialect) (place end : ℕ) (name : List ℕ) (after : Known) (es : List (List TextPiece)) → Leads d nothing after es
+pub wanted_read : (d : Dialect) (place end : ℕ) (name : List ℕ) (after : Known) (es : List (List TextPiece))
+    → Leads d nothing after es
     → 0 < length after.columns
     → Reads (read_lexemes d (named name) end (lexemes_from place 0 (table_pieces name es)) no_facts) after
 unfolding lexemes_from
@@ -97,12 +100,14 @@ wanted_read d place end name after es leads some =
     let (f, read, states) = lines_read d start end after es leads some in (
       f,
       front_read d name end place name rest no_facts
-          ∙ ap (λ (b : Bool). cond b (create_table d end (named_front at name rest) no_facts) (Ok no_facts)) (same_itself name)
+          ∙ ap (λ (b : Bool). cond b (create_table d end (named_front at name rest) no_facts) (Ok no_facts))
+          (same_itself name)
           ∙ opened d end at name rest ∙ read,
       states,
     )
 
-pub other_passed : (d : Dialect) (wanted : List ℕ) (place end : ℕ) (name : List ℕ) (es : List (List TextPiece)) (f : Facts)
+pub other_passed : (d : Dialect) (wanted : List ℕ) (place end : ℕ) (name : List ℕ) (es : List (List TextPiece))
+    (f : Facts)
     → same_name name wanted ≡ false
     → read_lexemes d (named wanted) end (lexemes_from place 0 (table_pieces name es)) f ≡ Ok f
 unfolding lexemes_from
@@ -113,23 +118,27 @@ other_passed d wanted place end name es f apart =
     ∙ ap (λ (b : Bool). cond b (create_table d end (named_front at name rest) f) (Ok f)) apart
 
 -- ---- the statements
-statement_is : (d : Dialect) (wanted : List ℕ) (s : Schema) (all : List TableDesign) (table : TableDesign) (statement : Stated) (f : Facts)
+statement_is : (d : Dialect) (wanted : List ℕ) (s : Schema) (all : List TableDesign) (table : TableDesign)
+    (statement : Stated) (f : Facts)
     → (is : IsCreated s all table statement)
     → read_statement d (named wanted) statement f
     ≡ read_lexemes d (named wanted) statement.end (create_lexemes is.place s all table) f
 statement_is d wanted s all table statement f is =
-    ap (λ (flaw : Option Flaw). ended flaw statement.end (read_lexemes d (named wanted) statement.end statement.lexemes f)) is.whole
+    ap (λ (flaw : Option Flaw). ended flaw statement.end
+    (read_lexemes d (named wanted) statement.end statement.lexemes f)) is.whole
     ∙ ap (λ (ls : List Lexed). read_lexemes d (named wanted) statement.end ls f) is.lexemes
 
 -- statements that create other tables are passed over
-others_passed : (d : Dialect) (wanted : List ℕ) (s : Schema) (all tables : List TableDesign) (statements : List Stated) (f : Facts)
+others_passed : (d : Dialect) (wanted : List ℕ) (s : Schema) (all tables : List TableDesign)
+    (statements : List Stated) (f : Facts)
     → AreCreated s all tables statements → All (λ (table : TableDesign). same_name table.name wanted ≡ false) tables
     → read_statements d (named wanted) statements f ≡ Ok f
 unfolding read_statements read_lexemes
 others_passed d wanted s all [] [] f created apart = absurd created
 others_passed d wanted s all [] (last ∷ []) f created apart =
     ap (λ (o : Outcome). then_read o (λ g. Ok g))
-    (ap (λ (flaw : Option Flaw). ended flaw last.end (read_lexemes d (named wanted) last.end last.lexemes f)) created.whole
+    (ap (λ (flaw : Option Flaw). ended flaw last.end
+    (read_lexemes d (named wanted) last.end last.lexemes f)) created.whole
     ∙ ap (λ (ls : List Lexed). read_lexemes d (named wanted) last.end ls f) created.lexemes)
 others_passed d wanted s all [] (last ∷ other ∷ others) f created apart = absurd created
 others_passed d wanted s all (table ∷ tables) [] f created apart = absurd created
@@ -149,7 +158,8 @@ later_apart : (table : TableDesign) (tables : List TableDesign) → NamesApart (
 later_apart table tables apart i j d less low = apart (suc i) (suc j) d (omega (arith, less)) (omega (arith, low))
 
 -- that of a table is read, where the names of tables differ
-pub statements_read : (d : Dialect) (s : Schema) (all tables : List TableDesign) (statements : List Stated) (k : ℕ) (table : TableDesign)
+pub statements_read : (d : Dialect) (s : Schema) (all tables : List TableDesign) (statements : List Stated)
+    (k : ℕ) (table : TableDesign)
     (after : Known) → AreCreated s all tables statements → NamesApart tables → slice_get tables k ≡ Some table
     → Leads d nothing after (elements_pieces s all table) → 0 < length after.columns
     → Reads (read_statements d (named table.name) statements no_facts) after
@@ -158,22 +168,29 @@ statements_read d s all [] statements k table after created apart here leads som
 statements_read d s all (first ∷ tables) [] k table after created apart here leads some = absurd created
 statements_read d s all (first ∷ tables) (statement ∷ statements) zero table after (own, rest) apart here leads some =
     let same : first ≡ table = cc in
-    let (f, read, states) = wanted_read d own.place statement.end table.name after (elements_pieces s all table) leads some in
-    let whole = ap (λ (t : TableDesign). read_lexemes d (named table.name) statement.end (create_lexemes own.place s all t) no_facts) same in
-    let others : All (λ (t : TableDesign). same_name t.name table.name ≡ false) tables = λ i e low. apart_turned table.name (get_or tables i e).name
-    (subst (λ (t : TableDesign). same_name t.name (get_or tables i e).name ≡ false) same (apart 0 (suc i) e (omega arith) (omega (arith, low)))) in (
+    let (f, read, states) = wanted_read d own.place statement.end table.name after
+    (elements_pieces s all table) leads some in
+    let whole = ap (λ (t : TableDesign). read_lexemes d (named table.name) statement.end
+    (create_lexemes own.place s all t) no_facts) same in
+    let others : All (λ (t : TableDesign). same_name t.name table.name ≡ false) tables =
+    λ i e low. apart_turned table.name (get_or tables i e).name
+    (subst (λ (t : TableDesign). same_name t.name (get_or tables i e).name ≡ false) same
+    (apart 0 (suc i) e (omega arith) (omega (arith, low)))) in (
       f,
       ap (λ (o : Outcome). then_read o (read_statements d (named table.name) statements))
           (statement_is d table.name s all first statement no_facts own ∙ whole ∙ read)
           ∙ others_passed d table.name s all tables statements f rest others,
       states,
     )
-statements_read d s all (first ∷ tables) (statement ∷ statements) (suc k) table after (own, rest) apart here leads some =
-    let (f, read, states) = statements_read d s all tables statements k table after rest (later_apart first tables apart) here leads some in
+statements_read d s all (first ∷ tables) (statement ∷ statements) (suc k) table after
+    (own, rest) apart here leads some =
+    let (f, read, states) = statements_read d s all tables statements k table after rest
+    (later_apart first tables apart) here leads some in
     let low = slice_get_within tables k table here in
     let is : get_or tables k table ≡ table = got tables k table here in
     let far : same_name first.name table.name ≡ false =
-    subst (λ (t : TableDesign). same_name first.name t.name ≡ false) is (apart 0 (suc k) table (omega arith) (omega (arith, low))) in (
+    subst (λ (t : TableDesign). same_name first.name t.name ≡ false) is
+    (apart 0 (suc k) table (omega arith) (omega (arith, low))) in (
       f,
       ap (λ (o : Outcome). then_read o (read_statements d (named table.name) statements))
           (statement_is d table.name s all first statement no_facts own

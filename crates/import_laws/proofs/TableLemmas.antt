@@ -53,35 +53,43 @@ known_by columns keys = record { columns = columns; keys = keys }
 -- ---- columns
 members_low : (n : ℕ) (x : Attributes) → All (λ k. k < n) (members_below n x) × (length (members_below n x) ≤ n)
 members_low zero x =
-    subst (λ (ms : List ℕ). All (λ k. k < 0) ms × (length ms ≤ 0)) (sym (members_below-none x)) (All-nil (λ k. k < 0), omega arith)
+    subst (λ (ms : List ℕ). All (λ k. k < 0) ms × (length ms ≤ 0)) (sym (members_below-none x))
+    (All-nil (λ k. k < 0), omega arith)
 members_low (suc n) x =
     let (low, few) = members_low n x in
     let wider = All-weaker (λ k. k < n) (λ k. k < suc n) (λ k small. omega (arith, small)) (members_below n x) low in
     elim (cases_Bool (x n)) [
-      | inl inside ↦ subst (λ (ms : List ℕ). All (λ k. k < suc n) ms × (length ms ≤ suc n)) (sym (members_below-member n x inside)) (
-        All-push (λ k. k < suc n) (members_below n x) n wider (omega arith),
-        let size : length (members_below n x ++ n ∷ []) ≡ length (members_below n x) + 1 = length-append (members_below n x) (n ∷ []) in
-            omega (arith, few, size),
-      )
-      | inr outside ↦ subst (λ (ms : List ℕ). All (λ k. k < suc n) ms × (length ms ≤ suc n)) (sym (members_below-outside n x outside)) (
-        wider,
-        omega (arith, few),
-      )
+      | inl inside ↦ subst (λ (ms : List ℕ). All (λ k. k < suc n) ms × (length ms ≤ suc n))
+          (sym (members_below-member n x inside)) (
+            All-push (λ k. k < suc n) (members_below n x) n wider (omega arith),
+            let size : length (members_below n x ++ n ∷ []) ≡ length (members_below n x) + 1 =
+                length-append (members_below n x) (n ∷ []) in
+                omega (arith, few, size),
+          )
+      | inr outside ↦ subst (λ (ms : List ℕ). All (λ k. k < suc n) ms × (length ms ≤ suc n))
+          (sym (members_below-outside n x outside)) (
+            wider,
+            omega (arith, few),
+          )
     ]
 
 -- the name of an attribute is none of those before it
 name_free : (d : Dialect) (s : Schema) (x : Attributes) (n : ℕ) → n < width_of s
     → is_taken (map (read_column d s) (members_below n x)) (slice_index_or (names_of s) n []) ≡ false
 name_free d s x n low =
-    list_any_none (λ (c : StatedColumn). same_name c.name (slice_index_or (names_of s) n [])) (map (read_column d s) (members_below n x))
-    (All-map (λ (c : StatedColumn). same_name c.name (slice_index_or (names_of s) n []) ≡ false) (read_column d s) (members_below n x)
-    (All-weaker (λ k. k < n) (λ k. same_name (slice_index_or (names_of s) k []) (slice_index_or (names_of s) n []) ≡ false)
+    list_any_none (λ (c : StatedColumn). same_name c.name (slice_index_or (names_of s) n []))
+    (map (read_column d s) (members_below n x))
+    (All-map (λ (c : StatedColumn). same_name c.name (slice_index_or (names_of s) n []) ≡ false)
+    (read_column d s) (members_below n x)
+    (All-weaker (λ k. k < n) (λ k. same_name (slice_index_or (names_of s) k [])
+    (slice_index_or (names_of s) n []) ≡ false)
     (λ k less. s.valid.names_differ k n [] less low) (members_below n x) (members_low n x).0))
 
 abbrev LeadsColumns : Dialect → Schema → List ℕ → Type 0
 LeadsColumns d s ms = Leads d (known_by [] []) (known_by (map (read_column d s) ms) []) (map (column_pieces s) ms)
 
-columns_lead : (d : Dialect) (s : Schema) → IsPrinted s → (x : Attributes) (n : ℕ) → n ≤ width_of s → LeadsColumns d s (members_below n x)
+columns_lead : (d : Dialect) (s : Schema) → IsPrinted s → (x : Attributes) (n : ℕ) → n ≤ width_of s
+    → LeadsColumns d s (members_below n x)
 columns_lead d s is x zero low = subst (LeadsColumns d s) (sym (members_below-none x)) refl
 columns_lead d s is x (suc n) low =
     let before = columns_lead d s is x n (omega (arith, low)) in
@@ -111,17 +119,23 @@ columns_lead d s is x (suc n) low =
 
     with_last : LeadsColumns d s ms → LeadsColumns d s (ms ++ n ∷ [])
     with_last before =
-        let last = column_element d known (slice_index_or (names_of s) n []) (nullable_of s n) (slice_index_or (types_of s) n type.Text)
-        (is.names n [] within) (is.types n type.Text typed) (s.typed.each n type.Text typed) (name_free d s x n within) room in
+        let last = column_element d known (slice_index_or (names_of s) n []) (nullable_of s n)
+        (slice_index_or (types_of s) n type.Text)
+        (is.names n [] within) (is.types n type.Text typed) (s.typed.each n type.Text typed)
+        (name_free d s x n within) room in
         let after = one_column known (read_column d s n) in
-        let whole = leads_append d (known_by [] []) known after (map (column_pieces s) ms) (column_pieces s n ∷ []) before (after, last, refl) in
-        subst (λ (es : List (List TextPiece)). Leads d (known_by [] []) (known_by (map (read_column d s) (ms ++ n ∷ [])) []) es)
+        let whole = leads_append d (known_by [] []) known after (map (column_pieces s) ms)
+        (column_pieces s n ∷ []) before (after, last, refl) in
+        subst (λ (es : List (List TextPiece)). Leads d (known_by [] [])
+        (known_by (map (read_column d s) (ms ++ n ∷ [])) []) es)
         (sym (map-append (column_pieces s) ms (n ∷ [])))
-        (subst (λ (cs : List StatedColumn). Leads d (known_by [] []) (known_by cs []) (map (column_pieces s) ms ++ column_pieces s n ∷ []))
+        (subst (λ (cs : List StatedColumn). Leads d (known_by [] []) (known_by cs [])
+        (map (column_pieces s) ms ++ column_pieces s n ∷ []))
         (sym (map-append (read_column d s) ms (n ∷ []))) whole)
 
 -- ---- keys
-key_names : (s : Schema) → All IsName (names_of s) → (x : Attributes) (k : ℕ) → All IsName (members_from x k (names_of s))
+key_names : (s : Schema) → All IsName (names_of s) → (x : Attributes) (k : ℕ)
+    → All IsName (members_from x k (names_of s))
 key_names s all x k = chosen (names_of s) k all
   where
     chosen : (names : List (List ℕ)) (k : ℕ) → All IsName names → All IsName (members_from x k names)
@@ -130,26 +144,34 @@ key_names s all x k = chosen (names_of s) k all
       where
         by_member : (b : Bool) → All IsName (members_from x (k + 1) names)
             → All IsName (cond b (name ∷ members_from x (k + 1) names) (members_from x (k + 1) names))
-        by_member true rest = All-cons IsName name (members_from x (k + 1) names) (All-head IsName name names all) rest
+        by_member true rest = All-cons IsName name (members_from x (k + 1) names)
+            (All-head IsName name names all) rest
         by_member false rest = rest
 
-others_lead : (d : Dialect) (s : Schema) → IsPrinted s → (columns : List StatedColumn) (before : List NamedKey) (keys : List Attributes)
+others_lead : (d : Dialect) (s : Schema) → IsPrinted s
+    → (columns : List StatedColumn) (before : List NamedKey) (keys : List Attributes)
     → All (HasColumn s) keys → length before + length keys ≤ MOST_DEPENDENCIES
-    → Leads d (known_by columns before) (known_by columns (before ++ map (key_named s false) keys)) (map (unique_pieces s) keys)
+    → Leads d (known_by columns before) (known_by columns (before ++ map (key_named s false) keys))
+    (map (unique_pieces s) keys)
 others_lead d s is columns before [] have limit = ap (known_by columns) (sym (append-nil before))
 others_lead d s is columns before (key ∷ keys) have limit =
     let more = key_named s false key in
     let size : length (before ++ more ∷ []) ≡ length before + 1 = length-append before (more ∷ []) in
-    let rest = others_lead d s is columns (before ++ more ∷ []) keys (All-tail (HasColumn s) key keys have) (omega (arith, size, limit)) in (
+    let rest = others_lead d s is columns (before ++ more ∷ []) keys (All-tail (HasColumn s) key keys have)
+    (omega (arith, size, limit)) in (
       known_by columns (before ++ more ∷ []),
-      unique_element d (known_by columns before) (members_from key 0 (names_of s)) (All-head (HasColumn s) key keys have)
+      unique_element d (known_by columns before) (members_from key 0 (names_of s))
+          (All-head (HasColumn s) key keys have)
           (key_names s is.names key 0) (omega (arith, limit)),
-      subst (λ (ks : List NamedKey). Leads d (known_by columns (before ++ more ∷ [])) (known_by columns ks) (map (unique_pieces s) keys))
+      subst (λ (ks : List NamedKey). Leads d (known_by columns (before ++ more ∷ [])) (known_by columns ks)
+          (map (unique_pieces s) keys))
           (append_assoc before (more ∷ []) (map (key_named s false) keys)) rest,
     )
 
-keys_lead : (d : Dialect) (s : Schema) (tables : List TableDesign) (table : TableDesign) → IsPrinted s → IsReadable s tables table
-    → (columns : List StatedColumn) → Leads d (known_by columns []) (known_by columns (read_keys s table)) (keys_pieces s table)
+keys_lead : (d : Dialect) (s : Schema) (tables : List TableDesign) (table : TableDesign) → IsPrinted s
+    → IsReadable s tables table
+    → (columns : List StatedColumn)
+    → Leads d (known_by columns []) (known_by columns (read_keys s table)) (keys_pieces s table)
 keys_lead d s tables table is readable columns = by_key (is_empty (attributes table.key)) refl
   where
     others : List Attributes
@@ -160,7 +182,8 @@ keys_lead d s tables table is readable columns = by_key (is_empty (attributes ta
 
     by_key : (b : Bool) → is_empty (attributes table.key) ≡ b
         → Leads d (known_by columns [])
-        (known_by columns (cond b [] (key_named s true (attributes table.key) ∷ []) ++ map (key_named s false) others))
+        (known_by columns (cond b [] (key_named s true (attributes table.key) ∷ []) ++ map
+        (key_named s false) others))
         (cond b [] (key_pieces s (attributes table.key) ∷ []) ++ map (unique_pieces s) others)
     by_key true empty = others_lead d s is columns [] others readable.others (omega (arith, limit))
     by_key false some = (
@@ -171,7 +194,8 @@ keys_lead d s tables table is readable columns = by_key (is_empty (attributes ta
     )
 
 -- ---- references
-refs_lead : (d : Dialect) (s : Schema) (known : Known) (tables : List TableDesign) (default : TableDesign) (refs : List ℕ)
+refs_lead : (d : Dialect) (s : Schema) (known : Known) (tables : List TableDesign) (default : TableDesign)
+    (refs : List ℕ)
     → All (λ j. j < length tables) refs → Leads d known known (map (λ j. referred s (slice_get tables j)) refs)
 refs_lead d s known tables default [] within = refl
 refs_lead d s known tables default (j ∷ refs) within =
@@ -179,13 +203,16 @@ refs_lead d s known tables default (j ∷ refs) within =
     let other = get_or tables j default in
     let is = reference_element d known other.name (members_from (attributes other.key) 0 (names_of s)) in (
       known,
-      subst (λ (o : Option TableDesign). IsElement d known known (referred s o)) (sym (slice_get-get_or tables j default low)) is,
+      subst (λ (o : Option TableDesign). IsElement d known known (referred s o))
+          (sym (slice_get-get_or tables j default low)) is,
       refs_lead d s known tables default refs (All-tail (λ j. j < length tables) j refs within),
     )
 
 -- ---- all elements
-pub table_leads : (d : Dialect) (s : Schema) (tables : List TableDesign) (table : TableDesign) → IsPrinted s → IsReadable s tables table
-    → Leads d (known_by [] []) (known_by (read_columns d s (attributes table.scheme)) (read_keys s table)) (elements_pieces s tables table)
+pub table_leads : (d : Dialect) (s : Schema) (tables : List TableDesign) (table : TableDesign) → IsPrinted s
+    → IsReadable s tables table
+    → Leads d (known_by [] []) (known_by (read_columns d s (attributes table.scheme)) (read_keys s table))
+    (elements_pieces s tables table)
 table_leads d s tables table is readable =
     let columns = read_columns d s (attributes table.scheme) in
     let known = known_by columns (read_keys s table) in
@@ -193,5 +220,6 @@ table_leads d s tables table is readable =
     let referring = map (λ j. referred s (slice_get tables j)) table.refs.items in
     leads_append d (known_by [] []) known known (named ++ keys_pieces s table) referring
     (leads_append d (known_by [] []) (known_by columns []) known named (keys_pieces s table)
-    (columns_lead d s is (attributes table.scheme) (width_of s) (omega arith)) (keys_lead d s tables table is readable columns))
+    (columns_lead d s is (attributes table.scheme) (width_of s) (omega arith))
+    (keys_lead d s tables table is readable columns))
     (refs_lead d s known tables table table.refs.items readable.refs)

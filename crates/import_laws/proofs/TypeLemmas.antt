@@ -70,9 +70,11 @@ by_digit P p0 p1 p2 p3 p4 p5 p6 p7 p8 p9 (suc (suc (suc (suc (suc (suc zero)))))
 by_digit P p0 p1 p2 p3 p4 p5 p6 p7 p8 p9 (suc (suc (suc (suc (suc (suc (suc zero))))))) low = p7
 by_digit P p0 p1 p2 p3 p4 p5 p6 p7 p8 p9 (suc (suc (suc (suc (suc (suc (suc (suc zero)))))))) low = p8
 by_digit P p0 p1 p2 p3 p4 p5 p6 p7 p8 p9 (suc (suc (suc (suc (suc (suc (suc (suc (suc zero))))))))) low = p9
-by_digit P p0 p1 p2 p3 p4 p5 p6 p7 p8 p9 (suc (suc (suc (suc (suc (suc (suc (suc (suc (suc n)))))))))) low = absurd (omega (arith, low))
+by_digit P p0 p1 p2 p3 p4 p5 p6 p7 p8 p9
+    (suc (suc (suc (suc (suc (suc (suc (suc (suc (suc n)))))))))) low = absurd (omega (arith, low))
 
-digit_reads : (d : Dialect) (nullable : Bool) (place scale : ℕ) → scale ≤ 9 → ReadsDecimal d nullable place scale ((48 + scale) ∷ [])
+digit_reads : (d : Dialect) (nullable : Bool) (place scale : ℕ) → scale ≤ 9
+    → ReadsDecimal d nullable place scale ((48 + scale) ∷ [])
 unfolding column_keys lexemes_from says_not_null type_text written
 digit_reads dialect.Postgres true place scale low =
     by_digit (λ (n : ℕ). ReadsDecimal dialect.Postgres true place n ((48 + n) ∷ []))
@@ -103,7 +105,8 @@ digit_reads dialect.Sqlite false place scale low =
     (λ part f. refl, λ name. refl, refl) (λ part f. refl, λ name. refl, refl)
     (λ part f. refl, λ name. refl, refl) (λ part f. refl, λ name. refl, refl) scale low
 
-decimal_reads : (d : Dialect) (nullable : Bool) (place scale : ℕ) → scale ≤ 9 → ReadsType d nullable place (type.Decimal scale)
+decimal_reads : (d : Dialect) (nullable : Bool) (place scale : ℕ) → scale ≤ 9
+    → ReadsType d nullable place (type.Decimal scale)
 decimal_reads dialect.Postgres nullable place scale low =
     subst (ReadsDecimal dialect.Postgres nullable place scale) (sym (decimal_digit scale (omega (arith, low))))
     (digit_reads dialect.Postgres nullable place scale low)
@@ -134,13 +137,15 @@ type_reads dialect.Postgres true place type.Uuid own is = (λ part f. refl, λ n
 type_reads dialect.Postgres false place type.Uuid own is = (λ part f. refl, λ name. refl, refl)
 type_reads dialect.Sqlite true place type.Uuid own is = (λ part f. refl, λ name. refl, refl)
 type_reads dialect.Sqlite false place type.Uuid own is = (λ part f. refl, λ name. refl, refl)
-type_reads d nullable place (type.Decimal scale) own is = decimal_reads d nullable place scale (grind (arith, nat_tests, is))
+type_reads d nullable place (type.Decimal scale) own is = decimal_reads d nullable place scale
+    (grind (arith, nat_tests, is))
 type_reads d nullable place (type.Other text) own is = absurd (never own)
   where
     never : false ≡ true → ⊥
     never wrong = cc
 
-pub type_end : (nullable : Bool) (column : ColumnType) → IsTrue (is_own_type column) → depth_end 1 (after_name nullable (type_pieces column)) ≡ 1
+pub type_end : (nullable : Bool) (column : ColumnType) → IsTrue (is_own_type column)
+    → depth_end 1 (after_name nullable (type_pieces column)) ≡ 1
 type_end true type.Text own = refl
 type_end false type.Text own = refl
 type_end true type.Integer own = refl

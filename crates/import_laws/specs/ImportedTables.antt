@@ -48,7 +48,8 @@ abbrev pub imported_table : Dialect → Schema → TableDesign → List ℕ → 
 imported_table d s table lines = record {
   names = map (λ a. slice_index_or (names_of s) a []) (columns_of s table);
   columns = map (λ a. read_type d (slice_index_or (types_of s) a type.Text)) (columns_of s table);
-  deps = map (λ key. determines_others (length (columns_of s table)) (places_in (columns_of s table) key)) (imported_keys s table);
+  deps = map (λ key. determines_others (length (columns_of s table)) (places_in (columns_of s table) key))
+      (imported_keys s table);
   lines = lines;
   naming = Any;
   nullable = places_in (columns_of s table) (nullable_of s);

@@ -28,8 +28,9 @@ pub fn designs_define_their_tables()
         → (f : Facts) × (definition_of d (named table.name) (ddl_text s tables) ≡ Ok f) × StatesTable d s table f }
 {}
 
-/// The schema that is imported of a table of a design, where no value of a key may be missing, as `ddl` asks: its
-/// columns, those of which a value may be missing, and its keys, but for the empty one and one of all columns.
+/// The schema that is imported of a table of a design, where no value of a key or of an attribute of two tables may
+/// be missing, as `ddl` asks: its columns, those of which a value may be missing, and the keys that are stated, but for
+/// one of all columns.
 pub fn designs_are_read_back()
     ensures law { (d : Dialect) (s : Schema) (given : GivenNames) (schemes : List AttrSet) (tables : List TableDesign)
         (k : ℕ) (table : TableDesign) → IsPrintedDesign s given schemes tables → NeverMissing (nullable_of s) tables
