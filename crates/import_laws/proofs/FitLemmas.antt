@@ -164,7 +164,8 @@ module _ (s : Schema) (table : TableDesign) (within : IsSubset (attributes table
           apart = turned (is_same (attributes (get_or keys i d)) (attributes table.key)) (pass i d low);
         });
         differ = pairs_map attributes (λ x y. x ≡ y → ⊥) keys
-            (λ i j d less low. before_differ (attributes (get_or keys i d)) (attributes (get_or keys j d)) (pairs i j d less low));
+            (λ i j d less low. before_differ (attributes (get_or keys i d))
+            (attributes (get_or keys j d)) (pairs i j d less low));
         few = omega (arith, same, less, limit);
       }
     where
