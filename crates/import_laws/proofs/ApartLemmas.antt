@@ -1,5 +1,5 @@
 -- The names of the tables of a design differ, ASCII case aside, where those that are given are apart.
-use Rattle.std.proofs.Common.{◌≡◌, ◌+◌, ◌<◌, ◌≤◌, ◌∙◌, ℕ, false, List, length, get_or, take, ap, subst, sym, arith, length-take-le}
+use Rattle.std.proofs.Common.{◌≡◌, ◌<◌, ◌≤◌, ◌∙◌, ℕ, false, List, length, get_or, take, ap, subst, sym, arith, length-take-le}
 use Rattle.attr_sets.specs.declared.set.AttrSet.{AttrSet}
 use Rattle.dep_model.specs.Names.{same_name}
 use Rattle.dep_model.specs.declared.schema.Schema.{Schema}
