@@ -53,8 +53,8 @@ known_keys None = []
 known_keys (Some keys) = schemes_of keys.items
 
 -- the table of a scheme, after the earlier ones, with the name that is given to it, or else that of its number
-pub record IsTableOf (s : Schema) (names : GivenNames) (earlier : List TableDesign) (scheme : AttrSet) (table : TableDesign)
-    : Type 0 where
+pub record IsTableOf (s : Schema) (names : GivenNames) (earlier : List TableDesign) (scheme : AttrSet)
+    (table : TableDesign) : Type 0 where
   pub number : table.number ≡ length earlier + 1
   pub name : table.name ≡ name_of_table names (length earlier)
   pub columns : table.scheme ≡ scheme
@@ -63,7 +63,8 @@ pub record IsTableOf (s : Schema) (names : GivenNames) (earlier : List TableDesi
   pub refs : AreReferences earlier (attributes scheme) table.refs.items
 
 -- the design of a plan: a table for each scheme, in order
-pub record IsDesign (s : Schema) (names : GivenNames) (schemes : List AttrSet) (tables : List TableDesign) : Type 0 where
+pub record IsDesign (s : Schema) (names : GivenNames) (schemes : List AttrSet) (tables : List TableDesign)
+    : Type 0 where
   pub one_each : length tables ≡ length schemes
   pub each : (k : ℕ) → k < length schemes → (scheme : AttrSet) (table : TableDesign)
       → IsTableOf s names (take k tables) (slice_index_or schemes k scheme) (slice_index_or tables k table)

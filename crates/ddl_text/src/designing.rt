@@ -46,10 +46,10 @@ impl DesignList {
 }
 
 /// The tables of a plan, one for each scheme, in order. They have the names that are given to them in order, and
-/// `t1`, `t2` and so on where none is. The key of a table is the primary key of its scheme, of which no value may be missing where some key of the scheme is
-/// so. Its other keys are those that `key_listing::keys_of_scheme` lists beside
-/// this one; they are not looked for where that is refused and the key is not empty. It refers to each earlier
-/// table whose key lies within its scheme and is not empty.
+/// `t1`, `t2` and so on where none is. The key of a table is the primary key of its scheme, of which no value may
+/// be missing where some key of the scheme is so. Its other keys are those that `key_listing::keys_of_scheme`
+/// lists beside this one; they are not looked for where that is refused and the key is not empty. It refers to
+/// each earlier table whose key lies within its scheme and is not empty.
 pub fn design(
     alloc: Global,
     schema: &Schema,

@@ -20,8 +20,10 @@ use Rattle.desk_responses.specs.ResponseValues.{Allowed, Says, Unless}
 use Rattle.desk_designs.specs.Decompositions.{WithPlanInForm}
 use Rattle.desk_designs.specs.Joins.{WithoutLoss}
 
--- the design of a plan in its order, with the names that are given in this order; in the tables of every legal relation its keys and references hold
-pub record IsSoundDesign (schema : Schema) (names : GivenNames) (plan : List AttrSet) (tables : List TableDesign) : Type 0 where
+-- the design of a plan in its order, with the names that are given in this order; in the tables of every legal
+-- relation its keys and references hold
+pub record IsSoundDesign (schema : Schema) (names : GivenNames) (plan : List AttrSet) (tables : List TableDesign)
+    : Type 0 where
   pub ordered : List AttrSet
   pub order : IsInDesignOrder (width_of schema) (theory_of schema) (schemes_of plan) (schemes_of ordered)
   pub design : IsDesign schema names ordered tables
@@ -30,7 +32,8 @@ pub record IsSoundDesign (schema : Schema) (names : GivenNames) (plan : List Att
   pub references_hold : ReferencesHold schema tables
 
 -- a sound design of a plan of these schemes, as sets of attributes
-pub record IsDesignOf (schema : Schema) (names : GivenNames) (schemes : List Attributes) (tables : List TableDesign) : Type 0 where
+pub record IsDesignOf (schema : Schema) (names : GivenNames) (schemes : List Attributes) (tables : List TableDesign)
+    : Type 0 where
   pub plan : List AttrSet
   pub same : schemes_of plan ≡ schemes
   pub sound : IsSoundDesign schema names plan tables

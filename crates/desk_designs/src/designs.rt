@@ -72,7 +72,8 @@ fn tables_response(
     Ok(Response::with_text(Status::Yes, print_ddl(alloc, schema, tables)?))
 }
 
-/// The design of a plan in its order, with the names that are given in this order. No memory holds a plan of more tables than have a name.
+/// The design of a plan in its order, with the names that are given in this order. No memory holds a plan of more
+/// tables than have a name.
 pub fn design_of_plan(
     alloc: Global,
     schema: &Schema,

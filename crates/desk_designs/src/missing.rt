@@ -35,8 +35,8 @@ pub fn test_missing(
     }
 }
 
-/// The design of a plan in its order, with the names that are given in this order, where no value of a key may be missing and none of an attribute of two
-/// tables.
+/// The design of a plan in its order, with the names that are given in this order, where no value of a key may be
+/// missing and none of an attribute of two tables.
 pub fn required_design(
     alloc: Global,
     schema: &Schema,

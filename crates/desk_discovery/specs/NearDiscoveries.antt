@@ -23,7 +23,8 @@ change_text error = if error == 0 then [] else codes " # " ++ decimal error ++ c
 abbrev pub near_lines : List (List ℕ) → List Dependency → List ℕ → List (List ℕ)
 near_lines printed [] errors = []
 near_lines printed (d ∷ ds) [] = []
-near_lines printed (d ∷ ds) (error ∷ errors) = (dependency_text printed d ++ change_text error) ∷ near_lines printed ds errors
+near_lines printed (d ∷ ds) (error ∷ errors) =
+    (dependency_text printed d ++ change_text error) ∷ near_lines printed ds errors
 
 -- the lines that declare text columns of these names as they are printed, and these
 abbrev pub near_columns_text : Naming → List (List ℕ) → List Dependency → List ℕ → List ℕ

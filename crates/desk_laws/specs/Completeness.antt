@@ -37,7 +37,8 @@ IsAnswered files words = (looks : Looks) → IsAnsweredBy looks files words
 -- over these files each answer that the words may have is yes
 abbrev pub IsAnsweredYes : Files → List (List ℕ) → Type 0
 IsAnsweredYes files words =
-    (looks : Looks) (response : ResponseValue) → Answers looks (known_files files) words response → response.status ≡ Yes
+    (looks : Looks) (response : ResponseValue) → Answers looks (known_files files) words response
+    → response.status ≡ Yes
 
 -- it is known that the file source holds these files, and no error count increased
 pub record FailsNowhere (files : Files) (source : FileSourceInCall) (sink : SinkInCall)

@@ -135,7 +135,8 @@ pub fn discover_is_answered()
         → IsFile headed_file (known_files files) file headed
         → ((refusal : TooManyLeftSides) → HasTooManyLeftSides (number_of word) headed refusal → ⊥)
         → IsAnswered files (codes "discover" ∷ word ∷ file ∷ []) }
-    ensures keys { (files : Files) (file : List ℕ) (headed : Headed) → IsFile headed_file (known_files files) file headed
+    ensures keys { (files : Files) (file : List ℕ) (headed : Headed)
+        → IsFile headed_file (known_files files) file headed
         → (HasTooManyKeys (length (names_under headed)) (rows_under headed) → ⊥)
         → IsAnswered files (codes "discover" ∷ codes "keys" ∷ file ∷ []) }
 {}

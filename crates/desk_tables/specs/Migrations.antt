@@ -35,8 +35,8 @@ migrated_text naming rows tables =
     line (codes "read " ++ decimal (length rows) ++ codes " rows") ++ flat_map (table_line naming) tables
 
 -- ---- answers
--- the tables of a plan, in the order of a design and with the names that are given in it, hold the ordered projections of the rows, and their natural
--- join is exactly the rows
+-- the tables of a plan, in the order of a design and with the names that are given in it, hold the ordered
+-- projections of the rows, and their natural join is exactly the rows
 pub record AreTablesOf (schema : Schema) (names : GivenNames) (plan : List Attributes) (rows : Relation)
     (tables : List TableValue) : Type 0 where
   pub ordered : List Attributes

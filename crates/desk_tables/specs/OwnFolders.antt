@@ -33,7 +33,8 @@ abbrev pub FolderStops : Looks → List ℕ → Allowed
 FolderStops looks folder response = IsTrue (looks folder false) × Says Refused (not_empty_text folder) response
 
 -- the folder of this name, with the statements of a sound design of a plan, whose tables have these names
-pub record IsFolderOf (schema : Schema) (names : GivenNames) (plan : List AttrSet) (name : List ℕ) (folder : OwnFolder) : Type 0 where
+pub record IsFolderOf (schema : Schema) (names : GivenNames) (plan : List AttrSet) (name : List ℕ) (folder : OwnFolder)
+    : Type 0 where
   pub named : folder.name ≡ name
   pub tables : List TableDesign
   pub sound : IsSoundDesign schema names plan tables
@@ -47,7 +48,8 @@ InFolder schema names plan name answers response =
 
 -- rows as tables of a plan that loses nothing, in a folder of their own
 abbrev pub MigratesRowsInto : Schema → GivenNames → List AttrSet → List ℕ → Relation → Allowed
-MigratesRowsInto schema names plan folder rows = InFolder schema names plan folder (MigratesRows schema names (schemes_of plan) rows)
+MigratesRowsInto schema names plan folder rows =
+    InFolder schema names plan folder (MigratesRows schema names (schemes_of plan) rows)
 
 -- rows as tables in a normal form, in a folder of their own
 abbrev pub MigratesInto : Looks → Schema → Form → List ℕ → Relation → Allowed

@@ -125,8 +125,8 @@ fn folder_of(
     tables: &DesignList,
     name: &Argument,
 ) -> Result<OwnFolder, OutOfMemory>
-    ensures folder { (names : GivenNames) (plan : List AttrSet) → IsSoundDesign schema.now names plan tables.now → IfOk result
-        (λ folder. IsFolderOf schema.now names plan name.now (own_folder_value folder)) }
+    ensures folder { (names : GivenNames) (plan : List AttrSet) → IsSoundDesign schema.now names plan tables.now
+        → IfOk result (λ folder. IsFolderOf schema.now names plan name.now (own_folder_value folder)) }
 {
     Ok(OwnFolder {
         name: Vec::from_slice(alloc, name.bytes())?,

@@ -41,11 +41,11 @@ pub struct Headed {
     pub rows: Rows,
 }
 
-/// The rows of a CSV text, at most so many, under a header of at most so many different names, which may be any names. The records are
-/// those that `csv_rows` reads, after one byte-order mark. Of more than one refusal the first in
-/// the order of `DiscoverRefusal` decides, of the header's fields the first from the left, of the rows
-/// the first from the top; of one row `UnevenRow` comes before `TooManyRows`. But an open quote comes
-/// right after `NoHeader`, and in a row before all else.
+/// The rows of a CSV text, at most so many, under a header of at most so many different names, which may be any
+/// names. The records are those that `csv_rows` reads, after one byte-order mark. Of more than one refusal the
+/// first in the order of `DiscoverRefusal` decides, of the header's fields the first from the left, of the rows
+/// the first from the top; of one row `UnevenRow` comes before `TooManyRows`. But an open quote comes right after
+/// `NoHeader`, and in a row before all else.
 pub fn read_headed(
     alloc: Global,
     limits: Limits,

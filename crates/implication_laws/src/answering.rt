@@ -138,5 +138,6 @@ pub fn discover_all_has_one_answer()
 
 /// `discover near` has one answer.
 pub fn discover_near_has_one_answer()
-    ensures law { (limit most : ℕ) (file : List ℕ) (headed : Headed) → AllowsOne (FindsNearRules limit most file headed) }
+    ensures law { (limit most : ℕ) (file : List ℕ) (headed : Headed)
+        → AllowsOne (FindsNearRules limit most file headed) }
 {}

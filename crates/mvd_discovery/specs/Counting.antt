@@ -7,7 +7,7 @@ use Rattle.attr_sets.specs.declared.set.AttrSet.{AttrSet}
 use Rattle.csv_rows.specs.Numberings.{number_at}
 use Rattle.dep_model.specs.Tuples.{Relation}
 use Rattle.fd_discovery.specs.declared.headed_rows.TheConstants.{WIDEST_WITH_ALL}
-use Rattle.mvd_laws.specs.Sizes.{AreDifferentRows, AreSizes}
+use Rattle.mvd_laws.specs.Sizes.{AreDifferentRows, AreSizes, size_at}
 use Rattle.mvd_discovery.specs.declared.counts.Counts.{Counts}
 
 -- the sizes by the set of a number
@@ -28,7 +28,8 @@ pub record AreCounts (r : Relation) (counts : Counts) : Type 0 where
   pub all : length counts.by_set.items ≡ 2 ^ counts.width
   pub ones : List ℕ
   pub different : AreDifferentRows counts.width r ones
-  pub sizes : (number : ℕ) → number < 2 ^ counts.width → AreSizes r ones (attributes (set_of number)) (sizes_at counts number)
+  pub sizes : (number : ℕ) → number < 2 ^ counts.width
+      → AreSizes r ones (attributes (set_of number)) (sizes_at counts number)
 
 -- of rows at these positions, how many have each number below a count
 pub record ArePartCounts (numbers positions : List ℕ) (count : ℕ) (counts : List ℕ) : Type 0 where
@@ -40,4 +41,4 @@ pub record ArePartCounts (numbers positions : List ℕ) (count : ℕ) (counts : 
 pub record ArePartSizes (numbers positions sizes : List ℕ) : Type 0 where
   pub one_each : length sizes ≡ length positions
   pub each : (j : ℕ) → j < length positions → number_at sizes j
-      ≡ count_below (λ k. number_at numbers (number_at positions k) == number_at numbers (number_at positions j)) (length positions)
+      ≡ size_at (λ k. number_at numbers (number_at positions k)) (length positions) j

@@ -26,5 +26,6 @@ IsAhead y blocks = (i : ℕ) × IsFirstFrom y 0 i × ((k : ℕ) → blocks k ≡
 -- the left sides before one were tried, and of that one the blocks outside a set, all of which begin before it
 pub record AreReducedBeside (n : ℕ) (r : Relation) (left blocks : Attributes) (ds : List Dependency) : Type 0 where
   pub each : All (IsReducedThat n r (λ x y. IsBefore x left ⊎ ((x ≡ left) × IsAhead y blocks))) ds
-  pub all : (x y : Attributes) → IsReduced n r x y → IsBefore x left ⊎ ((x ≡ left) × Disjoint y blocks) → Contains ds (mvd x y)
+  pub all : (x y : Attributes) → IsReduced n r x y → IsBefore x left ⊎ ((x ≡ left) × Disjoint y blocks)
+      → Contains ds (mvd x y)
   pub ascending : AllPairs PrecedesByBlock ds

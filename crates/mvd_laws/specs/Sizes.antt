@@ -14,7 +14,8 @@ one_at r ones j = row_at r (number_at ones j)
 pub record AreDifferentRows (n : ℕ) (r : Relation) (ones : List ℕ) : Type 0 where
   pub within : (j : ℕ) → j < length ones → number_at ones j < length r
   pub all : (i : ℕ) → i < length r → (j : ℕ) × (j < length ones) × AgreeOn (below n) (row_at r i) (one_at r ones j)
-  pub once : (j k : ℕ) → j < length ones → k < length ones → AgreeOn (below n) (one_at r ones j) (one_at r ones k) → j ≡ k
+  pub once : (j k : ℕ) → j < length ones → k < length ones
+      → AgreeOn (below n) (one_at r ones j) (one_at r ones k) → j ≡ k
 
 -- how many places below a count have the number of one
 abbrev pub size_at : (ℕ → ℕ) → ℕ → ℕ → ℕ

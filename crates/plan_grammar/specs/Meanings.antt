@@ -42,8 +42,8 @@ pub record OpensTable (earlier : List (Option (List ℕ))) (ms words : List Mark
 
 -- a line over declared names, after lines that give these names: its beginning, and one or more words or quoted
 -- names, for the attributes that they name
-pub record IsTableLine (names : List (List ℕ)) (earlier : List (Option (List ℕ))) (ms : List Mark) (table : PlannedTable)
-    : Type 0 where
+pub record IsTableLine (names : List (List ℕ)) (earlier : List (Option (List ℕ))) (ms : List Mark)
+    (table : PlannedTable) : Type 0 where
   pub words : List Mark
   pub opens : OpensScheme ms words table.name ⊎ OpensTable earlier ms words table.name
   pub not_empty : 0 < length words

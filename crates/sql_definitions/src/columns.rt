@@ -147,8 +147,10 @@ fn column_keys(
     lexemes: &[Lexeme<'_>],
     definition: &mut Definition,
 ) -> Result<(), Failure<Refusal>>
-    ensures ok { OnOk result (column_keys (record { place = place; name = Some name }) lexemes.now definition.old ≡ Ok definition.new) }
-    ensures err { IfErr result (λ failure. Fails failure (column_keys (record { place = place; name = Some name }) lexemes.now definition.old)) }
+    ensures ok { OnOk result (column_keys (record { place = place; name = Some name }) lexemes.now definition.old
+        ≡ Ok definition.new) }
+    ensures err { IfErr result (λ failure. Fails failure
+        (column_keys (record { place = place; name = Some name }) lexemes.now definition.old)) }
 {
     let mut rest = lexemes;
     while let [lexeme, after @ ..] = rest {
@@ -167,8 +169,10 @@ fn key_at(
     after: &[Lexeme<'_>],
     definition: &mut Definition,
 ) -> Result<(), Failure<Refusal>>
-    ensures ok { OnOk result (key_at (record { place = place; name = Some name }) lexeme.now after.now definition.old ≡ Ok definition.new) }
-    ensures err { IfErr result (λ failure. Fails failure (key_at (record { place = place; name = Some name }) lexeme.now after.now definition.old)) }
+    ensures ok { OnOk result (key_at (record { place = place; name = Some name }) lexeme.now after.now definition.old
+        ≡ Ok definition.new) }
+    ensures err { IfErr result (λ failure. Fails failure
+        (key_at (record { place = place; name = Some name }) lexeme.now after.now definition.old)) }
 {
     if !is_outside(lexeme) {
         Ok(())

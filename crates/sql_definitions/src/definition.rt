@@ -36,7 +36,8 @@ impl Column {
     /// A column of this name and type, that says itself whether no value is missing, and whether the text
     /// of its type is `integer`.
     pub fn new(name: Name, kind: ColumnType, never_missing: bool, is_integer: bool) -> Column
-        ensures column { result ≡ record { name = name; kind = kind; never_missing = never_missing; is_integer = is_integer } }
+        ensures column { result
+            ≡ record { name = name; kind = kind; never_missing = never_missing; is_integer = is_integer } }
     {
         Column {
             name,

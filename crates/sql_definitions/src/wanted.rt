@@ -179,7 +179,8 @@ fn is_wanted_part(
     wanted: Option<&[u8]>,
     lexeme: Option<&Lexeme<'_>>,
 ) -> Result<bool, OutOfMemory>
-    ensures exact { IfOk result (λ is. is ≡ is_wanted_part dialect (option_map (λ part. part.now) wanted.entry) (option_map (λ l. l.now) lexeme.entry)) }
+    ensures exact { IfOk result (λ is. is ≡ is_wanted_part dialect
+        (option_map (λ part. part.now) wanted.entry) (option_map (λ l. l.now) lexeme.entry)) }
 {
     match wanted {
         None => Ok(true),

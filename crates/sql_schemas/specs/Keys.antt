@@ -12,7 +12,8 @@ use Rattle.sql_definitions.specs.declared.refusal.Reason.TheVariants as reason
 use Rattle.sql_definitions.specs.declared.refusal.Refusal.{Refusal}
 use Rattle.sql_definitions.specs.Facts.{Facts, StatedColumn, StatedKey, StatedPart, refused}
 
--- a key of a table, by its columns: PRIMARY KEY states it or not; it keeps values of its columns from missing or not; its columns
+-- a key of a table, by its columns: PRIMARY KEY states it or not; it keeps values of its columns from missing or
+-- not; its columns
 pub record KeyColumns : Type 0 where
   pub primary : Bool
   pub binds : Bool

@@ -168,7 +168,8 @@ fn is_new(n: u8, keys: &[TableKey], key: &TableKey) -> bool
 
 // Whether a key has the columns of one of these.
 fn is_among(keys: &[TableKey], key: &TableKey) -> bool
-    ensures exact { result ≡ list_any (λ other. is_same (attributes other.columns) (attributes key.now.columns)) keys.now }
+    ensures exact { result
+        ≡ list_any (λ other. is_same (attributes other.columns) (attributes key.now.columns)) keys.now }
 {
     keys.iter().any(|other| other.columns == key.columns)
 }

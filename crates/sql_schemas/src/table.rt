@@ -90,8 +90,8 @@ fn column_types(alloc: Global, columns: &[Column]) -> Result<Vec<ColumnType>, Ou
 
 // The lines of keys, at the end of a text.
 fn add_key_lines(text: &mut Vec<u8>, schema: &Schema, keys: &[TableKey]) -> Result<(), OutOfMemory>
-    ensures added { OnOk result (text.new.items ≡ text.old.items
-        ++ lines_text (map (key_line (printed_names_of schema.now) (nullable_of schema.now)) (map key_columns keys.now))) }
+    ensures added { OnOk result (text.new.items ≡ text.old.items ++ lines_text
+        (map (key_line (printed_names_of schema.now) (nullable_of schema.now)) (map key_columns keys.now))) }
 {
     for key in keys {
         add_key_line(text, schema, key)?;
@@ -115,7 +115,8 @@ fn add_key_line(text: &mut Vec<u8>, schema: &Schema, key: &TableKey) -> Result<(
 
 // A key determines all other columns.
 fn key_dependency(schema: &Schema, key: &TableKey) -> Dep
-    ensures dependency { dependency_of result ≡ key_dependency (length (printed_names_of schema.now)) (key_columns key.now) }
+    ensures dependency { dependency_of result
+        ≡ key_dependency (length (printed_names_of schema.now)) (key_columns key.now) }
 {
     Dep::Fd {
         lhs: key.columns,

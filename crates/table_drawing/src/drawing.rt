@@ -8,8 +8,8 @@ use dep_model::{OutOfMemory, Schema};
 use schema_printer::add;
 use std::alloc::Global;
 
-/// The Graphviz text of a design: a node for each table, named by its number, in order, and then for each table, in order, an edge
-/// to each table that it refers to, with the key of that one.
+/// The Graphviz text of a design: a node for each table, named by its number, in order, and then for each table,
+/// in order, an edge to each table that it refers to, with the key of that one.
 pub fn draw(alloc: Global, schema: &Schema, design: &DesignList) -> Result<Vec<u8>, OutOfMemory>
     ensures text { IfOk result (λ text. text.items ≡ drawing_text schema.now design.now) }
 {

@@ -70,8 +70,8 @@ pub fn cells_of_values_differ()
 /// In the design of a plan in its order each table refers to every other one whose key, not empty, lies
 /// within it, but for later ones that determine the same attributes.
 pub fn references_are_stated()
-    ensures law { (s : Schema) (names : GivenNames) (plan : List Attributes) (schemes : List AttrSet) (tables : List TableDesign)
-        → IsPlan (width_of s) plan
+    ensures law { (s : Schema) (names : GivenNames) (plan : List Attributes) (schemes : List AttrSet)
+        (tables : List TableDesign) → IsPlan (width_of s) plan
         → IsInDesignOrder (width_of s) (theory_of s) plan (schemes_of schemes)
         → IsDesign s names schemes tables → ReferencesAreStated s tables }
 {}
