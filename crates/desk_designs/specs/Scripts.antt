@@ -52,7 +52,7 @@ WithOtherName names name rest =
     (Unless (MetNameStops names name) (list_any (is_given (last_of (dotted_parts name))) names ≡ false) rest)
 
 -- ---- checking
--- what the queries of a script for a table tell: over a relation, the terms for the dependencies of a
+-- what the queries of a script for a table show: over a relation, the terms for the dependencies of a
 -- schema give nothing exactly where it is legal; and where an engine holds a relation as this table, their
 -- queries end without an error, and give no row exactly where it is legal. Where the engine casts integers,
 -- no query of the script gives a row, and none ends with an error, exactly where all rules hold
