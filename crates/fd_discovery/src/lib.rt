@@ -25,3 +25,4 @@ pub use headed_rows::{
 };
 pub use laws::one_reading;
 pub use refusal::DiscoverRefusal;
+pub use searching::attributes_not_given;
