@@ -4,7 +4,8 @@ use Rattle.attr_sets.specs.Attributes.{Attributes, intersection}
 use Rattle.dep_model.specs.Dependencies.{Dependency}
 use Rattle.dep_model.specs.Schemas.{width_of}
 use Rattle.dep_model.specs.declared.schema.Schema.{Schema}
-use Rattle.desk_implication.specs.Projections.{IsProjected, ProjectsSet, Projects, overlong_text, projection_text}
+use Rattle.desk_implication.specs.Projections.{IsProjected, ProjectsSet, Projects, projection_text}
+use Rattle.desk_texts.specs.Texts.{overlong_text}
 use Rattle.desk_responses.specs.ResponseValues.{ResponseValue, text_only}
 use Rattle.desk_responses.specs.declared.status.Status.TheVariants.{Yes}
 use Rattle.fd_closure.specs.LeftSides.{IsWide}

@@ -6,6 +6,8 @@ use proof_grammar::RuleName;
 pub enum LineRule {
     /// One of those that certificates have.
     Certificate(RuleName),
+    /// Decomposition.
     Decomposition,
+    /// One of the further rules with two premises.
     Further(FurtherRule),
 }

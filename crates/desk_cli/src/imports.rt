@@ -12,7 +12,7 @@ ghost use Rattle.desk_responses.specs.Responses.{RespondsAs};
 
 use desk_columns::import_columns;
 use desk_imports::import_table;
-use desk_inputs::{open_imported, open_sql};
+use desk_inputs::{Purpose, open_headed, open_sql};
 use desk_outside::{Argument, FileSource};
 use desk_responses::{EarlyExit, Response};
 use sql_lexemes::Dialect;
@@ -31,7 +31,7 @@ pub fn of_imported<F: FileSource>(
     ensures response { (r : Reading) → Shows F.files F.faults F.taken F.begun source.old source.new r
         → RespondsAs (WithFile imported_file r file.now ImportsColumns) result }
 {
-    let headed = match open_imported(alloc, source, file) {
+    let headed = match open_headed(alloc, source, Purpose::Schema, file) {
         Ok(headed) => headed,
         Err(exit) => return Err(exit),
     };

@@ -33,8 +33,8 @@ use desk_derivations::check_derivation;
 use desk_discovery::discover_all_rules;
 use desk_implication::check_proof;
 use desk_inputs::{
-    open_derivation, open_headed, open_parts, open_plan, open_proof, open_rows, open_schema,
-    open_whole,
+    Purpose, open_derivation, open_headed, open_parts, open_plan, open_proof, open_rows,
+    open_schema,
 };
 use desk_measures::{measure_rows, text_columns_alone};
 use desk_outside::{Argument, FileSource};
@@ -325,7 +325,7 @@ pub fn of_headed<F: FileSource>(
         → RespondsAs (WithFile headed_file r file.now
         (AnswersRules (rules_question question) file.now)) result }
 {
-    let headed = match open_headed(alloc, source, file) {
+    let headed = match open_headed(alloc, source, Purpose::Rules, file) {
         Ok(headed) => headed,
         Err(exit) => return Err(exit),
     };
@@ -346,7 +346,7 @@ pub fn of_whole<F: FileSource>(
     ensures response { (r : Reading) → Shows F.files F.faults F.taken F.begun source.old source.new r
         → RespondsAs (WithFile whole_file r file.now FindsAllRules) result }
 {
-    let headed = match open_whole(alloc, source, file) {
+    let headed = match open_headed(alloc, source, Purpose::AllRules, file) {
         Ok(headed) => headed,
         Err(exit) => return Err(exit),
     };

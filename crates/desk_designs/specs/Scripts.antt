@@ -1,5 +1,5 @@
 -- SQL scripts over a table of the user's: for `sql check` and `sql migrate`.
-use Rattle.std.specs.Prelude.{◌≡◌, ◌↔◌, ℕ, Bool, false, IsTrue, List, [], codes}
+use Rattle.std.specs.Prelude.{◌≡◌, ◌↔◌, ℕ, Bool, false, IsTrue, List, []}
 use Rattle.std.specs.List.{list_any}
 use Rattle.attr_sets.specs.Attributes.{Attributes}
 use Rattle.attr_sets.specs.declared.set.AttrSet.{AttrSet}
@@ -22,19 +22,16 @@ use Rattle.table_scripts.specs.Checking.{check_text, NothingBreaks}
 use Rattle.table_scripts.specs.Migrating.{migrate_text, FillsTables, ViewIsTable}
 use Rattle.table_scripts.specs.Naming.{dotted_parts, is_table_name, last_of, quoted_table}
 use Rattle.desk_responses.specs.declared.status.Status.TheVariants.{Yes, Refused}
+use Rattle.desk_responses.specs.Lines.{bad_table_text}
 use Rattle.desk_responses.specs.ResponseValues.{Allowed, Says, Unless}
 use Rattle.desk_designs.specs.Decompositions.{WithPlanInForm}
 use Rattle.desk_designs.specs.Designs.{IsSoundDesign, WithoutMissing}
 use Rattle.desk_designs.specs.Joins.{WithoutLoss}
-use Rattle.desk_texts.specs.Texts.{line}
 
 -- ---- names
-abbrev pub bad_name_text : List ℕ
-bad_name_text = line (codes "refused: bad table name")
-
 -- how the name of a table ends a command: where it is none
 abbrev pub TableNameStops : List ℕ → Allowed
-TableNameStops name response = (IsTrue (is_table_name name) → ⊥) × Says Refused bad_name_text response
+TableNameStops name response = (IsTrue (is_table_name name) → ⊥) × Says Refused bad_table_text response
 
 -- a word names a table, and then the rest follows
 abbrev pub WithTableName : List ℕ → Allowed → Allowed
@@ -43,7 +40,7 @@ WithTableName name = Unless (TableNameStops name) (IsTrue (is_table_name name))
 -- how it ends a command that makes tables with names: where its last part is one of these, the case of letters aside
 abbrev pub MetNameStops : GivenNames → List ℕ → Allowed
 MetNameStops names name response =
-    IsTrue (list_any (is_given (last_of (dotted_parts name))) names) × Says Refused bad_name_text response
+    IsTrue (list_any (is_given (last_of (dotted_parts name))) names) × Says Refused bad_table_text response
 
 -- a word names a table other than those with these names, and then the rest follows
 abbrev pub WithOtherName : GivenNames → List ℕ → Allowed → Allowed
@@ -52,7 +49,7 @@ WithOtherName names name rest =
     (Unless (MetNameStops names name) (list_any (is_given (last_of (dotted_parts name))) names ≡ false) rest)
 
 -- ---- checking
--- what the queries of a script for a table tell: over a relation, the terms for the dependencies of a
+-- what the queries of a script for a table show: over a relation, the terms for the dependencies of a
 -- schema give nothing exactly where it is legal; and where an engine holds a relation as this table, their
 -- queries end without an error, and give no row exactly where it is legal. Where the engine casts integers,
 -- no query of the script gives a row, and none ends with an error, exactly where all rules hold

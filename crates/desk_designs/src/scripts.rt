@@ -5,9 +5,8 @@ ghost use Rattle.dep_model.specs.Schemas.{width_of};
 ghost use Rattle.plans.specs.Plans.{IsPlanOver, plan_of, scheme_sets};
 ghost use Rattle.table_names.specs.TableNames.{is_given};
 ghost use Rattle.table_scripts.specs.Naming.{dotted_parts, is_table_name, last_of};
-ghost use Rattle.desk_responses.specs.ResponseValues.{Says};
 ghost use Rattle.desk_responses.specs.Responses.{response_value, RespondsAs, ExitsAs};
-ghost use Rattle.desk_designs.specs.Scripts.{AsksTable, MakesDesign, MetNameStops, TableNameStops, ScriptsCheck, ScriptsMigration, ScriptsMigrationByPlan, bad_name_text};
+ghost use Rattle.desk_designs.specs.Scripts.{AsksTable, MakesDesign, MetNameStops, TableNameStops, ScriptsCheck, ScriptsMigration, ScriptsMigrationByPlan};
 
 use crate::decomposition::plan_in_form;
 use crate::join::test_loss;
@@ -15,8 +14,7 @@ use crate::missing::required_design;
 use ddl_text::DesignList;
 use dep_model::{Name, OutOfMemory, Schema};
 use desk_outside::Argument;
-use desk_responses::{EarlyExit, Response, Status};
-use desk_texts::line_of;
+use desk_responses::{EarlyExit, Response, Status, bad_table_exit};
 use normal_forms::Form;
 use plan_reader::MOST_SCHEMES;
 use plans::Plan;
@@ -99,7 +97,7 @@ fn test_name(alloc: Global, name: &Argument) -> Result<(), EarlyExit>
     if is_table_name(name.bytes()) {
         return Ok(());
     }
-    Err(bad_name_exit(alloc))
+    Err(bad_table_exit(alloc))
 }
 
 // Whether the last part of a word is none of these names.
@@ -108,22 +106,9 @@ fn test_other_name(alloc: Global, names: &[Option<Name>], name: &Argument) -> Re
     ensures exit { IfErr result (ExitsAs (MetNameStops names.now name.now)) }
 {
     if is_given(names, last_part(name.bytes())) {
-        return Err(bad_name_exit(alloc));
+        return Err(bad_table_exit(alloc));
     }
     Ok(())
-}
-
-// A word names no table.
-fn bad_name_exit(alloc: Global) -> EarlyExit
-    ensures says { ExitsAs (Says Status.Refused bad_name_text) result }
-{
-    EarlyExit::with_text(Status::Refused, bad_name_line(alloc))
-}
-
-fn bad_name_line(alloc: Global) -> Result<Vec<u8>, OutOfMemory>
-    ensures line { IfOk result (λ text. text.items ≡ bad_name_text) }
-{
-    line_of(alloc, b"refused: bad table name", b"", b"")
 }
 
 // The queries for what breaks each rule.

@@ -1,55 +1,30 @@
 -- Names of columns as a schema of text columns without dependencies, and its text.
-use Rattle.std.proofs.Common.{◌≡◌, ◌<◌, ℕ, zero, suc, Bool, true, false, if◌then◌else◌, None, List, [], ◌∷◌, ◌++◌, length, map, take, get_or, replicate, subst, refl, ap, sym, ◌∙◌, arith}
+use Rattle.std.proofs.Common.{◌≡◌, ◌<◌, ℕ, zero, suc, Bool, true, false, if◌then◌else◌, List, [], ◌∷◌, ◌++◌, length, map, get_or, replicate, subst, refl, ap, sym, ◌∙◌, arith}
 use Rattle.std.proofs.lemmas.Bool.{and_parts, true≢false}
-use Rattle.std.proofs.lemmas.Grind.{common_steps}
-use Rattle.std.proofs.lemmas.List.{get_or-take, get_or_default, length-take-le, length-map, length-replicate}
+use Rattle.std.proofs.lemmas.List.{length-map, length-replicate}
 use Rattle.std.proofs.lemmas.List.Elements.{All-replicate}
-use Rattle.std.proofs.lemmas.List.Sums.{AllPass-from_list_all, fails_before_first}
+use Rattle.std.proofs.lemmas.List.Sums.{AllPass-from_list_all}
 use Rattle.std.specs.List.{list_all, list_any}
-use Rattle.std.specs.Prelude.{position, not, codes, IsTrue, All}
+use Rattle.std.specs.Prelude.{not, codes, IsTrue, All}
 use Rattle.attr_sets.specs.Attributes.{Attributes, none}
 use Rattle.dep_model.proofs.ColumnLemmas.{AreDeclared-text}
 use Rattle.dep_model.specs.Columns.{is_column_type}
 use Rattle.dep_model.specs.Dependencies.{Dependency}
-use Rattle.dep_model.specs.Names.{is_bare_name, same_name}
+use Rattle.dep_model.specs.Names.{is_bare_name}
 use Rattle.dep_model.specs.Schemas.{naming_of, types_of, names_of, nullable_of}
-use Rattle.dep_model.specs.Validity.{IsSchema, AreDeclared}
+use Rattle.dep_model.specs.Validity.{AreDeclared}
 use Rattle.dep_model.specs.declared.column_type.ColumnType.{ColumnType}
 use Rattle.dep_model.specs.declared.column_type.ColumnType.TheVariants.{Text}
-use Rattle.dep_model.specs.declared.dep.Dep.{Dep}
 use Rattle.dep_model.specs.declared.naming.Naming.{Naming}
 use Rattle.dep_model.specs.declared.naming.Naming.TheVariants.{Bare, Any}
 use Rattle.dep_model.specs.declared.schema.Schema.{Schema}
-use Rattle.fd_discovery.specs.Headers.{IsColumnHeader, is_plain_name, naming_under}
+use Rattle.fd_discovery.specs.Headers.{is_plain_name, naming_under}
 use Rattle.schema_grammar.specs.Words.{is_reserved}
 use Rattle.schema_grammar.specs.declared.format.Format.TheVariants as format
 use Rattle.schema_printer.specs.Printing.{Run, schema_text, schema_lines, declaring_lines, nullable_lines, dependency_text, lines_text, words_text, members_from, runs_of, run_line, in_front, is_integer}
 use Rattle.schema_printer.specs.Spelling.{spelling, printed_names_of}
 use Rattle.schema_printer.proofs.PrintLemmas.{members_empty}
 use Rattle.desk_discovery.specs.Discoveries.{HasTextColumns, column_lines, rules_text}
-
--- ---- the names of a header differ
-attribute_named-absent : (p : List ℕ → Bool) (names : List (List ℕ)) (i : ℕ) (d : List ℕ) → position p names ≡ None → i < length names → p (get_or names i d) ≡ false
-attribute_named-absent p names i d none low = fails_before_first p names i d (grind (arith, common_steps, none, low))
-
-names_apart : (names : List (List ℕ)) → IsColumnHeader names → (i j : ℕ) (d : List ℕ) → i < j → j < length names → same_name (get_or names i d) (get_or names j d) ≡ false
-names_apart names header i j d before within =
-    let at = get_or names j [] in
-    let within_limit : length (take j names) ≡ j = length-take-le j names (omega (arith, within)) in
-    let apart : same_name (get_or (take j names) i d) at ≡ false =
-    attribute_named-absent (λ name. same_name name at) (take j names) i d (header.named j within).1 (omega (arith, within_limit, before)) in
-    subst (λ (b : List ℕ). same_name (get_or names i d) b ≡ false) (get_or_default names j [] d within)
-    (subst (λ (a : List ℕ). same_name a at ≡ false) (get_or-take j names i d before) apart)
-
-pub headed_schema : (names : List (List ℕ)) (deps : List Dep) (lines : List ℕ) → IsColumnHeader names → 0 < length names → deps ≡ [] → lines ≡ [] → IsSchema names deps lines
-headed_schema names deps lines header not_empty none empty = record {
-  names_not_empty = not_empty;
-  names_within_limit = omega (arith, header.within_limit);
-  names_differ = names_apart names header;
-  deps_within_limit = rw none (omega arith);
-  deps_within = rw none (λ k d l. absurd (omega arith));
-  one_line_each = ap length empty ∙ sym (ap length none);
-}
 
 -- names that stand bare are bare names
 headed_bare : (names : List (List ℕ)) → naming_under names ≡ Bare → All (λ name. IsTrue (is_bare_name name)) names

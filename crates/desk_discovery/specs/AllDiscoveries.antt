@@ -5,7 +5,7 @@ use Rattle.dep_model.specs.Tuples.{Relation}
 use Rattle.fd_discovery.specs.declared.headed_rows.Headed.{Headed}
 use Rattle.fd_discovery.specs.Headings.{names_under, rows_under}
 use Rattle.mvd_discovery.specs.Finding.{AreAllRules}
-use Rattle.mvd_laws.specs.Telling.{TellsAll}
+use Rattle.mvd_laws.specs.Covers.{IsCoverOfAll}
 use Rattle.desk_responses.specs.declared.status.Status.TheVariants.{Yes}
 use Rattle.desk_responses.specs.ResponseValues.{Allowed, Says}
 use Rattle.desk_discovery.specs.Discoveries.{found_text}
@@ -14,7 +14,7 @@ use Rattle.desk_discovery.specs.Discoveries.{found_text}
 -- in order; they imply the dependencies of either kind that the rows obey and no other
 pub record AreAllRulesOf (n : ℕ) (rows : Relation) (ds : List Dependency) : Type 0 where
   pub rules : AreAllRules n rows ds
-  pub tells : TellsAll n rows ds
+  pub cover : IsCoverOfAll n rows ds
 
 -- yes, with these
 abbrev pub FindsAllRules : Headed → Allowed

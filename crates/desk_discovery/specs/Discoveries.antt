@@ -19,10 +19,9 @@ use Rattle.fd_discovery.specs.Minimal.{AreAllMinimal}
 use Rattle.fd_search.specs.Small.{AreAllSmall}
 use Rattle.schema_printer.specs.Printing.{words_text, dependency_text, lines_text}
 use Rattle.schema_printer.specs.Spelling.{spelling}
-use Rattle.desk_implication.specs.Projections.{overlong_text}
 use Rattle.desk_responses.specs.declared.status.Status.TheVariants.{Yes, Refused}
 use Rattle.desk_responses.specs.ResponseValues.{Allowed, Says}
-use Rattle.desk_texts.specs.Texts.{line}
+use Rattle.desk_texts.specs.Texts.{line, overlong_text}
 use Rattle.desk_discovery.specs.declared.discovering.TheConstants.{WIDEST_TRIED}
 
 -- ---- texts

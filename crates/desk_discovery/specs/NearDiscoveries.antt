@@ -10,7 +10,7 @@ use Rattle.near_rules.specs.NearRules.{AreNearRules, IsFirstExceeded, IsTriedWho
 use Rattle.near_rules.specs.declared.found.TooManyTried.{TooManyTried}
 use Rattle.schema_printer.specs.Printing.{dependency_text, lines_text}
 use Rattle.schema_printer.specs.Spelling.{spelling}
-use Rattle.desk_implication.specs.Projections.{overlong_text}
+use Rattle.desk_texts.specs.Texts.{overlong_text}
 use Rattle.desk_responses.specs.declared.status.Status.TheVariants.{Yes, Refused}
 use Rattle.desk_responses.specs.ResponseValues.{Allowed, Says}
 use Rattle.desk_discovery.specs.Discoveries.{column_lines, left_sides_text}

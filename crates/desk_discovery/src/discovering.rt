@@ -17,9 +17,9 @@ ghost use Rattle.desk_responses.specs.Responses.{response_value, ExitsAs, Respon
 use attr_sets::AttrSet;
 use candidate_search::TooManyLeftSides;
 use dep_model::{ColumnType, Dep, Failure, Name, OutOfMemory, Schema};
-use desk_implication::overlong_comment;
 use desk_outside::Argument;
 use desk_responses::{EarlyExit, Response, Status};
+use desk_texts::overlong_comment;
 use fd_discovery::{Headed, discover, naming_under};
 use fd_search::minimal_dependencies;
 use row_store::{Hashing, Rows};

@@ -12,9 +12,9 @@ ghost use Rattle.desk_responses.specs.Responses.{response_value, RespondsAs};
 
 use crate::discovering::{left_sides_exit, schema_of_columns};
 use dep_model::{Dep, Failure, Name, OutOfMemory, Schema};
-use desk_implication::overlong_comment;
 use desk_outside::Argument;
 use desk_responses::{EarlyExit, Response, Status};
+use desk_texts::overlong_comment;
 use fd_discovery::Headed;
 use near_rules::{NearRules, near_rules};
 use row_store::Hashing;

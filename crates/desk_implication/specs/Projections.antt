@@ -1,10 +1,9 @@
 -- The functional dependencies inside a set, as a schema of its attributes: for `project`.
-use Rattle.std.specs.Prelude.{◌⊎◌, ℕ, List, [], ◌++◌, codes, length, nat_lt, if◌then◌else◌}
+use Rattle.std.specs.Prelude.{◌⊎◌, ℕ, List, ◌++◌, codes}
 use Rattle.attr_sets.specs.Attributes.{Attributes, IsEmpty}
 use Rattle.dep_model.specs.Dependencies.{Dependency}
 use Rattle.dep_model.specs.Schemas.{width_of, theory_of}
 use Rattle.dep_model.specs.declared.schema.Schema.{Schema}
-use Rattle.dep_model.specs.declared.schema.TheConstants.{MOST_DEPENDENCIES}
 use Rattle.fd_closure.specs.LeftSides.{IsWide}
 use Rattle.fd_projection.specs.Projections.{IsProjection, IsCoverWithin}
 use Rattle.fd_projection.specs.Refusals.{IsRefusedProjection}
@@ -15,7 +14,7 @@ use Rattle.desk_responses.specs.declared.status.Status.TheVariants.{Yes, Refused
 use Rattle.desk_responses.specs.ResponseValues.{Allowed, Says}
 use Rattle.desk_responses.specs.Lines.{too_wide_text}
 use Rattle.desk_arguments.specs.Goals.{WithSet}
-use Rattle.desk_texts.specs.Texts.{line}
+use Rattle.desk_texts.specs.Texts.{line, overlong_text}
 
 -- ---- texts
 -- the set has no attribute
@@ -25,13 +24,6 @@ empty_set_text = line (codes "refused: set is empty")
 -- more dependencies than are listed have a least left side
 abbrev pub too_many_dependencies_text : List ℕ
 too_many_dependencies_text = line (codes "refused: too many dependencies")
-
--- a comment before more dependencies than a schema file takes
-abbrev pub overlong_text : List Dependency → List ℕ
-overlong_text rules =
-    if nat_lt MOST_DEPENDENCIES (length rules)
-    then line (codes "# more than 4096 dependencies: no schema file takes so many")
-    else []
 
 -- the attributes of a set and dependencies over them, as a schema text
 abbrev pub projection_text : Schema → Attributes → List Dependency → List ℕ

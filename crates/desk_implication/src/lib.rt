@@ -14,4 +14,4 @@ pub use bases::give_basis;
 pub use certificate::check_proof;
 pub use closures::give_closure;
 pub use implication::implies;
-pub use projecting::{give_projection, overlong_comment};
+pub use projecting::give_projection;

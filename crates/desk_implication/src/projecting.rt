@@ -3,17 +3,17 @@ ghost use Rattle.attr_sets.specs.Attributes.{IsSubset, IsEmpty};
 ghost use Rattle.attr_sets.specs.Sets.{attributes};
 ghost use Rattle.dep_model.specs.Deps.{dependencies_of, IsDepWithin};
 ghost use Rattle.dep_model.specs.Schemas.{width_of, universe_of, theory_of};
-ghost use Rattle.desk_implication.specs.Projections.{Projects, ProjectsSet, RefusesProjection, empty_set_text, too_many_dependencies_text, overlong_text, projection_text};
+ghost use Rattle.desk_implication.specs.Projections.{Projects, ProjectsSet, RefusesProjection, empty_set_text, too_many_dependencies_text, projection_text};
 ghost use Rattle.fd_projection.specs.Refusals.{IsRefusedProjection};
 ghost use Rattle.desk_responses.specs.ResponseValues.{Says};
 ghost use Rattle.desk_responses.specs.Responses.{response_value, RespondsAs, ExitsAs};
 
 use attr_sets::AttrSet;
-use dep_model::{Dep, Failure, MOST_DEPENDENCIES, OutOfMemory, Schema};
+use dep_model::{Dep, Failure, OutOfMemory, Schema};
 use desk_arguments::set_of;
 use desk_outside::Argument;
 use desk_responses::{EarlyExit, Response, Status, too_wide_exit};
-use desk_texts::line_of;
+use desk_texts::{line_of, overlong_comment};
 use fd_projection::{ProjectionRefusal, project};
 use schema_parts::print_part;
 use schema_printer::add;
@@ -66,17 +66,6 @@ fn projection_response(
     let mut text = overlong_comment(alloc, rules)?;
     add(&mut text, &print_part(alloc, schema, set, rules)?)?;
     Ok(Response::with_text(Status::Yes, text))
-}
-
-/// A comment where there are more dependencies than a schema file takes.
-pub fn overlong_comment(alloc: Global, rules: &[Dep]) -> Result<Vec<u8>, OutOfMemory>
-    ensures comment { IfOk result (λ text. text.items ≡ overlong_text (dependencies_of rules.now)) }
-{
-    if rules.len() > MOST_DEPENDENCIES {
-        let comment = b"# more than 4096 dependencies: no schema file takes so many";
-        return line_of(alloc, comment, b"", b"");
-    }
-    Ok(Vec::new(alloc))
 }
 
 // Why the dependencies inside a set are not listed.

@@ -8,6 +8,7 @@ use Rattle.sql_definitions.specs.declared.refusal.Reason.TheVariants as reason
 use Rattle.sql_definitions.specs.declared.refusal.Refusal.{Refusal}
 use Rattle.sql_definitions.specs.Wanted.{TableName, wanted_table}
 use Rattle.sql_schemas.specs.Texts.{imported_text}
+use Rattle.desk_responses.specs.Lines.{bad_table_text}
 use Rattle.desk_responses.specs.ResponseValues.{Allowed, ResponseValue, text_only}
 use Rattle.desk_responses.specs.declared.status.Status.TheVariants as status
 use Rattle.desk_texts.specs.Texts.{line}
@@ -61,9 +62,6 @@ abbrev pub import_refusal_text : List ℕ → List ℕ → Refusal → List ℕ
 import_refusal_text file text refusal =
     line (codes "refused: import " ++ decimal (reason_number refusal.reason) ++ codes " at " ++ file ++ codes ":"
     ++ place_text text refusal.reason refusal.place ++ codes " " ++ reason_text refusal.reason)
-
-abbrev pub bad_table_text : List ℕ
-bad_table_text = line (codes "refused: bad table name")
 
 -- ---- the answer
 -- the text of a schema, or a refusal

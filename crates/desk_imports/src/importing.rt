@@ -2,15 +2,13 @@ ghost use Rattle.std.specs.Prelude.{◌≡◌, ◌<◌, ◌≤◌, ◌^◌, leng
 ghost use Rattle.lexer.specs.Lines.{without_mark};
 ghost use Rattle.sql_definitions.specs.Facts.{Fails};
 ghost use Rattle.sql_schemas.specs.Texts.{imported_text};
-ghost use Rattle.desk_imports.specs.Imports.{ImportsTable, bad_table_text, import_response};
-ghost use Rattle.desk_responses.specs.ResponseValues.{Says};
-ghost use Rattle.desk_responses.specs.Responses.{ExitsAs, RespondsAs};
+ghost use Rattle.desk_imports.specs.Imports.{ImportsTable, import_response};
+ghost use Rattle.desk_responses.specs.Responses.{RespondsAs};
 
 use crate::refusals::import_refusal_exit;
-use dep_model::{Failure, OutOfMemory};
+use dep_model::Failure;
 use desk_outside::Argument;
-use desk_responses::{EarlyExit, Response, Status};
-use desk_texts::line_of;
+use desk_responses::{EarlyExit, Response, Status, bad_table_exit};
 use lexer::without_mark;
 use sql_definitions::{Refusal, Wanted, read_definition, wanted_table};
 use sql_lexemes::Dialect;
@@ -75,17 +73,4 @@ fn imported_text(
 {
     let definition = read_definition(alloc, dialect, wanted, text)?;
     print_table(alloc, dialect, &definition)
-}
-
-// A word that names no table.
-fn bad_table_exit(alloc: Global) -> EarlyExit
-    ensures says { ExitsAs (Says Status.Refused bad_table_text) result }
-{
-    EarlyExit::with_text(Status::Refused, bad_table_line(alloc))
-}
-
-fn bad_table_line(alloc: Global) -> Result<Vec<u8>, OutOfMemory>
-    ensures line { IfOk result (λ text. text.items ≡ bad_table_text) }
-{
-    line_of(alloc, b"refused: bad table name", b"", b"")
 }

@@ -8,6 +8,8 @@ use Rattle.fd_discovery.specs.declared.headed_rows.TheConstants.{MOST_HEADED_ROW
 use Rattle.fd_discovery.specs.declared.refusal.DiscoverRefusal.{DiscoverRefusal}
 use Rattle.fd_discovery.specs.Headings.{IsHeadedWithin, IsRefusedWithin, discovered}
 use Rattle.fd_discovery.specs.RefusalTexts.{headed_reason_text, headed_refusal_number}
+use Rattle.desk_inputs.specs.declared.headed.Purpose.{Purpose}
+use Rattle.desk_inputs.specs.declared.headed.Purpose.TheVariants as purpose
 use Rattle.desk_inputs.specs.declared.rows.TheConstants.{MOST_CSV_BYTES}
 use Rattle.desk_inputs.specs.FileKinds.{FileKind}
 use Rattle.desk_texts.specs.Texts.{line}
@@ -27,22 +29,36 @@ headed_file_for command limits = record {
   refusal_text = headed_refusal_text command;
 }
 
--- rows whose dependencies are looked for
-abbrev pub headed_file : FileKind Headed DiscoverRefusal
-headed_file = headed_file_for (codes "discover") discovered
-
+-- ---- what they are read for
 -- the limits of rows of which all that they obey is looked for
 abbrev pub wholly_discovered : Limits
 wholly_discovered = record { columns = WIDEST_WITH_ALL; rows = MOST_ROWS_WITH_ALL }
-
--- such rows
-abbrev pub whole_file : FileKind Headed DiscoverRefusal
-whole_file = headed_file_for (codes "discover") wholly_discovered
 
 -- the limits of rows whose columns are made a schema
 abbrev pub imported : Limits
 imported = record { columns = MOST_ATTRIBUTES; rows = MOST_HEADED_ROWS }
 
--- such rows
+-- within which limits, and for a command of which word
+abbrev pub limits_for : Purpose → Limits
+limits_for purpose.Rules = discovered
+limits_for purpose.AllRules = wholly_discovered
+limits_for purpose.Schema = imported
+
+abbrev pub command_for : Purpose → List ℕ
+command_for purpose.Rules = codes "discover"
+command_for purpose.AllRules = codes "discover"
+command_for purpose.Schema = codes "import"
+
+abbrev pub file_for : Purpose → FileKind Headed DiscoverRefusal
+file_for wanted = headed_file_for (command_for wanted) (limits_for wanted)
+
+-- rows whose functional dependencies are looked for, rows of which all that they obey is, and rows whose columns are
+-- made a schema
+abbrev pub headed_file : FileKind Headed DiscoverRefusal
+headed_file = file_for purpose.Rules
+
+abbrev pub whole_file : FileKind Headed DiscoverRefusal
+whole_file = file_for purpose.AllRules
+
 abbrev pub imported_file : FileKind Headed DiscoverRefusal
-imported_file = headed_file_for (codes "import") imported
+imported_file = file_for purpose.Schema

@@ -1,13 +1,12 @@
 ghost use Rattle.std.specs.Prelude.{◌≡◌, ◌≤◌, ◌<◌, ◌∷◌, [], length, OnOk, IfOk, IfErr};
-ghost use Rattle.attr_sets.specs.declared.set.TheConstants.{MOST_ATTRIBUTES};
 ghost use Rattle.dep_model.specs.Tuples.{IsOver};
-ghost use Rattle.fd_discovery.specs.Headers.{IsColumnHeader, IsHeaderWithin};
+ghost use Rattle.fd_discovery.specs.Headers.{IsHeaderWithin};
 ghost use Rattle.fd_discovery.specs.Headings.{names_under, rows_under};
-ghost use Rattle.fd_discovery.specs.declared.headed_rows.TheConstants.{MOST_HEADED_ROWS, MOST_ROWS_WITH_ALL, WIDEST_WITH_ALL};
+ghost use Rattle.fd_discovery.specs.declared.headed_rows.TheConstants.{MOST_HEADED_ROWS};
 ghost use Rattle.desk_outside.specs.Begun.{Begins};
 ghost use Rattle.desk_inputs.specs.FilesBegun.{BeginsFront};
 ghost use Rattle.desk_inputs.specs.FileKinds.{FileStops, IsFile};
-ghost use Rattle.desk_inputs.specs.Headed.{headed_file, headed_file_for, headed_refusal_text, imported_file, whole_file};
+ghost use Rattle.desk_inputs.specs.Headed.{command_for, file_for, headed_file_for, headed_refusal_text, limits_for};
 ghost use Rattle.desk_inputs.specs.Readings.{Reading, files_in, Shows};
 ghost use Rattle.desk_responses.specs.ResponseValues.{Says};
 ghost use Rattle.desk_responses.specs.Responses.{ExitsAs};
@@ -26,11 +25,22 @@ use fd_discovery::{
 use schema_printer::{add, add_number};
 use std::alloc::Global;
 
-/// The names and rows of a CSV file whose header names its columns, for a command that looks for
-/// dependencies.
+/// What the rows of a file under names of their own are read for.
+#[derive(Clone, Copy, Debug)]
+pub enum Purpose {
+    /// Their functional dependencies are looked for.
+    Rules,
+    /// All that they obey is looked for.
+    AllRules,
+    /// Their columns are made a schema.
+    Schema,
+}
+
+/// The names and rows of a CSV file whose header names its columns, for such a purpose.
 pub fn open_headed<F: FileSource>(
     alloc: Global,
     source: &mut F,
+    purpose: Purpose,
     name: &Argument,
 ) -> Result<Headed, EarlyExit>
     ensures files { F.files source.new ≡ F.files source.old }
@@ -38,77 +48,57 @@ pub fn open_headed<F: FileSource>(
     ensures begins { OnOk result (Begins name.now (F.begun source.old) (F.begun source.new)) }
     ensures reads { BeginsFront (name.now ∷ []) (F.begun source.old) (F.begun source.new) }
     ensures ok { (r : Reading) → files_in r ≡ F.files source.old
-        → IfOk result (IsFile headed_file r name.now) }
-    ensures header { IfOk result (λ headed. IsColumnHeader (names_under headed)) }
+        → IfOk result (IsFile (file_for purpose) r name.now) }
+    ensures header { IfOk result (λ headed. IsHeaderWithin (limits_for purpose).columns (names_under headed)) }
     ensures any_name { IfOk result (λ headed. 0 < length (names_under headed)) }
     ensures same_width { IfOk result (λ headed. IsOver (length (names_under headed))
         (rows_under headed)) }
-    ensures within_limit { IfOk result (λ headed. length (rows_under headed) ≤ MOST_HEADED_ROWS) }
+    ensures within_limit { IfOk result (λ headed. length (rows_under headed) ≤ (limits_for purpose).rows) }
     ensures exit { (r : Reading) → Shows F.files F.faults F.taken F.begun source.old source.new r
-        → IfErr result (ExitsAs (FileStops headed_file r name.now)) }
+        → IfErr result (ExitsAs (FileStops (file_for purpose) r name.now)) }
 {
-    let limits = Limits {
-        columns: WIDEST_HEADED,
-        rows: MOST_HEADED_ROWS,
-    };
-    open_headed_for(alloc, source, b"discover", limits, name)
+    open_headed_for(
+        alloc,
+        source,
+        command_for(purpose),
+        limits_for(purpose),
+        name,
+    )
 }
 
-/// The same, for a command that looks for all that the rows obey.
-pub fn open_whole<F: FileSource>(
-    alloc: Global,
-    source: &mut F,
-    name: &Argument,
-) -> Result<Headed, EarlyExit>
-    ensures files { F.files source.new ≡ F.files source.old }
-    ensures later { F.faults source.old ≤ F.faults source.new }
-    ensures begins { OnOk result (Begins name.now (F.begun source.old) (F.begun source.new)) }
-    ensures reads { BeginsFront (name.now ∷ []) (F.begun source.old) (F.begun source.new) }
-    ensures ok { (r : Reading) → files_in r ≡ F.files source.old
-        → IfOk result (IsFile whole_file r name.now) }
-    ensures header { IfOk result (λ headed. IsHeaderWithin WIDEST_WITH_ALL (names_under headed)) }
-    ensures any_name { IfOk result (λ headed. 0 < length (names_under headed)) }
-    ensures same_width { IfOk result (λ headed. IsOver (length (names_under headed))
-        (rows_under headed)) }
-    ensures within_limit { IfOk result (λ headed. length (rows_under headed) ≤ MOST_ROWS_WITH_ALL) }
-    ensures exit { (r : Reading) → Shows F.files F.faults F.taken F.begun source.old source.new r
-        → IfErr result (ExitsAs (FileStops whole_file r name.now)) }
+// The limits of such rows.
+fn limits_for(purpose: Purpose) -> Limits
+    ensures limits { result ≡ limits_for purpose }
+    ensures rows { result.rows ≤ MOST_HEADED_ROWS }
 {
-    let limits = Limits {
-        columns: WIDEST_WITH_ALL,
-        rows: MOST_ROWS_WITH_ALL,
-    };
-    open_headed_for(alloc, source, b"discover", limits, name)
+    match purpose {
+        Purpose::Rules => Limits {
+            columns: WIDEST_HEADED,
+            rows: MOST_HEADED_ROWS,
+        },
+        Purpose::AllRules => Limits {
+            columns: WIDEST_WITH_ALL,
+            rows: MOST_ROWS_WITH_ALL,
+        },
+        Purpose::Schema => Limits {
+            columns: MOST_ATTRIBUTES,
+            rows: MOST_HEADED_ROWS,
+        },
+    }
 }
 
-/// The same, for a command that makes a schema of the columns.
-pub fn open_imported<F: FileSource>(
-    alloc: Global,
-    source: &mut F,
-    name: &Argument,
-) -> Result<Headed, EarlyExit>
-    ensures files { F.files source.new ≡ F.files source.old }
-    ensures later { F.faults source.old ≤ F.faults source.new }
-    ensures begins { OnOk result (Begins name.now (F.begun source.old) (F.begun source.new)) }
-    ensures reads { BeginsFront (name.now ∷ []) (F.begun source.old) (F.begun source.new) }
-    ensures ok { (r : Reading) → files_in r ≡ F.files source.old
-        → IfOk result (IsFile imported_file r name.now) }
-    ensures header { IfOk result (λ headed. IsHeaderWithin MOST_ATTRIBUTES (names_under headed)) }
-    ensures any_name { IfOk result (λ headed. 0 < length (names_under headed)) }
-    ensures same_width { IfOk result (λ headed. IsOver (length (names_under headed))
-        (rows_under headed)) }
-    ensures within_limit { IfOk result (λ headed. length (rows_under headed) ≤ MOST_HEADED_ROWS) }
-    ensures exit { (r : Reading) → Shows F.files F.faults F.taken F.begun source.old source.new r
-        → IfErr result (ExitsAs (FileStops imported_file r name.now)) }
+// The word of the command that reads them.
+fn command_for(purpose: Purpose) -> &'static [u8]
+    ensures command { result.now ≡ command_for purpose }
 {
-    let limits = Limits {
-        columns: MOST_ATTRIBUTES,
-        rows: MOST_HEADED_ROWS,
-    };
-    open_headed_for(alloc, source, b"import", limits, name)
+    match purpose {
+        Purpose::Rules => b"discover",
+        Purpose::AllRules => b"discover",
+        Purpose::Schema => b"import",
+    }
 }
 
-// The same, for a command of this word, within limits.
+// The names and rows of such a file, for a command of this word, within limits.
 fn open_headed_for<F: FileSource>(
     alloc: Global,
     source: &mut F,

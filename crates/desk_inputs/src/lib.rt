@@ -14,7 +14,7 @@ mod rows;
 mod sql;
 
 pub use derived::open_derivation;
-pub use headed::{open_headed, open_imported, open_whole};
+pub use headed::{Purpose, open_headed};
 pub use parts::open_parts;
 pub use plan::open_plan;
 pub use read::{open_proof, open_schema};

@@ -61,6 +61,16 @@ after_set s r set x rest response same is go (inl exit) =
     (record { within_limit = is.within_limit; means = set_moved s r set x same is.means }) exit)
 after_set s r set x rest response same is go (inr (y, found, more)) = go y more
 
+-- a command on a set, of which each answer is yes or no
+set_answered : (files : Files) (name set : List ℕ) (schema : Schema) (x : Attributes) (rest : Schema → Attributes → Allowed)
+    → ((r : Schema) (y : Attributes) (response : ResponseValue) → rest r y response → IsYesOrNo response.status)
+    → IsFile schema_file (known_files files) name schema → IsSetText schema set x → (response : ResponseValue)
+    → WithFile schema_file (known_files files) name (λ r. WithSet r set (rest r)) response → IsYesOrNo response.status
+set_answered files name set schema x rest decided file is response asked =
+    after_schema files name schema (λ r. WithSet r set (rest r)) response file
+    (λ r same more. after_set schema r set x (rest r) response same is (λ y found. decided r y response found) more)
+    asked
+
 basis_asks : (files : Files) (name set : List ℕ) (looks : Looks) (response : ResponseValue)
     → Answers looks (known_files files) (codes "basis" ∷ name ∷ set ∷ []) response
     → WithFile schema_file (known_files files) name (λ r. WithSet r set (TellsBasis r)) response
@@ -71,8 +81,7 @@ pub basis_answered : (files : Files) (name set : List ℕ) (schema : Schema) (x 
     → IsFile schema_file (known_files files) name schema → IsSetText schema set x
     → IsAnswered files (codes "basis" ∷ name ∷ set ∷ [])
 basis_answered files name set schema x file is looks response answered =
-    after_schema files name schema (λ r. WithSet r set (TellsBasis r)) response file
-    (λ r same more. after_set schema r set x (TellsBasis r) response same is (λ y found. inl (ap (λ (a : ResponseValue). a.status) found.2)) more)
+    set_answered files name set schema x TellsBasis (λ r y given found. inl (ap (λ (a : ResponseValue). a.status) found.2)) file is response
     (basis_asks files name set looks response answered)
 
 closure_asks : (files : Files) (name set : List ℕ) (looks : Looks) (response : ResponseValue)
@@ -85,8 +94,7 @@ pub closure_answered : (files : Files) (name set : List ℕ) (schema : Schema) (
     → IsFile schema_file (known_files files) name schema → IsSetText schema set x
     → IsAnswered files (codes "closure" ∷ name ∷ set ∷ [])
 closure_answered files name set schema x file is looks response answered =
-    after_schema files name schema (λ r. WithSet r set (TellsClosure r)) response file
-    (λ r same more. after_set schema r set x (TellsClosure r) response same is (λ y found. inl (ap (λ (a : ResponseValue). a.status) found.2)) more)
+    set_answered files name set schema x TellsClosure (λ r y given found. inl (ap (λ (a : ResponseValue). a.status) found.2)) file is response
     (closure_asks files name set looks response answered)
 
 -- the set that was read is the one that the text means
@@ -206,6 +214,21 @@ after_names s r o p file other_file rest response same other names go (inl (inr 
     absurd (lacks_none p r file response (declared_alike o p s r other same names.1) lacks)
 after_names s r o p file other_file rest response same other names go (inr (same_names, found)) = go found
 
+-- a command on two schemas over the same names, of which each answer is yes or no
+two_answered : (files : Files) (name other_name : List ℕ) (schema other : Schema) (rest : Schema → Schema → List ℕ → List ℕ → Allowed)
+    → ((r p : Schema) (file other_file : List ℕ) (response : ResponseValue) → rest r p file other_file response → IsYesOrNo response.status)
+    → IsFile schema_file (known_files files) name schema → IsFile schema_file (known_files files) other_name other
+    → SameNames schema other → (response : ResponseValue)
+    → WithFile schema_file (known_files files) name (λ r. WithFile schema_file (known_files files) other_name (λ p. WithSameNames r p name other_name (rest r p name other_name))) response
+    → IsYesOrNo response.status
+two_answered files name other_name schema other rest decided held_schema held_other names response asked =
+    after_schema files name schema
+    (λ r. WithFile schema_file (known_files files) other_name (λ p. WithSameNames r p name other_name (rest r p name other_name))) response held_schema
+    (λ r same more. after_schema files other_name other (λ p. WithSameNames r p name other_name (rest r p name other_name)) response held_other
+    (λ p alike found. after_names schema r other p name other_name (rest r p name other_name) response same alike names
+    (decided r p name other_name response) found) more)
+    asked
+
 same_asks : (files : Files) (name other_name : List ℕ) (looks : Looks) (response : ResponseValue)
     → Answers looks (known_files files) (codes "check" ∷ codes "same" ∷ name ∷ other_name ∷ []) response
     → WithFile schema_file (known_files files) name (λ r. WithFile schema_file (known_files files) other_name (λ p. WithSameNames r p name other_name (Compares r p name other_name))) response
@@ -217,11 +240,7 @@ pub same_answered : (files : Files) (name other_name : List ℕ) (schema other :
     → SameNames schema other
     → IsAnswered files (codes "check" ∷ codes "same" ∷ name ∷ other_name ∷ [])
 same_answered files name other_name schema other held_schema held_other names looks response answered =
-    after_schema files name schema
-    (λ r. WithFile schema_file (known_files files) other_name (λ p. WithSameNames r p name other_name (Compares r p name other_name))) response held_schema
-    (λ r same more. after_schema files other_name other (λ p. WithSameNames r p name other_name (Compares r p name other_name)) response held_other
-    (λ p alike found. after_names schema r other p name other_name (Compares r p name other_name) response same alike names
-    (Compares-yes_or_no r p name other_name response) found) more)
+    two_answered files name other_name schema other Compares Compares-yes_or_no held_schema held_other names response
     (same_asks files name other_name looks response answered)
 
 TestsCover-yes_or_no : (r p : Schema) (file other_file : List ℕ) (response : ResponseValue) → TestsCover r p file other_file response → IsYesOrNo response.status
@@ -240,9 +259,5 @@ pub cover_checked : (files : Files) (name other_name : List ℕ) (schema other :
     → SameNames schema other
     → IsAnswered files (codes "check" ∷ codes "cover" ∷ name ∷ other_name ∷ [])
 cover_checked files name other_name schema other held_schema held_other names looks response answered =
-    after_schema files name schema
-    (λ r. WithFile schema_file (known_files files) other_name (λ p. WithSameNames r p name other_name (TestsCover r p name other_name))) response held_schema
-    (λ r same more. after_schema files other_name other (λ p. WithSameNames r p name other_name (TestsCover r p name other_name)) response held_other
-    (λ p alike found. after_names schema r other p name other_name (TestsCover r p name other_name) response same alike names
-    (TestsCover-yes_or_no r p name other_name response) found) more)
+    two_answered files name other_name schema other TestsCover TestsCover-yes_or_no held_schema held_other names response
     (cover_asks files name other_name looks response answered)

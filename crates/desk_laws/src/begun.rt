@@ -2,7 +2,7 @@ ghost use Rattle.std.specs.Prelude.{◌≡◌, ℕ, List, [], ◌∷◌, ◌++�
 ghost use Rattle.desk_outside.specs.Files.{Files};
 ghost use Rattle.desk_cli.specs.Desk.{IsLastBegun, source_in_call};
 
-/// Where a file source tells just which names it has begun, the last of them is one that `Desk` takes for
+/// Where it is known just which names a file source has begun, the last of them is one that `Desk` takes for
 /// the last: no other file is said to be unreadable.
 pub fn last_of_the_names_is_taken()
     ensures law { (files files_after : Option Files) (faults faults_after taken : ℕ)

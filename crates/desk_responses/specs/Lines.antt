@@ -1,4 +1,4 @@
--- Lines that the answers of several commands have.
+-- Lines that the answers of several commands have: for all of them.
 use Rattle.std.specs.Prelude.{ℕ, List, [], ◌++◌, codes, slice_index_or, Option, Some, None}
 use Rattle.std.specs.Fmt.{decimal}
 use Rattle.attr_sets.specs.Attributes.{Attributes}
@@ -24,3 +24,7 @@ dep_text names None = []
 -- the refusal of a scheme that has more attributes than are looked at
 abbrev pub too_wide_text : List (List ℕ) → Attributes → List ℕ
 too_wide_text names scheme = line (codes "refused: too wide: scheme " ++ set_text names scheme)
+
+-- the refusal of a word that names no table
+abbrev pub bad_table_text : List ℕ
+bad_table_text = line (codes "refused: bad table name")

@@ -9,6 +9,8 @@ mod lines;
 mod response;
 mod status;
 
-pub use lines::{put_dep, put_line, put_name, put_set_line, refusal_exit, too_wide_exit};
+pub use lines::{
+    bad_table_exit, put_dep, put_line, put_name, put_set_line, refusal_exit, too_wide_exit,
+};
 pub use response::{EarlyExit, OwnFolder, Response};
 pub use status::Status;

@@ -6,7 +6,7 @@ ghost use Rattle.attr_sets.specs.Sets.{attributes};
 ghost use Rattle.dep_model.specs.Schemas.{deps_of, lines_of, names_of, universe_of, width_of};
 ghost use Rattle.schema_printer.specs.Spelling.{printed_names_of};
 ghost use Rattle.desk_texts.specs.Texts.{refusal_text, set_line};
-ghost use Rattle.desk_responses.specs.Lines.{dep_text, line_number_text, name_text, too_wide_text};
+ghost use Rattle.desk_responses.specs.Lines.{bad_table_text, dep_text, line_number_text, name_text, too_wide_text};
 ghost use Rattle.desk_responses.specs.ResponseValues.{Says};
 ghost use Rattle.desk_responses.specs.Responses.{ExitsAs};
 
@@ -111,4 +111,17 @@ fn too_wide_line(alloc: Global, schema: &Schema, scheme: AttrSet) -> Result<Vec<
         &print_set(alloc, schema, scheme)?,
         b"",
     )
+}
+
+/// A word names no table.
+pub fn bad_table_exit(alloc: Global) -> EarlyExit
+    ensures says { ExitsAs (Says Status.Refused bad_table_text) result }
+{
+    EarlyExit::with_text(Status::Refused, bad_table_line(alloc))
+}
+
+fn bad_table_line(alloc: Global) -> Result<Vec<u8>, OutOfMemory>
+    ensures line { IfOk result (λ text. text.items ≡ bad_table_text) }
+{
+    line_of(alloc, b"refused: bad table name", b"", b"")
 }

@@ -1,6 +1,6 @@
--- The texts that several commands print: refusals, sets of attributes, and a relation that shows a
--- `no`.
-use Rattle.std.specs.Prelude.{ℕ, List, [], ◌∷◌, ◌++◌, codes}
+-- The texts that several commands print: refusals, sets of attributes, a relation that shows a `no`, and a comment on
+-- what no schema file takes.
+use Rattle.std.specs.Prelude.{ℕ, List, [], ◌∷◌, ◌++◌, codes, length, nat_lt, if◌then◌else◌}
 use Rattle.std.specs.Fmt.{decimal}
 use Rattle.attr_sets.specs.Attributes.{Attributes}
 use Rattle.schema_grammar.specs.declared.refusal.SchemaRefusal.{SchemaRefusal}
@@ -8,7 +8,9 @@ use Rattle.schema_grammar.specs.RefusalTexts.{place_and_reason}
 use Rattle.schema_grammar.specs.DiagnosticKinds.{number_of, diagnostic_kind}
 use Rattle.schema_printer.specs.Printing.{set_text}
 use Rattle.csv_text.specs.Rows.{rows_text}
+use Rattle.dep_model.specs.Dependencies.{Dependency}
 use Rattle.dep_model.specs.Tuples.{Relation}
+use Rattle.dep_model.specs.declared.schema.TheConstants.{MOST_DEPENDENCIES}
 
 -- a line of a text
 abbrev pub line : List ℕ → List ℕ
@@ -53,3 +55,10 @@ yes_text = line (codes "yes")
 -- `no` and a relation that shows it
 abbrev pub no_text : List (List ℕ) → Relation → List ℕ
 no_text names rows = line (codes "no") ++ rows_text names rows
+
+-- a comment before more dependencies than a schema file takes
+abbrev pub overlong_text : List Dependency → List ℕ
+overlong_text rules =
+    if nat_lt MOST_DEPENDENCIES (length rules)
+    then line (codes "# more than 4096 dependencies: no schema file takes so many")
+    else []

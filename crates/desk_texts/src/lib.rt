@@ -10,4 +10,4 @@ mod text;
 pub use conclusions::{checked_line, concludes_lines};
 pub use proof_refusals::{derivation_refusal_line, proof_refusal_line};
 pub use refusals::refusal_line;
-pub use text::{add_displayed, line_of, put_pair};
+pub use text::{add_displayed, line_of, overlong_comment, put_pair};

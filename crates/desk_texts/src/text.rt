@@ -1,7 +1,8 @@
 ghost use Rattle.std.specs.Prelude.{◌≡◌, ◌++◌, [], ◌∷◌, IfOk, IfSome, OnOk};
-ghost use Rattle.desk_texts.specs.Texts.{line};
+ghost use Rattle.dep_model.specs.Deps.{dependencies_of};
+ghost use Rattle.desk_texts.specs.Texts.{line, overlong_text};
 
-use dep_model::OutOfMemory;
+use dep_model::{Dep, MOST_DEPENDENCIES, OutOfMemory};
 use schema_printer::add;
 use std::alloc::Global;
 use std::fmt::Display;
@@ -41,4 +42,15 @@ pub fn line_of(
     add(&mut text, back)?;
     add(&mut text, b"\n")?;
     Ok(text)
+}
+
+/// A comment where there are more dependencies than a schema file takes.
+pub fn overlong_comment(alloc: Global, rules: &[Dep]) -> Result<Vec<u8>, OutOfMemory>
+    ensures comment { IfOk result (λ text. text.items ≡ overlong_text (dependencies_of rules.now)) }
+{
+    if rules.len() > MOST_DEPENDENCIES {
+        let comment = b"# more than 4096 dependencies: no schema file takes so many";
+        return line_of(alloc, comment, b"", b"");
+    }
+    Ok(Vec::new(alloc))
 }

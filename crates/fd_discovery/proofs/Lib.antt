@@ -1,4 +1,5 @@
 pub mod FieldLemmas
+pub mod HeaderLemmas
 pub mod HeadingLemmas
 pub mod OrderLemmas
 pub mod LeaderLemmas

@@ -5,6 +5,10 @@
 //! exactly the minimal functional dependencies that rows obey: `X -> A` where no proper subset of X
 //! determines A (Huhtala, Kärkkäinen, Porkka and Toivonen 1999). The list implies a functional
 //! dependency between columns exactly where the rows obey it.
+//!
+//! For other searches there are the numbers of the rows' values with the orders of the columns (`CodeColumns`),
+//! the leaders of rows on one column more (`refine_leaders`) and the attributes that no dependency gives
+//! (`attributes_not_given`).
 #![tactic(auto)]
 
 mod columns;
@@ -27,4 +31,5 @@ pub use laws::one_reading;
 pub use leaders::refine_leaders;
 pub use ordering::RowOrder;
 pub use refusal::DiscoverRefusal;
+pub use searching::attributes_not_given;
 pub use table::CodeColumns;

@@ -74,8 +74,8 @@ pub fn add_minimal(
     Ok(())
 }
 
-// The attributes outside a set that no listed dependency gives from it.
-fn attributes_not_given(found: &[Dep], set: AttrSet, width: u8) -> AttrSet
+/// The attributes below a width that are outside a set and that no listed dependency gives from it.
+pub fn attributes_not_given(found: &[Dep], set: AttrSet, width: u8) -> AttrSet
     requires width { width ≤ MOST_ATTRIBUTES }
     ensures rest { AreUndetermined width (dependencies_of found.now) (attributes set) (attributes result) }
 {

@@ -25,8 +25,8 @@ use Rattle.schema_grammar.proofs.PrintedSchemas.{printed-schema-law}
 use Rattle.schema_printer.specs.Printing.{schema_text}
 use Rattle.desk_discovery.specs.Discoveries.{HasTextColumns, found_text, rules_text}
 use Rattle.desk_discovery.proofs.RuleLemmas.{schema_found}
-use Rattle.desk_implication.specs.Projections.{overlong_text}
-use Rattle.desk_implication.proofs.ProjectionLemmas.{not_overlong}
+use Rattle.desk_texts.specs.Texts.{overlong_text}
+use Rattle.desk_texts.proofs.OverlongLemmas.{not_overlong}
 
 -- ---- the text
 rules_printed : (header : List (List ℕ)) (s : Schema) (ds : List Dependency) → HasTextColumns header s

@@ -11,7 +11,7 @@ ghost use Rattle.schema_grammar.specs.Schemas.{MeansSchema};
 ghost use Rattle.schema_grammar.specs.declared.format.TheConstants.{MOST_DEPENDENCY_LINES};
 ghost use Rattle.schema_printer.specs.Printing.{schema_text};
 ghost use Rattle.desk_discovery.specs.Discoveries.{HasTextColumns, found_text};
-ghost use Rattle.desk_implication.specs.Projections.{overlong_text};
+ghost use Rattle.desk_texts.specs.Texts.{overlong_text};
 
 /// What `discover` prints is the text of a schema of text columns under the header's names, with the
 /// dependencies that were found, after a comment where no schema file takes so many. Where a text may have so

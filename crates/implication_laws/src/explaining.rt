@@ -1,4 +1,4 @@
-//! Laws of the reasons that explanations tell.
+//! Laws of the reasons that explanations give.
 
 ghost use Rattle.std.specs.Prelude.{◌<◌, ◌↔◌, ℕ};
 ghost use Rattle.attr_sets.specs.Attributes.{only, difference};

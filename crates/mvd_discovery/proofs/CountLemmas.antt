@@ -1,4 +1,4 @@
--- What the counts tell of a dependency.
+-- How the counts decide whether the rows obey a dependency.
 use Rattle.std.proofs.Common.{◌≡◌, ◌*◌, ◌<◌, ◌≤◌, ◌^◌, ◌↔◌, ℕ, Bool, IsTrue, List, length, subst, sym, ap, ◌∙◌, zero, suc, inl, inr, ⊎_elim, pow-suc, refl, arith}
 use Rattle.std.proofs.lemmas.Bool.{cases_eq}
 use Rattle.attr_sets.specs.Attributes.{Attributes, IsSubset, below, difference, union}
@@ -10,7 +10,7 @@ use Rattle.csv_rows.specs.Numberings.{number_at}
 use Rattle.dep_model.specs.Dependencies.{ObeysFd, ObeysMvd}
 use Rattle.dep_model.specs.Tuples.{Relation}
 use Rattle.mvd_laws.specs.Sizes.{AreSizes}
-use Rattle.mvd_laws.proofs.SizeLemmas.{sizes_tell_fd, sizes_tell_mvd}
+use Rattle.mvd_laws.proofs.SizeLemmas.{fd_by_counts, mvd_by_counts}
 use Rattle.mvd_discovery.specs.Counting.{AreCounts, has_place, sizes_at}
 use Rattle.mvd_discovery.specs.declared.counts.Counts.{Counts}
 use Rattle.mvd_discovery.proofs.NumberLemmas.{number_from_within}
@@ -64,28 +64,28 @@ module _ (r : Relation) (counts : Counts) (are : AreCounts r counts) where
       → IsSubset x (below counts.width) → IsSubset y (below counts.width) → length (sizes_at counts t.0) ≡ length (sizes_at counts s.0)
   same_length s t x y fits also is that x_in y_in = (sizes_of t y also that y_in).one_each ∙ sym (sizes_of s x fits is x_in).one_each
 
-  pub told_fd : (x y : Attributes) (s t : AttrSet) → IsSubset x (below counts.width) → IsSubset y (below counts.width) → s.0 < 2 ^ MOST_ATTRIBUTES
+  pub counts_decide_fd : (x y : Attributes) (s t : AttrSet) → IsSubset x (below counts.width) → IsSubset y (below counts.width) → s.0 < 2 ^ MOST_ATTRIBUTES
       → t.0 < 2 ^ MOST_ATTRIBUTES → attributes s ≡ x → attributes t ≡ union x y
       → ((j : ℕ) → j < length (sizes_at counts s.0) → number_at (sizes_at counts s.0) j ≡ number_at (sizes_at counts t.0) j) ↔ ObeysFd x y r
-  told_fd x y s t x_in y_in fits also is that =
+  counts_decide_fd x y s t x_in y_in fits also is that =
       let by_x = sizes_of s x fits is x_in in
       let by_both = sizes_of t (union x y) also that (union_within counts.width x y x_in y_in) in
-      let told = sizes_tell_fd counts.width r are.ones are.different x y x_in y_in (sizes_at counts s.0) (sizes_at counts t.0) by_x by_both in (
+      let told = fd_by_counts counts.width r are.ones are.different x y x_in y_in (sizes_at counts s.0) (sizes_at counts t.0) by_x by_both in (
         (λ equal. told.0 (λ j low. equal j (subst (λ (m : ℕ). j < m) (sym by_x.one_each) low))),
         (λ obeys j low. told.1 obeys j (subst (λ (m : ℕ). j < m) by_x.one_each low)),
       )
 
-  pub told_mvd : (x y : Attributes) (s t u : AttrSet) → IsSubset x (below counts.width) → IsSubset y (below counts.width) → s.0 < 2 ^ MOST_ATTRIBUTES
+  pub counts_decide_mvd : (x y : Attributes) (s t u : AttrSet) → IsSubset x (below counts.width) → IsSubset y (below counts.width) → s.0 < 2 ^ MOST_ATTRIBUTES
       → t.0 < 2 ^ MOST_ATTRIBUTES → u.0 < 2 ^ MOST_ATTRIBUTES → attributes s ≡ x → attributes t ≡ union x y
       → attributes u ≡ union x (difference (below counts.width) (union x y))
       → ((j : ℕ) → j < length (sizes_at counts s.0)
       → number_at (sizes_at counts s.0) j ≡ number_at (sizes_at counts t.0) j * number_at (sizes_at counts u.0) j) ↔ ObeysMvd (below counts.width) x y r
-  told_mvd x y s t u x_in y_in fits also too is that rests =
+  counts_decide_mvd x y s t u x_in y_in fits also too is that rests =
       let by_x = sizes_of s x fits is x_in in
       let by_both = sizes_of t (union x y) also that (union_within counts.width x y x_in y_in) in
       let by_rest = sizes_of u (union x (difference (below counts.width) (union x y))) too rests
       (union_within counts.width x (difference (below counts.width) (union x y)) x_in (λ k m. grind (arith, m))) in
-      let told = sizes_tell_mvd counts.width r are.ones are.different x y x_in y_in (sizes_at counts s.0) (sizes_at counts t.0) (sizes_at counts u.0) by_x by_both by_rest in (
+      let told = mvd_by_counts counts.width r are.ones are.different x y x_in y_in (sizes_at counts s.0) (sizes_at counts t.0) (sizes_at counts u.0) by_x by_both by_rest in (
         (λ products. told.0 (λ j low. products j (subst (λ (m : ℕ). j < m) (sym by_x.one_each) low))),
         (λ obeys j low. told.1 obeys j (subst (λ (m : ℕ). j < m) by_x.one_each low)),
       )

@@ -3,7 +3,7 @@ ghost use Rattle.attr_sets.specs.Attributes.{below};
 ghost use Rattle.dep_model.specs.Deps.{IsDepWithin, dependencies_of};
 ghost use Rattle.dep_model.specs.Tuples.{IsOver};
 ghost use Rattle.fd_discovery.specs.declared.headed_rows.TheConstants.{WIDEST_WITH_ALL};
-ghost use Rattle.mvd_laws.specs.Telling.{TellsAll};
+ghost use Rattle.mvd_laws.specs.Covers.{IsCoverOfAll};
 ghost use Rattle.mvd_discovery.specs.Finding.{AreAllRules};
 
 use crate::counts::Counts;
@@ -27,7 +27,7 @@ pub fn discover_all(
     requires over { IsOver width rows.now }
     requires fits_u32 { length rows.now < 2 ^ 32 }
     ensures rules { IfOk result (λ found. AreAllRules width rows.now (dependencies_of found.items)) }
-    ensures tells { IfOk result (λ found. TellsAll width rows.now (dependencies_of found.items)) }
+    ensures cover { IfOk result (λ found. IsCoverOfAll width rows.now (dependencies_of found.items)) }
     ensures within { IfOk result (λ found. All (IsDepWithin (below width)) found.items) }
 {
     let mut found = discover(alloc, hashing, width, rows)?;

@@ -10,7 +10,7 @@ use Rattle.dep_model.specs.Dependencies.{ObeysMvd}
 use Rattle.dep_model.proofs.RuleLemmas.{complementation_obeyed, mvd_intersection_obeyed}
 use Rattle.std.specs.Prelude.{Contains}
 use Rattle.mvd_laws.specs.Reduced.{IsPartOfRows, IsBlockOfRows}
-use Rattle.mvd_laws.proofs.DecideLemmas.{IsTold, told_both, tell_mvd, tell_set}
+use Rattle.mvd_laws.proofs.DecideLemmas.{IsDecidable, decide_both, decide_mvd, decide_not, find_set}
 
 -- ---- what a relation obeys of the right sides of one set
 -- only both sides together count
@@ -45,14 +45,14 @@ part_difference n r x y z part other some = record {
     gone : (k : ℕ) → y k ≡ true → z k ≡ false → difference y z k ≡ false → ⊥
     gone k m h e = true≢false (grind (arith, m, h, e))
 
-tell_part : (n : ℕ) (r : Relation) (x z : Attributes) → IsSubset x (below n) → IsSubset z (below n) → IsTold (IsPartOfRows n r x z)
-tell_part n r x z x_in z_in = ⊎_elim
+decide_part : (n : ℕ) (r : Relation) (x z : Attributes) → IsSubset x (below n) → IsSubset z (below n) → IsDecidable (IsPartOfRows n r x z)
+decide_part n r x z x_in z_in = ⊎_elim
     (λ meet. inr (λ part. true≢false (sym meet.2 ∙ part.outside meet.0 meet.1)))
     (λ apart. ⊎_elim
     (λ some. ⊎_elim
     (λ obeys. inl (record { within = z_in; outside = apart; not_empty = λ empty. true≢false (sym some.2 ∙ empty some.0); obeyed = obeys }))
     (λ not. inr (λ part. not part.obeyed))
-    (tell_mvd n x z r x_in z_in))
+    (decide_mvd n x z r x_in z_in))
     (λ empty. inr (λ part. part.not_empty empty))
     (tell_empty n z z_in))
     (tell_apart n z x z_in)
@@ -64,9 +64,9 @@ pub record HasSmaller (n : ℕ) (r : Relation) (x y : Attributes) : Type 0 where
   pub inside : IsSubset smaller y
   pub proper : IsSubset y smaller → ⊥
 
-tell_block : (n : ℕ) (r : Relation) (x y : Attributes) → IsSubset x (below n) → IsPartOfRows n r x y
+block_or_smaller : (n : ℕ) (r : Relation) (x y : Attributes) → IsSubset x (below n) → IsPartOfRows n r x y
     → IsBlockOfRows n r x y ⊎ HasSmaller n r x y
-tell_block n r x y x_in part = ⊎_elim
+block_or_smaller n r x y x_in part = ⊎_elim
     (λ found. inr (record { smaller = found.0; part = found.2.0; inside = found.2.1.0; proper = found.2.1.1 }))
     (λ none. inl (record {
       part = part;
@@ -75,15 +75,12 @@ tell_block n r x y x_in part = ⊎_elim
           (λ all. all)
           (tell_subset n y z part.within);
     }))
-    (tell_set n (λ (z : Attributes). IsPartOfRows n r x z × (IsSubset z y × (IsSubset y z → ⊥)))
-    (λ z z_in. told_both (tell_part n r x z x_in z_in) (told_both (tell_within z y z_in) (told_no (tell_within y z part.within)))))
+    (find_set n (λ (z : Attributes). IsPartOfRows n r x z × (IsSubset z y × (IsSubset y z → ⊥)))
+    (λ z z_in. decide_both (decide_part n r x z x_in z_in) (decide_both (decide_within z y z_in) (decide_not (decide_within y z part.within)))))
   where
-    tell_within : (v w : Attributes) → IsSubset v (below n) → IsTold (IsSubset v w)
-    tell_within v w v_in = ⊎_elim
+    decide_within : (v w : Attributes) → IsSubset v (below n) → IsDecidable (IsSubset v w)
+    decide_within v w v_in = ⊎_elim
         (λ out. inr (λ all. true≢false (sym (all out.0 out.2) ∙ out.3))) (λ all. inl all) (tell_subset n v w v_in)
-
-    told_no : {P : Type 0} → IsTold P → IsTold (P → ⊥)
-    told_no {P} told = ⊎_elim (λ (p : P). inr (λ (not : P → ⊥). not p)) (λ (not : P → ⊥). inl not) told
 
 -- what holds of each block, and of the union of two sets of which it holds, holds of each part
 pub each_part : (n : ℕ) (r : Relation) (x : Attributes) (P : Attributes → Type 0) → IsSubset x (below n)
@@ -105,7 +102,7 @@ each_part n r x P x_in block join (suc m) y less part = ⊎_elim
     (join z (difference y z) has.part.within
     (each_part n r x P x_in block join m z (omega (arith, less, first)) has.part)
     (each_part n r x P x_in block join m (difference y z) (omega (arith, less, second)) rest_is)))
-    (tell_block n r x y x_in part)
+    (block_or_smaller n r x y x_in part)
   where
     whole : (k : ℕ) (y z : Attributes) → (z k ≡ true → y k ≡ true) → union z (difference y z) k ≡ y k
     whole k y z inside = elim (cases_Bool (z k)) [

@@ -1,4 +1,4 @@
--- Functional dependencies that tell what a relation obeys of their kind, with the reduced multivalued ones, imply just
+-- A cover of the functional dependencies that a relation obeys, with the reduced multivalued ones, implies just
 -- what the relation obeys.
 use Rattle.std.proofs.Common.{◌≡◌, ◌+◌, ◌<◌, ◌≤◌, ◌⊎◌, ℕ, zero, suc, true, false, List, ◌++◌, refl, sym, ap, subst, ◌∙◌, inl, inr, ⊎_elim, arith}
 use mathlib.Core.Path.{fun_ext}
@@ -16,16 +16,16 @@ use Rattle.min_cover.specs.Covers.{IsThinned}
 use Rattle.min_cover.proofs.CoverLemmas.{thinned_legal-to, thinned_legal-from}
 use Rattle.min_cover.proofs.ListLemmas.{All-left, All-right}
 use Rattle.mvd_laws.specs.Reduced.{AreAllReduced, HoldsWithLess, IsBlockOfRows, IsPartOfRows, IsReduced, IsReducedMvd}
-use Rattle.mvd_laws.specs.Telling.{TellsFunctional}
-use Rattle.mvd_laws.proofs.DecideLemmas.{IsTold, told_both, told_either, tell_below, tell_fd, tell_mvd}
+use Rattle.mvd_laws.specs.Covers.{IsCoverOfFunctional}
+use Rattle.mvd_laws.proofs.DecideLemmas.{IsDecidable, decide_both, decide_either, decide_fd, decide_mvd, find_below}
 use Rattle.mvd_laws.proofs.BlockLemmas.{each_part, mvd_same}
 
 -- x ->> the whole rest of the scheme
 trivial_obeyed : (n : ℕ) (x y : Attributes) (r : Relation) → IsEmpty (difference (below n) (union x y)) → ObeysMvd (below n) x y r
 trivial_obeyed n x y r empty t u t_in u_in agree = (t, t_in, (λ k m. refl), (λ k m. absurd (true≢false (sym m ∙ empty k))))
 
-tell_member : (x : Attributes) (a : ℕ) → IsTold (x a ≡ true)
-tell_member x a = ⊎_elim (λ (h : x a ≡ true). inl h) (λ (h : x a ≡ false). inr (λ m. true≢false (sym m ∙ h))) (cases_Bool (x a))
+decide_member : (x : Attributes) (a : ℕ) → IsDecidable (x a ≡ true)
+decide_member x a = ⊎_elim (λ (h : x a ≡ true). inl h) (λ (h : x a ≡ false). inr (λ m. true≢false (sym m ∙ h))) (cases_Bool (x a))
 
 -- an attribute back to the left side
 back_left : (x : Attributes) (a k : ℕ) → x a ≡ true → union (difference x (only a)) (only a) k ≡ x k
@@ -41,7 +41,7 @@ both_sides x y a k member = elim (cases_eq k a) [
 ]
 
 module _ (n : ℕ) (r : Relation) (fds mvds ds : List Dependency) (over : IsOver n r) (obeyed : All (λ d. Obeys n d r) fds)
-    (tells : TellsFunctional n r fds) (reduced : AreAllReduced n r mvds) (thinned : IsThinned n fds mvds ds) where
+    (cover : IsCoverOfFunctional n r fds) (reduced : AreAllReduced n r mvds) (thinned : IsThinned n fds mvds ds) where
   -- ---- what is left out is implied by the rest
   legal_fds : (s : Relation) → IsLegal n ds s → IsLegal n fds s
   legal_fds s legal =
@@ -49,7 +49,7 @@ module _ (n : ℕ) (r : Relation) (fds mvds ds : List Dependency) (over : IsOver
       record { over = both.over; obeys = All-left (λ (d : Dependency). Obeys n d s) fds mvds both.obeys }
 
   implied_fd : (x y : Attributes) → IsSubset x (below n) → IsSubset y (below n) → ObeysFd x y r → Implies n ds (fd x y)
-  implied_fd x y x_in y_in obeys s legal = (tells x y x_in y_in).1 obeys s (legal_fds s legal)
+  implied_fd x y x_in y_in obeys s legal = (cover x y x_in y_in).1 obeys s (legal_fds s legal)
 
   implied_reduced : (x y : Attributes) → IsReduced n r x y → Implies n ds (mvd x y)
   implied_reduced x y is s legal =
@@ -102,11 +102,11 @@ module _ (n : ℕ) (r : Relation) (fds mvds ds : List Dependency) (over : IsOver
             | inr other ↦ absurd (true≢false (grind (arith, nat_tests, m, h, other)))
           ]
 
-  tell_less : (x y : Attributes) (a : ℕ) → IsSubset x (below n) → IsSubset y (below n) → a < n → IsTold (HoldsWithLess n r x y a)
-  tell_less x y a x_in y_in low =
+  decide_less : (x y : Attributes) (a : ℕ) → IsSubset x (below n) → IsSubset y (below n) → a < n → IsDecidable (HoldsWithLess n r x y a)
+  decide_less x y a x_in y_in low =
       ⊎_elim
-      (λ (member : x a ≡ true). told_both (tell_member x a)
-      (told_either (tell_mvd n (difference x (only a)) y r less_in y_in) (tell_mvd n (difference x (only a)) (union y (only a)) r less_in (more_in member))))
+      (λ (member : x a ≡ true). decide_both (decide_member x a)
+      (decide_either (decide_mvd n (difference x (only a)) y r less_in y_in) (decide_mvd n (difference x (only a)) (union y (only a)) r less_in (more_in member))))
       (λ (lacks : x a ≡ false). inr (λ holds. true≢false (sym holds.0 ∙ lacks)))
       (cases_Bool (x a))
     where
@@ -136,8 +136,8 @@ module _ (n : ℕ) (r : Relation) (fds mvds ds : List Dependency) (over : IsOver
         free = free;
         short = λ a holds. never a (ltb-true a n (x_in a holds.0)) holds;
       }))
-      (tell_below n (HoldsWithLess n r x y) (λ a low. tell_less x y a x_in y_in low)))
-      (tell_fd n x y r x_in y_in))
+      (find_below n (HoldsWithLess n r x y) (λ a low. decide_less x y a x_in y_in low)))
+      (decide_fd n x y r x_in y_in))
       (λ empty. λ s legal. trivial_obeyed n x y s empty)
       (tell_empty n (difference (below n) (union x y)) (λ k m. grind (arith, m)))
     where
@@ -179,7 +179,7 @@ module _ (n : ℕ) (r : Relation) (fds mvds ds : List Dependency) (over : IsOver
         subst (λ (e : Dependency). Obeys n e r) (sym is.2) is.3.block.part.obeyed) mvds reduced.each);
   })
 
-  pub tells_all : (d : Dependency) → IsWithin (below n) d → Implies n ds d ↔ Obeys n d r
-  tells_all (fd x y) within = ((λ implied. implied r legal_rows), (λ obeys. implied_fd x y within.0 within.1 obeys))
-  tells_all (mvd x y) within =
+  pub covers_all : (d : Dependency) → IsWithin (below n) d → Implies n ds d ↔ Obeys n d r
+  covers_all (fd x y) within = ((λ implied. implied r legal_rows), (λ obeys. implied_fd x y within.0 within.1 obeys))
+  covers_all (mvd x y) within =
       ((λ implied. implied r legal_rows), (λ obeys. implied_mvd (suc (count_below x n)) x within.0 (omega arith) y within.1 obeys))

@@ -313,8 +313,8 @@ module _ (n : ℕ) (r : Relation) (ones : List ℕ) (different : AreDifferentRow
             (λ k k_in h. eq-eqb _ _ (to_coarse k j k_in j_in (eqb-true _ _ h))) same i i_in) ∙ other) in
             omega (arith, within, apart)
 
-    pub sizes_tell_fd : ((j : ℕ) → j < length ones → number_at sx j ≡ number_at sl j) ↔ ObeysFd x y r
-    sizes_tell_fd = (equal_obeyed, obeyed_equal)
+    pub fd_by_counts : ((j : ℕ) → j < length ones → number_at sx j ≡ number_at sl j) ↔ ObeysFd x y r
+    fd_by_counts = (equal_obeyed, obeyed_equal)
 
   -- ---- multivalued dependencies
   module _ (sx sl sr : List ℕ) (by_x : AreSizes r ones x sx) (by_left : AreSizes r ones (union x y) sl)
@@ -359,8 +359,8 @@ module _ (n : ℕ) (r : Relation) (ones : List ℕ) (different : AreDifferentRow
               (λ a h. sym (k.2 a (rest_in a h)) ∙ v.3 a h)),
         )
 
-    pub sizes_tell_mvd : ((j : ℕ) → j < length ones → number_at sx j ≡ number_at sl j * number_at sr j) ↔ ObeysMvd (below n) x y r
-    sizes_tell_mvd = (
+    pub mvd_by_counts : ((j : ℕ) → j < length ones → number_at sx j ≡ number_at sl j * number_at sr j) ↔ ObeysMvd (below n) x y r
+    mvd_by_counts = (
       (λ products. paired_obeyed (products_paired (length ones) by_x.numbers by_left.numbers by_rest.numbers left_finer rest_finer apart
           (λ j low. sym (by_x.each j low) ∙ products j low ∙ ap (λ (m : ℕ). m * number_at sr j) (by_left.each j low)
           ∙ ap (λ (m : ℕ). size_at by_left.numbers (length ones) j * m) (by_rest.each j low)))),

@@ -1,5 +1,5 @@
--- How many rows agree with a row, each different row once: for the law by which a multivalued dependency is told, and
--- for the code that counts. `Desk` does not cite it.
+-- How many rows agree with a row, each different row once: for the laws that decide by counts whether rows obey a
+-- dependency, and for the code that counts. `Desk` does not cite it.
 use Rattle.std.specs.Prelude.{◌≡◌, ◌<◌, ◌==◌, ◌↔◌, ℕ, List, length}
 use Rattle.attr_sets.specs.Attributes.{Attributes, below, count_below}
 use Rattle.csv_rows.specs.Numberings.{number_at}

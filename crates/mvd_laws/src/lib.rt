@@ -1,9 +1,10 @@
 //! Multivalued dependencies that one relation obeys, and how a list says all that it obeys.
 //!
 //! In one relation the right sides of a set are closed under union and difference, so each is a union of blocks. The
-//! law `reduced_ones_tell_all` says that functional dependencies which tell what the relation obeys of their kind,
-//! with its reduced multivalued ones, imply just what it obeys. The laws of sizes say how a dependency is told by
-//! counting. Each law is a function that does nothing, whose clause is the law; so the gate asks for its proof.
+//! law `reduced_ones_cover_all` says that a cover of the functional dependencies that the relation obeys, with its
+//! reduced multivalued ones, is a cover of all that it obeys. The laws of counts say how counting decides whether a
+//! dependency is obeyed. Each law is a function that does nothing, whose clause is the law; so the gate asks for its
+//! proof.
 #![tactic(auto)]
 
 ghost use Rattle.std.specs.Prelude.{◌≡◌, ◌*◌, ◌<◌, ◌↔◌, ℕ, List, length, All};
@@ -14,18 +15,18 @@ ghost use Rattle.dep_model.specs.Dependencies.{Dependency, Obeys, ObeysFd, Obeys
 ghost use Rattle.min_cover.specs.Covers.{IsThinned};
 ghost use Rattle.mvd_laws.specs.Reduced.{AreAllReduced};
 ghost use Rattle.mvd_laws.specs.Sizes.{AreDifferentRows, AreSizes};
-ghost use Rattle.mvd_laws.specs.Telling.{TellsFunctional, TellsAll};
+ghost use Rattle.mvd_laws.specs.Covers.{IsCoverOfFunctional, IsCoverOfAll};
 
-/// Functional dependencies that tell what a relation obeys of their kind, and its reduced multivalued dependencies
-/// without those that the others imply, imply just the dependencies that it obeys.
-pub fn reduced_ones_tell_all()
+/// A cover of the functional dependencies that a relation obeys, with its reduced multivalued dependencies without
+/// those that the others imply, is a cover of all dependencies that it obeys.
+pub fn reduced_ones_cover_all()
     ensures law { (n : ℕ) (r : Relation) (fds mvds ds : List Dependency) → IsOver n r
-        → All (λ d. Obeys n d r) fds → TellsFunctional n r fds → AreAllReduced n r mvds
-        → IsThinned n fds mvds ds → TellsAll n r ds }
+        → All (λ d. Obeys n d r) fds → IsCoverOfFunctional n r fds → AreAllReduced n r mvds
+        → IsThinned n fds mvds ds → IsCoverOfAll n r ds }
 {}
 
 /// A relation obeys `x -> y` exactly where as many of its different rows agree with each on `x` as on `x` and `y`.
-pub fn sizes_tell_functional()
+pub fn functional_by_counts()
     ensures law { (n : ℕ) (r : Relation) (ones : List ℕ) → AreDifferentRows n r ones → (x y : Attributes)
         → IsSubset x (below n) → IsSubset y (below n) → (by_left by_both : List ℕ)
         → AreSizes r ones x by_left → AreSizes r ones (union x y) by_both
@@ -34,7 +35,7 @@ pub fn sizes_tell_functional()
 
 /// It obeys `x ->> y` exactly where, for each of its different rows, those that agree with it on `x` are as many as
 /// those that agree on `x` and `y` times those that agree on `x` and the rest (Lee 1987 has it by entropies).
-pub fn sizes_tell_multivalued()
+pub fn multivalued_by_counts()
     ensures law { (n : ℕ) (r : Relation) (ones : List ℕ) → AreDifferentRows n r ones → (x y : Attributes)
         → IsSubset x (below n) → IsSubset y (below n) → (by_left by_both by_rest : List ℕ)
         → AreSizes r ones x by_left → AreSizes r ones (union x y) by_both

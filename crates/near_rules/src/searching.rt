@@ -13,7 +13,8 @@ ghost use Rattle.near_rules.specs.Searching.{AreFoundBefore, AreFoundUpTo, AreGr
 use crate::found::{Found, MOST_TRIED, Sought, TooManyTried};
 use attr_sets::AttrSet;
 use csv_rows::Groups;
-use dep_model::{Dep, Failure, sides};
+use dep_model::{Dep, Failure};
+use fd_discovery::attributes_not_given;
 use row_measures::error_within;
 use std::alloc::Global;
 
@@ -45,7 +46,7 @@ pub fn search_above(
     }
     for attribute in 0..bound {
         let larger = set.with(attribute);
-        let wanted = rights_to_try(&found.deps, larger, sought.rights);
+        let wanted = attributes_not_given(&found.deps, larger, sought.rights);
         if !wanted.is_empty() {
             let finer = groups.refined(alloc, &sought.codes, AttrSet::single(attribute))?;
             try_set(alloc, sought, &finer, larger, wanted, found)?;
@@ -121,19 +122,4 @@ fn try_right(
         found.errors.push(error as u32)?;
     }
     Ok(())
-}
-
-// The right sides below a bound that are outside a set and that no listed dependency gives from it.
-fn rights_to_try(found: &[Dep], set: AttrSet, rights: u8) -> AttrSet
-    requires rights { rights ≤ MOST_ATTRIBUTES }
-    ensures rest { AreUndetermined rights (dependencies_of found.now) (attributes set) (attributes result) }
-{
-    let mut given = set;
-    for dep in found {
-        let (lhs, rhs) = sides(*dep);
-        if lhs.is_subset(set) {
-            given = given.union(rhs);
-        }
-    }
-    AttrSet::full(rights).difference(given)
 }

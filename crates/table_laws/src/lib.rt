@@ -1,5 +1,5 @@
 //! Laws of tables. What a destination over a folder writes of a table as CSV is read back as the table's
-//! rows, and what stands for a value in its SQL tells the value, also that it is missing. A design in its
+//! rows, and what stands for a value in its SQL determines the value, also that it is missing. A design in its
 //! order states each reference that it can.
 #![tactic(auto)]
 
@@ -52,13 +52,13 @@ pub fn migrated_tables_are_read_back()
         (tables_of_migration s names plan rows) }
 {}
 
-/// A text between single quotes tells the text: two values with the same one are the same. So nothing is lost
+/// A text between single quotes determines the text: two values with the same one are the same. So nothing is lost
 /// in an INSERT line.
 pub fn texts_of_values_differ()
     ensures law { (one other : List ℕ) → quoted_text one ≡ quoted_text other → one ≡ other }
 {}
 
-/// What stands for a value in an INSERT line tells the value, also that it is missing: in one column two values
+/// What stands for a value in an INSERT line determines the value, also that it is missing: in one column two values
 /// with the same text are the same.
 pub fn cells_of_values_differ()
     ensures values { (one other : List ℕ) → IsBytes one → IsBytes other

@@ -60,7 +60,7 @@ check_text s table =
     ++ missing_text s table (members_below (width_of s) (required_of s))
     ++ flat_map (value_text s table) (range_with_len 0 (width_of s)) ++ rules_text s table
 
--- ---- what the queries tell
+-- ---- what the queries show
 -- no query for what breaks a rule gives a tuple over a relation
 abbrev pub NothingBreaks : Schema → Relation → Type 0
 NothingBreaks s r =

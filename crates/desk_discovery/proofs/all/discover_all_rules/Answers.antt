@@ -34,7 +34,7 @@ returns c =
     let h = c.args.headed in
     let ds = dependencies_of c.in_ok-deps.deps.items in
     let width : c.len.result ≡ length h.names.items = omega (arith, c.len.ensures, c.args.headed.names.ok) in
-    let rules : AreAllRulesOf c.len.result (rows_under h) ds = record { rules = c.in_ok-deps.ensures.rules; tells = c.in_ok-deps.ensures.tells } in
+    let rules : AreAllRulesOf c.len.result (rows_under h) ds = record { rules = c.in_ok-deps.ensures.rules; cover = c.in_ok-deps.ensures.cover } in
     record {
       response = (
         ds,

@@ -4,7 +4,7 @@ use Rattle.dep_model.specs.Deps.{dependencies_of}
 use Rattle.dep_model.specs.declared.dep.Dep.{Dep}
 use Rattle.schema_printer.specs.Printing.{schema_text}
 use Rattle.schema_printer.specs.Spelling.{printed_names_of}
-use Rattle.desk_implication.specs.Projections.{overlong_text}
+use Rattle.desk_texts.specs.Texts.{overlong_text}
 use Rattle.desk_responses.specs.ResponseValues.{Says}
 use Rattle.desk_responses.specs.Responses.{response_value}
 use Rattle.desk_responses.specs.declared.status.Status.TheVariants.{Yes}

@@ -4,7 +4,7 @@ use Rattle.std.proofs.Common.{◌≡◌, length, refl, sym, ap, subst, ◌∙◌
 use Rattle.attr_sets.specs.Attributes.{Attributes, IsSubset, below, union}
 use Rattle.attr_sets.specs.Sets.{attributes}
 use Rattle.attr_sets.proofs.AttributesLemmas.{union_within}
-use Rattle.mvd_discovery.proofs.CountLemmas.{joined_equal, place, same_length, told_fd}
+use Rattle.mvd_discovery.proofs.CountLemmas.{joined_equal, place, same_length, counts_decide_fd}
 use Rattle.mvd_discovery.proofs.obeying.obeys_functional.Goals as goal
 use Rattle.mvd_discovery.proofs.obeying.obeys_functional.Goals.{After-union}
 
@@ -32,6 +32,6 @@ pub returns : goal.returns
 returns c = record {
   obeys = λ r are. joined_equal c.are_equal.result _ _ c.sizes.result.now c.sizes-2.result.now _ c.sizes.ensures.sizes c.sizes-2.ensures.sizes
       c.are_equal.ensures.equal
-      (told_fd r c.args.counts.now are (attributes c.args.left) (attributes c.args.right) c.args.left c.union.result c.requires.left c.requires.right
+      (counts_decide_fd r c.args.counts.now are (attributes c.args.left) (attributes c.args.right) c.args.left c.union.result c.requires.left c.requires.right
       (omega arith) (omega arith) refl c.union.ensures.members);
 }

@@ -4,7 +4,7 @@ use Rattle.std.proofs.Common.{◌≡◌, length, refl, sym, ap, subst, ◌∙◌
 use Rattle.attr_sets.specs.Attributes.{Attributes, IsSubset, below, difference, union}
 use Rattle.attr_sets.specs.Sets.{attributes}
 use Rattle.attr_sets.proofs.AttributesLemmas.{union_within}
-use Rattle.mvd_discovery.proofs.CountLemmas.{joined_products, place, same_length, told_mvd}
+use Rattle.mvd_discovery.proofs.CountLemmas.{joined_products, place, same_length, counts_decide_mvd}
 use Rattle.mvd_discovery.proofs.obeying.obeys_multivalued.Goals as goal
 use Rattle.mvd_discovery.proofs.obeying.obeys_multivalued.Goals.{After-union-others}
 
@@ -66,6 +66,6 @@ returns c =
     record {
       obeys = λ r are. joined_products c.are_products.result _ _ _ c.sizes.result.now c.sizes-2.result.now c.sizes-3.result.now _ c.sizes.ensures.sizes
           c.sizes-2.ensures.sizes c.sizes-3.ensures.sizes c.are_products.ensures.products
-          (told_mvd r c.args.counts.now are (attributes c.args.left) (attributes c.args.right) c.args.left c.union-both.result c.union-others.result c.requires.left c.requires.right
+          (counts_decide_mvd r c.args.counts.now are (attributes c.args.left) (attributes c.args.right) c.args.left c.union-both.result c.union-others.result c.requires.left c.requires.right
           (omega arith) (omega arith) (omega arith) refl c.union-both.ensures.members (others_are at));
     }

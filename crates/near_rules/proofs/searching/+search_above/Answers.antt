@@ -147,10 +147,10 @@ loop-attribute-preserved t c =
             found = λ r sought grouped before.
                 subst (AreFoundBefore s r (union set (below (i + 1))) s.rights) (sym w.found-is)
                 (past_larger s r c.args.bound i set c.requires.set c.requires.above c.requires.bound c.loop-attribute-test.true larger
-                c.with-larger.ensures.members c.loop-attribute.found (attributes c.rights_to_try-wanted.result)
+                c.with-larger.ensures.members c.loop-attribute.found (attributes c.attributes_not_given-wanted.result)
                 (at r (c.loop-attribute.invariant.found r sought grouped before))
-                (subst (λ (ds : _). AreUndetermined s.rights (dependencies_of ds) larger (attributes c.rights_to_try-wanted.result))
-                c.deref.ensures.value c.rights_to_try-wanted.ensures.rest)
+                (subst (λ (ds : _). AreUndetermined s.rights (dependencies_of ds) larger (attributes c.attributes_not_given-wanted.result))
+                c.deref.ensures.value c.attributes_not_given-wanted.ensures.rest)
                 (c.is_empty.ensures.empty.0 yes));
           }
     ]

@@ -1,3 +1,4 @@
+-- What is left to prove of `one_attribute`: what `Schema::new` requires.
 use Rattle.std.proofs.Common.{◌≡◌, ℕ, List, [], ◌∷◌, IsTrue, refl, sym, subst, arith}
 use Rattle.std.proofs.lemmas.List.Elements.{All-nil, All-cons}
 use Rattle.std.specs.Prelude.{All, codes}

@@ -1,14 +1,13 @@
--- What is left to prove of `overlong_comment`: its clause `comment`, by `ProjectionLemmas`.
+-- What is left to prove of `overlong_comment`: its clause `comment`, by `OverlongLemmas`.
 use Rattle.std.proofs.Common.{◌≡◌, ◌≤◌, ◌<◌, length, sym, ◌∙◌, arith}
 use Rattle.std.proofs.lemmas.List.{length-map}
 use Rattle.std.proofs.lemmas.Result.{IfOk-weaker}
 use Rattle.std.specs.Prelude.{codes}
 use Rattle.dep_model.specs.Deps.{dependency_of, dependencies_of}
 use Rattle.dep_model.specs.declared.schema.TheConstants.{MOST_DEPENDENCIES}
-use Rattle.desk_texts.specs.Texts.{line}
-use Rattle.desk_implication.specs.Projections.{overlong_text}
-use Rattle.desk_implication.proofs.ProjectionLemmas.{overlong, not_overlong}
-use Rattle.desk_implication.proofs.projecting.overlong_comment.Goals as goal
+use Rattle.desk_texts.specs.Texts.{line, overlong_text}
+use Rattle.desk_texts.proofs.OverlongLemmas.{overlong, not_overlong}
+use Rattle.desk_texts.proofs.text.overlong_comment.Goals as goal
 
 pub returns-then-rules-gt-MOST_DEPENDENCIES : goal.returns-then-rules-gt-MOST_DEPENDENCIES
 returns-then-rules-gt-MOST_DEPENDENCIES c =

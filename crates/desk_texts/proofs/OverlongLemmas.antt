@@ -1,11 +1,10 @@
--- When a comment stands before the dependencies inside a set.
+-- When a comment stands before dependencies: where they are more than a schema file takes.
 use Rattle.std.proofs.Common.{◌≡◌, ◌<◌, ◌≤◌, List, [], length, refl, inl, inr, arith}
 use Rattle.std.proofs.lemmas.Bool.{cases_Bool, lt-ltb, ltb-true}
 use Rattle.std.specs.Prelude.{codes, nat_lt}
 use Rattle.dep_model.specs.Dependencies.{Dependency}
 use Rattle.dep_model.specs.declared.schema.TheConstants.{MOST_DEPENDENCIES}
-use Rattle.desk_texts.specs.Texts.{line}
-use Rattle.desk_implication.specs.Projections.{overlong_text}
+use Rattle.desk_texts.specs.Texts.{line, overlong_text}
 
 pub overlong : (ds : List Dependency) → MOST_DEPENDENCIES < length ds
     → overlong_text ds ≡ line (codes "# more than 4096 dependencies: no schema file takes so many")
