@@ -3,6 +3,7 @@ pub mod PieceLemmas
 pub mod PairLemmas
 pub mod NameLemmas
 pub mod ListLemmas
+pub mod UnplacedLemmas
 pub mod TypeLemmas
 pub mod ElementLemmas
 pub mod ChainLemmas

@@ -24,7 +24,7 @@ ghost use Rattle.import_laws.specs.ReadTables.{StatesTable, named};
 /// other keys of which no value may be missing.
 pub fn designs_define_their_tables()
     ensures law { (d : Dialect) (s : Schema) (given : GivenNames) (schemes : List AttrSet) (tables : List TableDesign)
-        (k : ℕ) (table : TableDesign) → IsPrintedDesign s given schemes tables → slice_get tables k ≡ Some table
+        (k : ℕ) (table : TableDesign) → IsPrintedDesign d s given schemes tables → slice_get tables k ≡ Some table
         → (f : Facts) × (definition_of d (named table.name) (ddl_text s tables) ≡ Ok f) × StatesTable d s table f }
 {}
 
@@ -33,7 +33,7 @@ pub fn designs_define_their_tables()
 /// one of all columns.
 pub fn designs_are_read_back()
     ensures law { (d : Dialect) (s : Schema) (given : GivenNames) (schemes : List AttrSet) (tables : List TableDesign)
-        (k : ℕ) (table : TableDesign) → IsPrintedDesign s given schemes tables → NeverMissing (nullable_of s) tables
+        (k : ℕ) (table : TableDesign) → IsPrintedDesign d s given schemes tables → NeverMissing (nullable_of s) tables
         → slice_get tables k ≡ Some table
         → (printed : List ℕ) × (lines : List ℕ) × (imported_text d (named table.name) (ddl_text s tables) ≡ Ok printed)
         × MeansSchema printed (imported_table d s table lines) }
