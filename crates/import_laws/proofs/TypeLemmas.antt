@@ -2,7 +2,7 @@
 use Rattle.std.proofs.Common.{◌≡◌, ◌≤◌, ◌+◌, ℕ, Bool, true, false, not, ◌&&◌, ◌||◌, cond, IsTrue, List, [], ◌∷◌, ◌++◌, take, drop, length, refl, sym, ap, ◌∙◌, zero, suc, subst, arith, Ok, append-nil}
 use Rattle.std.specs.Prelude.{bytes_eq, codes}
 use Rattle.std.specs.List.{list_any}
-use Rattle.std.proofs.lemmas.Bool.{and_parts, not-true, true≢false}
+use Rattle.std.proofs.lemmas.Bool.{and_from, and_parts, not-true, true≢false}
 use Rattle.std.proofs.lemmas.Bool.Decides.{nat_tests}
 use Rattle.std.proofs.lemmas.Fmt.{decimal_digit}
 use Rattle.std.proofs.lemmas.List.Folds.{list_any-append}
@@ -19,7 +19,7 @@ use Rattle.sql_definitions.specs.Facts.{Facts, StatedColumn, StatedPart}
 use Rattle.sql_definitions.specs.Tables.{ends_element}
 use Rattle.sql_definitions.specs.Types.{column_type, is_serial, type_text, written}
 use Rattle.ddl_pieces.proofs.Cutting.{depth_append, depth_past}
-use Rattle.ddl_pieces.proofs.Types.{type_depth}
+use Rattle.ddl_pieces.proofs.Types.{own_sound, type_depth}
 use Rattle.ddl_pieces.specs.Pieces.{TextPiece, blank, is_own_type, is_sound_type, lexemes_from, mark, not_null, number, type_pieces, word}
 use Rattle.import_laws.specs.StatedTypes.{ends_column_type, is_integer_type, is_serial_type, read_type, states_a_type, type_lexemes}
 use Rattle.import_laws.proofs.PieceLemmas.{first_at, lexemes_append, none_at, place_after}
@@ -54,7 +54,7 @@ ReadsLexemes d nullable column lexemes =
     × ((name : List ℕ) → column_by d name lexemes ≡ column_typed d name nullable column)
     × (list_any ends_element lexemes ≡ false)
 
--- ---- types with words of their own
+-- ---- types alone
 -- a decimal type, by the text of its scale
 abbrev decimal_pieces : List ℕ → List TextPiece
 decimal_pieces text =
@@ -117,19 +117,43 @@ type_read dialect.Sqlite type.Uuid is = refl
 type_read d (type.Decimal scale) is = decimal_reads d scale (grind (arith, nat_tests, is))
 type_read d (type.Other text) is = refl
 
--- a type that a schema states by a word of its own is stated in each dialect
-pub own_stated : (d : Dialect) (column : ColumnType) → IsTrue (is_own_type column) → IsTrue (states_a_type d column)
+-- no lexeme of a type that a schema states by a word of its own ends it
+own_goes_on : (column : ColumnType) → IsTrue (is_own_type column)
+    → not (list_any ends_column_type (type_lexemes column)) ≡ true
 unfolding lexemes_from
-own_stated d type.Text own = refl
-own_stated d type.Integer own = refl
-own_stated d type.Date own = refl
-own_stated d type.Timestamp own = refl
-own_stated d (type.Decimal scale) own = refl
-own_stated d type.Uuid own = refl
-own_stated d (type.Other text) own = absurd (never own)
-  where
-    never : false ≡ true → ⊥
-    never wrong = cc
+own_goes_on type.Text own = refl
+own_goes_on type.Integer own = refl
+own_goes_on type.Date own = refl
+own_goes_on type.Timestamp own = refl
+own_goes_on (type.Decimal scale) own = refl
+own_goes_on type.Uuid own = refl
+own_goes_on (type.Other text) own = absurd (true≢false (sym own))
+
+-- its words are neither those of a serial type nor `integer`
+own_words : (d : Dialect) (column : ColumnType) → IsTrue (is_own_type column)
+    → (is_serial_type d column ≡ false) × (is_integer_type column ≡ false)
+unfolding lexemes_from type_text
+own_words dialect.Postgres type.Text own = (refl, refl)
+own_words dialect.Postgres type.Integer own = (refl, refl)
+own_words dialect.Postgres type.Date own = (refl, refl)
+own_words dialect.Postgres type.Timestamp own = (refl, refl)
+own_words dialect.Postgres (type.Decimal scale) own = (refl, refl)
+own_words dialect.Postgres type.Uuid own = (refl, refl)
+own_words dialect.Sqlite type.Text own = (refl, refl)
+own_words dialect.Sqlite type.Integer own = (refl, refl)
+own_words dialect.Sqlite type.Date own = (refl, refl)
+own_words dialect.Sqlite type.Timestamp own = (refl, refl)
+own_words dialect.Sqlite (type.Decimal scale) own = (refl, refl)
+own_words dialect.Sqlite type.Uuid own = (refl, refl)
+own_words d (type.Other text) own = absurd (true≢false (sym own))
+
+pub own_stated : (d : Dialect) (column : ColumnType) → IsTrue (is_own_type column)
+    → IsTrue (states_a_type d column) × (is_serial_type d column ≡ false) × (is_integer_type column ≡ false)
+own_stated d column own =
+    let whole = and_from (is_sound_type d column) (not (list_any ends_column_type (type_lexemes column)))
+    (own_sound d column own) (own_goes_on column own) in
+    let (serial, integer) = own_words d column own in
+    (whole, serial, integer)
 
 -- a type that is stated is sound
 pub stated_sound : (d : Dialect) (column : ColumnType) → IsTrue (states_a_type d column)
