@@ -5,6 +5,7 @@ pub mod NameLemmas
 pub mod ListLemmas
 pub mod UnplacedLemmas
 pub mod TypeLemmas
+pub mod WrittenLemmas
 pub mod ElementLemmas
 pub mod ChainLemmas
 pub mod TableLemmas
