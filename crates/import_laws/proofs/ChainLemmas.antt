@@ -8,9 +8,10 @@ use Rattle.sql_lexemes.specs.Lexemes.{Lexed}
 use Rattle.sql_definitions.specs.Elements.{element}
 use Rattle.sql_definitions.specs.Facts.{Facts, Outcome, StatedColumn, then_read, with_binding}
 use Rattle.sql_definitions.specs.Tables.{after_element, closed_table, elements, ends_element, place_of}
+use Rattle.ddl_pieces.proofs.Cutting.{depth_past}
 use Rattle.ddl_pieces.specs.Pieces.{TextPiece, gap, lexemes_from, lines_after, mark}
 use Rattle.import_laws.proofs.ElementLemmas.{IsElement, Known, Reads, States}
-use Rattle.import_laws.proofs.PieceLemmas.{depth_end, first_at, lexemes_append, place_after}
+use Rattle.import_laws.proofs.PieceLemmas.{first_at, lexemes_append, place_after}
 
 -- elements lead from what is known to more, one after the other
 abbrev pub Leads : Dialect → Known → Known → List (List TextPiece) → Type 0
@@ -61,7 +62,7 @@ abbrev pub closing : List TextPiece
 closing = gap (10 ∷ []) ∷ mark 41 ∷ []
 
 -- the lexemes of an element, and those of what follows
-cut_off : (place : ℕ) (e rest : List TextPiece) → depth_end 1 e ≡ 1
+cut_off : (place : ℕ) (e rest : List TextPiece) → depth_past 1 e ≡ 1
     → lexemes_from place 1 (e ++ rest) ≡ lexemes_from place 1 e ++ lexemes_from (place_after place e) 1 rest
 cut_off place e rest back =
     lexemes_append place 1 e rest

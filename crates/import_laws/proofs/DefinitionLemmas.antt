@@ -10,26 +10,27 @@ use Rattle.dep_model.specs.declared.schema.Schema.{Schema}
 use Rattle.ddl_text.specs.Ddl.{ddl_text}
 use Rattle.ddl_text.specs.declared.table.TableDesign.{TableDesign}
 use Rattle.ddl_pieces.proofs.Statements.{tables_created}
-use Rattle.ddl_pieces.proofs.Types.{own_sound}
-use Rattle.ddl_pieces.specs.Pieces.{is_own_type, is_sound_type}
+use Rattle.ddl_pieces.specs.Pieces.{is_sound_type}
 use Rattle.sql_lexemes.specs.declared.dialect.Dialect.{Dialect}
 use Rattle.sql_lexemes.specs.Statements.{scan_from, statements_of}
 use Rattle.sql_lexemes.specs.declared.piece.Before.TheVariants.{LineStart}
 use Rattle.sql_definitions.specs.Definitions.{definition_of, is_there}
 use Rattle.sql_definitions.specs.Facts.{Facts, Outcome, StatedColumn, then_read}
 use Rattle.import_laws.specs.ReadTables.{StatesTable, named, read_columns, read_keys}
+use Rattle.import_laws.specs.StatedTypes.{states_a_type}
 use Rattle.import_laws.proofs.StatementLemmas.{statements_read}
 use Rattle.import_laws.proofs.TableLemmas.{IsPrinted, IsReadable, known_by, table_leads}
+use Rattle.import_laws.proofs.TypeLemmas.{stated_sound}
 
-pub table_defined : (d : Dialect) (s : Schema) (tables : List TableDesign) (k : ℕ) (table : TableDesign) → IsPrinted s
+pub table_defined : (d : Dialect) (s : Schema) (tables : List TableDesign) (k : ℕ) (table : TableDesign) → IsPrinted d s
     → AllPairs (λ a b. same_name a.name b.name ≡ false) tables → slice_get tables k ≡ Some table
     → IsReadable s tables table
     → 0 < length (read_columns d s (attributes table.scheme))
     → (f : Facts) × (definition_of d (named table.name) (ddl_text s tables) ≡ Ok f) × StatesTable d s table f
 table_defined d s tables k table is apart here readable some =
     let created = tables_created d (scan_from LineStart 0) s tables tables is.names
-    (All-weaker (λ column. IsTrue (is_own_type column)) (λ column. IsTrue (is_sound_type d column))
-    (own_sound d) (types_of s) is.types)
+    (All-weaker (λ column. IsTrue (states_a_type d column)) (λ column. IsTrue (is_sound_type d column))
+    (stated_sound d) (types_of s) is.types)
     refl refl in
     let known = known_by (read_columns d s (attributes table.scheme)) (read_keys s table) in
     let (f, read, states) = statements_read d s tables tables

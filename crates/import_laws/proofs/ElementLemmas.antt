@@ -15,11 +15,13 @@ use Rattle.sql_lexemes.specs.Lexemes.{Lexed}
 use Rattle.sql_definitions.specs.Elements.{element, is_taken, named_column}
 use Rattle.sql_definitions.specs.Facts.{Facts, Outcome, StatedColumn, StatedPart, state_key, then_read, with_column, with_key}
 use Rattle.sql_definitions.specs.Tables.{ends_element}
-use Rattle.ddl_pieces.specs.Pieces.{TextPiece, blank, is_own_type, lexemes_from, quoted_piece, type_pieces, word}
-use Rattle.import_laws.specs.ReadTables.{NamedKey, named_key, read_type}
+use Rattle.ddl_pieces.proofs.Cutting.{depth_append, depth_past}
+use Rattle.ddl_pieces.specs.Pieces.{TextPiece, blank, lexemes_from, quoted_piece, type_pieces, word}
+use Rattle.import_laws.specs.ReadTables.{NamedKey, named_key}
+use Rattle.import_laws.specs.StatedTypes.{states_a_type}
 use Rattle.import_laws.proofs.ListLemmas.{bracketed, list_end, list_inside, list_read}
 use Rattle.import_laws.proofs.NameLemmas.{name_known}
-use Rattle.import_laws.proofs.PieceLemmas.{depth_append, depth_end, none_append}
+use Rattle.import_laws.proofs.PieceLemmas.{none_append}
 use Rattle.import_laws.proofs.TypeLemmas.{after_name, column_lexemes, column_typed, type_end, type_reads}
 
 -- what is known of a table: its columns, and its keys by names
@@ -50,56 +52,55 @@ Reads read known = (f : Facts) × (read ≡ Ok f) × States known f
 pub record IsElement (d : Dialect) (before after : Known) (e : List TextPiece) : Type 0 where
   pub some : (place : ℕ) → (l : Lexed) × (ls : List Lexed) × (lexemes_from place 1 e ≡ l ∷ ls)
   pub inside : (place : ℕ) → list_any ends_element (lexemes_from place 1 e) ≡ false
-  pub back : depth_end 1 e ≡ 1
+  pub back : depth_past 1 e ≡ 1
   pub reads : (place end : ℕ) (f : Facts) → States before f → Reads (element d end (lexemes_from place 1 e) f) after
 
 -- ---- columns
 column_read : (d : Dialect) (known : Known) (name : List ℕ) (nullable : Bool) (column : ColumnType)
-    → IsName name → IsTrue (is_own_type column) → IsTrue (is_column_type column)
+    → IsName name → IsTrue (states_a_type d column) → IsTrue (is_column_type column)
     → is_taken known.columns name ≡ false → length known.columns < MOST_ATTRIBUTES
     → (place end : ℕ) (f : Facts) → States known f
     → Reads (element d end (lexemes_from place 1 (quoted_piece name ∷ after_name nullable (type_pieces column))) f)
-    (one_column known (column_typed name nullable (read_type d column)))
+    (one_column known (column_typed d name nullable column))
 unfolding element lexemes_from
-column_read d known name nullable column is own typed free room place end f states =
+column_read d known name nullable column is stated typed free room place end f states =
     let at = place + length (quoted_name name) in
     let type = column_lexemes at nullable (type_pieces column) in
-    let (keys, stated, inside) = type_reads d nullable at column own typed in
+    let (keys, typing, inside) = type_reads d nullable column stated typed at in
     let here : is_taken f.columns name ≡ false =
     ap (λ (cs : List StatedColumn). is_taken cs name) states.columns ∙ free in
     let same : length f.columns ≡ length known.columns = ap (λ (cs : List StatedColumn). length cs) states.columns in
     let space : nat_lt (length f.columns) MOST_ATTRIBUTES ≡ true = grind (arith, nat_tests, same, room) in (
-      with_column f (column_typed name nullable (read_type d column)),
+      with_column f (column_typed d name nullable column),
       ap (named_column d place type f) (name_known d place 1 name is)
-          ∙ rw here (rw space (keys _ _ ∙ ap (λ (c : StatedColumn). Ok (with_column f c)) (stated name))),
+          ∙ rw here (rw space (keys _ _ ∙ ap (λ (c : StatedColumn). Ok (with_column f c)) (typing name))),
       record {
         found = states.found;
-        columns = ap (λ (cs : List StatedColumn). cs ++ column_typed name nullable
-            (read_type d column) ∷ []) states.columns;
+        columns = ap (λ (cs : List StatedColumn). cs ++ column_typed d name nullable column ∷ []) states.columns;
         keys = states.keys;
         binds = states.binds;
       },
     )
 
 column_inside : (d : Dialect) (name : List ℕ) (nullable : Bool) (column : ColumnType)
-    → IsTrue (is_own_type column) → IsTrue (is_column_type column) → (place : ℕ)
+    → IsTrue (states_a_type d column) → IsTrue (is_column_type column) → (place : ℕ)
     → list_any ends_element (lexemes_from place 1
     (quoted_piece name ∷ after_name nullable (type_pieces column))) ≡ false
 unfolding lexemes_from
-column_inside d name nullable column own typed place =
-    let (keys, stated, inside) = type_reads d nullable (place + length (quoted_name name)) column own typed in inside
+column_inside d name nullable column stated typed place =
+    let (keys, typing, inside) = type_reads d nullable column stated typed (place + length (quoted_name name)) in inside
 
 pub column_element : (d : Dialect) (known : Known) (name : List ℕ) (nullable : Bool) (column : ColumnType)
-    → IsName name → IsTrue (is_own_type column) → IsTrue (is_column_type column)
+    → IsName name → IsTrue (states_a_type d column) → IsTrue (is_column_type column)
     → is_taken known.columns name ≡ false → length known.columns < MOST_ATTRIBUTES
-    → IsElement d known (one_column known (column_typed name nullable (read_type d column)))
+    → IsElement d known (one_column known (column_typed d name nullable column))
     (quoted_piece name ∷ after_name nullable (type_pieces column))
 unfolding lexemes_from
-column_element d known name nullable column is own typed free room = record {
+column_element d known name nullable column is stated typed free room = record {
   some = λ place. (_, _, refl);
-  inside = column_inside d name nullable column own typed;
-  back = type_end nullable column own;
-  reads = column_read d known name nullable column is own typed free room;
+  inside = column_inside d name nullable column stated typed;
+  back = type_end d nullable column stated typed;
+  reads = column_read d known name nullable column is stated typed free room;
 }
 
 -- ---- keys
@@ -190,10 +191,10 @@ reference_inside table names place =
     (list_end names)
     (λ at. list_inside at names) (referring_inside table names)
 
-reference_end : (table : List ℕ) (names : List (List ℕ)) → depth_end 1 (reference_by table names) ≡ 1
+reference_end : (table : List ℕ) (names : List (List ℕ)) → depth_past 1 (reference_by table names) ≡ 1
 reference_end table names =
     depth_append 1 (bracketed names) (after_referring table names)
-    ∙ ap (λ (n : ℕ). depth_end n (after_referring table names)) (list_end names) ∙ list_end names
+    ∙ ap (λ (n : ℕ). depth_past n (after_referring table names)) (list_end names) ∙ list_end names
 
 pub reference_element : (d : Dialect) (known : Known) (table : List ℕ) (names : List (List ℕ))
     → IsElement d known known (reference_by table names)

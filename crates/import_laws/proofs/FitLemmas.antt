@@ -202,10 +202,10 @@ refs_within k tables scheme refs are =
     refs (All-contains_itself refs)
 
 -- ---- each table of a design
-pub table_fits : (s : Schema) (names : GivenNames) (schemes : List AttrSet) (tables : List TableDesign) (k : ℕ)
-    (table : TableDesign)
-    → IsPrintedDesign s names schemes tables → slice_get tables k ≡ Some table → IsFit s tables table
-table_fits s names schemes tables k table is here =
+pub table_fits : (d : Dialect) (s : Schema) (names : GivenNames) (schemes : List AttrSet) (tables : List TableDesign)
+    (k : ℕ) (table : TableDesign)
+    → IsPrintedDesign d s names schemes tables → slice_get tables k ≡ Some table → IsFit s tables table
+table_fits d s names schemes tables k table is here =
     let low = slice_get_within tables k table here in
     let bound : k < length schemes = let same = is.design.one_each in omega (arith, low, same) in
     let made : IsTableOf s names (take k tables) (get_or schemes k table.scheme) table =

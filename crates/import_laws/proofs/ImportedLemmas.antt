@@ -33,7 +33,8 @@ use Rattle.sql_schemas.specs.Keys.{KeyColumns, and_then, key_dependency, new_key
 use Rattle.sql_schemas.specs.Meaning.{declared_table, whole_keys}
 use Rattle.sql_schemas.specs.Texts.{column_names, column_types, columns_missing, imported_text, is_bound, is_whole, says_nothing, table_text, text_of_facts}
 use Rattle.import_laws.specs.ImportedTables.{columns_of, determines_others, has, imported_keys, imported_table, places_in, stated_keys}
-use Rattle.import_laws.specs.ReadTables.{NamedKey, StatesTable, key_named, named_key, read_column, read_columns, read_keys, read_type}
+use Rattle.import_laws.specs.ReadTables.{NamedKey, StatesTable, key_named, named_key, read_column, read_columns, read_keys, read_nullable}
+use Rattle.import_laws.specs.StatedTypes.{read_type}
 use Rattle.import_laws.proofs.FitLemmas.{IsFit}
 use Rattle.import_laws.proofs.KeyLemmas.{Apart, dependencies_same, has_others, keys_read, new_are, part_names, set_names}
 use Rattle.import_laws.proofs.PairLemmas.{all_back, keep_all, pairs_back, pairs_cons, pairs_map}
@@ -138,17 +139,21 @@ module _ (s : Schema) (tables : List TableDesign) (k : ℕ) (table : TableDesign
   -- ---- keys of these places
   module _ (d : Dialect) (keys : List KeyColumns)
       (are : map (λ key. key.columns) keys ≡ map (places_in (columns_of s table)) (stated_keys s table)) where
+    never_read : (x : Attributes) → IsStated x → Disjoint x (read_nullable d s)
+    never_read x is a member =
+        rw (is.never_missing a member) refl
+
     pub keys_never : All (λ (key : KeyColumns). Disjoint key.columns
-        (places_in (columns_of s table) (nullable_of s))) keys
+        (places_in (columns_of s table) (read_nullable d s))) keys
     keys_never =
         all_back (λ (key : KeyColumns). key.columns)
-        (λ c. Disjoint c (places_in (columns_of s table) (nullable_of s))) keys
-        (subst (All (λ c. Disjoint c (places_in (columns_of s table) (nullable_of s)))) (sym are)
-        (All-map (λ c. Disjoint c (places_in (columns_of s table) (nullable_of s)))
+        (λ c. Disjoint c (places_in (columns_of s table) (read_nullable d s))) keys
+        (subst (All (λ c. Disjoint c (places_in (columns_of s table) (read_nullable d s)))) (sym are)
+        (All-map (λ c. Disjoint c (places_in (columns_of s table) (read_nullable d s)))
         (places_in (columns_of s table)) (stated_keys s table)
         (λ i e low. places_disjoint (width_of s) (attributes table.scheme) (get_or (stated_keys s table) i e)
-        (nullable_of s)
-        (stated_are i e low).never_missing)))
+        (read_nullable d s)
+        (never_read (get_or (stated_keys s table) i e) (stated_are i e low)))))
 
     pub keys_apart : AllPairs Apart keys
     keys_apart =
@@ -158,36 +163,36 @@ module _ (s : Schema) (tables : List TableDesign) (k : ℕ) (table : TableDesign
 
     -- a value may be missing exactly in the nullable columns
     missing_at : (j : ℕ) → columns_missing (read_columns d s (attributes table.scheme)) keys j
-        ≡ places_in (columns_of s table) (nullable_of s) j
+        ≡ places_in (columns_of s table) (read_nullable d s) j
     missing_at j =
         ap (λ (o : Option StatedColumn). says_nothing o && not (is_bound keys j))
         (slice_get-map (read_column d s) (columns_of s table) j)
         ∙ by_column (slice_get (columns_of s table) j) refl
       where
-        unbound : (b : ℕ) → slice_get (columns_of s table) j ≡ Some b → nullable_of s b ≡ true
+        unbound : (b : ℕ) → slice_get (columns_of s table) j ≡ Some b → read_nullable d s b ≡ true
             → is_bound keys j ≡ false
         unbound b at nullable =
             list_any_none (λ (key : KeyColumns). key.binds && key.columns j) keys (λ i e low.
             let key = get_or keys i e in
             either key.binds (key.columns j) (false_from_ne_true (key.columns j) (λ member.
-            true≢false (sym nullable ∙ sym (ap (has (nullable_of s)) at) ∙ keys_never i e low j member))))
+            true≢false (sym nullable ∙ sym (ap (has (read_nullable d s)) at) ∙ keys_never i e low j member))))
           where
             either : (b c : Bool) → c ≡ false → (b && c) ≡ false
             either true c is = is
             either false c is = refl
 
-        by_nullable : (b : ℕ) → slice_get (columns_of s table) j ≡ Some b → (v : Bool) → nullable_of s b ≡ v
+        by_nullable : (b : ℕ) → slice_get (columns_of s table) j ≡ Some b → (v : Bool) → read_nullable d s b ≡ v
             → (not (not v) && not (is_bound keys j)) ≡ v
         by_nullable b at true is = ap not (unbound b at is)
         by_nullable b at false is = refl
 
         by_column : (o : Option ℕ) → slice_get (columns_of s table) j ≡ o
-            → (says_nothing (option_map (read_column d s) o) && not (is_bound keys j)) ≡ has (nullable_of s) o
+            → (says_nothing (option_map (read_column d s) o) && not (is_bound keys j)) ≡ has (read_nullable d s) o
         by_column None at = refl
-        by_column (Some b) at = by_nullable b at (nullable_of s b) refl
+        by_column (Some b) at = by_nullable b at (read_nullable d s b) refl
 
     pub missing_are : columns_missing (read_columns d s (attributes table.scheme)) keys
-        ≡ places_in (columns_of s table) (nullable_of s)
+        ≡ places_in (columns_of s table) (read_nullable d s)
     missing_are = λ i j. missing_at j i
 
     -- the dependencies that are declared
@@ -198,20 +203,20 @@ module _ (s : Schema) (tables : List TableDesign) (k : ℕ) (table : TableDesign
     dependencies_are f columns =
         let size : length f.columns ≡ length (columns_of s table) =
         ap (λ (cs : List StatedColumn). length cs) columns ∙ length-map (columns_of s table) (read_column d s) in
-        let none_missing : columns_missing f.columns keys ≡ places_in (columns_of s table) (nullable_of s) =
+        let none_missing : columns_missing f.columns keys ≡ places_in (columns_of s table) (read_nullable d s) =
         ap (λ (cs : List StatedColumn). columns_missing cs keys) columns ∙ missing_are in
         let m = length (columns_of s table) in
         ap (λ (n : ℕ). map (key_dependency n)
         (filter (is_whole (columns_missing f.columns keys)) (new_keys n [] keys))) size
         ∙ ap (λ (x : Attributes). map (key_dependency m) (filter (is_whole x) (new_keys m [] keys))) none_missing
         ∙ ap (λ (ks : List KeyColumns). map (key_dependency m)
-        (filter (is_whole (places_in (columns_of s table) (nullable_of s))) ks))
+        (filter (is_whole (places_in (columns_of s table) (read_nullable d s))) ks))
         (new_are m [] keys keys_apart (λ i e low. refl))
-        ∙ ap (map (key_dependency m)) (keep_all (is_whole (places_in (columns_of s table) (nullable_of s)))
+        ∙ ap (map (key_dependency m)) (keep_all (is_whole (places_in (columns_of s table) (read_nullable d s)))
         (filter (has_others m) keys)
         (All-filter (has_others m) (λ (key : KeyColumns). is_whole
-        (places_in (columns_of s table) (nullable_of s)) key ≡ true) keys
-        (λ i e low. is_disjoint-from (get_or keys i e).columns (places_in (columns_of s table) (nullable_of s))
+        (places_in (columns_of s table) (read_nullable d s)) key ≡ true) keys
+        (λ i e low. is_disjoint-from (get_or keys i e).columns (places_in (columns_of s table) (read_nullable d s))
         (keys_never i e low))))
         ∙ dependencies_same (width_of s) (attributes table.scheme) few fit.within keys (stated_keys s table) are
 
@@ -251,7 +256,7 @@ module _ (s : Schema) (tables : List TableDesign) (k : ℕ) (table : TableDesign
           ap column_types states.columns ∙ map-map (λ (c : StatedColumn). c.kind) (read_column d s)
           (columns_of s table) in
           let deps = dependencies_are d keys are f states.columns in
-          let nullable : columns_missing f.columns keys ≡ places_in (columns_of s table) (nullable_of s) =
+          let nullable : columns_missing f.columns keys ≡ places_in (columns_of s table) (read_nullable d s) =
           ap (λ (cs : List StatedColumn). columns_missing cs keys) states.columns ∙ missing_are d keys are in
           let same : declared_table f.columns keys lines ≡ imported_table d s table lines =
           (λ i. record {

@@ -23,22 +23,22 @@ use Rattle.import_laws.proofs.ImportedLemmas.{facts_imported}
 
 pub design_defined : (d : Dialect) (s : Schema) (given : GivenNames) (schemes : List AttrSet)
     (tables : List TableDesign)
-    (k : ℕ) (table : TableDesign) → IsPrintedDesign s given schemes tables → slice_get tables k ≡ Some table
+    (k : ℕ) (table : TableDesign) → IsPrintedDesign d s given schemes tables → slice_get tables k ≡ Some table
     → (f : Facts) × (definition_of d (named table.name) (ddl_text s tables) ≡ Ok f) × StatesTable d s table f
 design_defined d s given schemes tables k table is here =
-    let fit = table_fits s given schemes tables k table is here in
+    let fit = table_fits d s given schemes tables k table is here in
     table_defined d s tables k table (record { names = is.names; types = is.types })
     (tables_apart s given schemes tables is.design is.apart is.limit) here (fit_readable s tables table fit)
     (some_columns d s tables table fit)
 
 pub table_imported : (d : Dialect) (s : Schema) (given : GivenNames) (schemes : List AttrSet)
     (tables : List TableDesign)
-    (k : ℕ) (table : TableDesign) → IsPrintedDesign s given schemes tables → NeverMissing (nullable_of s) tables
+    (k : ℕ) (table : TableDesign) → IsPrintedDesign d s given schemes tables → NeverMissing (nullable_of s) tables
     → slice_get tables k ≡ Some table
     → (printed : List ℕ) × (lines : List ℕ) × (imported_text d (named table.name) (ddl_text s tables) ≡ Ok printed)
     × MeansSchema printed (imported_table d s table lines)
 table_imported d s given schemes tables k table is never here =
     let (f, defined, states) = design_defined d s given schemes tables k table is here in
-    facts_imported s tables k table (table_fits s given schemes tables k table is here) never here d
+    facts_imported s tables k table (table_fits d s given schemes tables k table is here) never here d
     (named table.name)
     (ddl_text s tables) f defined states

@@ -3,7 +3,9 @@ pub mod PieceLemmas
 pub mod PairLemmas
 pub mod NameLemmas
 pub mod ListLemmas
+pub mod UnplacedLemmas
 pub mod TypeLemmas
+pub mod WrittenLemmas
 pub mod ElementLemmas
 pub mod ChainLemmas
 pub mod TableLemmas

@@ -11,9 +11,9 @@ use Rattle.sql_definitions.specs.declared.refusal.Refusal.{Refusal}
 use Rattle.sql_definitions.specs.Facts.{StatedPart}
 use Rattle.sql_definitions.specs.Lists.{list_parts, part_of, read_list}
 use Rattle.sql_definitions.specs.Tables.{ends_element}
+use Rattle.ddl_pieces.proofs.Cutting.{depth_past}
 use Rattle.ddl_pieces.specs.Pieces.{TextPiece, lexeme_at, lexemes_from, mark, name_pieces, names_after}
 use Rattle.import_laws.proofs.NameLemmas.{name_known}
-use Rattle.import_laws.proofs.PieceLemmas.{depth_end}
 
 -- names in brackets
 abbrev pub bracketed : List (List ℕ) → List TextPiece
@@ -66,10 +66,10 @@ unfolding lexemes_from
 list_inside place [] = refl
 list_inside place (name ∷ names) = names_inside ((place + 1) + length (quoted_name name)) names
 
-names_end : (names : List (List ℕ)) → depth_end 2 (names_after names ++ mark 41 ∷ []) ≡ 1
+names_end : (names : List (List ℕ)) → depth_past 2 (names_after names ++ mark 41 ∷ []) ≡ 1
 names_end [] = refl
 names_end (name ∷ names) = names_end names
 
-pub list_end : (names : List (List ℕ)) → depth_end 1 (bracketed names) ≡ 1
+pub list_end : (names : List (List ℕ)) → depth_past 1 (bracketed names) ≡ 1
 list_end [] = refl
 list_end (name ∷ names) = names_end names

@@ -1,11 +1,11 @@
--- The lexemes of pieces that are joined, the brackets that are open after them, and the first of them that passes a
--- test.
+-- The lexemes of pieces that are joined, and the first of them that passes a test.
 use Rattle.std.proofs.Common.{◌≡◌, ◌+◌, ℕ, Bool, true, false, ◌||◌, List, [], ◌∷◌, ◌++◌, length, refl, ap, ◌∙◌, arith, Option, Some, None}
 use Rattle.std.specs.List.{list_any, position_or_len}
 use Rattle.std.proofs.lemmas.List.Folds.{list_any-append}
 use Rattle.sql_lexemes.specs.declared.lexeme.LexemeKind.{LexemeKind}
 use Rattle.sql_lexemes.specs.Lexemes.{Lexed}
 use Rattle.sql_lexemes.specs.Statements.{depth_after}
+use Rattle.ddl_pieces.proofs.Cutting.{depth_of, depth_past}
 use Rattle.ddl_pieces.specs.Pieces.{TextPiece, led_by_kind, lexeme_at, lexemes_from}
 
 -- where the bytes after pieces stand
@@ -13,19 +13,10 @@ abbrev pub place_after : ℕ → List TextPiece → ℕ
 place_after place [] = place
 place_after place (p ∷ ps) = place_after (place + length p.bytes) ps
 
--- how many brackets are open after a piece, and after pieces
-abbrev pub depth_by : ℕ → Option LexemeKind → List ℕ → ℕ
-depth_by depth None bytes = depth
-depth_by depth (Some kind) bytes = depth_after (lexeme_at 0 depth kind bytes)
-
-abbrev pub depth_end : ℕ → List TextPiece → ℕ
-depth_end depth [] = depth
-depth_end depth (p ∷ ps) = depth_end (depth_by depth p.kind p.bytes) ps
-
 led_append : (place depth : ℕ) (kind : Option LexemeKind) (bytes : List ℕ) (all some rest : ℕ → List Lexed)
     → ((n : ℕ) → all n ≡ some n ++ rest n)
     → led_by_kind place depth kind bytes all
-    ≡ led_by_kind place depth kind bytes some ++ rest (depth_by depth kind bytes)
+    ≡ led_by_kind place depth kind bytes some ++ rest (depth_of depth kind bytes)
 led_append place depth None bytes all some rest each = each depth
 led_append place depth (Some kind) bytes all some rest each =
     ap (λ (ls : List Lexed). lexeme_at place depth kind bytes ∷ ls)
@@ -33,19 +24,14 @@ led_append place depth (Some kind) bytes all some rest each =
 
 pub lexemes_append : (place depth : ℕ) (xs ys : List TextPiece)
     → lexemes_from place depth (xs ++ ys)
-    ≡ lexemes_from place depth xs ++ lexemes_from (place_after place xs) (depth_end depth xs) ys
+    ≡ lexemes_from place depth xs ++ lexemes_from (place_after place xs) (depth_past depth xs) ys
 unfolding lexemes_from
 lexemes_append place depth [] ys = refl
 lexemes_append place depth (p ∷ ps) ys =
     led_append place depth p.kind p.bytes (λ n. lexemes_from (place + length p.bytes) n (ps ++ ys))
     (λ n. lexemes_from (place + length p.bytes) n ps)
-    (λ n. lexemes_from (place_after (place + length p.bytes) ps) (depth_end n ps) ys)
+    (λ n. lexemes_from (place_after (place + length p.bytes) ps) (depth_past n ps) ys)
     (λ n. lexemes_append (place + length p.bytes) n ps ys)
-
-pub depth_append : (depth : ℕ) (xs ys : List TextPiece)
-    → depth_end depth (xs ++ ys) ≡ depth_end (depth_end depth xs) ys
-depth_append depth [] ys = refl
-depth_append depth (p ∷ ps) ys = depth_append (depth_by depth p.kind p.bytes) ps ys
 
 -- the first that passes a test stands after those that do not
 pub first_at : (p : Lexed → Bool) (xs : List Lexed) (x : Lexed) (rest : List Lexed) → list_any p xs ≡ false
@@ -60,15 +46,26 @@ first_at p (y ∷ ys) x rest none here = by_first (p y) refl none (first_at p ys
     by_first true is later before = cc
     by_first false is later before = rw is (let same = before later here in rw same (omega arith))
 
+-- where none passes it, there is no first
+pub none_at : (p : Lexed → Bool) (xs : List Lexed) → list_any p xs ≡ false → position_or_len p xs ≡ length xs
+none_at p [] none = refl
+none_at p (y ∷ ys) none = by_first (p y) refl none (none_at p ys)
+  where
+    by_first : (b : Bool) → p y ≡ b → (b || list_any p ys) ≡ false
+        → (list_any p ys ≡ false → position_or_len p ys ≡ length ys)
+        → position_or_len p (y ∷ ys) ≡ length (y ∷ ys)
+    by_first true is later before = cc
+    by_first false is later before = rw is (let same = before later in rw same (omega arith))
+
 -- no lexeme of joined pieces passes a test that none of either passes
-pub none_append : (test : Lexed → Bool) (place depth after : ℕ) (xs ys : List TextPiece) → depth_end depth xs ≡ after
+pub none_append : (test : Lexed → Bool) (place depth after : ℕ) (xs ys : List TextPiece) → depth_past depth xs ≡ after
     → ((at : ℕ) → list_any test (lexemes_from at depth xs) ≡ false)
     → ((at : ℕ) → list_any test (lexemes_from at after ys) ≡ false)
     → list_any test (lexemes_from place depth (xs ++ ys)) ≡ false
 none_append test place depth after xs ys ends first second =
     ap (list_any test) (lexemes_append place depth xs ys)
-    ∙ list_any-append test (lexemes_from place depth xs) (lexemes_from (place_after place xs) (depth_end depth xs) ys)
-    ∙ ap (λ (b : Bool). b || list_any test (lexemes_from (place_after place xs) (depth_end depth xs) ys))
+    ∙ list_any-append test (lexemes_from place depth xs) (lexemes_from (place_after place xs) (depth_past depth xs) ys)
+    ∙ ap (λ (b : Bool). b || list_any test (lexemes_from (place_after place xs) (depth_past depth xs) ys))
     (first place)
     ∙ ap (λ (n : ℕ). list_any test (lexemes_from (place_after place xs) n ys)) ends
     ∙ second (place_after place xs)

@@ -23,15 +23,16 @@ use Rattle.ddl_text.specs.declared.table.TableDesign.{TableDesign}
 use Rattle.sql_lexemes.specs.declared.dialect.Dialect.{Dialect}
 use Rattle.sql_definitions.specs.Elements.{is_taken}
 use Rattle.sql_definitions.specs.Facts.{StatedColumn}
-use Rattle.ddl_pieces.specs.Pieces.{TextPiece, column_pieces, elements_pieces, is_own_type, key_pieces, keys_pieces, referred, unique_pieces}
+use Rattle.ddl_pieces.specs.Pieces.{TextPiece, column_pieces, elements_pieces, key_pieces, keys_pieces, referred, unique_pieces}
 use Rattle.import_laws.specs.ReadTables.{NamedKey, key_named, read_column, read_columns, read_keys}
+use Rattle.import_laws.specs.StatedTypes.{states_a_type}
 use Rattle.import_laws.proofs.ChainLemmas.{Leads, leads_append}
 use Rattle.import_laws.proofs.ElementLemmas.{IsElement, Known, column_element, one_column, primary_element, reference_element, unique_element}
 
--- the names of a schema are names, and its types have words of their own
-pub record IsPrinted (s : Schema) : Type 0 where
+-- the names of a schema are names, and its types are stated by their texts
+pub record IsPrinted (d : Dialect) (s : Schema) : Type 0 where
   pub names : All IsName (names_of s)
-  pub types : All (λ column. IsTrue (is_own_type column)) (types_of s)
+  pub types : All (λ column. IsTrue (states_a_type d column)) (types_of s)
 
 -- a key has a column
 abbrev pub HasColumn : Schema → Attributes → Type 0
@@ -88,7 +89,7 @@ name_free d s x n low =
 abbrev LeadsColumns : Dialect → Schema → List ℕ → Type 0
 LeadsColumns d s ms = Leads d (known_by [] []) (known_by (map (read_column d s) ms) []) (map (column_pieces s) ms)
 
-columns_lead : (d : Dialect) (s : Schema) → IsPrinted s → (x : Attributes) (n : ℕ) → n ≤ width_of s
+columns_lead : (d : Dialect) (s : Schema) → IsPrinted d s → (x : Attributes) (n : ℕ) → n ≤ width_of s
     → LeadsColumns d s (members_below n x)
 columns_lead d s is x zero low = subst (LeadsColumns d s) (sym (members_below-none x)) refl
 columns_lead d s is x (suc n) low =
@@ -148,7 +149,7 @@ key_names s all x k = chosen (names_of s) k all
             (All-head IsName name names all) rest
         by_member false rest = rest
 
-others_lead : (d : Dialect) (s : Schema) → IsPrinted s
+others_lead : (d : Dialect) (s : Schema) → IsPrinted d s
     → (columns : List StatedColumn) (before : List NamedKey) (keys : List Attributes)
     → All (HasColumn s) keys → length before + length keys ≤ MOST_DEPENDENCIES
     → Leads d (known_by columns before) (known_by columns (before ++ map (key_named s false) keys))
@@ -168,7 +169,7 @@ others_lead d s is columns before (key ∷ keys) have limit =
           (append_assoc before (more ∷ []) (map (key_named s false) keys)) rest,
     )
 
-keys_lead : (d : Dialect) (s : Schema) (tables : List TableDesign) (table : TableDesign) → IsPrinted s
+keys_lead : (d : Dialect) (s : Schema) (tables : List TableDesign) (table : TableDesign) → IsPrinted d s
     → IsReadable s tables table
     → (columns : List StatedColumn)
     → Leads d (known_by columns []) (known_by columns (read_keys s table)) (keys_pieces s table)
@@ -209,7 +210,7 @@ refs_lead d s known tables default (j ∷ refs) within =
     )
 
 -- ---- all elements
-pub table_leads : (d : Dialect) (s : Schema) (tables : List TableDesign) (table : TableDesign) → IsPrinted s
+pub table_leads : (d : Dialect) (s : Schema) (tables : List TableDesign) (table : TableDesign) → IsPrinted d s
     → IsReadable s tables table
     → Leads d (known_by [] []) (known_by (read_columns d s (attributes table.scheme)) (read_keys s table))
     (elements_pieces s tables table)

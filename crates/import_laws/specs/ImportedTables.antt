@@ -7,13 +7,14 @@ use Rattle.dep_model.specs.declared.column_type.ColumnType.TheVariants as type
 use Rattle.dep_model.specs.declared.naming.Naming.TheVariants.{Any}
 use Rattle.dep_model.specs.declared.schema.Schema.{Schema}
 use Rattle.dep_model.specs.Projections.{members_below}
-use Rattle.dep_model.specs.Schemas.{names_of, nullable_of, types_of, width_of}
+use Rattle.dep_model.specs.Schemas.{names_of, types_of, width_of}
 use Rattle.schema_grammar.specs.Declarations.{Declarations}
 use Rattle.ddl_text.specs.Ddl.{is_empty, is_never_missing}
 use Rattle.ddl_text.specs.Designs.{known_keys}
 use Rattle.ddl_text.specs.declared.table.TableDesign.{TableDesign}
 use Rattle.sql_lexemes.specs.declared.dialect.Dialect.{Dialect}
-use Rattle.import_laws.specs.ReadTables.{read_type}
+use Rattle.import_laws.specs.ReadTables.{read_nullable}
+use Rattle.import_laws.specs.StatedTypes.{read_type}
 
 -- the attributes of a table, in the order of its columns
 abbrev pub columns_of : Schema → TableDesign → List ℕ
@@ -42,8 +43,8 @@ imported_keys s table = filter (λ key. not (is_subset (attributes table.scheme)
 abbrev pub determines_others : ℕ → Attributes → Dependency
 determines_others n x = fd x (difference (below n) x)
 
--- the schema that is imported of a table: its columns with their names, the types that are read, and the nullable ones
--- among them; and for each imported key, that it determines all other columns
+-- the schema that is imported of a table: its columns with their names, the types that are read, and those among
+-- them of which a value may be missing; and for each imported key, that it determines all other columns
 abbrev pub imported_table : Dialect → Schema → TableDesign → List ℕ → Declarations
 imported_table d s table lines = record {
   names = map (λ a. slice_index_or (names_of s) a []) (columns_of s table);
@@ -52,5 +53,5 @@ imported_table d s table lines = record {
       (imported_keys s table);
   lines = lines;
   naming = Any;
-  nullable = places_in (columns_of s table) (nullable_of s);
+  nullable = places_in (columns_of s table) (read_nullable d s);
 }

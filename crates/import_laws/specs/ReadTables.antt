@@ -1,40 +1,35 @@
 -- What `import` reads of a table that `ddl` prints: for the laws.
-use Rattle.std.specs.Prelude.{◌≡◌, ℕ, Bool, true, false, not, if◌then◌else◌, List, [], ◌∷◌, ◌++◌, map, filter, slice_index_or, Option, Some, None}
+use Rattle.std.specs.Prelude.{◌≡◌, ℕ, Bool, true, false, not, ◌&&◌, if◌then◌else◌, List, [], ◌∷◌, ◌++◌, map, filter, slice_index_or, Option, Some, None}
 use Rattle.attr_sets.specs.Attributes.{Attributes}
 use Rattle.attr_sets.specs.Sets.{attributes}
-use Rattle.dep_model.specs.declared.column_type.ColumnType.{ColumnType}
 use Rattle.dep_model.specs.declared.column_type.ColumnType.TheVariants as type
 use Rattle.dep_model.specs.declared.schema.Schema.{Schema}
 use Rattle.dep_model.specs.Projections.{members_below}
 use Rattle.dep_model.specs.Schemas.{names_of, nullable_of, types_of, width_of}
 use Rattle.schema_printer.specs.Printing.{members_from}
-use Rattle.ddl_text.specs.Ddl.{is_empty, is_never_missing, sql_type}
+use Rattle.ddl_text.specs.Ddl.{is_empty, is_never_missing}
 use Rattle.ddl_text.specs.Designs.{known_keys}
 use Rattle.ddl_text.specs.declared.table.TableDesign.{TableDesign}
 use Rattle.sql_lexemes.specs.declared.dialect.Dialect.{Dialect}
-use Rattle.sql_lexemes.specs.Pieces.{is_postgres}
 use Rattle.sql_definitions.specs.Facts.{Facts, StatedColumn, StatedKey}
-use Rattle.sql_definitions.specs.Names.{lower_text}
 use Rattle.sql_definitions.specs.Wanted.{TableName}
+use Rattle.import_laws.specs.StatedTypes.{is_integer_type, is_serial_type, read_type}
 
 -- the table of a name
 abbrev pub named : List ℕ → TableName
 named name = record { last = name; middle = None; outer = None }
 
--- the type that is read of one that is printed: PostgreSQL has it; SQLite has text and integers, and of any other type
--- its words in lower case
-abbrev pub read_type : Dialect → ColumnType → ColumnType
-read_type d type.Text = type.Text
-read_type d type.Integer = type.Integer
-read_type d column = if is_postgres d then column else type.Other (lower_text (sql_type column))
+-- the attributes of which a value may be missing where they are read: the nullable ones whose type is not serial
+abbrev pub read_nullable : Dialect → Schema → Attributes
+read_nullable d s k = nullable_of s k && not (is_serial_type d (slice_index_or (types_of s) k type.Text))
 
--- the column of an attribute: a value may be missing exactly where the schema says so
+-- the column of an attribute
 abbrev pub read_column : Dialect → Schema → ℕ → StatedColumn
 read_column d s k = record {
   name = slice_index_or (names_of s) k [];
   kind = read_type d (slice_index_or (types_of s) k type.Text);
-  never_missing = not (nullable_of s k);
-  is_integer = false;
+  never_missing = not (read_nullable d s k);
+  is_integer = is_integer_type (slice_index_or (types_of s) k type.Text);
 }
 
 -- the columns of a scheme, in order

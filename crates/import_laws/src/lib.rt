@@ -3,8 +3,11 @@
 //! Each law is a function that does nothing, whose clause is the law; so the gate asks for its proof.
 #![tactic(auto)]
 
-ghost use Rattle.std.specs.Prelude.{◌≡◌, ℕ, List, Ok, Some, slice_get};
+ghost use Rattle.std.specs.Prelude.{◌≡◌, ℕ, true, false, IsTrue, List, Ok, Some, slice_get};
 ghost use Rattle.attr_sets.specs.declared.set.AttrSet.{AttrSet};
+ghost use Rattle.dep_model.specs.Columns.{is_column_type};
+ghost use Rattle.dep_model.specs.declared.column_type.ColumnType.{ColumnType};
+ghost use Rattle.dep_model.specs.declared.column_type.ColumnType.TheVariants as type;
 ghost use Rattle.dep_model.specs.Schemas.{nullable_of};
 ghost use Rattle.dep_model.specs.declared.schema.Schema.{Schema};
 ghost use Rattle.missing_values.specs.Missing.{NeverMissing};
@@ -13,18 +16,37 @@ ghost use Rattle.table_names.specs.TableNames.{GivenNames};
 ghost use Rattle.ddl_text.specs.Ddl.{ddl_text};
 ghost use Rattle.ddl_text.specs.declared.table.TableDesign.{TableDesign};
 ghost use Rattle.sql_lexemes.specs.declared.dialect.Dialect.{Dialect};
+ghost use Rattle.ddl_pieces.specs.Pieces.{is_own_type};
 ghost use Rattle.sql_definitions.specs.Definitions.{definition_of};
 ghost use Rattle.sql_definitions.specs.Facts.{Facts};
+ghost use Rattle.sql_definitions.specs.Types.{written};
 ghost use Rattle.sql_schemas.specs.Texts.{imported_text};
 ghost use Rattle.import_laws.specs.ImportedTables.{imported_table};
 ghost use Rattle.import_laws.specs.PrintedDesigns.{IsPrintedDesign};
 ghost use Rattle.import_laws.specs.ReadTables.{StatesTable, named};
+ghost use Rattle.import_laws.specs.StatedTypes.{is_integer_type, is_serial_type, read_type, states_a_type, type_lexemes};
+
+/// A type of columns that a schema states by a word of its own is one of those that the other laws take; it is not
+/// serial, and not `integer`.
+pub fn own_types_are_stated()
+    ensures law { (d : Dialect) (column : ColumnType) → IsTrue (is_own_type column)
+        → IsTrue (states_a_type d column) × (is_serial_type d column ≡ false) × (is_integer_type column ≡ false) }
+{}
+
+/// A type with a text of its own that has the form in which `import` writes types is read back as it is, or as one that
+/// a schema states by a word of its own.
+pub fn written_types_are_read_back()
+    ensures law { (d : Dialect) (text : List ℕ) → IsTrue (is_column_type (type.Other text))
+        → written true (type_lexemes (type.Other text)) ≡ text
+        → is_own_type (read_type d (type.Other text)) ≡ false
+        → read_type d (type.Other text) ≡ type.Other text }
+{}
 
 /// The SQL of a design defines each of its tables: the columns of its scheme, its key, if it is not empty, and those
 /// other keys of which no value may be missing.
 pub fn designs_define_their_tables()
     ensures law { (d : Dialect) (s : Schema) (given : GivenNames) (schemes : List AttrSet) (tables : List TableDesign)
-        (k : ℕ) (table : TableDesign) → IsPrintedDesign s given schemes tables → slice_get tables k ≡ Some table
+        (k : ℕ) (table : TableDesign) → IsPrintedDesign d s given schemes tables → slice_get tables k ≡ Some table
         → (f : Facts) × (definition_of d (named table.name) (ddl_text s tables) ≡ Ok f) × StatesTable d s table f }
 {}
 
@@ -33,7 +55,7 @@ pub fn designs_define_their_tables()
 /// one of all columns.
 pub fn designs_are_read_back()
     ensures law { (d : Dialect) (s : Schema) (given : GivenNames) (schemes : List AttrSet) (tables : List TableDesign)
-        (k : ℕ) (table : TableDesign) → IsPrintedDesign s given schemes tables → NeverMissing (nullable_of s) tables
+        (k : ℕ) (table : TableDesign) → IsPrintedDesign d s given schemes tables → NeverMissing (nullable_of s) tables
         → slice_get tables k ≡ Some table
         → (printed : List ℕ) × (lines : List ℕ) × (imported_text d (named table.name) (ddl_text s tables) ≡ Ok printed)
         × MeansSchema printed (imported_table d s table lines) }

@@ -1,0 +1,127 @@
+-- A type in the form in which `import` writes types is read back as it is.
+use Rattle.std.proofs.Common.{◌≡◌, ◌+◌, ℕ, zero, suc, Bool, true, false, not, ◌&&◌, ◌||◌, cond, IsTrue, List, [], ◌∷◌, length, take, refl, sym, ap, ◌∙◌, Option, Some, None}
+use Rattle.std.specs.Prelude.{◌==◌, bytes_eq, codes, nat_le, unwrap_or}
+use Rattle.std.specs.Char.{is_ascii_digit}
+use Rattle.std.specs.List.{list_all, list_any}
+use Rattle.std.proofs.lemmas.Bool.{true≢false}
+use Rattle.dep_model.specs.Columns.{is_column_type}
+use Rattle.dep_model.specs.Names.{is_type_text}
+use Rattle.dep_model.specs.declared.column_type.ColumnType.{ColumnType}
+use Rattle.dep_model.specs.declared.column_type.ColumnType.TheVariants as type
+use Rattle.sql_lexemes.specs.Bytes.{begins_word}
+use Rattle.sql_lexemes.specs.declared.dialect.Dialect.{Dialect}
+use Rattle.sql_lexemes.specs.declared.lexeme.LexemeKind.{LexemeKind}
+use Rattle.sql_lexemes.specs.declared.lexeme.LexemeKind.TheVariants as kind
+use Rattle.sql_lexemes.specs.Lexemes.{Lexed}
+use Rattle.sql_lexemes.specs.Pieces.{is_postgres}
+use Rattle.sql_lexemes.specs.Statements.{is_mark}
+use Rattle.sql_definitions.specs.Types.{column_type, decimal_type, has_quotes, integer_words, is_up_to, is_word_or_within, number_in, other_type, postgres_type, scaled, serial_words, type_text, written}
+use Rattle.ddl_pieces.specs.Pieces.{is_own_type, kind_in_type, led_by_kind, lexemes_from, more_in_type, pieces_in_type}
+use Rattle.import_laws.specs.StatedTypes.{read_type, type_lexemes}
+
+-- ---- no quotes
+abbrev is_plain : Option LexemeKind → Bool
+is_plain (Some kind.Quoted) = false
+is_plain (Some kind.Text) = false
+is_plain other = true
+
+plain_in_type : (b : ℕ) → is_plain (kind_in_type b) ≡ true
+plain_in_type b = by_tests (b == 32) (begins_word b) (is_ascii_digit b)
+  where
+    by_tests : (blank word digit : Bool)
+        → is_plain (cond blank None (cond word (Some kind.Word) (cond digit (Some kind.Number) (Some kind.Mark))))
+        ≡ true
+    by_tests true word digit = refl
+    by_tests false true digit = refl
+    by_tests false false true = refl
+    by_tests false false false = refl
+
+led_unquoted : (place depth : ℕ) (begun : Option LexemeKind) (bytes : List ℕ) (ls : ℕ → List Lexed)
+    → is_plain begun ≡ true → ((n : ℕ) → list_any has_quotes (ls n) ≡ false)
+    → list_any has_quotes (led_by_kind place depth begun bytes ls) ≡ false
+led_unquoted place depth None bytes ls plain each = each depth
+led_unquoted place depth (Some kind.Word) bytes ls plain each = each _
+led_unquoted place depth (Some kind.Number) bytes ls plain each = each _
+led_unquoted place depth (Some kind.Mark) bytes ls plain each = each _
+led_unquoted place depth (Some kind.Quoted) bytes ls plain each = absurd (true≢false (sym plain))
+led_unquoted place depth (Some kind.Text) bytes ls plain each = absurd (true≢false (sym plain))
+
+unquoted : (place depth skip : ℕ) (bytes : List ℕ)
+    → list_any has_quotes (lexemes_from place depth (pieces_in_type skip bytes)) ≡ false
+unfolding lexemes_from pieces_in_type
+unquoted place depth zero [] = refl
+unquoted place depth (suc n) [] = refl
+unquoted place depth (suc n) (b ∷ bytes) = unquoted place depth n bytes
+unquoted place depth zero (b ∷ bytes) =
+    let more = more_in_type (kind_in_type b) bytes in
+    led_unquoted place depth (kind_in_type b) (b ∷ take more bytes)
+    (λ n. lexemes_from (place + length (b ∷ take more bytes)) n (pieces_in_type more bytes)) (plain_in_type b)
+    (λ n. unquoted (place + length (b ∷ take more bytes)) n more bytes)
+
+-- ---- one type or another
+-- one with a word of its own, or this other one
+module _ (other : ColumnType) where
+  abbrev OwnOr : ColumnType → Type 0
+  OwnOr column = is_own_type column ≡ false → column ≡ other
+
+  own : (column : ColumnType) → is_own_type column ≡ true → OwnOr column
+  own column is not_so = absurd (true≢false (sym is ∙ not_so))
+
+  either : (b : Bool) (x y : ColumnType) → OwnOr x → OwnOr y → OwnOr (cond b x y)
+  either true x y first second = first
+  either false x y first second = second
+
+  scale_or : (precision scale : Option ℕ) → OwnOr (unwrap_or (scaled precision scale) other)
+  scale_or precision None = λ not_so. refl
+  scale_or precision (Some scale) = by_test (is_up_to 15 precision && nat_le scale 9)
+    where
+      by_test : (b : Bool) → OwnOr (unwrap_or (cond b (Some (type.Decimal scale)) None) other)
+      by_test true = own (type.Decimal scale) refl
+      by_test false = λ not_so. refl
+
+  decimal_or : (ls : List Lexed) → OwnOr (unwrap_or (decimal_type ls) other)
+  decimal_or [] = λ not_so. refl
+  decimal_or (a ∷ []) = λ not_so. refl
+  decimal_or (a ∷ b ∷ []) = λ not_so. refl
+  decimal_or (a ∷ b ∷ c ∷ []) = λ not_so. refl
+  decimal_or (a ∷ b ∷ p ∷ e ∷ []) = scale_or (number_in p.kind p.text) (Some 0)
+  decimal_or (a ∷ b ∷ c ∷ e ∷ f ∷ []) = λ not_so. refl
+  decimal_or (a ∷ b ∷ p ∷ comma ∷ s ∷ f ∷ []) = by_test (is_mark 44 comma)
+    where
+      by_test : (t : Bool)
+          → OwnOr (unwrap_or (cond t (scaled (number_in p.kind p.text) (number_in s.kind s.text)) None) other)
+      by_test true = scale_or (number_in p.kind p.text) (number_in s.kind s.text)
+      by_test false = λ not_so. refl
+  decimal_or (a ∷ b ∷ c ∷ e ∷ f ∷ g ∷ h ∷ ls) = λ not_so. refl
+
+-- lexemes state a type with a word of its own, or the one that is written
+postgres_or : (text : List ℕ) (ls : List Lexed) → OwnOr (other_type ls) (postgres_type text ls)
+postgres_or text ls =
+    let other = other_type ls in
+    either other (list_any (bytes_eq text) serial_words) type.Integer _ (own other type.Integer refl)
+    (either other (bytes_eq text (codes "date")) type.Date _ (own other type.Date refl)
+    (either other (bytes_eq text (codes "uuid")) type.Uuid _ (own other type.Uuid refl)
+    (either other (bytes_eq text (codes "timestamp") || bytes_eq text (codes "timestamp without time zone"))
+    type.Timestamp _ (own other type.Timestamp refl)
+    (either other (bytes_eq text (codes "numeric") || bytes_eq text (codes "decimal"))
+    (unwrap_or (decimal_type ls) other) other (decimal_or other ls) (λ not_so. refl)))))
+
+type_or : (d : Dialect) (ls : List Lexed) → OwnOr (other_type ls) (column_type d ls)
+type_or d ls =
+    let other = other_type ls in
+    let text = type_text true ls in
+    either other (list_all is_word_or_within ls) _ other
+    (either other (bytes_eq text [] || bytes_eq text (codes "text")) type.Text _ (own other type.Text refl)
+    (either other (list_any (bytes_eq text) integer_words) type.Integer _ (own other type.Integer refl)
+    (either other (is_postgres d) (postgres_type text ls) other (postgres_or text ls) (λ not_so. refl))))
+    (λ not_so. refl)
+
+pub written_read : (d : Dialect) (text : List ℕ) → IsTrue (is_column_type (type.Other text))
+    → written true (type_lexemes (type.Other text)) ≡ text → is_own_type (read_type d (type.Other text)) ≡ false
+    → read_type d (type.Other text) ≡ type.Other text
+written_read d text is same not_own =
+    let ls = type_lexemes (type.Other text) in
+    type_or d ls not_own
+    ∙ ap (λ (t : List ℕ). cond (not (list_any has_quotes ls) && is_type_text t) (type.Other t) type.Text) same
+    ∙ ap (λ (b : Bool). cond (not b && is_type_text text) (type.Other text) type.Text) (unquoted 0 1 0 text)
+    ∙ ap (λ (b : Bool). cond b (type.Other text) type.Text) is
