@@ -5,6 +5,9 @@ pub mod NameLemmas
 pub mod ListLemmas
 pub mod UnplacedLemmas
 pub mod TypeLemmas
+pub mod AgainLemmas
+pub mod FormLemmas
+pub mod WholeLemmas
 pub mod WrittenLemmas
 pub mod ElementLemmas
 pub mod ChainLemmas

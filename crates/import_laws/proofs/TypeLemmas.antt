@@ -101,7 +101,7 @@ decimal_reads dialect.Sqlite scale low =
     (digit_reads dialect.Sqlite scale low)
 
 -- each type is read as its lexemes say
-type_read : (d : Dialect) (column : ColumnType) → IsTrue (is_column_type column)
+pub type_read : (d : Dialect) (column : ColumnType) → IsTrue (is_column_type column)
     → column_type d (type_lexemes column) ≡ read_type d column
 unfolding lexemes_from type_text written
 type_read dialect.Postgres type.Text is = refl

@@ -1,9 +1,9 @@
--- A type in the form in which `import` writes types is read back as it is.
-use Rattle.std.proofs.Common.{◌≡◌, ◌+◌, ℕ, zero, suc, Bool, true, false, not, ◌&&◌, ◌||◌, cond, IsTrue, List, [], ◌∷◌, length, take, refl, sym, ap, ◌∙◌, Option, Some, None}
+-- A type in the form in which `import` writes types is read back as it is, and each type that is read has this form.
+use Rattle.std.proofs.Common.{◌≡◌, ◌+◌, ℕ, zero, suc, Bool, true, false, not, ◌&&◌, ◌||◌, cond, IsTrue, List, [], ◌∷◌, length, take, refl, sym, ap, ◌∙◌, Option, Some, None, subst}
 use Rattle.std.specs.Prelude.{◌==◌, bytes_eq, codes, nat_le, unwrap_or}
 use Rattle.std.specs.Char.{is_ascii_digit}
 use Rattle.std.specs.List.{list_all, list_any}
-use Rattle.std.proofs.lemmas.Bool.{true≢false}
+use Rattle.std.proofs.lemmas.Bool.{and_parts, true≢false}
 use Rattle.dep_model.specs.Columns.{is_column_type}
 use Rattle.dep_model.specs.Names.{is_type_text}
 use Rattle.dep_model.specs.declared.column_type.ColumnType.{ColumnType}
@@ -17,7 +17,10 @@ use Rattle.sql_lexemes.specs.Pieces.{is_postgres}
 use Rattle.sql_lexemes.specs.Statements.{is_mark}
 use Rattle.sql_definitions.specs.Types.{column_type, decimal_type, has_quotes, integer_words, is_up_to, is_word_or_within, number_in, other_type, postgres_type, scaled, serial_words, type_text, written}
 use Rattle.ddl_pieces.specs.Pieces.{is_own_type, kind_in_type, led_by_kind, lexemes_from, more_in_type, pieces_in_type}
-use Rattle.import_laws.specs.StatedTypes.{read_type, type_lexemes}
+use Rattle.import_laws.specs.StatedTypes.{IsWrittenType, read_type, type_lexemes}
+use Rattle.import_laws.proofs.FormLemmas.{written_again}
+use Rattle.import_laws.proofs.TypeLemmas.{type_read}
+use Rattle.import_laws.proofs.WholeLemmas.{type_whole}
 
 -- ---- no quotes
 abbrev is_plain : Option LexemeKind → Bool
@@ -117,7 +120,7 @@ type_or d ls =
     (λ not_so. refl)
 
 pub written_read : (d : Dialect) (text : List ℕ) → IsTrue (is_column_type (type.Other text))
-    → written true (type_lexemes (type.Other text)) ≡ text → is_own_type (read_type d (type.Other text)) ≡ false
+    → IsWrittenType text → is_own_type (read_type d (type.Other text)) ≡ false
     → read_type d (type.Other text) ≡ type.Other text
 written_read d text is same not_own =
     let ls = type_lexemes (type.Other text) in
@@ -125,3 +128,36 @@ written_read d text is same not_own =
     ∙ ap (λ (t : List ℕ). cond (not (list_any has_quotes ls) && is_type_text t) (type.Other t) type.Text) same
     ∙ ap (λ (b : Bool). cond (not b && is_type_text text) (type.Other text) type.Text) (unquoted 0 1 0 text)
     ∙ ap (λ (b : Bool). cond b (type.Other text) type.Text) is
+
+-- ---- what is read is written so
+abbrev type_text_of : ColumnType → List ℕ
+type_text_of (type.Other text) = text
+type_text_of column = []
+
+-- a type with a text of its own that lexemes state has the text that is written of them
+other_written : (ls : List Lexed) (text : List ℕ) → other_type ls ≡ type.Other text
+    → (written true ls ≡ text) × IsTrue (is_type_text text)
+other_written ls text is =
+    by_test (not (list_any has_quotes ls) && is_type_text (written true ls)) refl is
+  where
+    by_test : (b : Bool) → (not (list_any has_quotes ls) && is_type_text (written true ls)) ≡ b
+        → cond b (type.Other (written true ls)) type.Text ≡ type.Other text
+        → (written true ls ≡ text) × IsTrue (is_type_text text)
+    by_test true passes same =
+        let whole = and_parts (not (list_any has_quotes ls)) (is_type_text (written true ls)) passes in
+        let text_same : written true ls ≡ text = ap type_text_of same in
+        (text_same, subst (λ (t : List ℕ). IsTrue (is_type_text t)) text_same whole.1)
+    by_test false passes same = absurd (true≢false (ap is_own_type same))
+
+pub read_again : (d : Dialect) (column : ColumnType) (text : List ℕ) → IsTrue (is_column_type column)
+    → read_type d column ≡ type.Other text
+    → IsWrittenType text × IsTrue (is_column_type (type.Other text))
+read_again d column text is read =
+    let ls = type_lexemes column in
+    let stated : column_type d ls ≡ type.Other text = type_read d column is ∙ read in
+    let other : other_type ls ≡ type.Other text = sym (type_or d ls (ap is_own_type stated)) ∙ stated in
+    let (same, fits) = other_written ls text other in (
+      subst IsWrittenType same
+          (written_again ls (type_whole column is) 0 1),
+      fits,
+    )

@@ -1,5 +1,5 @@
 -- The types of columns that `import` reads back, and what it reads of them: for the laws.
-use Rattle.std.specs.Prelude.{ℕ, Bool, not, ◌&&◌, ◌||◌, if◌then◌else◌, true, List, codes, bytes_eq}
+use Rattle.std.specs.Prelude.{◌≡◌, ℕ, Bool, not, ◌&&◌, ◌||◌, if◌then◌else◌, true, List, codes, bytes_eq}
 use Rattle.std.specs.List.{list_any}
 use Rattle.dep_model.specs.declared.column_type.ColumnType.{ColumnType}
 use Rattle.dep_model.specs.declared.column_type.ColumnType.TheVariants as type
@@ -10,7 +10,7 @@ use Rattle.sql_lexemes.specs.Pieces.{is_postgres}
 use Rattle.sql_definitions.specs.Elements.{ends_type}
 use Rattle.sql_definitions.specs.Names.{lower_text}
 use Rattle.sql_definitions.specs.Tables.{ends_element}
-use Rattle.sql_definitions.specs.Types.{column_type, is_serial, type_text}
+use Rattle.sql_definitions.specs.Types.{column_type, is_serial, type_text, written}
 use Rattle.ddl_pieces.specs.Pieces.{is_sound_type, lexemes_from, type_pieces}
 
 -- the lexemes of a type, between the brackets of a table
@@ -44,3 +44,7 @@ read_type d type.Text = type.Text
 read_type d type.Integer = type.Integer
 read_type d (type.Other text) = column_type d (type_lexemes (type.Other text))
 read_type d column = if is_postgres d then column else type.Other (lower_text (sql_type column))
+
+-- the text of a type in the form in which `import` writes types
+abbrev pub IsWrittenType : List ℕ → Type 0
+IsWrittenType text = written true (type_lexemes (type.Other text)) ≡ text

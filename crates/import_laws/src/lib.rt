@@ -3,7 +3,7 @@
 //! Each law is a function that does nothing, whose clause is the law; so the gate asks for its proof.
 #![tactic(auto)]
 
-ghost use Rattle.std.specs.Prelude.{◌≡◌, ℕ, true, false, IsTrue, List, Ok, Some, slice_get};
+ghost use Rattle.std.specs.Prelude.{◌≡◌, ℕ, false, IsTrue, List, Ok, Some, slice_get};
 ghost use Rattle.attr_sets.specs.declared.set.AttrSet.{AttrSet};
 ghost use Rattle.dep_model.specs.Columns.{is_column_type};
 ghost use Rattle.dep_model.specs.declared.column_type.ColumnType.{ColumnType};
@@ -19,15 +19,15 @@ ghost use Rattle.sql_lexemes.specs.declared.dialect.Dialect.{Dialect};
 ghost use Rattle.ddl_pieces.specs.Pieces.{is_own_type};
 ghost use Rattle.sql_definitions.specs.Definitions.{definition_of};
 ghost use Rattle.sql_definitions.specs.Facts.{Facts};
-ghost use Rattle.sql_definitions.specs.Types.{written};
 ghost use Rattle.sql_schemas.specs.Texts.{imported_text};
 ghost use Rattle.import_laws.specs.ImportedTables.{imported_table};
 ghost use Rattle.import_laws.specs.PrintedDesigns.{IsPrintedDesign};
 ghost use Rattle.import_laws.specs.ReadTables.{StatesTable, named};
-ghost use Rattle.import_laws.specs.StatedTypes.{is_integer_type, is_serial_type, read_type, states_a_type, type_lexemes};
+ghost use Rattle.import_laws.specs.StatedTypes.{IsWrittenType, read_type, states_a_type};
+ghost use Rattle.import_laws.specs.StatedTypes.{is_integer_type, is_serial_type};
 
-/// A type of columns that a schema states by a word of its own is one of those that the other laws take; it is not
-/// serial, and not `integer`.
+/// A type of columns that a schema states by a word of its own is stated by its text, as the laws of designs ask; it is
+/// not serial, and not `integer`.
 pub fn own_types_are_stated()
     ensures law { (d : Dialect) (column : ColumnType) → IsTrue (is_own_type column)
         → IsTrue (states_a_type d column) × (is_serial_type d column ≡ false) × (is_integer_type column ≡ false) }
@@ -36,10 +36,17 @@ pub fn own_types_are_stated()
 /// A type with a text of its own that has the form in which `import` writes types is read back as it is, or as one that
 /// a schema states by a word of its own.
 pub fn written_types_are_read_back()
-    ensures law { (d : Dialect) (text : List ℕ) → IsTrue (is_column_type (type.Other text))
-        → written true (type_lexemes (type.Other text)) ≡ text
+    ensures law { (d : Dialect) (text : List ℕ) → IsTrue (is_column_type (type.Other text)) → IsWrittenType text
         → is_own_type (read_type d (type.Other text)) ≡ false
         → read_type d (type.Other text) ≡ type.Other text }
+{}
+
+/// A type with a text of its own that `import` reads of any type has this form: so it is read again as it is, or as one
+/// that a schema states by a word of its own.
+pub fn read_types_have_this_form()
+    ensures law { (d : Dialect) (column : ColumnType) (text : List ℕ) → IsTrue (is_column_type column)
+        → read_type d column ≡ type.Other text
+        → IsWrittenType text × IsTrue (is_column_type (type.Other text)) }
 {}
 
 /// The SQL of a design defines each of its tables: the columns of its scheme, its key, if it is not empty, and those
