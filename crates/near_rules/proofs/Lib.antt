@@ -2,3 +2,4 @@ pub mod OrderLemmas
 pub mod FrontLemmas
 pub mod RightLemmas
 pub mod WholeLemmas
+pub mod FrontErrors

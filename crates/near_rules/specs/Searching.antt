@@ -1,6 +1,6 @@
 -- The dependencies that were found so far, and how many sets were tried for each right side: for the functions
 -- below `near_rules`. `Desk` does not cite it.
-use Rattle.std.specs.Prelude.{◌≡◌, ◌≢◌, ◌<◌, ◌≤◌, ℕ, false, List, length, All, AllPairs, Contains}
+use Rattle.std.specs.Prelude.{◌≡◌, ◌≢◌, ◌<◌, ◌≤◌, ℕ, false, List, length, take, All, AllPairs, Contains}
 use Rattle.attr_sets.specs.Attributes.{Attributes, below, only, IsSubset, count_below}
 use Rattle.attr_sets.specs.declared.set.TheConstants.{MOST_ATTRIBUTES}
 use Rattle.csv_rows.specs.Interning.{IsInterned, firsts_of, groups_of}
@@ -17,9 +17,10 @@ use Rattle.near_rules.specs.declared.found.Sought.{Sought}
 use Rattle.near_rules.specs.declared.found.TheConstants.{MOST_TRIED}
 use Rattle.near_rules.specs.declared.found.TooManyTried.{TooManyTried}
 
--- rows are those in which is searched, and the right sides are columns
+-- rows are those in which is searched, with the first of them for themselves, and the right sides are columns
 pub record AreSought (r : Relation) (s : Sought) : Type 0 where
   pub interned : IsInterned s.width r s.codes
+  pub front : (count : ℕ) × (count ≤ length r) × IsInterned s.width (take count r) s.front
   pub width : s.width ≤ MOST_ATTRIBUTES
   pub rights : s.rights ≤ s.width
 

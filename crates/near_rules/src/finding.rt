@@ -8,6 +8,7 @@ ghost use Rattle.near_rules.specs.NearRules.{AreNearRules, ExceedsTried, IsFirst
 ghost use Rattle.near_rules.specs.Searching.{AreFoundUpTo, AreSought, IsExceeded};
 
 use crate::found::{Found, NearRules, Sought, TooManyTried};
+use crate::front::front_rows;
 use crate::searching::{search_above, try_set};
 use attr_sets::AttrSet;
 use csv_rows::{Groups, Interned};
@@ -20,7 +21,8 @@ use std::alloc::Global;
 /// by left side ascending, and for one left side by attribute ascending. Or, where more than `MOST_TRIED` sets have
 /// to be tried for an attribute, a refusal that names the first such one.
 ///
-/// Sets are tried from the empty one on; those that hold a near one are passed over.
+/// Sets are tried from the empty one on; those that hold a near one are passed over. Each is tried on the first rows
+/// first: what must go of these must go of all.
 pub fn near_rules(
     alloc: Global,
     hashing: Hashing,
@@ -40,8 +42,11 @@ pub fn near_rules(
     ensures refusal { IfErr result (RefusesAs (IsFirstExceeded width most limit rows.now)) }
 {
     let codes = Interned::intern(alloc, hashing, width, rows)?;
+    let first = front_rows(alloc, rows)?;
+    let front = Interned::intern(alloc, hashing, width, &first)?;
     let sought = Sought {
         codes,
+        front,
         width,
         rights: width,
         most,
@@ -68,6 +73,7 @@ fn first_exceeded(alloc: Global, sought: Sought, right: u8) -> Failure<TooManyTr
 {
     let before = Sought {
         codes: sought.codes,
+        front: sought.front,
         width: sought.width,
         rights: right,
         most: sought.most,

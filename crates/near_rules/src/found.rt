@@ -18,10 +18,12 @@ pub struct NearRules {
     pub errors: Vec<u32>,
 }
 
-// In which rows is searched, for which attributes, from left sides of how many columns, and up to which error.
+// In which rows is searched, with the first of them for themselves, for which attributes, from left sides of how many
+// columns, and up to which error.
 #[derive(Debug, Drop)]
 pub struct Sought {
     pub codes: Interned,
+    pub front: Interned,
     pub width: u8,
     pub rights: u8,
     pub most: u8,

@@ -7,6 +7,7 @@
 
 mod finding;
 mod found;
+mod front;
 mod searching;
 
 pub use finding::near_rules;

@@ -11,6 +11,7 @@ ghost use Rattle.near_rules.specs.NearRules.{MustBeTried};
 ghost use Rattle.near_rules.specs.Searching.{AreFoundBefore, AreFoundUpTo, AreGrouped, AreSought, IsExceeded};
 
 use crate::found::{Found, MOST_TRIED, Sought, TooManyTried};
+use crate::front::is_far;
 use attr_sets::AttrSet;
 use csv_rows::Groups;
 use dep_model::{Dep, Failure};
@@ -96,6 +97,7 @@ fn try_right(
     found: &mut Found,
 ) -> Result<(), Failure<TooManyTried>>
     requires attribute { attribute < sought.now.rights }
+    requires set { IsSubset (attributes set) (below sought.now.width) }
     requires rows { (r : Relation) × AreSought r sought.now × AreGrouped r (attributes set) groups.now
         × AreFoundBefore sought.now r (attributes set) attribute found.old }
     ensures found { (r : Relation) → AreSought r sought.now → AreGrouped r (attributes set) groups.now
@@ -113,6 +115,10 @@ fn try_right(
         return Err(Failure::Refused(TooManyTried { right: attribute }));
     }
     found.tried[attribute as usize] = before + 1;
+    let far = is_far(alloc, sought, set, attribute)?;
+    if far {
+        return Ok(());
+    }
     let error = error_within(alloc, &sought.codes, groups, attribute)?;
     if error <= sought.limit as u64 {
         found.deps.push(Dep::Fd {

@@ -10,11 +10,17 @@ returns-in-Ok t c = record {
   first = λ r sought exceeds.
       let before : AreSought r (record {
         codes = c.args.sought.codes;
+        front = c.args.sought.front;
         width = c.args.sought.width;
         rights = c.args.right;
         most = c.args.sought.most;
         limit = c.args.sought.limit;
-      }) = record { interned = sought.interned; width = sought.width; rights = omega (arith, c.requires.right, sought.rights) } in
+      }) = record {
+        interned = sought.interned;
+        front = sought.front;
+        width = sought.width;
+        rights = omega (arith, c.requires.right, sought.rights);
+      } in
       record {
         right = omega (arith, c.requires.right, sought.rights);
         exceeds = exceeds;

@@ -1,8 +1,10 @@
 -- What is left to prove of `near_rules`: its clauses where the search answers, by `WholeLemmas`.
-use Rattle.std.proofs.Common.{◌∙◌, refl, arith}
+use Rattle.std.proofs.Common.{◌≤◌, ◌∙◌, ℕ, length, take, refl, subst, arith}
 use Rattle.attr_sets.specs.Attributes.{below}
 use Rattle.dep_model.specs.Dependencies.{IsWithin}
 use Rattle.dep_model.proofs.DepLemmas.{dependencies_all-to}
+use Rattle.csv_rows.specs.Interning.{IsInterned}
+use Rattle.dep_model.specs.Tuples.{Relation}
 use Rattle.near_rules.specs.Searching.{AreFoundBefore, AreSought}
 use Rattle.near_rules.specs.declared.found.Sought.{Sought}
 use Rattle.dep_model.specs.Deps.{dependencies_of, dependency_of}
@@ -14,13 +16,25 @@ use Rattle.near_rules.proofs.finding.near_rules.Goals.{In-Ok}
 
 -- what is searched for
 sought : In-Ok → Sought
-sought c = record { codes = c.in_ok-codes.codes; width = c.args.width; rights = c.args.width; most = c.args.most; limit = c.args.limit }
+sought c = record { codes = c.in_ok-codes.codes; front = c.in_ok-front.front; width = c.args.width; rights = c.args.width; most = c.args.most; limit = c.args.limit }
+
+-- the first rows by their numbers
+front : (c : In-Ok) → (count : ℕ) × (count ≤ length c.args.rows.now)
+    × IsInterned c.args.width (take count c.args.rows.now) c.in_ok-front.front
+front c =
+    let (count, low, is) = c.in_ok-first.ensures.rows in
+    (count, low, subst (λ (rows : Relation). IsInterned c.args.width rows c.in_ok-front.front) is c.in_ok-front.ensures.codes)
 
 found : (c : In-Ok) → AreFoundBefore (sought c) c.args.rows.now (below c.args.width) c.args.width c.in-Ok.found
 unfolding sought
 found c =
     let are : AreSought c.args.rows.now (sought c) =
-    record { interned = c.in_ok-codes.ensures.codes; width = c.requires.width; rights = omega arith } in
+    record {
+      interned = c.in_ok-codes.ensures.codes;
+      front = front c;
+      width = c.requires.width;
+      rights = omega arith;
+    } in
     c.in-Ok.ensures.found c.args.rows.now are
 
 pub returns-in-Ok-clause-rules : goal.returns-in-Ok-clause-rules

@@ -24,6 +24,18 @@ returns-then-before-ge-MOST_TRIED-clause-refusal c r sought grouped before must 
           (omega (arith, count, c.if-before-ge-MOST_TRIED.true));
     }
 
+pub returns-then-far-clause-found : goal.returns-then-far-clause-found
+returns-then-far-clause-found c r sought grouped before must =
+    let a : ℕ = c.args.attribute in
+    let set : Attributes = attributes c.args.set in
+    let a_low : a < length c.args.found.now.tried.items = omega (arith, c.requires.attribute, before.one_each) in
+    let count : c.index-before.result.now ≡ number_at c.args.found.now.tried.items a =
+    c.index-before.ensures ∙ same_default c.args.found.now.tried.items a c.index-before.result.now 0 a_low in
+    let few : number_at c.args.found.now.tried.items a < MOST_TRIED = omega (arith, count, c.if-before-ge-MOST_TRIED.false) in
+    not_near c.args.sought.now r set a c.args.found.now _ before c.requires.attribute must few
+    (ap (λ (m : ℕ). slice_set c.args.found.now.tried.items a (m + 1)) count)
+    refl refl (c.in_ok-far.ensures.far r sought c.if-far.true)
+
 pub returns-in_ok-push-2-clause-found : goal.returns-in_ok-push-2-clause-found
 returns-in_ok-push-2-clause-found c r sought grouped before must =
     let a : ℕ = c.args.attribute in
