@@ -1,4 +1,4 @@
--- What two rows agree on is evidence, and what is asked of rows stays settled with more of it.
+-- What two rows agree on is evidence, and what is asked of rows stays answered with more of it.
 use Rattle.std.proofs.Common.{inl, inr, ◌≡◌, ◌++◌, ◌<◌, ◌≤◌, ℕ, false, List, [], ◌∷◌, get_or, length, sym, ap, subst, ◌∙◌}
 use Rattle.std.specs.Prelude.{All, Contains}
 use Rattle.std.proofs.lemmas.Bool.{cases_Bool, lt-ltb, ltb-true}
@@ -18,7 +18,7 @@ use Rattle.candidate_laws.specs.Standing.{IsCandidate}
 use Rattle.candidate_laws.proofs.EvidenceLemmas.{agreement-from, agreement-to, agreement_exact}
 use Rattle.candidate_search.specs.Pairs.{IsBroken}
 use Rattle.candidate_search.specs.Sides.{IsAnswered, IsAnsweredAt, HasCandidates, lefts_of}
-use Rattle.candidate_search.specs.Asking.{AsksAll, IsAskedWithin, IsRefutation, IsSettled}
+use Rattle.candidate_search.specs.Asking.{AsksAll, IsAskedWithin, IsRefutation, HasAnswer}
 use Rattle.candidate_search.specs.declared.asking.Asked.{Asked}
 use Rattle.candidate_search.specs.declared.side.Side.{Side}
 
@@ -40,10 +40,10 @@ pub evidence_push : (n : ℕ) (r : Relation) (found : List AttrSet) (s : AttrSet
 evidence_push n r found s are is =
     subst (AreEvidence n r) (sym (map_push attributes found s)) (All-push (IsEvidence n r) (schemes_of found) (attributes s) are is)
 
--- ---- what is settled
-pub settled_more : (r : Relation) (es fs : List Attributes) → ((e : Attributes) → Contains es e → Contains fs e)
-    → (asked : Asked) → IsSettled r es asked → IsSettled r fs asked
-settled_more r es fs among asked is = elim is [
+-- ---- what is answered
+pub answered_more : (r : Relation) (es fs : List Attributes) → ((e : Attributes) → Contains es e → Contains fs e)
+    → (asked : Asked) → HasAnswer r es asked → HasAnswer r fs asked
+answered_more r es fs among asked is = elim is [
   | inl obeys ↦ inl obeys
   | inr refuted ↦ inr (refuted.0, among refuted.0 refuted.1, refuted.2, refuted.3)
 ]
@@ -54,15 +54,15 @@ push_among found s e listed =
     subst (λ (es : List Attributes). Contains es e) (sym (map_push attributes found s))
     (Contains-append_left (schemes_of found) (attributes s ∷ []) e listed)
 
-pub all_settled_push : (r : Relation) (found : List AttrSet) (s : AttrSet) (asked : List Asked)
-    → All (IsSettled r (schemes_of found)) asked → All (IsSettled r (schemes_of (found ++ s ∷ []))) asked
-all_settled_push r found s asked are = All-weaker (IsSettled r (schemes_of found)) (IsSettled r (schemes_of (found ++ s ∷ [])))
-    (settled_more r (schemes_of found) (schemes_of (found ++ s ∷ [])) (push_among found s)) asked are
+pub all_answered_push : (r : Relation) (found : List AttrSet) (s : AttrSet) (asked : List Asked)
+    → All (HasAnswer r (schemes_of found)) asked → All (HasAnswer r (schemes_of (found ++ s ∷ []))) asked
+all_answered_push r found s asked are = All-weaker (HasAnswer r (schemes_of found)) (HasAnswer r (schemes_of (found ++ s ∷ [])))
+    (answered_more r (schemes_of found) (schemes_of (found ++ s ∷ [])) (push_among found s)) asked are
 
 -- one more set that refutes what is asked
-pub refutation_settles : (r : Relation) (found : List AttrSet) (s : AttrSet) (asked : Asked)
-    → IsRefutation (attributes s) asked → IsSettled r (schemes_of (found ++ s ∷ [])) asked
-refutation_settles r found s asked is = inr (
+pub refutation_answers : (r : Relation) (found : List AttrSet) (s : AttrSet) (asked : Asked)
+    → IsRefutation (attributes s) asked → HasAnswer r (schemes_of (found ++ s ∷ [])) asked
+refutation_answers r found s asked is = inr (
   attributes s,
   subst (λ (es : List Attributes). Contains es (attributes s)) (sym (map_push attributes found s))
       (Contains-push (schemes_of found) (attributes s)),
@@ -87,15 +87,15 @@ broken_refutes n r s asked i j low broken is = record {
     ]
 
 -- ---- what is asked of a side
--- where all of a size is asked and settled, the side is answered at that size
+-- where all that is asked of a size is answered, the side is answered at that size
 pub side_answered : (n most : ℕ) (r : Relation) (es : List Attributes) (size : ℕ) (asked : List Asked) (side : Side)
-    → n ≤ MOST_ATTRIBUTES → HasCandidates n most side → AsksAll asked size side → All (IsSettled r es) asked
+    → n ≤ MOST_ATTRIBUTES → HasCandidates n most side → AsksAll asked size side → All (HasAnswer r es) asked
     → IsAnsweredAt n r es size side
-side_answered n most r es size asked side wide has all settled x listed count =
+side_answered n most r es size asked side wide has all answered x listed count =
     let (s, s_in, is) = map-member attributes side.lefts.items x listed in
     let low : IsSubset (attributes s) (below n) = λ k m. within k (ap (λ (y : Attributes). y k) (sym is) ∙ m) in
     subst (λ (y : Attributes). IsAnswered r es y side.right) is
-    (All-contains (IsSettled r es) asked (record { left = s; right = side.right }) settled
+    (All-contains (HasAnswer r es) asked (record { left = s; right = side.right }) answered
     (All-contains (λ (t : AttrSet). count_below (attributes t) MOST_ATTRIBUTES ≡ size
     → Contains asked (record { left = t; right = side.right })) side.lefts.items s all s_in
     (counts s low ∙ ap (λ (y : Attributes). count_below y n) is ∙ count)))
@@ -109,7 +109,7 @@ side_answered n most r es size asked side wide has all settled x listed count =
     counts s low = count_below-low MOST_ATTRIBUTES n (attributes s) low wide
 
 pub sides_answered : (n most : ℕ) (r : Relation) (es : List Attributes) (size : ℕ) (asked : List Asked) (sides : List Side)
-    → n ≤ MOST_ATTRIBUTES → All (HasCandidates n most) sides → All (AsksAll asked size) sides → All (IsSettled r es) asked
+    → n ≤ MOST_ATTRIBUTES → All (HasCandidates n most) sides → All (AsksAll asked size) sides → All (HasAnswer r es) asked
     → All (IsAnsweredAt n r es size) sides
-sides_answered n most r es size asked sides wide has all settled = λ k d l.
-    side_answered n most r es size asked (get_or sides k d) wide (has k d l) (all k d l) settled
+sides_answered n most r es size asked sides wide has all answered = λ k d l.
+    side_answered n most r es size asked (get_or sides k d) wide (has k d l) (all k d l) answered

@@ -17,18 +17,18 @@ pub record IsAskedWithin (n : ℕ) (asked : Asked) : Type 0 where
   pub right : asked.right < n
 
 -- what is asked is obeyed or refuted
-abbrev pub IsSettled : Relation → List Attributes → Asked → Type 0
-IsSettled r es asked = IsAnswered r es (attributes asked.left) asked.right
+abbrev pub HasAnswer : Relation → List Attributes → Asked → Type 0
+HasAnswer r es asked = IsAnswered r es (attributes asked.left) asked.right
 
 -- a set holds the left side of what is asked and lacks the right side
 pub record IsRefutation (e : Attributes) (asked : Asked) : Type 0 where
   pub lacks : e asked.right ≡ false
   pub holds : IsSubset (attributes asked.left) e
 
--- what is asked is settled by listed evidence, or refuted by one piece more
-abbrev pub Settles : ℕ → Relation → List Attributes → Asked → Option AttrSet → Type 0
-Settles n r es asked None = IsSettled r es asked
-Settles n r es asked (Some e) = IsEvidence n r (attributes e) × IsRefutation (attributes e) asked
+-- what is asked is answered by listed evidence, or refuted by one piece more
+abbrev pub AnswersOrRefutes : ℕ → Relation → List Attributes → Asked → Option AttrSet → Type 0
+AnswersOrRefutes n r es asked None = HasAnswer r es asked
+AnswersOrRefutes n r es asked (Some e) = IsEvidence n r (attributes e) × IsRefutation (attributes e) asked
 
 -- each left side of so many members is asked about
 abbrev pub AsksAll : List Asked → ℕ → Side → Type 0

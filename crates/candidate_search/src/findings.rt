@@ -48,7 +48,8 @@ pub fn dependency_asked(asked: Asked) -> Dep
     }
 }
 
-// Whether dependencies that the rows obey imply what is asked.
+// Whether dependencies that the rows obey imply what is asked. It is a matter of speed alone: where the answer is no,
+// the rows are asked.
 pub fn is_implied(obeyed: &[Dep], asked: Asked) -> bool
     requires right { asked.right < MOST_ATTRIBUTES }
     ensures obeys { (n : ℕ) (r : Relation) → IsOver n r → AreObeyed n r obeyed.now → IsAskedWithin n asked

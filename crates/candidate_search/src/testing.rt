@@ -2,7 +2,7 @@ ghost use Rattle.std.specs.Prelude.{◌≡◌, ◌<◌, ◌≤◌, true, All, If
 ghost use Rattle.attr_sets.specs.Sets.{attributes};
 ghost use Rattle.attr_sets.specs.declared.set.TheConstants.{MOST_ATTRIBUTES};
 ghost use Rattle.candidate_laws.specs.Evidence.{AreEvidence};
-ghost use Rattle.candidate_search.specs.Asking.{IsAskedWithin, IsSettled, Settles};
+ghost use Rattle.candidate_search.specs.Asking.{IsAskedWithin, HasAnswer, AnswersOrRefutes};
 ghost use Rattle.candidate_search.specs.Findings.{AreFindings};
 ghost use Rattle.candidate_search.specs.Levels.{AreTabled, IsLevel};
 ghost use Rattle.candidate_search.specs.Pairs.{FindsBroken};
@@ -35,8 +35,8 @@ pub fn refuting_evidence(
         → IfOk result (λ _. AreFindings width r findings.new) }
     ensures evidence { (r : Relation) → AreTabled width r table.now → AreFindings width r findings.old
         → IfOk result (λ found. AreEvidence width r (schemes_of found.items)) }
-    ensures settled { (r : Relation) → AreTabled width r table.now → AreFindings width r findings.old
-        → IfOk result (λ found. All (IsSettled r (schemes_of found.items)) asked.now) }
+    ensures answered { (r : Relation) → AreTabled width r table.now → AreFindings width r findings.old
+        → IfOk result (λ found. All (HasAnswer r (schemes_of found.items)) asked.now) }
 {
     let mut found = Vec::new(alloc);
     for one in asked {
@@ -62,8 +62,8 @@ fn refutation(
     requires within { IsAskedWithin width asked }
     ensures findings { (r : Relation) → AreTabled width r table.now → AreFindings width r findings.old
         → IfOk result (λ _. AreFindings width r findings.new) }
-    ensures settles { (r : Relation) → AreTabled width r table.now → AreFindings width r findings.old
-        → IfOk result (Settles width r (schemes_of found.now) asked) }
+    ensures answers { (r : Relation) → AreTabled width r table.now → AreFindings width r findings.old
+        → IfOk result (AnswersOrRefutes width r (schemes_of found.now) asked) }
 {
     if is_refuted(found, asked) {
         return Ok(None);

@@ -4,11 +4,11 @@
 //! `basis` gives exactly the closed set and the blocks, `trace_basis` what a scheme has of them, and so
 //! its parts; `closure_of` and `block` give one of them alone, and `has_two_parts` stops as soon as it
 //! knows. `decide` says whether a schema implies a dependency, and where it does not, names two rows
-//! that obey the schema and break it; `witness` makes these rows. The calls named `.._by` ask the same
-//! of a list of dependencies over a number of attributes. `prove` gives a derivation of each dependency
-//! that is implied, and `functional_chain` that of a functional one which the functional ones alone
-//! imply. `witness`, `prove` and `functional_chain` take memory, and no other call does. `laws` has
-//! what holds of bases beside what the calls say.
+//! that obey the schema and break it; `witness` makes these rows. `is_superkey` says whether a set
+//! determines a scheme. The calls named `.._by` ask the same of a list of dependencies over a number of
+//! attributes. `prove` gives a derivation of each dependency that is implied, and `functional_chain` that
+//! of a functional one which the functional ones alone imply. `witness`, `prove` and `functional_chain`
+//! take memory, and no other call does. `laws` has what holds of bases beside what the calls say.
 #![tactic(auto)]
 
 mod bases;
@@ -24,6 +24,7 @@ mod pieces;
 mod proving;
 mod refining;
 mod showing;
+mod superkeys;
 mod witnessing;
 
 pub use bases::{
@@ -35,4 +36,5 @@ pub use gathering::Blocks;
 pub use parts::{has_two_parts, has_two_parts_by};
 pub use pieces::MOST_BLOCKS;
 pub use proving::{Proof, prove};
+pub use superkeys::is_superkey;
 pub use witnessing::witness;

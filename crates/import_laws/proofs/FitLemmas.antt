@@ -23,7 +23,7 @@ use Rattle.key_listing.specs.declared.refusal.TheConstants.{MOST_KEYS}
 use Rattle.primary_keys.proofs.PrimaryLemmas.{primary_is_key}
 use Rattle.primary_keys.specs.PrimaryKeys.{IsPrimaryKey}
 use Rattle.schema_printer.specs.Printing.{members_from}
-use Rattle.sql_names.proofs.NameLemmas.{names_inside, names_outside}
+use Rattle.sql_names.proofs.NameLemmas.{members_named}
 use Rattle.table_names.specs.TableNames.{GivenNames}
 use Rattle.ddl_text.specs.Ddl.{is_empty, is_never_missing}
 use Rattle.ddl_text.specs.Designs.{AreOtherKeys, AreReferences, IsTableOf, RefersTo, known_keys, without_key}
@@ -33,31 +33,6 @@ use Rattle.import_laws.specs.PrintedDesigns.{IsPrintedDesign}
 use Rattle.import_laws.specs.ReadTables.{read_column, read_columns}
 use Rattle.import_laws.proofs.PairLemmas.{pairs_map}
 use Rattle.import_laws.proofs.TableLemmas.{HasColumn, IsReadable}
-
--- ---- names of sets
--- the names of a set are those of its members
-members_upto : (x : Attributes) (names : List (List ℕ)) (n : ℕ) → n ≤ length names
-    → members_from x 0 (take n names) ≡ map (λ k. get_or names k []) (members_below n x)
-members_upto x names zero low = sym (ap (map (λ k. get_or names k [])) (members_below-none x))
-members_upto x names (suc n) low =
-    let short : n < length names = omega (arith, low) in
-    let more : n + 1 ≡ suc n = omega arith in
-    let so_far = members_upto x names n (omega (arith, low)) in
-    let name = λ (k : ℕ). get_or names k [] in
-    sym (ap (λ (m : ℕ). members_from x 0 (take m names)) more)
-    ∙ elim (cases_Bool (x n)) [
-      | inl inside ↦
-          names_inside x names n short inside ∙ ap (λ (rest : List (List ℕ)). rest ++ name n ∷ []) so_far
-          ∙ sym (ap (map name) (members_below-member n x inside) ∙ map-append name (members_below n x) (n ∷ []))
-      | inr outside ↦
-          names_outside x names n short outside ∙ so_far ∙ sym (ap (map name) (members_below-outside n x outside))
-    ]
-
-pub members_named : (x : Attributes) (names : List (List ℕ))
-    → members_from x 0 names ≡ map (λ k. get_or names k []) (members_below (length names) x)
-members_named x names =
-    sym (ap (members_from x 0) (take_all (length names) names (omega arith)))
-    ∙ members_upto x names (length names) (omega arith)
 
 -- a set that is not empty has a member
 some_members : (n : ℕ) (x : Attributes) → IsSubset x (below n) → (IsEmpty x → ⊥) → 0 < length (members_below n x)

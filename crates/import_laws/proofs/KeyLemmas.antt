@@ -18,7 +18,7 @@ use Rattle.sql_definitions.specs.Facts.{Facts, StatedColumn, StatedKey, StatedPa
 use Rattle.sql_schemas.specs.Keys.{KeyColumns, and_then, binds_key, column_named, columns_of_parts, is_new, key_dependency, keys_after, new_keys, with_part}
 use Rattle.import_laws.specs.ImportedTables.{determines_others, places_in}
 use Rattle.import_laws.specs.ReadTables.{read_columns}
-use Rattle.import_laws.proofs.FitLemmas.{members_named}
+use Rattle.sql_names.proofs.NameLemmas.{members_named}
 use Rattle.import_laws.proofs.PlaceLemmas.{IsMember, all_places, column_found, members_are, places_any}
 
 -- the parts of a stated key, by their names; and the names of a set

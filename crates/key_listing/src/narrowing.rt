@@ -4,7 +4,6 @@ ghost use Rattle.attr_sets.specs.Sets.{attributes};
 ghost use Rattle.dep_model.specs.Schemas.{width_of, universe_of, theory_of};
 ghost use Rattle.key_listing.specs.Narrowing.{IsInEveryKey, DropsAttributesInNoKey};
 
-use crate::superkeys::is_superkey;
 use attr_sets::{AttrSet, MOST_ATTRIBUTES};
 use dep_basis::closure_of;
 use dep_model::Schema;

@@ -10,7 +10,7 @@ ghost use Rattle.key_listing.specs.Searching.{HasKeysBetween};
 use crate::holding::held_key;
 use crate::narrowing::{attributes_in_every_key, without_attributes_in_no_key};
 use crate::refusal::MOST_KEYS;
-use crate::superkeys::{is_superkey, one_key};
+use crate::superkeys::one_key;
 use attr_sets::AttrSet;
 use dep_model::{OutOfMemory, Schema};
 use std::alloc::Global;

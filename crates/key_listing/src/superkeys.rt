@@ -1,29 +1,11 @@
-ghost use Rattle.std.specs.Prelude.{◌↔◌, IsTrue};
 ghost use Rattle.attr_sets.specs.Attributes.{IsSubset};
 ghost use Rattle.attr_sets.specs.Sets.{attributes};
-ghost use Rattle.dep_model.specs.Keys.{IsSuperkey, IsGreedyKey};
+ghost use Rattle.dep_model.specs.Keys.{IsGreedyKey};
 ghost use Rattle.dep_model.specs.Schemas.{width_of, universe_of, theory_of};
 
 use attr_sets::{AttrSet, MOST_ATTRIBUTES};
-use dep_basis::{Decision, decide};
-use dep_model::{Dep, Schema};
-
-// Whether a set determines all of a scheme.
-pub fn is_superkey(schema: &Schema, scheme: AttrSet, set: AttrSet) -> bool
-    requires scheme { IsSubset (attributes scheme) (universe_of schema.now) }
-    requires set { IsSubset (attributes set) (attributes scheme) }
-    ensures superkey { IsTrue result
-        ↔ IsSuperkey (width_of schema.now) (theory_of schema.now) (attributes scheme) (attributes set) }
-{
-    let goal = Dep::Fd {
-        lhs: set,
-        rhs: scheme,
-    };
-    match decide(schema, goal) {
-        Decision::Implied => true,
-        Decision::Broken { .. } => false,
-    }
-}
+use dep_basis::is_superkey;
+use dep_model::Schema;
 
 /// The key of a scheme by all dependencies that is left where each attribute, from the last to the
 /// first, is left out if the rest still determines the scheme.

@@ -30,18 +30,18 @@ few_sets n few = let more = more_sets n 10 few in omega (arith, more)
 pub joined_equal : (b : Bool) (xs ys ls bs : List ℕ) (P : Type 0) → ls ≡ xs → bs ≡ ys
     → IsTrue b ↔ ((j : ℕ) → j < length ls → number_at ls j ≡ number_at bs j)
     → ((j : ℕ) → j < length xs → number_at xs j ≡ number_at ys j) ↔ P → IsTrue b ↔ P
-joined_equal b xs ys ls bs P e f told means =
+joined_equal b xs ys ls bs P e f exact means =
     let moved = subst (λ (zs : List ℕ). IsTrue b ↔ ((j : ℕ) → j < length zs → number_at zs j ≡ number_at ys j)) e
-    (subst (λ (zs : List ℕ). IsTrue b ↔ ((j : ℕ) → j < length ls → number_at ls j ≡ number_at zs j)) f told) in
+    (subst (λ (zs : List ℕ). IsTrue b ↔ ((j : ℕ) → j < length ls → number_at ls j ≡ number_at zs j)) f exact) in
     ((λ t. means.0 (moved.0 t)), (λ p. moved.1 (means.1 p)))
 
 pub joined_products : (b : Bool) (xs ys zs ls bs cs : List ℕ) (P : Type 0) → ls ≡ xs → bs ≡ ys → cs ≡ zs
     → IsTrue b ↔ ((j : ℕ) → j < length ls → number_at ls j ≡ number_at bs j * number_at cs j)
     → ((j : ℕ) → j < length xs → number_at xs j ≡ number_at ys j * number_at zs j) ↔ P → IsTrue b ↔ P
-joined_products b xs ys zs ls bs cs P e f g told means =
+joined_products b xs ys zs ls bs cs P e f g exact means =
     let moved = subst (λ (us : List ℕ). IsTrue b ↔ ((j : ℕ) → j < length us → number_at us j ≡ number_at ys j * number_at zs j)) e
     (subst (λ (us : List ℕ). IsTrue b ↔ ((j : ℕ) → j < length ls → number_at ls j ≡ number_at us j * number_at zs j)) f
-    (subst (λ (us : List ℕ). IsTrue b ↔ ((j : ℕ) → j < length ls → number_at ls j ≡ number_at bs j * number_at us j)) g told)) in
+    (subst (λ (us : List ℕ). IsTrue b ↔ ((j : ℕ) → j < length ls → number_at ls j ≡ number_at bs j * number_at us j)) g exact)) in
     ((λ t. means.0 (moved.0 t)), (λ p. moved.1 (means.1 p)))
 
 module _ (r : Relation) (counts : Counts) (are : AreCounts r counts) where
@@ -70,9 +70,9 @@ module _ (r : Relation) (counts : Counts) (are : AreCounts r counts) where
   counts_decide_fd x y s t x_in y_in fits also is that =
       let by_x = sizes_of s x fits is x_in in
       let by_both = sizes_of t (union x y) also that (union_within counts.width x y x_in y_in) in
-      let told = fd_by_counts counts.width r are.ones are.different x y x_in y_in (sizes_at counts s.0) (sizes_at counts t.0) by_x by_both in (
-        (λ equal. told.0 (λ j low. equal j (subst (λ (m : ℕ). j < m) (sym by_x.one_each) low))),
-        (λ obeys j low. told.1 obeys j (subst (λ (m : ℕ). j < m) by_x.one_each low)),
+      let exact = fd_by_counts counts.width r are.ones are.different x y x_in y_in (sizes_at counts s.0) (sizes_at counts t.0) by_x by_both in (
+        (λ equal. exact.0 (λ j low. equal j (subst (λ (m : ℕ). j < m) (sym by_x.one_each) low))),
+        (λ obeys j low. exact.1 obeys j (subst (λ (m : ℕ). j < m) by_x.one_each low)),
       )
 
   pub counts_decide_mvd : (x y : Attributes) (s t u : AttrSet) → IsSubset x (below counts.width) → IsSubset y (below counts.width) → s.0 < 2 ^ MOST_ATTRIBUTES
@@ -85,7 +85,7 @@ module _ (r : Relation) (counts : Counts) (are : AreCounts r counts) where
       let by_both = sizes_of t (union x y) also that (union_within counts.width x y x_in y_in) in
       let by_rest = sizes_of u (union x (difference (below counts.width) (union x y))) too rests
       (union_within counts.width x (difference (below counts.width) (union x y)) x_in (λ k m. grind (arith, m))) in
-      let told = mvd_by_counts counts.width r are.ones are.different x y x_in y_in (sizes_at counts s.0) (sizes_at counts t.0) (sizes_at counts u.0) by_x by_both by_rest in (
-        (λ products. told.0 (λ j low. products j (subst (λ (m : ℕ). j < m) (sym by_x.one_each) low))),
-        (λ obeys j low. told.1 obeys j (subst (λ (m : ℕ). j < m) by_x.one_each low)),
+      let exact = mvd_by_counts counts.width r are.ones are.different x y x_in y_in (sizes_at counts s.0) (sizes_at counts t.0) (sizes_at counts u.0) by_x by_both by_rest in (
+        (λ products. exact.0 (λ j low. products j (subst (λ (m : ℕ). j < m) (sym by_x.one_each) low))),
+        (λ obeys j low. exact.1 obeys j (subst (λ (m : ℕ). j < m) by_x.one_each low)),
       )

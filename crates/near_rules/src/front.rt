@@ -17,6 +17,7 @@ use std::alloc::Global;
 const FRONT: usize = 4_000;
 
 // The first rows. Whatever must go of them must go of all rows too, so most of what is not near is seen by these few.
+// How many they are is a matter of speed alone.
 pub fn front_rows(alloc: Global, rows: &Rows) -> Result<Rows, OutOfMemory>
     ensures rows { IfOk result (λ front.
         (count : ℕ) × (count ≤ length rows.now) × (front ≡ take count rows.now)) }
@@ -43,7 +44,8 @@ fn take_row(rows: &Rows, position: usize, row: &mut FlatValues) -> Result<(), Ou
     Ok(())
 }
 
-// Whether a set is not near for an attribute even among the first rows.
+// Whether a set is not near for an attribute even among the first rows. It is a matter of speed alone: where the answer
+// is no, all rows are asked.
 pub fn is_far(
     alloc: Global,
     sought: &Sought,

@@ -7,8 +7,8 @@ ghost use Rattle.dep_model.specs.Schemas.{width_of, universe_of, theory_of, null
 ghost use Rattle.primary_keys.specs.PrimaryKeys.{chosen_rules, IsNarrowed, IsPrimaryKey};
 
 use attr_sets::{AttrSet, MOST_ATTRIBUTES};
-use dep_basis::{Decision, decide};
-use dep_model::{Dep, Schema};
+use dep_basis::is_superkey;
+use dep_model::Schema;
 use fd_closure::follows;
 
 /// The dependencies of a schema by which a set is a key: all of them, or the functional ones alone.
@@ -87,25 +87,8 @@ fn determines(schema: &Schema, rules: Rules, scheme: AttrSet, set: AttrSet) -> b
         (chosen_rules rules (theory_of schema.now)) (attributes scheme) (attributes set) }
 {
     match rules {
-        Rules::All => determines_by_all(schema, scheme, set),
+        Rules::All => is_superkey(schema, scheme, set),
         Rules::Functional => determines_functionally(schema, scheme, set),
-    }
-}
-
-// Whether a part of a scheme determines all of it, by all dependencies.
-fn determines_by_all(schema: &Schema, scheme: AttrSet, set: AttrSet) -> bool
-    requires scheme { IsSubset (attributes scheme) (universe_of schema.now) }
-    requires set { IsSubset (attributes set) (attributes scheme) }
-    ensures determines { IsTrue result
-        ↔ IsSuperkey (width_of schema.now) (theory_of schema.now) (attributes scheme) (attributes set) }
-{
-    let goal = Dep::Fd {
-        lhs: set,
-        rhs: scheme,
-    };
-    match decide(schema, goal) {
-        Decision::Implied => true,
-        Decision::Broken { .. } => false,
     }
 }
 

@@ -126,7 +126,8 @@ RefusesGoal naming declared text e =
 -- a goal is refused by the first diagnostic, and read where there is none
 abbrev pub FitsGoal : Naming → List (List ℕ) → List ℕ → Result Dependency SchemaRefusal → Type 0
 FitsGoal naming declared text reading =
-    FitsDependency format.Plain declared 1 (lex (mode.goal naming) text).marks (lex (mode.goal naming) text).stop reading
+    FitsDependency format.Plain declared 1 (lex (mode.goal naming) text).marks (lex (mode.goal naming) text).stop
+    reading
 
 -- what is wrong with a word that is to declare a name, after these words of its line
 abbrev pub NewNameDiagnostic : Format → Declarations → List Mark → Mark → DiagnosticKind → Type 0

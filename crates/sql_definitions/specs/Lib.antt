@@ -1,4 +1,5 @@
--- The definitions of sql_definitions, in reading order: names, facts, types, lists, elements, wanted tables, statements.
+-- The definitions of sql_definitions, in reading order: names, facts, types, lists, elements, wanted tables, and
+-- statements.
 pub mod Names
 pub mod Facts
 pub mod Types

@@ -1,12 +1,14 @@
--- Lists of quoted names: one more at the end.
-use Rattle.std.proofs.Common.{◌≡◌, ◌<◌, ◌+◌, ℕ, Bool, true, false, ◌||◌, List, [], ◌∷◌, ◌++◌, length, get_or, take, Some, inl, inr, refl, sym, ap, ◌∙◌, arith, append-nil}
+-- The names of a set's members, and lists of quoted names: one more at the end.
+use Rattle.std.proofs.Common.{◌≡◌, ◌<◌, ◌≤◌, ◌+◌, ℕ, zero, suc, Bool, true, false, ◌||◌, List, [], ◌∷◌, ◌++◌, length, map, get_or, take, take_all, Some, inl, inr, refl, sym, ap, ◌∙◌, arith, append-nil}
 use Rattle.std.specs.Prelude.{if◌then◌else◌, slice_get}
 use Rattle.std.proofs.lemmas.Bool.{cases_Bool}
-use Rattle.std.proofs.lemmas.List.{take_more, length-take-le}
+use Rattle.std.proofs.lemmas.List.{take_more, length-take-le, map-append}
 use Rattle.std.proofs.lemmas.Option.{get_or_from_slice_get}
 use Rattle.attr_sets.specs.Attributes.{Attributes}
 use Rattle.dep_model.specs.declared.schema.Schema.{Schema}
+use Rattle.dep_model.specs.Projections.{members_below}
 use Rattle.dep_model.specs.Schemas.{names_of}
+use Rattle.dep_model.proofs.SchemeLemmas.{members_below-member, members_below-none, members_below-outside}
 use Rattle.schema_printer.specs.Printing.{members_from}
 use Rattle.sql_names.specs.Names.{separator, comma_list, quoted_name, is_not_empty}
 use Rattle.sql_names.proofs.ListLemmas.{comma_list-push, not_empty_pushed, append_two}
@@ -46,6 +48,30 @@ names_outside x names n lt outside =
     names_next x names n lt
     ∙ ap (λ (b : Bool). members_from x 0 (take n names) ++ (if b then get_or names n [] ∷ [] else [])) outside
     ∙ append-nil (members_from x 0 (take n names))
+
+members_upto : (x : Attributes) (names : List (List ℕ)) (n : ℕ) → n ≤ length names
+    → members_from x 0 (take n names) ≡ map (λ k. get_or names k []) (members_below n x)
+members_upto x names zero low = sym (ap (map (λ k. get_or names k [])) (members_below-none x))
+members_upto x names (suc n) low =
+    let short : n < length names = omega (arith, low) in
+    let more : n + 1 ≡ suc n = omega arith in
+    let so_far = members_upto x names n (omega (arith, low)) in
+    let name = λ (k : ℕ). get_or names k [] in
+    sym (ap (λ (m : ℕ). members_from x 0 (take m names)) more)
+    ∙ elim (cases_Bool (x n)) [
+      | inl inside ↦
+          names_inside x names n short inside ∙ ap (λ (rest : List (List ℕ)). rest ++ name n ∷ []) so_far
+          ∙ sym (ap (map name) (members_below-member n x inside) ∙ map-append name (members_below n x) (n ∷ []))
+      | inr outside ↦
+          names_outside x names n short outside ∙ so_far ∙ sym (ap (map name) (members_below-outside n x outside))
+    ]
+
+-- the names of a set are those of its members
+pub members_named : (x : Attributes) (names : List (List ℕ))
+    → members_from x 0 names ≡ map (λ k. get_or names k []) (members_below (length names) x)
+members_named x names =
+    sym (ap (members_from x 0) (take_all (length names) names (omega arith)))
+    ∙ members_upto x names (length names) (omega arith)
 
 -- ---- names
 pub or_true : (b : Bool) → (b || true) ≡ true

@@ -8,7 +8,7 @@ use Rattle.attr_sets.specs.declared.set.AttrSet.{AttrSet}
 use Rattle.candidate_laws.specs.Evidence.{AreEvidence}
 use Rattle.dep_model.specs.Failures.{RefusesAs}
 use Rattle.dep_model.specs.Plans.{schemes_of}
-use Rattle.candidate_search.specs.Asking.{AsksAll, IsAskedWithin, IsSettled}
+use Rattle.candidate_search.specs.Asking.{AsksAll, IsAskedWithin, HasAnswer}
 use Rattle.candidate_search.specs.Sides.{HasCandidates, HasMinimal, IsAnsweredAt, IsTested, rights_of}
 use Rattle.candidate_search.specs.declared.side.TooManyLeftSides.{TooManyLeftSides}
 use Rattle.candidate_search.proofs.FindingLemmas.{none_found}
@@ -115,10 +115,10 @@ loop-size-preserved c =
           (sides_candidates c.args.width c.args.most r size sides tested)
           (All-same (AsksAll asked size) sides c.deref-in-loop-size.result.now (sym c.deref-in-loop-size.ensures.value)
           c.in_ok-asked.ensures.all)
-          (subst (λ (sets : List AttrSet). All (IsSettled r (schemes_of sets)) asked)
+          (subst (λ (sets : List AttrSet). All (HasAnswer r (schemes_of sets)) asked)
           (sym c.deref-in-loop-size-4.ensures.value)
-          (All-same (IsSettled r (schemes_of c.in_ok-found.found.items)) asked c.deref-in-loop-size-2.result.now
-          (sym c.deref-in-loop-size-2.ensures.value) (c.in_ok-found.ensures.settled r tabled (c.loop-size.invariant.findings r tabled))))));
+          (All-same (HasAnswer r (schemes_of c.in_ok-found.found.items)) asked c.deref-in-loop-size-2.result.now
+          (sym c.deref-in-loop-size-2.ensures.value) (c.in_ok-found.ensures.answered r tabled (c.loop-size.invariant.findings r tabled))))));
     }
 
 pub returns-clause-minimal : goal.returns-clause-minimal

@@ -11,8 +11,8 @@ use Rattle.candidate_search.proofs.FindingLemmas.{obeyed_push}
 use Rattle.candidate_search.proofs.TestLemmas.{agreement_evidence, broken_refutes}
 use Rattle.candidate_search.proofs.testing.refutation.Goals as goal
 
-pub returns-then-is_implied-clause-settles : goal.returns-then-is_implied-clause-settles
-returns-then-is_implied-clause-settles c = λ r tabled are. inl (
+pub returns-then-is_implied-clause-answers : goal.returns-then-is_implied-clause-answers
+returns-then-is_implied-clause-answers c = λ r tabled are. inl (
     c.is_implied.ensures.obeys c.args.width r tabled.over
     (subst (AreObeyed c.args.width r) (sym c.deref.ensures.value) are.obeyed) c.requires.within c.if-is_implied.true
     )
@@ -23,8 +23,8 @@ returns-in-Some-clause-findings c = λ r tabled are. record {
   obeyed = are.obeyed;
 }
 
-pub returns-in-Some-clause-settles : goal.returns-in-Some-clause-settles
-returns-in-Some-clause-settles c = λ r tabled are.
+pub returns-in-Some-clause-answers : goal.returns-in-Some-clause-answers
+returns-in-Some-clause-answers c = λ r tabled are.
     let is = c.row_agreement.ensures.agreement r tabled.table.codes in
     let broken : IsBroken r (attributes c.args.asked.left) c.args.asked.right c.in-Some.first c.in-Some.second =
     subst (FindsBroken r (attributes c.args.asked.left) c.args.asked.right) c.in-Some.is
@@ -52,5 +52,5 @@ returns-in_ok-push-in-None-clause-findings c = λ r tabled are. record {
       c.requires.within c.dependency_asked.ensures.functional (obeyed c r tabled are));
 }
 
-pub returns-in_ok-push-in-None-clause-settles : goal.returns-in_ok-push-in-None-clause-settles
-returns-in_ok-push-in-None-clause-settles c = λ r tabled are. inl (obeyed c r tabled are)
+pub returns-in_ok-push-in-None-clause-answers : goal.returns-in_ok-push-in-None-clause-answers
+returns-in_ok-push-in-None-clause-answers c = λ r tabled are. inl (obeyed c r tabled are)

@@ -1,5 +1,5 @@
 -- What is left to prove of `refuting_evidence`: that the invariant of its loop stays, and its clause
--- `settled`, by `TestLemmas`.
+-- `answered`, by `TestLemmas`.
 use Rattle.std.proofs.Common.{◌≡◌, ◌+◌, ◌++◌, ◌∷◌, [], ℕ, List, Vec, Global, get_or, take, sym, ap, subst, ◌∙◌, arith}
 use Rattle.std.specs.Prelude.{All}
 use Rattle.std.proofs.lemmas.List.{take_all}
@@ -9,10 +9,10 @@ use Rattle.dep_model.specs.Plans.{schemes_of}
 use Rattle.dep_model.specs.Tuples.{Relation}
 use Rattle.candidate_laws.specs.Evidence.{AreEvidence}
 use Rattle.candidate_search.specs.Levels.{AreTabled}
-use Rattle.candidate_search.specs.Asking.{IsSettled, Settles}
+use Rattle.candidate_search.specs.Asking.{HasAnswer, AnswersOrRefutes}
 use Rattle.candidate_search.specs.Findings.{AreFindings}
 use Rattle.candidate_search.specs.declared.asking.Asked.{Asked}
-use Rattle.candidate_search.proofs.TestLemmas.{all_settled_push, evidence_push, refutation_settles}
+use Rattle.candidate_search.proofs.TestLemmas.{all_answered_push, evidence_push, refutation_answers}
 use Rattle.candidate_search.proofs.testing.refuting_evidence.Goals as goal
 use Rattle.candidate_search.proofs.testing.refuting_evidence.Goals.{in-Some+in_ok-push-in-Some, in-None}
 
@@ -23,10 +23,10 @@ loop-one-preserved c =
     let one : Asked = get_or c.args.asked.now i d in
     let old : List AttrSet = c.loop-one.found.items in
     let new : List AttrSet = c.match-branch-2.found.items in
-    let settles : (r : Relation) → AreTabled c.args.width r c.args.table.now → AreFindings c.args.width r c.args.findings.now
-    → Settles c.args.width r (schemes_of old) one c.in_ok-evidence.field-0 =
-    λ r tabled are. subst (λ (sets : List AttrSet). Settles c.args.width r (schemes_of sets) one c.in_ok-evidence.field-0)
-    c.deref.ensures.value (c.in_ok-evidence.ensures.settles r tabled (c.loop-one.invariant.findings r tabled are)) in
+    let answers : (r : Relation) → AreTabled c.args.width r c.args.table.now → AreFindings c.args.width r c.args.findings.now
+    → AnswersOrRefutes c.args.width r (schemes_of old) one c.in_ok-evidence.field-0 =
+    λ r tabled are. subst (λ (sets : List AttrSet). AnswersOrRefutes c.args.width r (schemes_of sets) one c.in_ok-evidence.field-0)
+    c.deref.ensures.value (c.in_ok-evidence.ensures.answers r tabled (c.loop-one.invariant.findings r tabled are)) in
     elim c.match-branch-2.branch [
       | in-Some+in_ok-push-in-Some w ↦
           let s : AttrSet = w.in-Some.evidence in
@@ -36,13 +36,13 @@ loop-one-preserved c =
                 c.in_ok-evidence.ensures.findings r tabled (c.loop-one.invariant.findings r tabled are);
             evidence = λ r tabled are. subst (λ (sets : List AttrSet). AreEvidence c.args.width r (schemes_of sets)) (sym is)
                 (evidence_push c.args.width r old s (c.loop-one.invariant.evidence r tabled are)
-                (subst (Settles c.args.width r (schemes_of old) one) w.in-Some.is (settles r tabled are)).0);
-            settled = λ r tabled are.
-                subst (λ (sets : List AttrSet). All (IsSettled r (schemes_of sets)) (take (i + 1) c.args.asked.now)) (sym is)
-                (All-more (IsSettled r (schemes_of (old ++ s ∷ []))) c.args.asked.now i d c.loop-one-test.true
-                (all_settled_push r old s (take i c.args.asked.now) (c.loop-one.invariant.settled r tabled are))
-                (refutation_settles r old s one
-                (subst (Settles c.args.width r (schemes_of old) one) w.in-Some.is (settles r tabled are)).1));
+                (subst (AnswersOrRefutes c.args.width r (schemes_of old) one) w.in-Some.is (answers r tabled are)).0);
+            answered = λ r tabled are.
+                subst (λ (sets : List AttrSet). All (HasAnswer r (schemes_of sets)) (take (i + 1) c.args.asked.now)) (sym is)
+                (All-more (HasAnswer r (schemes_of (old ++ s ∷ []))) c.args.asked.now i d c.loop-one-test.true
+                (all_answered_push r old s (take i c.args.asked.now) (c.loop-one.invariant.answered r tabled are))
+                (refutation_answers r old s one
+                (subst (AnswersOrRefutes c.args.width r (schemes_of old) one) w.in-Some.is (answers r tabled are)).1));
           }
       | in-None w ↦
           let is : new ≡ old = ap (λ (v : Vec AttrSet Global). v.items) w.found-is in
@@ -51,15 +51,15 @@ loop-one-preserved c =
                 c.in_ok-evidence.ensures.findings r tabled (c.loop-one.invariant.findings r tabled are);
             evidence = λ r tabled are. subst (λ (sets : List AttrSet). AreEvidence c.args.width r (schemes_of sets)) (sym is)
                 (c.loop-one.invariant.evidence r tabled are);
-            settled = λ r tabled are.
-                subst (λ (sets : List AttrSet). All (IsSettled r (schemes_of sets)) (take (i + 1) c.args.asked.now)) (sym is)
-                (All-more (IsSettled r (schemes_of old)) c.args.asked.now i d c.loop-one-test.true
-                (c.loop-one.invariant.settled r tabled are)
-                (subst (Settles c.args.width r (schemes_of old) one) w.in-None.is (settles r tabled are)));
+            answered = λ r tabled are.
+                subst (λ (sets : List AttrSet). All (HasAnswer r (schemes_of sets)) (take (i + 1) c.args.asked.now)) (sym is)
+                (All-more (HasAnswer r (schemes_of old)) c.args.asked.now i d c.loop-one-test.true
+                (c.loop-one.invariant.answered r tabled are)
+                (subst (AnswersOrRefutes c.args.width r (schemes_of old) one) w.in-None.is (answers r tabled are)));
           }
     ]
 
-pub returns-clause-settled : goal.returns-clause-settled
-returns-clause-settled c = λ r tabled are. All-same (IsSettled r (schemes_of c.loop-one.found.items)) c.args.asked.now _
+pub returns-clause-answered : goal.returns-clause-answered
+returns-clause-answered c = λ r tabled are. All-same (HasAnswer r (schemes_of c.loop-one.found.items)) c.args.asked.now _
     (sym (take_all c.loop-one.one-index c.args.asked.now (omega (arith, c.loop-one-test.false))))
-    (c.loop-one.invariant.settled r tabled are)
+    (c.loop-one.invariant.answered r tabled are)

@@ -11,10 +11,10 @@ use Rattle.mvd_discovery.proofs.reduced.is_reduced.Goals.{After-is_subset}
 no_rest : (c : After-is_subset) → (c.is_subset.result ≡ true) ↔ IsEmpty (difference (below c.args.counts.now.width) (union (attributes c.args.left) (attributes c.args.right)))
 no_rest c =
     let both = union (attributes c.args.left) (attributes c.args.right) in
-    let told = subst (λ (z : Attributes). (c.is_subset.result ≡ true) ↔ IsSubset z both) c.full.ensures.members
+    let exact = subst (λ (z : Attributes). (c.is_subset.result ≡ true) ↔ IsSubset z both) c.full.ensures.members
     (subst (λ (z : Attributes). (c.is_subset.result ≡ true) ↔ IsSubset (attributes c.full.result) z) c.union.ensures.members c.is_subset.ensures.subset) in
     let means = nothing_beyond c.args.counts.now.width both in
-    ((λ t. means.0 (told.0 t)), (λ empty. told.1 (means.1 empty)))
+    ((λ t. means.0 (exact.0 t)), (λ empty. exact.1 (means.1 empty)))
 
 pub returns-then-is_subset : goal.returns-then-is_subset
 returns-then-is_subset c = record {

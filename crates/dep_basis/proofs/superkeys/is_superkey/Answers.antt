@@ -1,4 +1,4 @@
--- What is left to prove of `determines_by_all`: what it answers in the cases `Implied` and `Broken` and
+-- What is left to prove of `is_superkey`: what it answers in the cases `Implied` and `Broken` and
 -- what `decide` requires.
 use Rattle.std.proofs.Common.{Bool, true, false, refl, sym, ◌∙◌, ap}
 use Rattle.std.proofs.lemmas.Bool.{false≢true, true≢false}
@@ -7,7 +7,7 @@ use Rattle.dep_model.specs.Schemas.{width_of, theory_of}
 use Rattle.dep_model.proofs.KeyLemmas.{superkey-from, fd_on-to}
 use Rattle.dep_basis.specs.declared.deciding.Decision.{Decision}
 use Rattle.dep_basis.specs.declared.deciding.Decision.TheVariants.{Implied, Broken}
-use Rattle.primary_keys.proofs.narrowing.determines_by_all.Goals as goal
+use Rattle.dep_basis.proofs.superkeys.is_superkey.Goals as goal
 
 is_yes : Decision → Bool
 is_yes Implied = true
@@ -20,14 +20,14 @@ pub returns-in-Implied : goal.returns-in-Implied
 returns-in-Implied c =
     let s = c.args.schema.now in
     let implied = c.decide.ensures.implied.0 c.in-Implied.is in
-    record { determines = ((λ _. superkey-from (width_of s) (theory_of s) (attributes c.args.scheme) (attributes c.args.set) c.requires.set implied), (λ _. refl)) }
+    record { superkey = ((λ _. superkey-from (width_of s) (theory_of s) (attributes c.args.scheme) (attributes c.args.set) c.requires.set implied), (λ _. refl)) }
 
 pub returns-in-Broken : goal.returns-in-Broken
 unfolding is_yes
 returns-in-Broken c =
     let s = c.args.schema.now in
     record {
-      determines = (
+      superkey = (
         (λ e. absurd (false≢true e)),
         (λ superkey.
             let implied = c.decide.ensures.implied.1 (fd_on-to (width_of s) (theory_of s) (attributes c.args.scheme) (attributes c.args.set) (attributes c.args.scheme) superkey) in
