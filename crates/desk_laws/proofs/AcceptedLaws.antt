@@ -27,7 +27,7 @@ use Rattle.proof_grammar.specs.Printing.{canonical_certificate}
 use Rattle.proof_grammar.specs.Spelling.{SpellsWithin}
 use Rattle.proof_grammar.proofs.OneTree.{one_tree}
 use Rattle.proof_grammar.proofs.PrintedSpells.{answered_spells}
-use Rattle.desk_responses.specs.declared.status.Status.TheVariants.{Yes, No}
+use Rattle.desk_responses.specs.declared.status.Status.TheVariants.{Yes}
 use Rattle.desk_responses.specs.ResponseValues.{ResponseValue}
 use Rattle.desk_implication.specs.Certificates.{Checked}
 use Rattle.desk_words.specs.Forms.{form_of, after_check, schema_and_two, form_over_schema, schema_and_word}
@@ -41,7 +41,7 @@ use Rattle.desk_texts.specs.Texts.{yes_text}
 use Rattle.alike_laws.proofs.Alike.{proves_alike}
 use Rattle.alike_laws.specs.SameDeclarations.{AreAlike}
 use Rattle.desk_laws.proofs.SchemaLemmas.{spells_alike}
-use Rattle.desk_laws.proofs.StopLemmas.{schema_says, goal_says, one_content, schema_goes, proof_goes, goal_goes}
+use Rattle.desk_laws.proofs.StopLemmas.{schema_says, goal_says, no_says, one_content, schema_goes, proof_goes, goal_goes}
 use Rattle.desk_tables.specs.OwnFolders.{Looks}
 
 -- ---- the first answer
@@ -58,9 +58,6 @@ record SaidYes (files : Files) (schema goal text : List ℕ) : Type 0 where
   proof : Deriv
   is_proof : IsProofOf of dep (tree_of proof)
   printed : text ≡ yes_text ++ canonical_certificate of (tree_of proof)
-
-no_says : (response : ResponseValue) → response.status ≡ Yes → response.status ≡ No → ⊥
-no_says response says_yes is = cc
 
 yes_there : (files : Files) (schema goal : List ℕ) (response : ResponseValue) → response.status ≡ Yes → WithFile schema_file (known_files files) schema (λ s. WithGoal s goal (Decided s)) response → SaidYes files schema goal response.text
 yes_there files schema goal response says_yes (inl exit) = absurd (schema_says (known_files files) schema response says_yes exit)

@@ -25,31 +25,38 @@ use Rattle.desk_laws.proofs.OneFile.{one_after}
 use Rattle.desk_laws.proofs.StopLemmas.{file_goes, one_content}
 
 -- ---- it is answered
+pub sql_answer : (files : Files) (dialect : Dialect) (file table : List ℕ) (wanted : TableName) (text printed : List ℕ) (response : ResponseValue)
+    → IsFile sql_file (known_files files) file text → wanted_table table ≡ Some wanted
+    → imported_text dialect wanted (without_mark text) ≡ Ok printed
+    → WithFile sql_file (known_files files) file (ImportsTable dialect table file) response
+    → response ≡ text_only Yes printed
+sql_answer files dialect file table wanted text printed response is wants prints (inl (inl exit)) =
+    absurd (file_goes files file is.bytes MOST_SQL_BYTES response is.content.0 is.content.1 exit)
+sql_answer files dialect file table wanted text printed response is wants prints (inl (inr (why, refused, says))) =
+    absurd refused.refused
+sql_answer files dialect file table wanted text printed response is wants prints (inr (value, also, found)) =
+    let same : value ≡ text =
+    also.means ∙ one_content files file also.bytes is.bytes also.content.0 is.content.0 ∙ sym is.means in
+    found
+    ∙ ap (λ (t : List ℕ). wanted_response dialect file t (wanted_table table)) same
+    ∙ ap (wanted_response dialect file text) wants
+    ∙ ap (import_response file (without_mark text)) prints
+
 after_sql : (files : Files) (dialect : Dialect) (file table : List ℕ) (wanted : TableName) (text printed : List ℕ) (response : ResponseValue)
     → IsFile sql_file (known_files files) file text → wanted_table table ≡ Some wanted
     → imported_text dialect wanted (without_mark text) ≡ Ok printed
     → WithFile sql_file (known_files files) file (ImportsTable dialect table file) response → IsYesOrNo response.status
-after_sql files dialect file table wanted text printed response is wants prints (inl (inl exit)) =
-    absurd (file_goes files file is.bytes MOST_SQL_BYTES response is.content.0 is.content.1 exit)
-after_sql files dialect file table wanted text printed response is wants prints (inl (inr (why, refused, says))) =
-    absurd refused.refused
-after_sql files dialect file table wanted text printed response is wants prints (inr (value, also, found)) =
-    let same : value ≡ text =
-    also.means ∙ one_content files file also.bytes is.bytes also.content.0 is.content.0 ∙ sym is.means in
-    let answer : response ≡ text_only Yes printed =
-    found
-    ∙ ap (λ (t : List ℕ). wanted_response dialect file t (wanted_table table)) same
-    ∙ ap (wanted_response dialect file text) wants
-    ∙ ap (import_response file (without_mark text)) prints in
-    inl (ap (λ (a : ResponseValue). a.status) answer)
+after_sql files dialect file table wanted text printed response is wants prints found =
+    inl (ap (λ (a : ResponseValue). a.status)
+    (sql_answer files dialect file table wanted text printed response is wants prints found))
 
-sqlite_asks : (files : Files) (file table : List ℕ) (looks : Looks) (response : ResponseValue)
+pub sqlite_asks : (files : Files) (file table : List ℕ) (looks : Looks) (response : ResponseValue)
     → Answers looks (known_files files) (codes "import" ∷ codes "sqlite" ∷ file ∷ table ∷ []) response
     → WithFile sql_file (known_files files) file (ImportsTable Sqlite table file) response
 unfolding form_of after_import dialect_of file_and_table Performs
 sqlite_asks files file table looks response answered = answered
 
-postgres_asks : (files : Files) (file table : List ℕ) (looks : Looks) (response : ResponseValue)
+pub postgres_asks : (files : Files) (file table : List ℕ) (looks : Looks) (response : ResponseValue)
     → Answers looks (known_files files) (codes "import" ∷ codes "postgres" ∷ file ∷ table ∷ []) response
     → WithFile sql_file (known_files files) file (ImportsTable Postgres table file) response
 unfolding form_of after_import dialect_of file_and_table Performs

@@ -36,6 +36,20 @@ use Rattle.desk_laws.proofs.OneFile.{goes, one_after, one_stop, one_view}
 use Rattle.desk_laws.proofs.OneText.{derivation_text_once, headed_text_once, names_and_rows, part_text_once, plan_tables_once, proof_text_once, rows_text_once, schema_text_once, MeansNamesAndRows, MeansTable}
 use Rattle.schema_grammar.specs.Declarations.{Declarations}
 
+-- ---- plans
+-- the tables of a text are those of a plan
+pub tables_plan : (s : Schema) (text : List ℕ) (plan : NamedSchemes) → MeansTables s text plan
+    → IsPlan (width_of s) plan.schemes
+tables_plan s text plan means =
+    let lines = line_texts (without_mark text) in
+    let read = means.read in
+    subst (λ (schemes : List Attributes). IsPlan (width_of s) schemes) (sym means.schemes)
+    (record {
+      within = lines_within (naming_of s) (names_of s) [] lines read means.means.lines;
+      not_empty = lines_not_empty (naming_of s) (names_of s) [] lines read means.means.lines;
+      covers = means.means.covers;
+    })
+
 -- ---- files
 module _ (files : Files) where
   abbrev known : Reading
@@ -57,19 +71,8 @@ module _ (files : Files) where
       one_after files name (plan_file s) (λ (plan : NamedSchemes). plan) (MeansTables s)
       (plan_tables_once s) (λ text plan means. means) rest
       (λ plan others one other is also same first second.
-      each plan (is_plan is.bytes plan is.means) one other first
+      each plan (tables_plan s is.bytes plan is.means) one other first
       (subst (λ (p : NamedSchemes). rest p other) (sym same) second))
-    where
-      is_plan : (text : List ℕ) (plan : NamedSchemes) → MeansTables s text plan → IsPlan (width_of s) plan.schemes
-      is_plan text plan means =
-          let lines = line_texts (without_mark text) in
-          let read = means.read in
-          subst (λ (schemes : List Attributes). IsPlan (width_of s) schemes) (sym means.schemes)
-          (record {
-            within = lines_within (naming_of s) (names_of s) [] lines read means.means.lines;
-            not_empty = lines_not_empty (naming_of s) (names_of s) [] lines read means.means.lines;
-            covers = means.means.covers;
-          })
 
   -- what is said of any two answers: of equal ones, and of those on the plan of a file
   pub after_one_plan : (s : Schema) (name : List ℕ) (C : ResponseValue → ResponseValue → Type 0)

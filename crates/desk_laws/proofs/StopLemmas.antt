@@ -21,7 +21,7 @@ use Rattle.proof_grammar.specs.Spelling.{SpellsWithin}
 use Rattle.proof_grammar.specs.Texts.{read_proof}
 use Rattle.proof_grammar.proofs.TextRefusals.{refused_back}
 use Rattle.proof_grammar.proofs.CertificateLaws.{spelled_back}
-use Rattle.desk_responses.specs.declared.status.Status.TheVariants.{Yes, Refused, CannotRead}
+use Rattle.desk_responses.specs.declared.status.Status.TheVariants.{Yes, No, Refused, CannotRead}
 use Rattle.desk_inputs.specs.Readings.{Reading, known_files}
 use Rattle.desk_responses.specs.ResponseValues.{ResponseValue}
 use Rattle.desk_inputs.specs.FileKinds.{FileStops, LoadStops}
@@ -29,16 +29,19 @@ use Rattle.desk_inputs.specs.Inputs.{schema_file, proof_file}
 use Rattle.desk_arguments.specs.Goals.{GoalStops}
 
 -- ---- no way to stop says yes
-refused_says : (response : ResponseValue) → response.status ≡ Yes → response.status ≡ Refused → ⊥
+pub refused_says : (response : ResponseValue) → response.status ≡ Yes → response.status ≡ Refused → ⊥
 refused_says response says_yes is = cc
+
+pub no_says : (response : ResponseValue) → response.status ≡ Yes → response.status ≡ No → ⊥
+no_says response says_yes is = cc
 
 unread_says : (response : ResponseValue) → response.status ≡ Yes → response.status ≡ CannotRead → ⊥
 unread_says response says_yes is = cc
 
-status_is : (response wanted : ResponseValue) → response ≡ wanted → response.status ≡ wanted.status
+pub status_is : (response wanted : ResponseValue) → response ≡ wanted → response.status ≡ wanted.status
 status_is response wanted is = ap (λ (a : ResponseValue). a.status) is
 
-file_says : (r : Reading) (name : List ℕ) (limit : ℕ) (response : ResponseValue) → response.status ≡ Yes → LoadStops r name limit response → ⊥
+pub file_says : (r : Reading) (name : List ℕ) (limit : ℕ) (response : ResponseValue) → response.status ≡ Yes → LoadStops r name limit response → ⊥
 file_says r name limit response says_yes (inl exit) = unread_says response says_yes (status_is response _ exit.1)
 file_says r name limit response says_yes (inr exit) = refused_says response says_yes (status_is response _ exit.1)
 

@@ -183,10 +183,10 @@ form_answered files words name form rest says asks schema file can looks respons
     (asks looks response answered)
 
 -- the tables of a plan, where no value is missing in them where it must not be
-abbrev WritesRequired : Schema → List AttrSet → Allowed
+abbrev pub WritesRequired : Schema → List AttrSet → Allowed
 WritesRequired r plan = WithoutMissing r [] (schemes_of plan) (WritesTables r [] plan)
 
-ddl_asks : (form : Form) (files : Files) (name : List ℕ) (looks : Looks) (response : ResponseValue) → Answers looks (known_files files) (codes "ddl" ∷ form_word form ∷ name ∷ []) response
+pub ddl_asks : (form : Form) (files : Files) (name : List ℕ) (looks : Looks) (response : ResponseValue) → Answers looks (known_files files) (codes "ddl" ∷ form_word form ∷ name ∷ []) response
     → WithFile schema_file (known_files files) name (λ r. WithPlanInForm r form (WritesRequired r)) response
 unfolding form_of form_over_schema after_ddl normal_form schema_alone Performs Does AnswersSchema
 ddl_asks Third files name looks response answered = answered
@@ -295,7 +295,7 @@ check_keeps_answered files name file schema plan held_schema held_plan looks res
     (λ r same more. after_plan files schema r file plan (λ p. JudgesKeeping r p.schemes) response same held_plan (λ p is found. JudgesKeeping-yes_or_no r p.schemes response found) more)
     (check_keeps_asks files name file looks response answered)
 
-ddl_plan_asks : (files : Files) (name file : List ℕ) (looks : Looks) (response : ResponseValue) → Answers looks (known_files files) (codes "ddl" ∷ codes "plan" ∷ name ∷ file ∷ []) response
+pub ddl_plan_asks : (files : Files) (name file : List ℕ) (looks : Looks) (response : ResponseValue) → Answers looks (known_files files) (codes "ddl" ∷ codes "plan" ∷ name ∷ file ∷ []) response
     → WithFile schema_file (known_files files) name (λ r. WithFile (plan_file r) (known_files files) file (λ p. WritesPlan r p.names p.schemes)) response
 unfolding form_of form_over_schema after_ddl schema_and_plan Performs Does AnswersPlan
 ddl_plan_asks files name file looks response answered = answered

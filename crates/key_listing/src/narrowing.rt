@@ -5,7 +5,7 @@ ghost use Rattle.dep_model.specs.Schemas.{width_of, universe_of, theory_of};
 ghost use Rattle.key_listing.specs.Narrowing.{IsInEveryKey, DropsAttributesInNoKey};
 
 use attr_sets::{AttrSet, MOST_ATTRIBUTES};
-use dep_basis::closure_of;
+use dep_basis::{closure_of, is_superkey};
 use dep_model::Schema;
 use fd_closure::left_attributes;
 

@@ -12,6 +12,7 @@ use crate::narrowing::{attributes_in_every_key, without_attributes_in_no_key};
 use crate::refusal::MOST_KEYS;
 use crate::superkeys::one_key;
 use attr_sets::AttrSet;
+use dep_basis::is_superkey;
 use dep_model::{OutOfMemory, Schema};
 use std::alloc::Global;
 

@@ -1,4 +1,5 @@
 mod PassingLaws
+pub mod FormPlans
 mod DesignedLaws
 mod RejoinedLaws
 pub mod UniqueLaws
@@ -8,7 +9,7 @@ mod OrderedNames
 pub mod OneDesign
 mod DesignTexts
 mod ScriptTexts
-mod MissingAnswers
+pub mod MissingAnswers
 pub mod SplitAnswers
 pub mod DesignAnswers
 pub mod RowAnswers

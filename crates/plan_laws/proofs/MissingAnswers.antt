@@ -61,7 +61,7 @@ module _ (nullable : Attributes) (one other : List TableDesign) (same : AreSameT
     shared = λ a j is. fine.shared a j (shared_back j k a is);
   }
 
-  finds_there : (found : Option MissingRefusal) → FindsMissing nullable one found → FindsMissing nullable other found
+  pub finds_there : (found : Option MissingRefusal) → FindsMissing nullable one found → FindsMissing nullable other found
   finds_there None never = λ k. fine_there k (never k)
   finds_there (Some (InKey a k)) (before, is) = (
     λ i less. fine_there i (before i less),
@@ -91,7 +91,7 @@ module _ (nullable : Attributes) (one other : List TableDesign) (same : AreSameT
       ∙ ap (in_two_text s a (name_at other j)) (name_same k)
 
 -- ---- what stops
-one_design_of : (s : Schema) (names : GivenNames) (schemes : List Attributes) (tables designs : List TableDesign)
+pub one_design_of : (s : Schema) (names : GivenNames) (schemes : List Attributes) (tables designs : List TableDesign)
     → IsDesignOf s names schemes tables → IsDesignOf s names schemes designs → AreSameTables tables designs
 one_design_of s names schemes tables designs is also =
     one_sound_design s names is.plan also.plan tables designs (is.same ∙ sym also.same) is.sound also.sound

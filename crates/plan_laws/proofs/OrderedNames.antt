@@ -1,29 +1,22 @@
 -- Names that are apart stay so in the order of a design, since being apart is the same both ways.
 use Rattle.std.proofs.Common.{◌≡◌, ◌≢◌, ◌<◌, ◌+◌, ◌==◌, ℕ, zero, suc, ◌⊎◌, inl, inr, ⊎_elim, Bool, true, false, List, [], ◌∷◌, ◌++◌, get_or, Option, Some, None, if◌then◌else◌, refl, subst, ◌∙◌, sym, arith}
 use Rattle.std.specs.Prelude.{All, AllPairs, Contains}
-use Rattle.std.specs.Str.{str_to_ascii_lowercase}
-use Rattle.std.proofs.lemmas.Bool.{cases_Bool, eqb-true, false_from_ne_true, true≢false}
+use Rattle.std.proofs.lemmas.Bool.{cases_Bool, eqb-true}
 use Rattle.std.proofs.lemmas.List.Elements.{All-contains, Contains-append_cases, Contains-get_or}
-use Rattle.std.proofs.lemmas.Slice.Eq.{bytes_eq-Decides}
 use Rattle.attr_sets.specs.Attributes.{Attributes}
 use Rattle.dep_model.specs.Dependencies.{Dependency}
-use Rattle.dep_model.specs.Names.{same_name}
 use Rattle.dep_model.proofs.DistinctLemmas.{all_pairs_cons}
 use Rattle.dep_model.proofs.ListLemmas.{Contains-head, Contains-later, Contains-cases}
 use Rattle.design_order.specs.Order.{AreNamesInOrder, grouped_below, with_number}
 use Rattle.named_plans.specs.NamedPlans.{ApartFrom, AreApart, IsOwnName}
 use Rattle.table_names.specs.TableNames.{GivenNames}
+use Rattle.table_name_laws.proofs.NameLemmas.{apart_turned as name_turned}
 
 -- ---- apart both ways
-same_turned : (a b : List ℕ) → same_name a b ≡ true → same_name b a ≡ true
-same_turned a b same = (bytes_eq-Decides (str_to_ascii_lowercase b) (str_to_ascii_lowercase a)).1
-    (sym ((bytes_eq-Decides (str_to_ascii_lowercase a) (str_to_ascii_lowercase b)).0 same))
-
 apart_turned : (one other : Option (List ℕ)) → ApartFrom one other → ApartFrom other one
 apart_turned None other apart = tt
 apart_turned (Some a) None apart = refl
-apart_turned (Some a) (Some b) apart =
-    false_from_ne_true (same_name a b) (λ same. true≢false (sym (same_turned a b same) ∙ apart))
+apart_turned (Some a) (Some b) apart = name_turned b a apart
 
 -- ---- pairs of a list
 module _ {X : Type 0} (R : X → X → Type 0) where

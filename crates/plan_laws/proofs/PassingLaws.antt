@@ -86,7 +86,7 @@ all_kept P earlier (x ∷ later) all =
           (All-head P (attributes x) (schemes_of later) all) rest)
     ]
 
-plan_all : (P : Attributes → Type 0) (all plan : List AttrSet) → plan ≡ without_contained all → All P (schemes_of all)
+pub plan_all : (P : Attributes → Type 0) (all plan : List AttrSet) → plan ≡ without_contained all → All P (schemes_of all)
     → All P (schemes_of plan)
 plan_all P all plan kept each = subst (λ (l : List AttrSet). All P (schemes_of l)) (sym kept) (all_kept P [] all each)
 
