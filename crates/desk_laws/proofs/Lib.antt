@@ -19,4 +19,5 @@ mod OnePage
 mod OneTask
 mod DerivationLaws
 mod SampleWords
+mod ImportedLaws
 mod OneWords

@@ -14,6 +14,7 @@ mod complete_questions;
 mod complete_reasons;
 mod complete_scripts;
 mod complete_tables;
+mod imported;
 mod one_answer;
 
 ghost use Rattle.std.specs.Prelude.{◌≡◌, ◌≤◌, ℕ, List, [], ◌∷◌, length, Some, codes};
@@ -50,6 +51,7 @@ pub use complete_tables::{
     import_sql_is_answered, migrate_is_answered, rejoin_is_answered, sample_is_answered,
     small_universes_are_split, split_is_answered,
 };
+pub use imported::{tables_of_a_form_are_imported, tables_of_a_plan_are_imported};
 pub use one_answer::{
     tasks_have_one_answer, texts_of_files_have_one_reading, words_have_one_answer,
 };

@@ -1,15 +1,14 @@
 -- The keys of a scheme, by those of its attributes in left sides.
-use Rattle.std.proofs.Common.{◌≡◌, ℕ, ◌≤◌, ◌<◌, ◌↔◌, ◌⊎◌, Bool, true, false, ◌||◌, List, sym, subst, ◌∙◌, inl, inr, ⊎_elim, arith}
+use Rattle.std.proofs.Common.{◌≡◌, ℕ, ◌≤◌, ◌↔◌, Bool, true, false, ◌||◌, List, sym, subst, ◌∙◌, inl, inr, ⊎_elim, arith}
 use Rattle.std.proofs.lemmas.Bool.{cases_Bool, or_cases, true≢false, false_from_ne_true, ltb-true}
 use Rattle.std.proofs.lemmas.Bool.Decides.{nat_tests}
 use Rattle.std.specs.Prelude.{All}
 use Rattle.attr_sets.specs.declared.set.TheConstants.{MOST_ATTRIBUTES}
 use Rattle.attr_sets.specs.Attributes.{Attributes, below, only, union, intersection, IsSubset, IsBefore, Disjoint}
-use Rattle.attr_sets.proofs.AttributesLemmas.{same_at, same_from_within}
+use Rattle.attr_sets.proofs.AttributesLemmas.{same_from_within}
 use Rattle.dep_model.specs.declared.dep.Dep.{Dep}
-use Rattle.dep_model.specs.Dependencies.{Dependency, fd, left_of}
+use Rattle.dep_model.specs.Dependencies.{Dependency, left_of}
 use Rattle.dep_model.specs.Deps.{dependency_of, dependencies_of, IsDepWithin}
-use Rattle.dep_model.specs.Implication.{Implies}
 use Rattle.dep_model.specs.Keys.{IsSuperkey, IsKey, InClosure}
 use Rattle.dep_model.proofs.DepLemmas.{dependencies_all-to}
 use Rattle.dep_model.proofs.KeyLemmas.{superkey-from, fd_on-to}

@@ -4,8 +4,8 @@ mod DesignedLaws
 mod RejoinedLaws
 pub mod UniqueLaws
 pub mod FormTables
-mod NameLaws
-mod OrderedNames
+pub mod NameLaws
+pub mod OrderedNames
 pub mod OneDesign
 mod DesignTexts
 mod ScriptTexts

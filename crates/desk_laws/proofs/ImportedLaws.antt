@@ -1,0 +1,276 @@
+-- What `ddl` prints is imported: what is read of designs, said of the answers of both commands.
+use Rattle.std.proofs.Common.{◌≡◌, ◌<◌, ◌≤◌, ◌∙◌, ◌++◌, ℕ, List, [], ◌∷◌, length, Some, None, Ok, true, false, inl, inr, refl, sym, ap, subst, arith}
+use Rattle.std.proofs.lemmas.Bool.{cases_Bool, ne_eqb}
+use Rattle.std.specs.List.{flat_map}
+use Rattle.std.specs.Prelude.{codes, filter, not, slice_get}
+use Rattle.attr_sets.specs.Attributes.{Attributes}
+use Rattle.attr_sets.specs.Sets.{attributes}
+use Rattle.attr_sets.specs.declared.set.AttrSet.{AttrSet}
+use Rattle.ddl_text.specs.Ddl.{comment, ddl_text, is_empty, is_never_missing, key_comment, left_out_line, table_text}
+use Rattle.ddl_text.specs.declared.table.TableDesign.{TableDesign}
+use Rattle.dep_model.specs.Plans.{IsPlan, schemes_of}
+use Rattle.dep_model.specs.Schemas.{nullable_of, theory_of, width_of}
+use Rattle.dep_model.specs.declared.schema.Schema.{Schema}
+use Rattle.design_order.proofs.OrderLemmas.{order-plan}
+use Rattle.import_laws.proofs.LawLemmas.{table_imported}
+use Rattle.import_laws.specs.PrintedDesigns.{IsPrintedDesign}
+use Rattle.import_laws.specs.ReadTables.{named}
+use Rattle.lexer.specs.Lines.{without_mark}
+use Rattle.missing_values.specs.Missing.{NeverMissing}
+use Rattle.named_plans.specs.NamedPlans.{AreApart, NamedSchemes}
+use Rattle.normal_forms.specs.declared.forms.Form.{Form}
+use Rattle.normal_forms.specs.declared.forms.Form.TheVariants.{Third, Bcnf, Fourth}
+use Rattle.plan_grammar.proofs.PlanLaws.{plan_names_apart}
+use Rattle.plan_laws.proofs.FormPlans.{form_is_plan}
+use Rattle.plan_laws.proofs.MissingAnswers.{finds_there, one_design_of}
+use Rattle.plan_laws.proofs.NameLaws.{none_given}
+use Rattle.plan_laws.proofs.OrderedNames.{stay_apart}
+use Rattle.plan_reader.specs.declared.reading.TheConstants.{MOST_PLAN_BYTES}
+use Rattle.plans.proofs.PlanLemmas.{plan_are_schemes}
+use Rattle.schema_grammar.proofs.DeclaredNames.{declared_are_names}
+use Rattle.schema_grammar.specs.Schemas.{MeansSchema}
+use Rattle.schema_grammar.specs.Texts.{declarations_of}
+use Rattle.sql_lexemes.specs.declared.dialect.Dialect.{Dialect}
+use Rattle.sql_lexemes.specs.declared.dialect.Dialect.TheVariants.{Sqlite, Postgres}
+use Rattle.sql_schemas.specs.Texts.{imported_text}
+use Rattle.table_names.specs.TableNames.{GivenNames}
+use Rattle.desk_cli.specs.Performs.{Answers}
+use Rattle.desk_designs.specs.Decompositions.{FormStops, IsPlanInForm, SplitStops, WithPlanInForm}
+use Rattle.desk_designs.specs.Designs.{AreNeverMissing, IsDesignOf, IsSoundDesign, MissingStops, WithoutMissing, WritesPlan, WritesSchemes, WritesTables}
+use Rattle.desk_designs.specs.Joins.{LossStops, WithoutLoss}
+use Rattle.desk_designs.specs.NormalForms.{form_word}
+use Rattle.desk_imports.specs.Imports.{ImportsTable}
+use Rattle.desk_inputs.specs.FileKinds.{FileStops, IsFile, WithFile}
+use Rattle.desk_inputs.specs.Inputs.{schema_file}
+use Rattle.desk_inputs.specs.Plans.{plan_file}
+use Rattle.desk_inputs.specs.Readings.{Reading, known_files}
+use Rattle.desk_inputs.specs.Sql.{sql_file}
+use Rattle.desk_inputs.specs.declared.sql.TheConstants.{MOST_SQL_BYTES}
+use Rattle.desk_outside.specs.Files.{Files, bytes_of_file}
+use Rattle.desk_responses.specs.ResponseValues.{ResponseValue}
+use Rattle.desk_responses.specs.declared.status.Status.TheVariants.{Yes}
+use Rattle.desk_tables.specs.OwnFolders.{Looks}
+use Rattle.desk_laws.specs.Imported.{AreImported, FormIsImported, PlanIsImported, import_words}
+use Rattle.desk_laws.proofs.ImportLaws.{postgres_asks, sql_answer, sqlite_asks}
+use Rattle.desk_laws.proofs.OneInput.{tables_plan}
+use Rattle.desk_laws.proofs.StopLemmas.{file_says, no_says, refused_says, schema_says, status_is}
+use Rattle.desk_laws.proofs.TableLaws.{WritesRequired, ddl_asks, ddl_plan_asks}
+
+-- ---- no way to stop says yes
+plan_says : (r : Reading) (s : Schema) (name : List ℕ) (response : ResponseValue) → response.status ≡ Yes
+    → FileStops (plan_file s) r name response → ⊥
+plan_says r s name response says_yes (inl exit) = file_says r name MOST_PLAN_BYTES response says_yes exit
+plan_says r s name response says_yes (inr exit) = refused_says response says_yes (status_is response _ exit.2)
+
+split_says : (s : Schema) (form : Form) (response : ResponseValue) → response.status ≡ Yes
+    → SplitStops s form response → ⊥
+split_says s form response says_yes (inl wide) = refused_says response says_yes (status_is response _ wide.2)
+split_says s form response says_yes (inr many) = refused_says response says_yes (status_is response _ many.1)
+
+form_says : (s : Schema) (form : Form) (response : ResponseValue) → response.status ≡ Yes
+    → FormStops s form response → ⊥
+form_says s Third response says_yes exit = exit
+form_says s Bcnf response says_yes exit = split_says s Bcnf response says_yes exit
+form_says s Fourth response says_yes exit = split_says s Fourth response says_yes exit
+
+missing_says : (s : Schema) (names : GivenNames) (schemes : List Attributes) (response : ResponseValue)
+    → response.status ≡ Yes → MissingStops s names schemes response → ⊥
+missing_says s names schemes response says_yes (tables, design, (refusal, finds, says)) =
+    refused_says response says_yes (status_is response _ says)
+
+loss_says : (s : Schema) (schemes : List Attributes) (response : ResponseValue) → response.status ≡ Yes
+    → LossStops s schemes response → ⊥
+loss_says s schemes response says_yes (inl (fits, lossy, (rows, shows, says))) =
+    no_says response says_yes (status_is response _ says)
+loss_says s schemes response says_yes (inr large) = refused_says response says_yes (status_is response _ large.1)
+
+-- ---- the text of a design has no byte-order mark
+-- a text begins with a byte of ASCII
+abbrev HasPlainFront : List ℕ → Type 0
+HasPlainFront text = (first : ℕ) × (rest : List ℕ) × (text ≡ first ∷ rest) × (first < 128)
+
+unmarked : (text : List ℕ) → HasPlainFront text → without_mark text ≡ text
+unmarked text (first, rest, is, plain) =
+    subst (λ (t : List ℕ). without_mark t ≡ t) (sym is) (no_mark first rest plain)
+  where
+    no_mark : (first : ℕ) (rest : List ℕ) → first < 128 → without_mark (first ∷ rest) ≡ first ∷ rest
+    no_mark first rest plain = let other = ne_eqb first 239 (λ same. omega (arith, plain, same)) in (rw other refl)
+
+left_out_front : (s : Schema) (keys : List Attributes) (rest : List ℕ)
+    → HasPlainFront (flat_map (left_out_line s) keys ++ (codes "CREATE TABLE " ++ rest))
+unfolding left_out_line
+left_out_front s [] rest = (67, _, refl, omega arith)
+left_out_front s (key ∷ keys) rest = (45, _, refl, omega arith)
+
+comment_front : (s : Schema) (table : TableDesign) (rest : List ℕ)
+    → HasPlainFront (comment s table ++ (codes "CREATE TABLE " ++ rest))
+comment_front s table rest = elim (cases_Bool (is_empty (attributes table.key))) [
+  | inl empty ↦ rw empty (45, _, refl, omega arith)
+  | inr some ↦ rw some (elim table.other_keys as (λ keys. HasPlainFront (key_comment s keys ++ (codes "CREATE TABLE " ++ rest))) [
+    | None ↦ (45, _, refl, omega arith)
+    | Some keys ↦ left_out_front s (filter (λ key. not (is_never_missing s key)) (schemes_of keys.items)) rest
+  ])
+]
+
+design_unmarked : (s : Schema) (tables : List TableDesign) (k : ℕ) (table : TableDesign) → slice_get tables k ≡ Some table
+    → without_mark (ddl_text s tables) ≡ ddl_text s tables
+unfolding table_text
+design_unmarked s [] k table here = cc
+design_unmarked s (t ∷ ts) k table here = unmarked (ddl_text s (t ∷ ts)) (front_of_all (comment_front s t _))
+  where
+    front_of_all : {text : List ℕ} → HasPlainFront text → HasPlainFront text
+    front_of_all front = front
+
+-- ---- what is imported
+import_asks : (files : Files) (dialect : Dialect) (file table : List ℕ) (looks : Looks) (response : ResponseValue)
+    → Answers looks (known_files files) (import_words dialect file table) response
+    → WithFile sql_file (known_files files) file (ImportsTable dialect table file) response
+import_asks files Sqlite file table looks response answered = sqlite_asks files file table looks response answered
+import_asks files Postgres file table looks response answered = postgres_asks files file table looks response answered
+
+-- the tables of a sound design of a plan, of which no value is missing where it must not be
+module _ (s : Schema) (bytes : List ℕ) (means : MeansSchema bytes (declarations_of s)) (names : GivenNames)
+    (apart : AreApart names) (plan : List AttrSet) (valid : IsPlan (width_of s) (schemes_of plan))
+    (tables : List TableDesign) (sound : IsSoundDesign s names plan tables)
+    (never : NeverMissing (nullable_of s) tables) where
+  design_imported : (looks : Looks) (files : Files) (file : List ℕ) → bytes_of_file files file ≡ Some (ddl_text s tables)
+      → length (ddl_text s tables) ≤ MOST_SQL_BYTES → AreImported looks files file s tables
+  design_imported looks files file kept short dialect k table response types few here by_name answered =
+      let ordered = sound.ordered in
+      let printed : IsPrintedDesign dialect s names ordered tables = record {
+        names = (declared_are_names bytes (declarations_of s) means).each;
+        types = types;
+        plan = plan_are_schemes (width_of s) ordered
+            (order-plan (width_of s) (theory_of s) (schemes_of plan) (schemes_of ordered) sound.order valid);
+        design = sound.design;
+        apart = apart;
+        limit = few;
+      } in
+      let (text, lines, reads, meaning) = table_imported dialect s names ordered tables k table printed never here in
+      let is : IsFile sql_file (known_files files) file (ddl_text s tables) =
+      record { bytes = ddl_text s tables; content = (kept, short); means = refl } in (
+        text,
+        lines,
+        sql_answer files dialect file table.name (named table.name) (ddl_text s tables) text response is by_name
+            (ap (imported_text dialect (named table.name)) (design_unmarked s tables k table here) ∙ reads)
+            (import_asks files dialect file table.name looks response answered),
+        meaning,
+      )
+
+-- of the designs of a plan no value is missing in one where it must not be, if none is in another
+never_there : (s : Schema) (names : GivenNames) (schemes : List Attributes) (tables : List TableDesign)
+    → IsDesignOf s names schemes tables → AreNeverMissing s names schemes → NeverMissing (nullable_of s) tables
+never_there s names schemes tables design (others, other, never) =
+    finds_there (nullable_of s) others tables (one_design_of s names schemes others tables other design) None never
+
+-- what is printed is kept in a file
+abbrev IsKept : Files → List ℕ → ResponseValue → Type 0
+IsKept files file printed = (bytes_of_file files file ≡ Some printed.text) × (length printed.text ≤ MOST_SQL_BYTES)
+
+kept_as : (files : Files) (file text : List ℕ) (printed : ResponseValue) → printed.text ≡ text → IsKept files file printed
+    → (bytes_of_file files file ≡ Some text) × (length text ≤ MOST_SQL_BYTES)
+kept_as files file text printed is kept = subst (λ (t : List ℕ).
+    (bytes_of_file files file ≡ Some t) × (length t ≤ MOST_SQL_BYTES)) is kept
+
+-- ---- of a plan
+module _ (later : Looks) (before after : Files) (schema planned file : List ℕ) (printed : ResponseValue)
+    (says_yes : printed.status ≡ Yes) (kept : IsKept after file printed) where
+  written : (s : Schema) → IsFile schema_file (known_files before) schema s → (p : NamedSchemes)
+      → IsFile (plan_file s) (known_files before) planned p → AreNeverMissing s p.names p.schemes
+      → WritesSchemes s p.names p.schemes printed → PlanIsImported later before after schema planned file
+  written s is p is_plan never (plan, same, (tables, sound, says)) =
+      let design : IsDesignOf s p.names p.schemes tables = record { plan = plan; same = same; sound = sound } in
+      let held = kept_as after file (ddl_text s tables) printed (ap (λ (a : ResponseValue). a.text) says) kept in
+      record {
+        schema = s;
+        declared = is;
+        plan = p;
+        planned = is_plan;
+        tables = tables;
+        design = design;
+        imported = design_imported s is.bytes is.means p.names
+            (stay_apart (width_of s) (theory_of s) is_plan.means.read.schemes is_plan.means.read.names p.names
+            is_plan.means.order
+            (plan_names_apart _ _ is_plan.bytes is_plan.means.read is_plan.means.means))
+            plan
+            (subst (λ (schemes : List Attributes). IsPlan (width_of s) schemes) (sym same)
+            (tables_plan s is_plan.bytes p is_plan.means))
+            tables sound (never_there s p.names p.schemes tables design never) later after file held.0 held.1;
+      }
+
+  after_loss : (s : Schema) → IsFile schema_file (known_files before) schema s → (p : NamedSchemes)
+      → IsFile (plan_file s) (known_files before) planned p → AreNeverMissing s p.names p.schemes
+      → WithoutLoss s p.schemes (WritesSchemes s p.names p.schemes) printed
+      → PlanIsImported later before after schema planned file
+  after_loss s is p is_plan never (inl stops) = absurd (loss_says s p.schemes printed says_yes stops)
+  after_loss s is p is_plan never (inr (lossless, writes)) = written s is p is_plan never writes
+
+  after_missing : (s : Schema) → IsFile schema_file (known_files before) schema s → (p : NamedSchemes)
+      → IsFile (plan_file s) (known_files before) planned p → WritesPlan s p.names p.schemes printed
+      → PlanIsImported later before after schema planned file
+  after_missing s is p is_plan (inl stops) = absurd (missing_says s p.names p.schemes printed says_yes stops)
+  after_missing s is p is_plan (inr (never, more)) = after_loss s is p is_plan never more
+
+  after_plan : (s : Schema) → IsFile schema_file (known_files before) schema s
+      → WithFile (plan_file s) (known_files before) planned (λ p. WritesPlan s p.names p.schemes) printed
+      → PlanIsImported later before after schema planned file
+  after_plan s is (inl stops) = absurd (plan_says (known_files before) s planned printed says_yes stops)
+  after_plan s is (inr (p, is_plan, more)) = after_missing s is p is_plan more
+
+  after_schema : WithFile schema_file (known_files before) schema
+      (λ s. WithFile (plan_file s) (known_files before) planned (λ p. WritesPlan s p.names p.schemes)) printed
+      → PlanIsImported later before after schema planned file
+  after_schema (inl stops) = absurd (schema_says (known_files before) schema printed says_yes stops)
+  after_schema (inr (s, is, more)) = after_plan s is more
+
+pub plan_imported : (looks later : Looks) (before after : Files) (schema planned file : List ℕ) (printed : ResponseValue)
+    → Answers looks (known_files before) (codes "ddl" ∷ codes "plan" ∷ schema ∷ planned ∷ []) printed
+    → printed.status ≡ Yes → bytes_of_file after file ≡ Some printed.text → length printed.text ≤ MOST_SQL_BYTES
+    → PlanIsImported later before after schema planned file
+plan_imported looks later before after schema planned file printed answered says_yes kept short =
+    after_schema later before after schema planned file printed says_yes (kept, short)
+    (ddl_plan_asks before schema planned looks printed answered)
+
+-- ---- of a normal form
+module _ (later : Looks) (before after : Files) (form : Form) (schema file : List ℕ) (printed : ResponseValue)
+    (says_yes : printed.status ≡ Yes) (kept : IsKept after file printed) where
+  form_written : (s : Schema) → IsFile schema_file (known_files before) schema s → (plan : List AttrSet)
+      → IsPlanInForm s form plan → AreNeverMissing s [] (schemes_of plan) → WritesTables s [] plan printed
+      → FormIsImported later before after form schema file
+  form_written s is plan in_form never (tables, sound, says) =
+      let design : IsDesignOf s [] (schemes_of plan) tables = record { plan = plan; same = refl; sound = sound } in
+      let held = kept_as after file (ddl_text s tables) printed (ap (λ (a : ResponseValue). a.text) says) kept in
+      record {
+        schema = s;
+        declared = is;
+        plan = plan;
+        planned = in_form;
+        tables = tables;
+        design = sound;
+        imported = design_imported s is.bytes is.means [] none_given plan (form_is_plan s form plan in_form) tables sound
+            (never_there s [] (schemes_of plan) tables design never) later after file held.0 held.1;
+      }
+
+  form_missing : (s : Schema) → IsFile schema_file (known_files before) schema s → (plan : List AttrSet)
+      → IsPlanInForm s form plan → WritesRequired s plan printed → FormIsImported later before after form schema file
+  form_missing s is plan in_form (inl stops) = absurd (missing_says s [] (schemes_of plan) printed says_yes stops)
+  form_missing s is plan in_form (inr (never, writes)) = form_written s is plan in_form never writes
+
+  form_found : (s : Schema) → IsFile schema_file (known_files before) schema s
+      → WithPlanInForm s form (WritesRequired s) printed → FormIsImported later before after form schema file
+  form_found s is (inl stops) = absurd (form_says s form printed says_yes stops)
+  form_found s is (inr (plan, in_form, more)) = form_missing s is plan in_form more
+
+  form_schema : WithFile schema_file (known_files before) schema (λ s. WithPlanInForm s form (WritesRequired s)) printed
+      → FormIsImported later before after form schema file
+  form_schema (inl stops) = absurd (schema_says (known_files before) schema printed says_yes stops)
+  form_schema (inr (s, is, more)) = form_found s is more
+
+pub form_imported : (form : Form) (looks later : Looks) (before after : Files) (schema file : List ℕ)
+    (printed : ResponseValue)
+    → Answers looks (known_files before) (codes "ddl" ∷ form_word form ∷ schema ∷ []) printed
+    → printed.status ≡ Yes → bytes_of_file after file ≡ Some printed.text → length printed.text ≤ MOST_SQL_BYTES
+    → FormIsImported later before after form schema file
+form_imported form looks later before after schema file printed answered says_yes kept short =
+    form_schema later before after form schema file printed says_yes (kept, short)
+    (ddl_asks form before schema looks printed answered)
