@@ -1,23 +1,15 @@
 -- The tables of a migration have different names: their numbers differ, names that are given are apart, and none of
 -- these is that of a number.
-use Rattle.std.proofs.Common.{◌≡◌, ◌+◌, ◌<◌, ◌≤◌, ◌^◌, ◌%◌, ◌&&◌, ◌∷◌, ◌++◌, ℕ, zero, suc, inl, inr, Bool, true, false, List, [], Option, Some, None, length, get_or, refl, ap, subst, ◌∙◌, sym, arith}
-use Rattle.std.specs.Prelude.{◌≢◌, All, AllPairs, unwrap_or}
-use Rattle.std.specs.Char.{is_ascii_digit}
-use Rattle.std.specs.Fmt.{decimal}
-use Rattle.std.specs.List.{list_all}
-use Rattle.std.specs.Str.{str_to_ascii_lowercase}
-use Rattle.std.proofs.lemmas.Bool.{cases_lt, true≢false}
-use Rattle.std.proofs.lemmas.Bool.Decides.{nat_tests}
-use Rattle.std.proofs.lemmas.Fmt.{decimal_by_steps, decimal_injective}
-use Rattle.std.proofs.lemmas.List.Folds.{list_all-append}
-use Rattle.std.proofs.lemmas.Slice.Eq.{bytes_eq-Decides}
+use Rattle.std.proofs.Common.{◌≡◌, ◌<◌, ◌^◌, ℕ, List, [], length, get_or, ap, ◌∙◌, sym, arith}
+use Rattle.std.specs.Prelude.{◌≢◌, AllPairs}
+use Rattle.std.proofs.lemmas.Bool.{true≢false}
 use Rattle.attr_sets.specs.Attributes.{Attributes, below}
 use Rattle.dep_model.specs.Names.{same_name}
 use Rattle.dep_model.specs.Tuples.{Relation}
 use Rattle.dep_model.specs.declared.schema.Schema.{Schema}
-use Rattle.named_plans.specs.NamedPlans.{ApartFrom, AreApart, IsOwnName}
+use Rattle.named_plans.specs.NamedPlans.{AreApart}
 use Rattle.named_tables.specs.Tables.{TableValue}
-use Rattle.table_names.specs.TableNames.{GivenNames, is_taken, name_of_table, table_name}
+use Rattle.table_names.specs.TableNames.{GivenNames, name_of_table}
 use Rattle.desk_tables.specs.Migrations.{AreTablesOf}
 use Rattle.table_name_laws.proofs.NameLemmas.{same_itself, tables_named_apart}
 use Rattle.plan_laws.proofs.DesignedLaws.{from_zero, tables_length, table_at}
