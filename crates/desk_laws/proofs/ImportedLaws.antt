@@ -1,5 +1,5 @@
 -- What `ddl` prints is imported: what is read of designs, said of the answers of both commands.
-use Rattle.std.proofs.Common.{◌≡◌, ◌<◌, ◌≤◌, ◌∙◌, ◌++◌, ℕ, List, [], ◌∷◌, length, Some, None, Ok, true, false, inl, inr, refl, sym, ap, subst, arith}
+use Rattle.std.proofs.Common.{◌≡◌, ◌<◌, ◌≤◌, ◌∙◌, ◌++◌, ℕ, List, [], ◌∷◌, length, Some, None, inl, inr, refl, sym, ap, subst, arith}
 use Rattle.std.proofs.lemmas.Bool.{cases_Bool, ne_eqb}
 use Rattle.std.specs.List.{flat_map}
 use Rattle.std.specs.Prelude.{codes, filter, not, slice_get}
@@ -36,7 +36,7 @@ use Rattle.sql_schemas.specs.Texts.{imported_text}
 use Rattle.table_names.specs.TableNames.{GivenNames}
 use Rattle.desk_cli.specs.Performs.{Answers}
 use Rattle.desk_designs.specs.Decompositions.{FormStops, IsPlanInForm, SplitStops, WithPlanInForm}
-use Rattle.desk_designs.specs.Designs.{AreNeverMissing, IsDesignOf, IsSoundDesign, MissingStops, WithoutMissing, WritesPlan, WritesSchemes, WritesTables}
+use Rattle.desk_designs.specs.Designs.{AreNeverMissing, IsDesignOf, IsSoundDesign, MissingStops, WritesPlan, WritesSchemes, WritesTables}
 use Rattle.desk_designs.specs.Joins.{LossStops, WithoutLoss}
 use Rattle.desk_designs.specs.NormalForms.{form_word}
 use Rattle.desk_imports.specs.Imports.{ImportsTable}
@@ -94,32 +94,36 @@ unmarked text (first, rest, is, plain) =
     subst (λ (t : List ℕ). without_mark t ≡ t) (sym is) (no_mark first rest plain)
   where
     no_mark : (first : ℕ) (rest : List ℕ) → first < 128 → without_mark (first ∷ rest) ≡ first ∷ rest
-    no_mark first rest plain = let other = ne_eqb first 239 (λ same. omega (arith, plain, same)) in (rw other refl)
+    no_mark first rest plain = let other = ne_eqb 239 first (λ same. omega (arith, plain, same)) in (rw other refl)
 
-left_out_front : (s : Schema) (keys : List Attributes) (rest : List ℕ)
-    → HasPlainFront (flat_map (left_out_line s) keys ++ (codes "CREATE TABLE " ++ rest))
+front_more : (text more : List ℕ) → HasPlainFront text → HasPlainFront (text ++ more)
+front_more text more (first, rest, is, plain) = (first, rest ++ more, ap (λ (t : List ℕ). t ++ more) is, plain)
+
+left_out_front : (s : Schema) (keys : List Attributes)
+    → HasPlainFront (flat_map (left_out_line s) keys ++ codes "CREATE TABLE ")
 unfolding left_out_line
-left_out_front s [] rest = (67, _, refl, omega arith)
-left_out_front s (key ∷ keys) rest = (45, _, refl, omega arith)
+left_out_front s [] = (67, _, refl, omega arith)
+left_out_front s (key ∷ keys) = (45, _, refl, omega arith)
 
-comment_front : (s : Schema) (table : TableDesign) (rest : List ℕ)
-    → HasPlainFront (comment s table ++ (codes "CREATE TABLE " ++ rest))
-comment_front s table rest = elim (cases_Bool (is_empty (attributes table.key))) [
+comment_front : (s : Schema) (table : TableDesign) → HasPlainFront (comment s table ++ codes "CREATE TABLE ")
+comment_front s table = elim (cases_Bool (is_empty (attributes table.key))) [
   | inl empty ↦ rw empty (45, _, refl, omega arith)
-  | inr some ↦ rw some (elim table.other_keys as (λ keys. HasPlainFront (key_comment s keys ++ (codes "CREATE TABLE " ++ rest))) [
+  | inr some ↦ rw some (elim table.other_keys as (λ keys. HasPlainFront (key_comment s keys ++ codes "CREATE TABLE ")) [
     | None ↦ (45, _, refl, omega arith)
-    | Some keys ↦ left_out_front s (filter (λ key. not (is_never_missing s key)) (schemes_of keys.items)) rest
+    | Some keys ↦ left_out_front s (filter (λ key. not (is_never_missing s key)) (schemes_of keys.items))
   ])
 ]
 
+table_front : (s : Schema) (tables : List TableDesign) (table : TableDesign) → HasPlainFront (table_text s tables table)
+unfolding table_text
+table_front s tables table = front_more _ _ (front_more _ _ (front_more _ _ (front_more _ _ (comment_front s table))))
+
 design_unmarked : (s : Schema) (tables : List TableDesign) (k : ℕ) (table : TableDesign) → slice_get tables k ≡ Some table
     → without_mark (ddl_text s tables) ≡ ddl_text s tables
-unfolding table_text
 design_unmarked s [] k table here = cc
-design_unmarked s (t ∷ ts) k table here = unmarked (ddl_text s (t ∷ ts)) (front_of_all (comment_front s t _))
-  where
-    front_of_all : {text : List ℕ} → HasPlainFront text → HasPlainFront text
-    front_of_all front = front
+design_unmarked s (t ∷ ts) k table here =
+    unmarked (ddl_text s (t ∷ ts))
+    (front_more (table_text s (t ∷ ts) t) (flat_map (table_text s (t ∷ ts)) ts) (table_front s (t ∷ ts) t))
 
 -- ---- what is imported
 import_asks : (files : Files) (dialect : Dialect) (file table : List ℕ) (looks : Looks) (response : ResponseValue)
