@@ -1,5 +1,6 @@
 -- What `ddl` prints is imported: what is read of designs, said of the answers of both commands.
 use Rattle.std.proofs.Common.{◌≡◌, ◌<◌, ◌≤◌, ◌∙◌, ◌++◌, ℕ, List, [], ◌∷◌, length, Some, None, inl, inr, refl, sym, ap, subst, arith}
+use Rattle.std.proofs.lemmas.List.{length-map}
 use Rattle.std.proofs.lemmas.Bool.{cases_Bool, ne_eqb}
 use Rattle.std.specs.List.{flat_map}
 use Rattle.std.specs.Prelude.{codes, filter, not, slice_get}
@@ -25,6 +26,8 @@ use Rattle.plan_laws.proofs.FormPlans.{form_is_plan}
 use Rattle.plan_laws.proofs.MissingAnswers.{finds_there, one_design_of}
 use Rattle.plan_laws.proofs.NameLaws.{none_given}
 use Rattle.plan_laws.proofs.OrderedNames.{stay_apart}
+use Rattle.plan_laws.proofs.PlanLengths.{ordered_length}
+use Rattle.plan_grammar.specs.declared.refusal.TheConstants.{MOST_SCHEMES}
 use Rattle.plan_reader.specs.declared.reading.TheConstants.{MOST_PLAN_BYTES}
 use Rattle.plans.proofs.PlanLemmas.{plan_are_schemes}
 use Rattle.schema_grammar.proofs.DeclaredNames.{declared_are_names}
@@ -34,6 +37,7 @@ use Rattle.sql_lexemes.specs.declared.dialect.Dialect.{Dialect}
 use Rattle.sql_lexemes.specs.declared.dialect.Dialect.TheVariants.{Sqlite, Postgres}
 use Rattle.sql_schemas.specs.Texts.{imported_text}
 use Rattle.table_names.specs.TableNames.{GivenNames}
+use Rattle.table_names.specs.declared.numbered.TheConstants.{MOST_TABLES}
 use Rattle.desk_cli.specs.Performs.{Answers}
 use Rattle.desk_designs.specs.Decompositions.{FormStops, IsPlanInForm, SplitStops, WithPlanInForm}
 use Rattle.desk_designs.specs.Designs.{AreNeverMissing, IsDesignOf, IsSoundDesign, MissingStops, WritesPlan, WritesSchemes, WritesTables}
@@ -42,7 +46,7 @@ use Rattle.desk_designs.specs.NormalForms.{form_word}
 use Rattle.desk_imports.specs.Imports.{ImportsTable}
 use Rattle.desk_inputs.specs.FileKinds.{FileStops, IsFile, WithFile}
 use Rattle.desk_inputs.specs.Inputs.{schema_file}
-use Rattle.desk_inputs.specs.Plans.{plan_file}
+use Rattle.desk_inputs.specs.Plans.{MeansTables, plan_file}
 use Rattle.desk_inputs.specs.Readings.{Reading, known_files}
 use Rattle.desk_inputs.specs.Sql.{sql_file}
 use Rattle.desk_inputs.specs.declared.sql.TheConstants.{MOST_SQL_BYTES}
@@ -136,10 +140,10 @@ import_asks files Postgres file table looks response answered = postgres_asks fi
 module _ (s : Schema) (bytes : List ℕ) (means : MeansSchema bytes (declarations_of s)) (names : GivenNames)
     (apart : AreApart names) (plan : List AttrSet) (valid : IsPlan (width_of s) (schemes_of plan))
     (tables : List TableDesign) (sound : IsSoundDesign s names plan tables)
-    (never : NeverMissing (nullable_of s) tables) where
+    (never : NeverMissing (nullable_of s) tables) (few : length tables ≤ MOST_TABLES) where
   design_imported : (looks : Looks) (files : Files) (file : List ℕ) → bytes_of_file files file ≡ Some (ddl_text s tables)
       → length (ddl_text s tables) ≤ MOST_SQL_BYTES → AreImported looks files file s tables
-  design_imported looks files file kept short dialect k table response types few here by_name answered =
+  design_imported looks files file kept short dialect k table response types here by_name answered =
       let ordered = sound.ordered in
       let printed : IsPrintedDesign dialect s names ordered tables = record {
         names = (declared_are_names bytes (declarations_of s) means).each;
@@ -166,6 +170,24 @@ never_there : (s : Schema) (names : GivenNames) (schemes : List Attributes) (tab
     → IsDesignOf s names schemes tables → AreNeverMissing s names schemes → NeverMissing (nullable_of s) tables
 never_there s names schemes tables design (others, other, never) =
     finds_there (nullable_of s) others tables (one_design_of s names schemes others tables other design) None never
+
+-- of the tables of a plan text there are no more than have names
+few : (s : Schema) (text : List ℕ) (p : NamedSchemes) → MeansTables s text p → (plan : List AttrSet)
+    → schemes_of plan ≡ p.schemes → (tables : List TableDesign) → IsSoundDesign s p.names plan tables
+    → length tables ≤ MOST_TABLES
+few s text p means plan same tables sound =
+    let read : length p.schemes ≤ MOST_SCHEMES =
+    subst (λ (schemes : List Attributes). length schemes ≤ MOST_SCHEMES) (sym means.schemes) means.means.schemes_fit in
+    let plan_size = ap (λ (schemes : List Attributes). length schemes) same in
+    let ordered_size = length-map sound.ordered attributes in
+    omega (
+      arith,
+      read,
+      plan_size,
+      ordered_size,
+      sound.design.one_each,
+      ordered_length (width_of s) (theory_of s) (schemes_of plan) (schemes_of sound.ordered) sound.order,
+    )
 
 -- what is printed is kept in a file
 abbrev IsKept : Files → List ℕ → ResponseValue → Type 0
@@ -199,7 +221,8 @@ module _ (later : Looks) (before after : Files) (schema planned file : List ℕ)
             plan
             (subst (λ (schemes : List Attributes). IsPlan (width_of s) schemes) (sym same)
             (tables_plan s is_plan.bytes p is_plan.means))
-            tables sound (never_there s p.names p.schemes tables design never) later after file held.0 held.1;
+            tables sound (never_there s p.names p.schemes tables design never) (few s is_plan.bytes p is_plan.means plan same tables sound)
+            later after file held.0 held.1;
       }
 
   after_loss : (s : Schema) → IsFile schema_file (known_files before) schema s → (p : NamedSchemes)
@@ -251,8 +274,8 @@ module _ (later : Looks) (before after : Files) (form : Form) (schema file : Lis
         planned = in_form;
         tables = tables;
         design = sound;
-        imported = design_imported s is.bytes is.means [] none_given plan (form_is_plan s form plan in_form) tables sound
-            (never_there s [] (schemes_of plan) tables design never) later after file held.0 held.1;
+        imported = λ few. design_imported s is.bytes is.means [] none_given plan (form_is_plan s form plan in_form) tables
+            sound (never_there s [] (schemes_of plan) tables design never) few later after file held.0 held.1;
       }
 
   form_missing : (s : Schema) → IsFile schema_file (known_files before) schema s → (plan : List AttrSet)

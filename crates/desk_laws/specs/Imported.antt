@@ -41,12 +41,11 @@ IsImported dialect schema table response =
 abbrev pub IsAskedByName : TableDesign → Type 0
 IsAskedByName table = wanted_table table.name ≡ Some (named table.name)
 
--- of a file of SQL each table is imported by its name, where each type of the schema is stated by its text and no more
--- tables are there than have names
+-- of a file of SQL each table is imported by its name, where each type of the schema is stated by its text
 abbrev pub AreImported : Looks → Files → List ℕ → Schema → List TableDesign → Type 0
 AreImported looks files file schema tables =
     (dialect : Dialect) (k : ℕ) (table : TableDesign) (response : ResponseValue)
-    → All (λ column. IsTrue (states_a_type dialect column)) (types_of schema) → length tables ≤ MOST_TABLES
+    → All (λ column. IsTrue (states_a_type dialect column)) (types_of schema)
     → slice_get tables k ≡ Some table → IsAskedByName table
     → Answers looks (known_files files) (import_words dialect file table.name) response
     → IsImported dialect schema table response
@@ -62,7 +61,8 @@ pub record PlanIsImported (looks : Looks) (before after : Files) (schema_name pl
   pub design : IsDesignOf schema plan.names plan.schemes tables
   pub imported : AreImported looks after file schema tables
 
--- the tables of the plan of a normal form, whose schema stands in a file, are imported of a file of SQL
+-- the tables of the plan of a normal form, whose schema stands in a file, are imported of a file of SQL, where no
+-- more of them are there than have names
 pub record FormIsImported (looks : Looks) (before after : Files) (form : Form) (schema_name file : List ℕ)
     : Type 0 where
   pub schema : Schema
@@ -71,4 +71,4 @@ pub record FormIsImported (looks : Looks) (before after : Files) (form : Form) (
   pub planned : IsPlanInForm schema form plan
   pub tables : List TableDesign
   pub design : IsSoundDesign schema [] plan tables
-  pub imported : AreImported looks after file schema tables
+  pub imported : length tables ≤ MOST_TABLES → AreImported looks after file schema tables

@@ -1,5 +1,6 @@
 mod PassingLaws
 pub mod FormPlans
+pub mod PlanLengths
 mod DesignedLaws
 mod RejoinedLaws
 pub mod UniqueLaws
