@@ -1,9 +1,9 @@
 -- What `ddl` prints is imported: what is read of designs, said of the answers of both commands.
-use Rattle.std.proofs.Common.{◌≡◌, ◌<◌, ◌≤◌, ◌∙◌, ◌++◌, ℕ, List, [], ◌∷◌, length, Some, None, inl, inr, refl, sym, ap, subst, arith}
-use Rattle.std.proofs.lemmas.List.{length-map}
+use Rattle.std.proofs.Common.{◌≡◌, ◌<◌, ◌≤◌, ◌∙◌, ◌++◌, ℕ, List, [], ◌∷◌, length, Some, None, get_or, ◌+◌, inl, inr, refl, sym, ap, subst, arith}
+use Rattle.std.proofs.lemmas.List.{length-map, length-take-le}
 use Rattle.std.proofs.lemmas.Bool.{cases_Bool, ne_eqb}
 use Rattle.std.specs.List.{flat_map}
-use Rattle.std.specs.Prelude.{codes, filter, not, slice_get}
+use Rattle.std.specs.Prelude.{All, codes, filter, not, slice_get}
 use Rattle.attr_sets.specs.Attributes.{Attributes}
 use Rattle.attr_sets.specs.Sets.{attributes}
 use Rattle.attr_sets.specs.declared.set.AttrSet.{AttrSet}
@@ -26,7 +26,7 @@ use Rattle.plan_laws.proofs.FormPlans.{form_is_plan}
 use Rattle.plan_laws.proofs.MissingAnswers.{finds_there, one_design_of}
 use Rattle.plan_laws.proofs.NameLaws.{none_given}
 use Rattle.plan_laws.proofs.OrderedNames.{stay_apart}
-use Rattle.plan_laws.proofs.PlanLengths.{ordered_length}
+use Rattle.plan_laws.proofs.PlanLengths.{form_length, ordered_length}
 use Rattle.plan_grammar.specs.declared.refusal.TheConstants.{MOST_SCHEMES}
 use Rattle.plan_reader.specs.declared.reading.TheConstants.{MOST_PLAN_BYTES}
 use Rattle.plans.proofs.PlanLemmas.{plan_are_schemes}
@@ -35,8 +35,9 @@ use Rattle.schema_grammar.specs.Schemas.{MeansSchema}
 use Rattle.schema_grammar.specs.Texts.{declarations_of}
 use Rattle.sql_lexemes.specs.declared.dialect.Dialect.{Dialect}
 use Rattle.sql_lexemes.specs.declared.dialect.Dialect.TheVariants.{Sqlite, Postgres}
+use Rattle.sql_definitions.specs.Wanted.{wanted_table}
 use Rattle.sql_schemas.specs.Texts.{imported_text}
-use Rattle.table_names.specs.TableNames.{GivenNames}
+use Rattle.table_names.specs.TableNames.{GivenNames, name_of_table, table_name}
 use Rattle.table_names.specs.declared.numbered.TheConstants.{MOST_TABLES}
 use Rattle.desk_cli.specs.Performs.{Answers}
 use Rattle.desk_designs.specs.Decompositions.{FormStops, IsPlanInForm, SplitStops, WithPlanInForm}
@@ -54,8 +55,9 @@ use Rattle.desk_outside.specs.Files.{Files, bytes_of_file}
 use Rattle.desk_responses.specs.ResponseValues.{ResponseValue}
 use Rattle.desk_responses.specs.declared.status.Status.TheVariants.{Yes}
 use Rattle.desk_tables.specs.OwnFolders.{Looks}
-use Rattle.desk_laws.specs.Imported.{AreImported, FormIsImported, PlanIsImported, import_words}
+use Rattle.desk_laws.specs.Imported.{AreImported, FormIsImported, IsAskedByName, PlanIsImported, import_words}
 use Rattle.desk_laws.proofs.ImportLaws.{postgres_asks, sql_answer, sqlite_asks}
+use Rattle.desk_laws.proofs.NumberedNames.{number_asks}
 use Rattle.desk_laws.proofs.OneInput.{tables_plan}
 use Rattle.desk_laws.proofs.StopLemmas.{file_says, no_says, refused_says, schema_says, status_is}
 use Rattle.desk_laws.proofs.TableLaws.{WritesRequired, ddl_asks, ddl_plan_asks}
@@ -259,6 +261,27 @@ plan_imported looks later before after schema planned file printed answered says
     (ddl_plan_asks before schema planned looks printed answered)
 
 -- ---- of a normal form
+form_few : (s : Schema) (form : Form) (plan : List AttrSet) → IsPlanInForm s form plan → (tables : List TableDesign)
+    → IsSoundDesign s [] plan tables → length tables ≤ MOST_TABLES
+form_few s form plan in_form tables sound =
+    omega (
+      arith,
+      form_length s form plan in_form,
+      length-map plan attributes,
+      length-map sound.ordered attributes,
+      sound.design.one_each,
+      ordered_length (width_of s) (theory_of s) (schemes_of plan) (schemes_of sound.ordered) sound.order,
+    )
+
+-- without names that are given, each table has the name of its number
+asked_by_name : (s : Schema) (plan : List AttrSet) (tables : List TableDesign) → IsSoundDesign s [] plan tables
+    → length tables ≤ MOST_TABLES → All IsAskedByName tables
+asked_by_name s plan tables sound few k table low =
+    let is = sound.design.each k (omega (arith, low, sound.design.one_each)) table.scheme table in
+    let name : (get_or tables k table).name ≡ table_name (k + 1) =
+    is.name ∙ ap (name_of_table []) (length-take-le k tables (omega (arith, low))) in
+    subst (λ (n : List ℕ). wanted_table n ≡ Some (named n)) (sym name) (number_asks (k + 1) (omega (arith, low, few)))
+
 module _ (later : Looks) (before after : Files) (form : Form) (schema file : List ℕ) (printed : ResponseValue)
     (says_yes : printed.status ≡ Yes) (kept : IsKept after file printed) where
   form_written : (s : Schema) → IsFile schema_file (known_files before) schema s → (plan : List AttrSet)
@@ -274,8 +297,9 @@ module _ (later : Looks) (before after : Files) (form : Form) (schema file : Lis
         planned = in_form;
         tables = tables;
         design = sound;
-        imported = λ few. design_imported s is.bytes is.means [] none_given plan (form_is_plan s form plan in_form) tables
-            sound (never_there s [] (schemes_of plan) tables design never) few later after file held.0 held.1;
+        named = asked_by_name s plan tables sound (form_few s form plan in_form tables sound);
+        imported = design_imported s is.bytes is.means [] none_given plan (form_is_plan s form plan in_form) tables
+            sound (never_there s [] (schemes_of plan) tables design never) (form_few s form plan in_form tables sound) later after file held.0 held.1;
       }
 
   form_missing : (s : Schema) → IsFile schema_file (known_files before) schema s → (plan : List AttrSet)

@@ -19,5 +19,6 @@ mod OnePage
 mod OneTask
 mod DerivationLaws
 mod SampleWords
+mod NumberedNames
 mod ImportedLaws
 mod OneWords

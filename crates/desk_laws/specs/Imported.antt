@@ -1,5 +1,5 @@
 -- What `import` makes of a file that holds what `ddl` printed: for the laws of `imported`. `Desk` does not cite it.
-use Rattle.std.specs.Prelude.{◌≡◌, ℕ, IsTrue, List, [], ◌∷◌, length, codes, slice_get, All, Some, ◌≤◌}
+use Rattle.std.specs.Prelude.{◌≡◌, ℕ, IsTrue, List, [], ◌∷◌, codes, slice_get, All, Some}
 use Rattle.attr_sets.specs.declared.set.AttrSet.{AttrSet}
 use Rattle.ddl_text.specs.declared.table.TableDesign.{TableDesign}
 use Rattle.dep_model.specs.Schemas.{types_of}
@@ -13,7 +13,6 @@ use Rattle.schema_grammar.specs.Schemas.{MeansSchema}
 use Rattle.sql_definitions.specs.Wanted.{wanted_table}
 use Rattle.sql_lexemes.specs.declared.dialect.Dialect.{Dialect}
 use Rattle.sql_lexemes.specs.declared.dialect.Dialect.TheVariants.{Sqlite, Postgres}
-use Rattle.table_names.specs.declared.numbered.TheConstants.{MOST_TABLES}
 use Rattle.desk_cli.specs.Performs.{Answers}
 use Rattle.desk_designs.specs.Decompositions.{IsPlanInForm}
 use Rattle.desk_designs.specs.Designs.{IsDesignOf, IsSoundDesign}
@@ -61,8 +60,8 @@ pub record PlanIsImported (looks : Looks) (before after : Files) (schema_name pl
   pub design : IsDesignOf schema plan.names plan.schemes tables
   pub imported : AreImported looks after file schema tables
 
--- the tables of the plan of a normal form, whose schema stands in a file, are imported of a file of SQL, where no
--- more of them are there than have names
+-- the tables of the plan of a normal form, whose schema stands in a file, have their numbers as names, and are imported
+-- of a file of SQL
 pub record FormIsImported (looks : Looks) (before after : Files) (form : Form) (schema_name file : List ℕ)
     : Type 0 where
   pub schema : Schema
@@ -71,4 +70,5 @@ pub record FormIsImported (looks : Looks) (before after : Files) (form : Form) (
   pub planned : IsPlanInForm schema form plan
   pub tables : List TableDesign
   pub design : IsSoundDesign schema [] plan tables
-  pub imported : length tables ≤ MOST_TABLES → AreImported looks after file schema tables
+  pub named : All IsAskedByName tables
+  pub imported : AreImported looks after file schema tables
