@@ -3,14 +3,13 @@
 //! become files of the current folder, `t1.csv`, `t1.sql` and so on, or those of a folder of their own.
 #![tactic(auto)]
 
-mod ending;
 mod words;
 
-use crate::ending::exit_code;
 use crate::words::words;
 use dep_model::OutOfMemory;
 use desk_cli::desk;
 use desk_outside::{Argument, FileFolder, ProgressLine, RealFiles, StdoutSink};
+use desk_process::exit_code;
 use destinations::{Destination, FileDestination, TableFormat};
 use own_folder::{OwnFolderWriter, RealFolders};
 use row_store::Hashing;

@@ -1,60 +1,13 @@
-ghost use Rattle.std.specs.Prelude.{◌≡◌, ◌≢◌, drop, map, string_bytes, IfOk, IfErr, IsOk, IsErr};
-ghost use Rattle.std.specs.IoError.{error_kind};
-ghost use Rattle.desk.specs.Running.{words_in};
-
 use dep_model::OutOfMemory;
 use desk_outside::Argument;
-use std::alloc::Global;
-use std::io::ErrorKind;
+use desk_process::words_given;
+use std::env;
 use std::rt::Runtime;
-use std::{env, io};
 
-/// The words after the program's name. Where an argument is not UTF-8 there are none, and so they form
-/// no command.
+/// The words after the program's name, as `words_given` has them.
 pub fn words<R: Runtime + AllocGlobal>(rt: &R) -> Result<Vec<Argument>, OutOfMemory> {
     match env::args(rt) {
         Ok(arguments) => words_given(rt.alloc(), Ok(arguments.collect(rt.alloc())?)),
         Err(error) => words_given(rt.alloc(), Err(error)),
     }
-}
-
-// The words of arguments that were read so.
-fn words_given(
-    alloc: Global,
-    arguments: io::Result<Vec<String>>,
-) -> Result<Vec<Argument>, OutOfMemory>
-    ensures words { IfOk result (λ words. words.items ≡ words_in arguments) }
-    ensures not_texts { IfErr arguments (λ e. error_kind e ≡ ErrorKind.InvalidData → IsOk result) }
-    ensures memory { IfErr arguments (λ e. error_kind e ≢ ErrorKind.InvalidData → IsErr result) }
-{
-    match arguments {
-        Ok(arguments) => words_after_name(alloc, &arguments),
-        Err(error) => {
-            if error.kind() == ErrorKind::InvalidData {
-                return Ok(Vec::new(alloc));
-            }
-            Err(OutOfMemory)
-        }
-    }
-}
-
-// All of the arguments but the first.
-fn words_after_name(alloc: Global, arguments: &[String]) -> Result<Vec<Argument>, OutOfMemory>
-    ensures words { IfOk result (λ words. words.items ≡ drop 1 (map string_bytes arguments.now)) }
-{
-    match arguments {
-        [] => Ok(Vec::new(alloc)),
-        [_, words @ ..] => words_of(alloc, words),
-    }
-}
-
-// All of these.
-fn words_of(alloc: Global, arguments: &[String]) -> Result<Vec<Argument>, OutOfMemory>
-    ensures words { IfOk result (λ words. words.items ≡ map string_bytes arguments.now) }
-{
-    let mut words = Vec::new(alloc);
-    for argument in arguments {
-        words.push(Argument::new(alloc, argument.as_bytes())?)?;
-    }
-    Ok(words)
 }

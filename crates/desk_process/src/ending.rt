@@ -1,6 +1,6 @@
 ghost use Rattle.std.specs.Prelude.{◌≡◌};
 ghost use Rattle.std.specs.Process.{exit_status};
-ghost use Rattle.desk.specs.Running.{exit_number};
+ghost use Rattle.desk_process.specs.Running.{exit_number};
 
 use dep_model::OutOfMemory;
 use desk_responses::Status;
