@@ -9,7 +9,7 @@ use std::io;
 use std::io::ErrorKind;
 
 /// The words of arguments that were read so, without the first, which is the program's name. Where one of them is not
-/// UTF-8 there are none, and so they form no command; any other error is want of memory.
+/// UTF-8 there are none, and so they form no command; at any other error memory ran out.
 pub fn words_given(
     alloc: Global,
     arguments: io::Result<Vec<String>>,
