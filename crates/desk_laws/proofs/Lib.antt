@@ -16,6 +16,8 @@ mod PageLaws
 pub mod BegunLaws
 mod OneInput
 mod OnePage
+mod FindingLaws
+mod OneMeasure
 mod OneTask
 mod DerivationLaws
 mod SampleWords

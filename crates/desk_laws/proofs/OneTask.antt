@@ -42,7 +42,7 @@ use Rattle.implication_laws.proofs.OneStepsAnswer.{one_closure_answer, one_cover
 use Rattle.implication_laws.proofs.GoalLemmas.{goal_goes, says-status}
 use Rattle.implication_laws.proofs.ImplyingLaws.{no_not_yes}
 use Rattle.implication_laws.proofs.OnePlanAnswer.{one_plan_answer}
-use Rattle.measure_laws.proofs.OneMeasure.{one_kept, one_list_by_row, one_list_of_classes, one_measured}
+use Rattle.desk_laws.proofs.OneMeasure.{one_kept, one_list_by_row, one_list_of_classes, one_measured}
 use Rattle.plan_laws.proofs.DesignAnswers.{one_check_scripted, one_form_drawn, one_form_scripted, one_form_written, one_plan_drawn, one_plan_scripted, one_plan_written}
 use Rattle.plan_laws.proofs.FormTables.{one_synthesis}
 use Rattle.plan_laws.proofs.PlacedAnswers.{one_form_placed, one_plan_placed}

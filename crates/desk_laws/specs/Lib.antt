@@ -3,3 +3,16 @@
 pub mod Completeness
 pub mod OneReading
 pub mod Imported
+pub mod OneAnswers
+pub mod ImportedAgain
+pub mod OneMeasures
+pub mod LastBegun
+pub mod AnsweredCalls
+pub mod AnsweredDerivations
+pub mod AnsweredFolders
+pub mod AnsweredMeasures
+pub mod AnsweredPages
+pub mod AnsweredQuestions
+pub mod AnsweredReasons
+pub mod AnsweredScripts
+pub mod AnsweredTables

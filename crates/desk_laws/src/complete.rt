@@ -2,29 +2,16 @@
 //! ends with yes or no, or runs out of memory. There is one law for the call, and one for each command:
 //! the others stand in `complete_questions`, `complete_scripts` and `complete_tables`.
 
-ghost use Rattle.std.specs.Prelude.{◌≡◌, ℕ, List, [], ◌∷◌, Result, Ok, codes};
-ghost use Rattle.dep_model.specs.Dependencies.{Dependency};
-ghost use Rattle.dep_model.specs.Tuples.{Relation};
+ghost use Rattle.std.specs.Prelude.{◌≡◌, ℕ, List, Result, Ok};
 ghost use Rattle.dep_model.specs.declared.memory.OutOfMemory.{OutOfMemory};
-ghost use Rattle.dep_model.specs.declared.schema.Schema.{Schema};
-ghost use Rattle.derivation.specs.Trees.{Tree};
-ghost use Rattle.key_listing.specs.Refusals.{IsTooWide};
-ghost use Rattle.named_plans.specs.NamedPlans.{NamedSchemes};
 ghost use Rattle.desk_outside.specs.Files.{Files};
 ghost use Rattle.desk_responses.specs.declared.status.Status.{Status};
 ghost use Rattle.desk_cli.specs.Desk.{Desk, SinkInCall, source_in_call};
 ghost use Rattle.desk_delivery.specs.Outcomes.{destinations_in_call, own_in_call};
 ghost use Rattle.own_folder.specs.OwnWriting.{folder_in_call, place_in_call};
 ghost use Rattle.desk_tables.specs.OwnFolders.{Looks};
-ghost use Rattle.desk_inputs.specs.FileKinds.{IsFile};
-ghost use Rattle.desk_inputs.specs.Inputs.{schema_file, proof_file};
-ghost use Rattle.desk_arguments.specs.Goals.{IsGoal};
-ghost use Rattle.desk_designs.specs.Joins.{IsTooLarge};
-ghost use Rattle.desk_keys.specs.Keys.{HasManyKeys};
-ghost use Rattle.desk_inputs.specs.Plans.{plan_file};
-ghost use Rattle.desk_inputs.specs.Readings.{known_files};
-ghost use Rattle.desk_inputs.specs.Rows.{rows_file};
-ghost use Rattle.desk_laws.specs.Completeness.{IsYesOrNo, IsAnswered, IsAnsweredBy, FailsNowhere};
+ghost use Rattle.desk_laws.specs.Completeness.{IsYesOrNo, IsAnsweredBy, FailsNowhere};
+ghost use Rattle.desk_laws.specs.AnsweredCalls.{ImpliesIsAnswered, CheckProofIsAnswered, CheckRowsIsAnswered, CheckJoinIsAnswered, CoverIsAnswered, KeysIsAnswered, SynthesizeIsAnswered, HelpIsAnsweredHelp, HelpIsAnsweredLong, HelpIsAnsweredDashH, HelpIsAnsweredVersion};
 
 use desk_outside::{FileSource, Folder};
 use destinations::Destination;
@@ -53,58 +40,44 @@ pub fn answered_calls_end<F: FileSource, T: Destination, M: FolderMaker, G: Fold
 
 /// `implies` is answered where the schema file means a schema and the goal a dependency.
 pub fn implies_is_answered()
-    ensures law { (files : Files) (name goal : List ℕ) (schema : Schema) (dep : Dependency)
-        → IsFile schema_file (known_files files) name schema → IsGoal schema goal dep
-        → IsAnswered files (codes "implies" ∷ name ∷ goal ∷ []) }
+    ensures law { ImpliesIsAnswered }
 {}
 
 /// `check proof` is answered where also the certificate file spells a tree.
 pub fn check_proof_is_answered()
-    ensures law { (files : Files) (name file goal : List ℕ) (schema : Schema) (tree : Tree) (dep : Dependency)
-        → IsFile schema_file (known_files files) name schema → IsFile (proof_file schema) (known_files files) file tree
-        → IsGoal schema goal dep
-        → IsAnswered files (codes "check" ∷ codes "proof" ∷ name ∷ file ∷ goal ∷ []) }
+    ensures law { CheckProofIsAnswered }
 {}
 
 /// `check rows` is answered where the schema file means a schema and the CSV file rows.
 pub fn check_rows_is_answered()
-    ensures law { (files : Files) (name file : List ℕ) (schema : Schema) (rows : Relation)
-        → IsFile schema_file (known_files files) name schema → IsFile (rows_file schema) (known_files files) file rows
-        → IsAnswered files (codes "check" ∷ codes "rows" ∷ name ∷ file ∷ []) }
+    ensures law { CheckRowsIsAnswered }
 {}
 
 /// `check join` is answered where the schema file means a schema, the plan file a plan, and the chase
 /// comes to no tableau of too many rows.
 pub fn check_join_is_answered()
-    ensures law { (files : Files) (name file : List ℕ) (schema : Schema) (plan : NamedSchemes)
-        → IsFile schema_file (known_files files) name schema → IsFile (plan_file schema) (known_files files) file plan
-        → (IsTooLarge schema plan.schemes → ⊥)
-        → IsAnswered files (codes "check" ∷ codes "join" ∷ name ∷ file ∷ []) }
+    ensures law { CheckJoinIsAnswered }
 {}
 
 /// `cover` is answered where the schema file means a schema.
 pub fn cover_is_answered()
-    ensures law { (files : Files) (name : List ℕ) (schema : Schema) → IsFile schema_file (known_files files) name schema
-        → IsAnswered files (codes "cover" ∷ name ∷ []) }
+    ensures law { CoverIsAnswered }
 {}
 
 /// `keys` is answered where also the universe is not too wide, and has no more keys than are listed.
 pub fn keys_is_answered()
-    ensures law { (files : Files) (name : List ℕ) (schema : Schema) → IsFile schema_file (known_files files) name schema
-        → (IsTooWide schema → ⊥) → (HasManyKeys schema → ⊥)
-        → IsAnswered files (codes "keys" ∷ name ∷ []) }
+    ensures law { KeysIsAnswered }
 {}
 
 /// `synthesize` is answered where the schema file means a schema.
 pub fn synthesize_is_answered()
-    ensures law { (files : Files) (name : List ℕ) (schema : Schema) → IsFile schema_file (known_files files) name schema
-        → IsAnswered files (codes "synthesize" ∷ name ∷ []) }
+    ensures law { SynthesizeIsAnswered }
 {}
 
 /// `help`, `--help`, `-h` and `--version` are answered over any files.
 pub fn help_is_answered()
-    ensures help { (files : Files) → IsAnswered files (codes "help" ∷ []) }
-    ensures long { (files : Files) → IsAnswered files (codes "--help" ∷ []) }
-    ensures dash_h { (files : Files) → IsAnswered files (codes "-h" ∷ []) }
-    ensures version { (files : Files) → IsAnswered files (codes "--version" ∷ []) }
+    ensures help { HelpIsAnsweredHelp }
+    ensures long { HelpIsAnsweredLong }
+    ensures dash_h { HelpIsAnsweredDashH }
+    ensures version { HelpIsAnsweredVersion }
 {}

@@ -1,9 +1,7 @@
 //! Where its files have their meaning and nothing fails, a call for a page ends with yes, or runs out of memory.
 
-ghost use Rattle.std.specs.Prelude.{◌≡◌, ℕ, List, [], ◌∷◌, Result, Ok, codes};
+ghost use Rattle.std.specs.Prelude.{◌≡◌, ℕ, List, Result, Ok};
 ghost use Rattle.dep_model.specs.declared.memory.OutOfMemory.{OutOfMemory};
-ghost use Rattle.dep_model.specs.declared.schema.Schema.{Schema};
-ghost use Rattle.named_plans.specs.NamedPlans.{NamedSchemes};
 ghost use Rattle.desk_outside.specs.Files.{Files};
 ghost use Rattle.desk_responses.specs.declared.status.Status.{Status};
 ghost use Rattle.desk_responses.specs.declared.status.Status.TheVariants.{Yes};
@@ -11,11 +9,8 @@ ghost use Rattle.desk_cli.specs.Desk.{Desk, SinkInCall, source_in_call};
 ghost use Rattle.desk_delivery.specs.Outcomes.{destinations_in_call, own_in_call};
 ghost use Rattle.own_folder.specs.OwnWriting.{folder_in_call, place_in_call};
 ghost use Rattle.desk_tables.specs.OwnFolders.{Looks};
-ghost use Rattle.desk_inputs.specs.FileKinds.{IsFile};
-ghost use Rattle.desk_inputs.specs.Inputs.{schema_file};
-ghost use Rattle.desk_inputs.specs.Plans.{plan_file};
-ghost use Rattle.desk_inputs.specs.Readings.{known_files};
 ghost use Rattle.desk_laws.specs.Completeness.{FailsNowhere, IsAnsweredYes};
+ghost use Rattle.desk_laws.specs.AnsweredPages.{ReportIsAnsweredSchema, ReportIsAnsweredPlan};
 
 use desk_outside::{FileSource, Folder};
 use destinations::Destination;
@@ -24,12 +19,8 @@ use own_folder::FolderMaker;
 /// `report` is answered by yes where the schema file means a schema and the plan file, if one is named, a plan: what
 /// a limit forbids is refused on the page.
 pub fn report_is_answered()
-    ensures schema { (files : Files) (name : List ℕ) (schema : Schema)
-        → IsFile schema_file (known_files files) name schema
-        → IsAnsweredYes files (codes "report" ∷ name ∷ []) }
-    ensures plan { (files : Files) (name file : List ℕ) (schema : Schema) (plan : NamedSchemes)
-        → IsFile schema_file (known_files files) name schema → IsFile (plan_file schema) (known_files files) file plan
-        → IsAnsweredYes files (codes "report" ∷ name ∷ file ∷ []) }
+    ensures schema { ReportIsAnsweredSchema }
+    ensures plan { ReportIsAnsweredPlan }
 {}
 
 /// Where nothing fails, a call whose words are answered by yes over the files ends with yes, or runs out of memory.

@@ -16,6 +16,7 @@ mod complete_scripts;
 mod complete_tables;
 mod imported;
 mod one_answer;
+mod one_measure;
 
 ghost use Rattle.std.specs.Prelude.{◌≡◌, ◌≤◌, ℕ, List, [], ◌∷◌, length, Some, codes};
 ghost use Rattle.desk_responses.specs.declared.status.Status.TheVariants.{Yes};
@@ -54,6 +55,9 @@ pub use complete_tables::{
 pub use imported::{tables_of_a_form_are_imported, tables_of_a_plan_are_imported};
 pub use one_answer::{
     tasks_have_one_answer, texts_of_files_have_one_reading, words_have_one_answer,
+};
+pub use one_measure::{
+    one_answer_of_kept, one_answer_of_measure, one_answer_of_offences, one_schema_of_texts,
 };
 
 /// What `implies` prints after yes, kept in a file, is accepted by `check proof` for the same schema and

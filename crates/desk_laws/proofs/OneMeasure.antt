@@ -27,7 +27,7 @@ use Rattle.desk_measures.specs.Keeping.{AreKeptRows, KeepsRows}
 use Rattle.desk_measures.specs.Measures.{AreDetails, AreMistyped, FindsWhere, IsAttributeMeasured, IsColumnFound, IsMeasured, MeasuresRows, attribute_text, flags_set, measure_text, mistyped_text}
 use Rattle.desk_measures.specs.Offences.{ArePartLines, AreRowLines, ListsBelow, ListsOffences, ListsOffencesByRow, OfEachDependency, part_fields, part_headings, row_fields, row_headings, shown_of}
 use Rattle.desk_measures.specs.Untyped.{HasTextsAlone}
-use Rattle.measure_laws.proofs.FindingLaws.{FindsOne, SameFound, one_below, one_both, one_nothing, one_of_each, one_where}
+use Rattle.desk_laws.proofs.FindingLaws.{FindsOne, SameFound, one_below, one_both, one_nothing, one_of_each, one_where}
 
 -- a status and a text by what is found
 same_found : (make : List ℕ → List ℕ) (clean also : Bool) (text other_text : List ℕ) (one other : ResponseValue)

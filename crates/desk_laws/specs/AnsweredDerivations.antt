@@ -1,0 +1,19 @@
+-- When words are answered, as the laws of `complete_derivations` say it: derivations. `Desk` does not cite it.
+use Rattle.std.specs.Prelude.{ℕ, List, [], ◌∷◌, codes}
+use Rattle.dep_model.specs.Dependencies.{Dependency}
+use Rattle.dep_model.specs.declared.schema.Schema.{Schema}
+use Rattle.desk_arguments.specs.Goals.{IsGoal}
+use Rattle.desk_inputs.specs.FileKinds.{IsFile}
+use Rattle.desk_inputs.specs.Inputs.{derivation_file, schema_file}
+use Rattle.desk_inputs.specs.Readings.{known_files}
+use Rattle.desk_outside.specs.Files.{Files}
+use Rattle.desk_laws.specs.Completeness.{IsAnswered}
+
+-- `check derivation` is answered where the schema file means a schema, the derivation file derives something,
+-- and the goal is a dependency
+abbrev pub CheckDerivationIsAnswered : Type 0
+CheckDerivationIsAnswered =
+    (files : Files) (name file goal : List ℕ) (schema : Schema) (derived dep : Dependency)
+    → IsFile schema_file (known_files files) name schema
+    → IsFile (derivation_file schema) (known_files files) file derived → IsGoal schema goal dep
+    → IsAnswered files (codes "check" ∷ codes "derivation" ∷ name ∷ file ∷ goal ∷ [])

@@ -1,1 +1,0 @@
--- measure_laws has no definitions of its own.
