@@ -105,13 +105,3 @@ fn each_destination_has_an_end_of_its_own(rt: HostRuntime) -> Result<(), Fail> {
     }
     Ok(())
 }
-
-#[test]
-fn no_destinations_have_no_ends(rt: HostRuntime) -> Result<(), Fail> {
-    let alloc = rt.alloc();
-    let made = three_tables(alloc)?;
-    let mut destinations: Vec<Box<dyn Destination>> = Vec::new(alloc);
-    let ends = write_tables(alloc, &mut destinations, &made)?;
-    assert_eq!(rt; ends.len(), 0);
-    Ok(())
-}

@@ -1,13 +1,12 @@
 ghost use Rattle.std.specs.Prelude.{◌<◌};
 
-use dep_model::OutOfMemory;
 use desk_outside::*;
 use std::alloc::Global;
 use std::fmt::Display;
+use std::io;
 use std::rt::Clock;
 use std::test::Fail;
 use std::time::Duration;
-use std::{fs, io};
 
 // A schema text of 31 bytes.
 const TEXT: &[u8] = b"attributes A B C\nA -> B\nB -> C\n";
@@ -22,21 +21,26 @@ fn held_file(alloc: Global, name: &[u8], bytes: &[u8]) -> Result<HeldFile, Fail>
     })
 }
 
-// A file source with an empty file and two files of one name, which fails at these calls.
-fn source_of(alloc: Global, fails: &[u64], step: usize) -> Result<MemoryFiles, Fail>
-    requires { 0 < step }
-{
+// An empty file and two files of one name.
+fn three_files(alloc: Global) -> Result<Vec<HeldFile>, Fail> {
     let mut files = Vec::new(alloc);
     files.push(held_file(alloc, b"empty", b"")?)?;
     files.push(held_file(alloc, b"text", TEXT)?)?;
     files.push(held_file(alloc, b"text", b"the second of this name")?)?;
+    Ok(files)
+}
+
+// A file source with these files, which fails at these calls.
+fn source_of(alloc: Global, fails: &[u64], step: usize) -> Result<MemoryFiles, Fail>
+    requires { 0 < step }
+{
     let fails = Vec::from_slice(alloc, fails)?;
-    Ok(MemoryFiles::with_step(files, fails, step))
+    Ok(MemoryFiles::with_step(three_files(alloc)?, fails, step))
 }
 
 #[test]
 fn a_file_is_loaded_whole_or_refused(rt: HostRuntime) -> Result<(), Fail> {
-    let mut source = source_of(rt.alloc(), &[], 7)?;
+    let mut source = MemoryFiles::new(three_files(rt.alloc())?, Vec::new(rt.alloc()));
     for (name, limit, want) in [
         (b"text".as_slice(), 1000, Ok(TEXT)),
         (b"text", 31, Ok(TEXT)),
@@ -50,23 +54,6 @@ fn a_file_is_loaded_whole_or_refused(rt: HostRuntime) -> Result<(), Fail> {
             Err(refusal) => assert_eq!(rt; Err(refusal), want),
         }
     }
-    Ok(())
-}
-
-// Reads of more bytes than one asks for, from a file source without a step.
-#[test]
-fn a_long_file_is_loaded_in_pieces(rt: HostRuntime) -> Result<(), Fail> {
-    let mut long = Vec::new(rt.alloc());
-    for i in 0..10_000u16 {
-        long.push((i % 251) as u8)?;
-    }
-    let mut files = Vec::new(rt.alloc());
-    files.push(held_file(rt.alloc(), b"long", &long)?)?;
-    let mut source = MemoryFiles::new(files, Vec::new(rt.alloc()));
-    let bytes = load(rt.alloc(), &mut source, b"long", 10_000)?;
-    assert!(rt; bytes.as_slice() == long.as_slice());
-    let refused = load(rt.alloc(), &mut source, b"long", 9_999);
-    assert!(rt; matches!(&refused, Err(LoadRefusal::TooLong)));
     Ok(())
 }
 
@@ -154,89 +141,12 @@ fn each_call_of_a_folder_may_fail(rt: HostRuntime) -> Result<(), Fail> {
     Ok(())
 }
 
-#[test]
-fn a_file_replaces_one_of_its_name(rt: HostRuntime) -> Result<(), Fail> {
-    let alloc = rt.alloc();
-    let mut folder = MemoryFolder::new(alloc, Vec::new(alloc));
-    for name in [b"a".as_slice(), b"b", b"a"] {
-        assert!(rt; write_file(&mut folder, name) == Ok(()));
-    }
-    let Some(last) = folder.finished_files().get(1) else {
-        return Err(Fail::from(OutOfMemory));
-    };
-    assert_eq!(rt; folder.finished_files().len(), 2);
-    assert_eq!(rt; last.name.bytes(), b"a".as_slice());
-    assert_eq!(rt; folder.begin(b"b"), Ok(()));
-    assert_eq!(rt; folder.finished_files().len(), 1);
-    Ok(())
-}
-
 // A file of two pieces, up to the first fault.
 fn write_file<G: Folder>(folder: &mut G, name: &[u8]) -> Result<(), OutsideFault> {
     folder.begin(name)?;
     folder.write(b"no\n")?;
     folder.write(b"yes\n")?;
     folder.end()
-}
-
-#[test]
-fn the_system_has_a_folder(rt: HostRuntime) -> Result<(), Fail> {
-    let mut folder = FileFolder::new(rt.alloc(), &rt);
-    for text in [b"the first text".as_slice(), b"second"] {
-        assert_eq!(rt; folder.begin(b"desk_outside_written"), Ok(()));
-        assert_eq!(rt; folder.write(text), Ok(text.len()));
-        assert_eq!(rt; folder.end(), Ok(()));
-    }
-    assert!(rt; folder.visible().is_none());
-    assert_eq!(rt;
-        folder.begin(b"desk_outside_\xff"),
-        Err(OutsideFault::Failed)
-    );
-    let mut source = RealFiles::new(rt.alloc(), &rt);
-    let bytes = load(rt.alloc(), &mut source, b"desk_outside_written", 100);
-    fs::remove_file(&rt, "desk_outside_written")?;
-    assert_eq!(rt; bytes?.as_slice(), b"second".as_slice());
-    Ok(())
-}
-
-// A device takes all when it is written, or nothing.
-#[test]
-fn what_cannot_be_flushed_ends(rt: HostRuntime) {
-    let mut folder = FileFolder::new(rt.alloc(), &rt);
-    assert_eq!(rt; folder.begin(b"/dev/null"), Ok(()));
-    assert_eq!(rt; folder.write(b"a text"), Ok(6));
-    assert_eq!(rt; folder.end(), Ok(()));
-    assert_eq!(rt; folder.begin(b"/dev/full"), Ok(()));
-    assert_eq!(rt; folder.write(b"a text"), Err(OutsideFault::Failed));
-}
-
-#[test]
-fn the_system_has_files(rt: HostRuntime) -> Result<(), Fail> {
-    fs::write(&rt, "desk_outside_text", TEXT)?;
-    let alloc = rt.alloc();
-    let mut source = RealFiles::new(rt.alloc(), &rt);
-    let bytes = load(alloc, &mut source, b"desk_outside_text", 31);
-    let long = load(alloc, &mut source, b"desk_outside_text", 30);
-    let missing = load(alloc, &mut source, b"desk_outside_missing", 1000);
-    let not_text = load(alloc, &mut source, b"desk_outside_\xff", 1000);
-    let again = load(alloc, &mut source, b"desk_outside_text", 1000);
-    fs::remove_file(&rt, "desk_outside_text")?;
-    assert_eq!(rt; bytes?.as_slice(), TEXT);
-    assert!(rt; matches!(&long, Err(LoadRefusal::TooLong)));
-    assert!(rt; matches!(&missing, Err(LoadRefusal::CannotRead)));
-    assert!(rt; matches!(&not_text, Err(LoadRefusal::CannotRead)));
-    assert_eq!(rt; again?.as_slice(), TEXT);
-    Ok(())
-}
-
-#[test]
-fn the_system_takes_a_text(rt: HostRuntime) -> Result<(), Fail> {
-    let mut sink = StdoutSink::new(&rt, ProgressLine::new(rt.alloc(), &rt));
-    assert_eq!(rt;
-        send(&mut sink, b"a text for the standard output\n"),
-        Ok(())
-    );
-    Ok(())
 }
 
 // An output that takes nothing.

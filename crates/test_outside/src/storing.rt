@@ -32,20 +32,6 @@ fn pair(alloc: Global, first: &[u8], second: &[u8]) -> Result<Rows, OutOfMemory>
     Ok(rows)
 }
 
-// One row of four values.
-fn four(alloc: Global, cells: [&[u8]; 4]) -> Result<Rows, OutOfMemory>
-    ensures row { IfOk result (λ rows. (0 < length rows) × (length (row_at rows 0) ≡ 4)) }
-{
-    let mut values = FlatValues::new(alloc);
-    values.push(cells[0])?;
-    values.push(cells[1])?;
-    values.push(cells[2])?;
-    values.push(cells[3])?;
-    let mut rows = Rows::new(alloc);
-    rows.push(&values)?;
-    Ok(rows)
-}
-
 fn name(bytes: &[u8]) -> Result<Name, OutsideFault> {
     match Name::new(bytes) {
         Some(name) => Ok(name),
@@ -92,20 +78,6 @@ fn put_pairs<T: Destination>(alloc: Global, destination: &mut T) -> Result<(), O
     destination.end_table()
 }
 
-// A table of one row, of which the last two values are missing.
-fn put_missing<T: Destination>(alloc: Global, destination: &mut T) -> Result<(), OutsideFault> {
-    let row = four(alloc, [b"1", b"2", b"", b""])?;
-    let columns = [
-        name(b"ID")?,
-        name(b"Unit price")?,
-        name(b"NAME")?,
-        name(b"DAY")?,
-    ];
-    destination.begin_table(&name(b"t1")?, &columns, &[false, false, true, true])?;
-    put_first(destination, &row, 4)?;
-    destination.end_table()
-}
-
 // Whether the file at a position has this name and these bytes.
 fn is_file(files: Option<&[HeldFile]>, position: usize, name: &[u8], bytes: &[u8]) -> bool {
     let Some(files) = files else {
@@ -145,94 +117,6 @@ fn tables_in_memory(rt: HostRuntime) -> Result<(), Fail> {
     assert_eq!(rt; table.rows.len(), 2);
     assert_eq!(rt; table.rows.width(1), 2);
     assert_eq!(rt; table.rows.value(1, 0), b"O'Hara".as_slice());
-    Ok(())
-}
-
-#[test]
-fn a_table_begun_anew_is_given_up(rt: HostRuntime) -> Result<(), Fail> {
-    let alloc = rt.alloc();
-    let mut destination = MemoryDestination::new(alloc, Vec::new(alloc));
-    let Ok(first) = name(b"t1") else {
-        return Err(Fail::from(OutOfMemory));
-    };
-    assert!(rt; destination.begin_table(&first, &[], &[]) == Ok(()));
-    assert!(rt; put_table(alloc, &mut destination, b"t2", b"x") == Ok(()));
-    assert_eq!(rt; destination.tables().len(), 1);
-    Ok(())
-}
-
-#[test]
-fn tables_as_csv_files(rt: HostRuntime) -> Result<(), Fail> {
-    let alloc = rt.alloc();
-    let folder = MemoryFolder::new(alloc, Vec::new(alloc));
-    let mut destination = FileDestination::new(alloc, TableFormat::Csv, folder)?;
-    assert!(rt; put_pairs(alloc, &mut destination) == Ok(()));
-    assert!(rt; put_table(alloc, &mut destination, b"t2", b"") == Ok(()));
-    assert!(rt; destination.held_tables().is_none());
-    assert_eq!(rt; count(destination.held_files()), 2);
-    let pairs = b"NAME,Note\n1,\"a,\"\"b\"\"\"\nO'Hara,\0\n";
-    assert!(rt; is_file(destination.held_files(), 0, b"t1.csv", pairs));
-    assert!(rt; is_file(destination.held_files(), 1, b"t2.csv", b"A\n\"\"\n"));
-    Ok(())
-}
-
-#[test]
-fn tables_as_sql_files(rt: HostRuntime) -> Result<(), Fail> {
-    let alloc = rt.alloc();
-    let folder = MemoryFolder::new(alloc, Vec::new(alloc));
-    let destination = FileDestination::new(alloc, TableFormat::Sql, folder)?;
-    let mut boxed: Box<dyn Destination> = Box::new(alloc, destination)?;
-    assert!(rt; put_pairs(alloc, &mut boxed) == Ok(()));
-    assert!(rt; boxed.held_tables().is_none());
-    assert_eq!(rt; count(boxed.held_files()), 1);
-    let pairs = b"INSERT INTO \"t1\" (\"NAME\", \"Note\") VALUES ('1', 'a,\"b\"');
-INSERT INTO \"t1\" (\"NAME\", \"Note\") VALUES ('O''Hara', X'00');
-";
-    assert!(rt; is_file(boxed.held_files(), 0, b"t1.sql", pairs));
-    Ok(())
-}
-
-// The empty text in a column of which a value may be missing is NULL, and in a CSV file the empty text.
-#[test]
-fn missing_values_are_null(rt: HostRuntime) -> Result<(), Fail> {
-    let alloc = rt.alloc();
-    let folder = MemoryFolder::new(alloc, Vec::new(alloc));
-    let mut destination = FileDestination::new(alloc, TableFormat::Sql, folder)?;
-    assert!(rt; put_missing(alloc, &mut destination) == Ok(()));
-    let line =
-        b"INSERT INTO \"t1\" (\"ID\", \"Unit price\", \"NAME\", \"DAY\") VALUES ('1', '2', NULL, NULL);\n";
-    assert!(rt; is_file(destination.held_files(), 0, b"t1.sql", line));
-    let folder = MemoryFolder::new(alloc, Vec::new(alloc));
-    let mut destination = FileDestination::new(alloc, TableFormat::Csv, folder)?;
-    assert!(rt; put_missing(alloc, &mut destination) == Ok(()));
-    let text = b"ID,Unit price,NAME,DAY\n1,2,,\n";
-    assert!(rt; is_file(destination.held_files(), 0, b"t1.csv", text));
-    Ok(())
-}
-
-#[test]
-fn values_as_sql_texts(rt: HostRuntime) -> Result<(), Fail> {
-    let cases: [(&[u8], &[u8]); 9] = [
-        (b"", b"''"),
-        (b"'", b"''''"),
-        (b"a''b", b"'a''''b'"),
-        (b"K\xc3\xb6ln", b"'K\xc3\xb6ln'"),
-        (b"\"x\"\n\\", b"'\"x\"\n\\'"),
-        (b"\xff", b"X'FF'"),
-        (b"a\0", b"X'6100'"),
-        (b"'\xc3", b"X'27C3'"),
-        (b"\xed\xa0\x80", b"X'EDA080'"),
-    ];
-    for (value, text) in cases {
-        let alloc = rt.alloc();
-        let folder = MemoryFolder::new(alloc, Vec::new(alloc));
-        let mut destination = FileDestination::new(alloc, TableFormat::Sql, folder)?;
-        assert!(rt; put_table(alloc, &mut destination, b"t1", value) == Ok(()));
-        let mut line = Vec::from_slice(alloc, b"INSERT INTO \"t1\" (\"A\") VALUES (")?;
-        line.extend_from_slice(text)?;
-        line.extend_from_slice(b");\n")?;
-        assert!(rt; is_file(destination.held_files(), 0, b"t1.sql", &line));
-    }
     Ok(())
 }
 

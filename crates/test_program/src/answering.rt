@@ -49,19 +49,6 @@ fn check(
 }
 
 #[test]
-fn answers_over_objects_in_memory(rt: HostRuntime) -> Result<(), Fail> {
-    let no: &[u8] = b"no\nA,B,C\n0,0,0\n1,1,1\n";
-    check(&rt, 0, &[b"implies", b"s", b"() ->> A"], (Status::No, no))?;
-    let missing: &[u8] = b"cannot read t\n";
-    check(
-        &rt,
-        0,
-        &[b"implies", b"t", b"A -> C"],
-        (Status::CannotRead, missing),
-    )
-}
-
-#[test]
 fn each_call_for_the_schema_may_fail(rt: HostRuntime) -> Result<(), Fail> {
     let text: &[u8] = b"cannot read s\n";
     for failing in 1..=SCHEMA_CALLS {

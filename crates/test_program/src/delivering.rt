@@ -94,11 +94,6 @@ fn failed_destinations_are_named_in_order(rt: HostRuntime) -> Result<(), Fail> {
     )
 }
 
-#[test]
-fn no_destinations_are_fed(rt: HostRuntime) -> Result<(), Fail> {
-    check(&rt, &[], (Status::Yes, READ), &[])
-}
-
 // A destination out of memory comes before the failure of another, and the others are written.
 #[test]
 fn a_destination_is_out_of_memory(rt: HostRuntime) -> Result<(), Fail> {

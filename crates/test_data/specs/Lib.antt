@@ -1,2 +1,0 @@
--- The definitions of test_data: schemas that are made for tests.
-pub mod TestSchemas
