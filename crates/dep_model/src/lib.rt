@@ -1,9 +1,8 @@
 //! Names, rows, dependencies and schemas, and the theory of dependencies that every crate cites.
 //!
 //! Every `Schema` is valid: its names differ, and its dependencies lie within its universe.
-//! `agreement_of` and `two_rows_obey` look at two rows as the theory does. The definitions of
-//! the theory (relations, obedience, implication, projection and join, keys, normal forms) are in
-//! `specs/`; `laws` has the theorems by which they were tried.
+//! The definitions of the theory (relations, obedience, implication, projection and join, keys, normal
+//! forms) are in `specs/`; `laws` has the theorems by which they were tried.
 #![tactic(auto)]
 
 mod column_type;
@@ -19,7 +18,6 @@ mod name;
 mod naming;
 mod row;
 mod schema;
-mod two_rows;
 mod type_name;
 mod value;
 
@@ -32,6 +30,5 @@ pub use name::{MOST_BARE_NAME_BYTES, MOST_NAME_BYTES, Name, is_bare_name};
 pub use naming::Naming;
 pub use row::Row;
 pub use schema::{MOST_DEPENDENCIES, Schema};
-pub use two_rows::{agreement_of, two_rows_obey};
 pub use type_name::{MOST_TYPE_BYTES, TypeName};
 pub use value::Value;

@@ -9,7 +9,6 @@
 mod builders;
 pub mod chain_laws;
 mod concluding;
-mod copies;
 mod deriv;
 mod fault;
 pub mod laws;
@@ -20,7 +19,6 @@ mod table;
 
 pub use builders::{Returned, split_inside, split_outside, unite_fd, unite_mvd};
 pub use concluding::conclude;
-pub use copies::copy_deriv;
 pub use deriv::Deriv;
 pub use fault::{Fault, FaultKind};
 pub use measures::{MOST_LEVELS, MOST_NODES, depth, nodes};

@@ -2,7 +2,7 @@ pub mod AllKeys
 pub mod ClosedSets
 pub mod ClosureLemmas
 pub mod GreedyKeyLemmas
+pub mod GrowthLemmas
 pub mod LeftSideLemmas
 pub mod SchemaLemmas
-pub mod SwitchLemmas
 pub mod WidthLemmas

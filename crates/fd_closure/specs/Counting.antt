@@ -1,8 +1,9 @@
--- The switches that `Counters` of the code holds: for the closure by counting, here and in
+-- The lists for which `Counters` of the code may be used: for the closure by counting, here and in
 -- preservation. `Desk` does not cite it.
-use Rattle.std.specs.Prelude.{Bool, List}
+use Rattle.std.specs.Prelude.{◌≡◌, List, length}
+use Rattle.dep_model.specs.declared.dep.Dep.{Dep}
 use Rattle.fd_closure.specs.declared.counting.Counters.{Counters}
 
--- for each member, whether it is on
-abbrev pub switches_of : Counters → List Bool
-switches_of counters = counters.on.items
+-- there is one count for each dependency of a list
+abbrev pub FitsList : Counters → List Dep → Type 0
+FitsList counters deps = length counters.counts.items ≡ length deps

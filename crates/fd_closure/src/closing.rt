@@ -7,7 +7,7 @@ ghost use Rattle.dep_model.specs.Deps.{IfFd, dependencies_of, IsDepWithin};
 ghost use Rattle.dep_model.specs.Implication.{Implies};
 ghost use Rattle.dep_model.specs.Keys.{InClosure};
 ghost use Rattle.fd_closure.specs.FunctionallyClosed.{IsFunctionallyClosed};
-ghost use Rattle.fd_closure.specs.Switches.{Grows};
+ghost use Rattle.fd_closure.specs.Growth.{Grows};
 
 use attr_sets::AttrSet;
 use dep_model::Dep;
@@ -63,7 +63,7 @@ fn closed_until(deps: &[Dep], from: AttrSet, wanted: AttrSet) -> AttrSet
 
 // The set with the right side of each functional dependency whose left side it comes to hold, where
 // each is tried once.
-fn with_right_sides(deps: &[Dep], closed: AttrSet) -> AttrSet
+pub fn with_right_sides(deps: &[Dep], closed: AttrSet) -> AttrSet
     ensures grows { IsSubset (attributes closed) (attributes result) }
     ensures within { (universe : Attributes) → All (IsDepWithin universe) deps.now
         → IsSubset (attributes closed) universe → IsSubset (attributes result) universe }

@@ -1,21 +1,19 @@
-ghost use Rattle.std.specs.Prelude.{◌≡◌, ℕ, ◌<◌, ◌≤◌, ◌⊎◌, ◌↔◌, true, IsTrue, IfOk, All, length, replicate, slice_set};
+ghost use Rattle.std.specs.Prelude.{◌≡◌, ℕ, ◌<◌, ◌≤◌, ◌↔◌, true, IfOk, All};
 ghost use Rattle.attr_sets.specs.Attributes.{below, IsSubset};
 ghost use Rattle.attr_sets.specs.Sets.{attributes};
-ghost use Rattle.dep_model.specs.Dependencies.{fd, functional_part};
+ghost use Rattle.dep_model.specs.Dependencies.{functional_part};
 ghost use Rattle.dep_model.specs.Deps.{dependencies_of, IsDepWithin};
-ghost use Rattle.dep_model.specs.Implication.{Implies};
 ghost use Rattle.dep_model.specs.Keys.{InClosure};
 ghost use Rattle.fd_closure.specs.FunctionallyClosed.{IsFunctionallyClosed};
-ghost use Rattle.fd_closure.specs.Switches.{members_on, Grows};
+ghost use Rattle.fd_closure.specs.Growth.{Grows};
 
-use crate::closing::with_right_side;
+use crate::closing::{with_right_side, with_right_sides};
 use attr_sets::{AttrSet, MOST_ATTRIBUTES};
 use dep_model::{Dep, OutOfMemory, sides};
 use std::alloc::Global;
 
-/// Room for closures by those members of a list of dependencies that are on (Beeri and Bernstein 1979).
-/// Each member counts the attributes of its left side that are still missing, and gives its right side
-/// once there are none.
+/// Room for closures by a list of dependencies (Beeri and Bernstein 1979). Each member counts the
+/// attributes of its left side that are still missing, and gives its right side once there are none.
 ///
 /// The counts only find what follows fast; what a closure holds does not rest on them. So counters made
 /// for one list of dependencies serve any list of that length.
@@ -23,7 +21,6 @@ use std::alloc::Global;
 pub struct Counters {
     index: Index,
     counts: Vec<Count>,
-    on: Vec<bool>,
 }
 
 /// For each attribute, the members whose left side holds it: those of attribute `a` stand in `members`
@@ -42,12 +39,12 @@ struct Count {
 }
 
 impl Counters {
-    ghost use Rattle.fd_closure.specs.Counting.{switches_of};
+    ghost use Rattle.fd_closure.specs.Counting.{FitsList};
 
-    /// Counters for a list of dependencies over `width` attributes, all of them on.
+    /// Counters for a list of dependencies over `width` attributes.
     pub fn new(alloc: Global, deps: &[Dep], width: u8) -> Result<Counters, OutOfMemory>
         requires width { width ≤ MOST_ATTRIBUTES }
-        ensures on { IfOk result (λ counters. switches_of counters ≡ replicate (length deps.now) true) }
+        ensures fits { IfOk result (λ counters. FitsList counters deps.now) }
     {
         let index = Index::new(alloc, deps, width)?;
         let mut counts = Vec::with_capacity(alloc, deps.len())?;
@@ -56,87 +53,35 @@ impl Counters {
             let all = lhs.len();
             counts.push(Count { all, missing: all })?;
         }
-        let on = Vec::from_elem(alloc, true, deps.len())?;
-        Ok(Counters { index, counts, on })
-    }
-
-    /// Turns member `k` on or off.
-    pub fn switch(&mut self, k: usize, on: bool)
-        requires member { k < length (switches_of self.old) }
-        ensures switched { switches_of self.new ≡ slice_set (switches_of self.old) k on }
-    {
-        self.on[k] = on;
+        Ok(Counters { index, counts })
     }
 }
 
-ghost use Rattle.fd_closure.specs.Counting.{switches_of};
+ghost use Rattle.fd_closure.specs.Counting.{FitsList};
 
-/// The attributes that `from` determines by those functional dependencies of a list that are on.
+/// The attributes that `from` determines by the functional dependencies of a list.
 pub fn closure_with(counters: &mut Counters, deps: &[Dep], from: AttrSet) -> AttrSet
-    requires members { length (switches_of counters.old) ≡ length deps.now }
+    requires fits { FitsList counters.old deps.now }
     ensures closure { (n : ℕ) → All (IsDepWithin (below n)) deps.now
         → IsSubset (attributes from) (below n)
         → (a : ℕ) → (attributes result a ≡ true)
-        ↔ InClosure n (functional_part (dependencies_of (members_on (switches_of counters.old) deps.now)))
-        (attributes from) a }
-    ensures switches { switches_of counters.new ≡ switches_of counters.old }
+        ↔ InClosure n (functional_part (dependencies_of deps.now)) (attributes from) a }
+    ensures fits { FitsList counters.new deps.now }
 {
-    let all = AttrSet::full(MOST_ATTRIBUTES);
-    close_from(
-        &counters.index,
-        &mut counters.counts,
-        &counters.on,
-        deps,
-        from,
-        all,
-    )
+    close_from(&counters.index, &mut counters.counts, deps, from)
 }
 
-/// Whether `lhs -> rhs` is implied by those functional dependencies of a list that are on. The search
-/// ends as soon as the right side is found.
-pub fn follows_with(counters: &mut Counters, deps: &[Dep], lhs: AttrSet, rhs: AttrSet) -> bool
-    requires members { length (switches_of counters.old) ≡ length deps.now }
-    ensures implied { (n : ℕ) → All (IsDepWithin (below n)) deps.now
-        → IsSubset (attributes lhs) (below n) → IsSubset (attributes rhs) (below n)
-        → IsTrue result
-        ↔ Implies n (functional_part (dependencies_of (members_on (switches_of counters.old) deps.now)))
-        (fd (attributes lhs) (attributes rhs)) }
-    ensures switches { switches_of counters.new ≡ switches_of counters.old }
-{
-    let found = close_from(
-        &counters.index,
-        &mut counters.counts,
-        &counters.on,
-        deps,
-        lhs,
-        rhs,
-    );
-    rhs.is_subset(found)
-}
-
-// What follows from a set: all of it, unless what is wanted is found before.
-fn close_from(
-    index: &Index,
-    counts: &mut [Count],
-    on: &[bool],
-    deps: &[Dep],
-    from: AttrSet,
-    wanted: AttrSet,
-) -> AttrSet
-    requires members { length on.now ≡ length deps.now }
-    ensures grows { Grows (members_on on.now deps.now) (attributes from) (attributes result) }
-    ensures found { IsSubset (attributes wanted) (attributes result)
-        ⊎ IsFunctionallyClosed (functional_part (dependencies_of (members_on on.now deps.now)))
+// All that follows from a set.
+fn close_from(index: &Index, counts: &mut [Count], deps: &[Dep], from: AttrSet) -> AttrSet
+    ensures grows { Grows deps.now (attributes from) (attributes result) }
+    ensures functionally_closed { IsFunctionallyClosed (functional_part (dependencies_of deps.now))
         (attributes result) }
 {
     let mut closed = from;
     loop {
-        let near = spread_by_counts(index, counts, on, deps, closed, wanted);
-        if wanted.is_subset(near) {
-            return near;
-        }
+        let near = spread_by_counts(index, counts, deps, closed);
         // what no count said: members with an empty left side, and in the end none
-        let more = with_right_sides_on(on, deps, near);
+        let more = with_right_sides(deps, near);
         if more == near {
             return near;
         }
@@ -146,16 +91,8 @@ fn close_from(
 
 // What follows from a set as far as the counts tell: each attribute that is found lowers the count of
 // those that miss it.
-fn spread_by_counts(
-    index: &Index,
-    counts: &mut [Count],
-    on: &[bool],
-    deps: &[Dep],
-    from: AttrSet,
-    wanted: AttrSet,
-) -> AttrSet
-    requires members { length on.now ≡ length deps.now }
-    ensures grows { Grows (members_on on.now deps.now) (attributes from) (attributes result) }
+fn spread_by_counts(index: &Index, counts: &mut [Count], deps: &[Dep], from: AttrSet) -> AttrSet
+    ensures grows { Grows deps.now (attributes from) (attributes result) }
 {
     miss_all(counts);
     let mut closed = from;
@@ -164,10 +101,7 @@ fn spread_by_counts(
         let Some(attribute) = untried.first() else {
             return closed;
         };
-        if wanted.is_subset(closed) {
-            return closed;
-        }
-        let more = add_ready_members(index.members_with(attribute), counts, on, deps, closed);
+        let more = add_ready_members(index.members_with(attribute), counts, deps, closed);
         untried = untried.without(attribute).union(more.difference(closed));
         closed = more;
     }
@@ -182,21 +116,19 @@ fn miss_all(counts: &mut [Count]) {
 }
 
 // The set with the right sides of those of some members, each of which has found one more attribute,
-// that are on and miss none now.
+// that miss none now.
 fn add_ready_members(
     members: &[usize],
     counts: &mut [Count],
-    on: &[bool],
     deps: &[Dep],
     closed: AttrSet,
 ) -> AttrSet
-    requires members { length on.now ≡ length deps.now }
-    ensures grows { Grows (members_on on.now deps.now) (attributes closed) (attributes result) }
+    ensures grows { Grows deps.now (attributes closed) (attributes result) }
 {
     let mut more = closed;
     for k in members {
         if misses_none(counts, *k) {
-            more = with_right_side_on(on, deps, *k, more);
+            more = with_right_side_at(deps, *k, more);
         }
     }
     more
@@ -212,34 +144,15 @@ fn misses_none(counts: &mut [Count], k: usize) -> bool {
     missing == 0
 }
 
-// The set with the right side of member `k`, where it is on and the set holds its left side.
-fn with_right_side_on(on: &[bool], deps: &[Dep], k: usize, closed: AttrSet) -> AttrSet
-    requires members { length on.now ≡ length deps.now }
-    ensures grows { Grows (members_on on.now deps.now) (attributes closed) (attributes result) }
+// The set with the right side of member `k`, where the set holds its left side.
+fn with_right_side_at(deps: &[Dep], k: usize, closed: AttrSet) -> AttrSet
+    ensures grows { Grows deps.now (attributes closed) (attributes result) }
 {
-    if k < on.len() && on[k] {
+    if k < deps.len() {
         with_right_side(deps[k], closed)
     } else {
         closed
     }
-}
-
-// The set with the right side of each functional dependency that is on and whose left side it comes to
-// hold, where each is tried once.
-fn with_right_sides_on(on: &[bool], deps: &[Dep], closed: AttrSet) -> AttrSet
-    requires members { length on.now ≡ length deps.now }
-    ensures grows { Grows (members_on on.now deps.now) (attributes closed) (attributes result) }
-    ensures functionally_closed { IsSubset (attributes result) (attributes closed)
-        → IsFunctionallyClosed (functional_part (dependencies_of (members_on on.now deps.now)))
-        (attributes closed) }
-{
-    let mut more = closed;
-    for (k, dep) in deps.iter().enumerate() {
-        if on[k] {
-            more = with_right_side(*dep, more);
-        }
-    }
-    more
 }
 
 impl Index {

@@ -15,7 +15,7 @@ pub mod laws;
 mod left_sides;
 
 pub use closing::{closure, follows};
-pub use counting::{Counters, closure_with, follows_with};
+pub use counting::{Counters, closure_with};
 pub use greedy_key::functional_key;
 pub use kinds::is_functional;
 pub use left_sides::{WIDEST_SEARCHED, functional_left_attributes, is_wide, left_attributes};

@@ -1,6 +1,6 @@
--- What is known of the schemes of a plan: closures by all dependencies of a schema, and lists of them.
-use Rattle.std.proofs.Common.{◌≡◌, ℕ, ◌<◌, ◌↔◌, Bool, true, List, [], ◌∷◌, ◌++◌, length, take, drop}
-use Rattle.std.proofs.Common.{get_or, replicate, append-nil, arith, subst, sym, refl, ap, ◌∙◌}
+-- What is known of the schemes of a plan: closures by the dependencies of a schema, and lists of them.
+use Rattle.std.proofs.Common.{◌≡◌, ℕ, ◌<◌, ◌↔◌, true, List, ◌++◌, length, take, drop}
+use Rattle.std.proofs.Common.{get_or, append-nil, arith, subst, sym, ap, ◌∙◌}
 use Rattle.std.proofs.lemmas.List.Elements.{All-map}
 use Rattle.std.proofs.lemmas.List.Elements.{Contains-get_or}
 use Rattle.std.specs.Prelude.{All, Contains}
@@ -18,33 +18,23 @@ use Rattle.dep_model.specs.Deps.{dependencies_of, IsDepWithin}
 use Rattle.dep_model.specs.Schemas.{width_of, deps_of, theory_of, universe_of}
 use Rattle.dep_model.specs.declared.dep.Dep.{Dep}
 use Rattle.dep_model.specs.declared.schema.Schema.{Schema}
-use Rattle.fd_closure.specs.Switches.{members_on}
 use Rattle.preservation.specs.declared.scheme_closure.SchemeClosure.{SchemeClosure}
 use Rattle.preservation.specs.SchemeClosures.{IsSchemeClosure, schemes_of_closures, plan_of_closures}
 use Rattle.preservation.specs.Keeping.{ObeysInside}
 
--- ---- a closure over the dependencies of a schema, all of which count
-all_members_on : (ds : List Dep) → members_on (replicate (length ds) true) ds ≡ ds
-all_members_on [] = refl
-all_members_on (d ∷ ds) = ap (λ (rest : List Dep). d ∷ rest) (all_members_on ds)
+-- ---- a closure by the dependencies of a schema
+-- what clause `closure` says
+abbrev ClosedBy : List Dep → Attributes → Attributes → Type 0
+ClosedBy ds part closed = (n : ℕ) → All (IsDepWithin (below n)) ds → IsSubset part (below n)
+    → (a : ℕ) → (closed a ≡ true) ↔ InClosure n (functional_part (dependencies_of ds)) part a
 
--- what clause `closure` says, with the members that are on
-abbrev ClosedBy : List Dep → List Dep → Attributes → Attributes → Type 0
-ClosedBy ds members part closed = (n : ℕ) → All (IsDepWithin (below n)) ds → IsSubset part (below n)
-    → (a : ℕ) → (closed a ≡ true) ↔ InClosure n (functional_part (dependencies_of members)) part a
-
-pub closure_over : (s : Schema) (on : List Bool) (ds : List Dep) (part closed : Attributes) → ds ≡ deps_of s
-    → on ≡ replicate (length (deps_of s)) true → IsSubset part (universe_of s)
+pub closure_over : (s : Schema) (ds : List Dep) (part closed : Attributes) → ds ≡ deps_of s → IsSubset part (universe_of s)
     → ((n : ℕ) → All (IsDepWithin (below n)) ds → IsSubset part (below n)
-    → (a : ℕ) → (closed a ≡ true) ↔ InClosure n (functional_part (dependencies_of (members_on on ds))) part a)
+    → (a : ℕ) → (closed a ≡ true) ↔ InClosure n (functional_part (dependencies_of ds)) part a)
     → (a : ℕ) → (closed a ≡ true) ↔ InClosure (width_of s) (functional_part (theory_of s)) part a
-closure_over s on ds part closed e all within clause =
-    let members : members_on on ds ≡ deps_of s = ap (λ (xs : List Dep). members_on on xs) e
-    ∙ ap (λ (bs : List Bool). members_on bs (deps_of s)) all ∙ all_members_on (deps_of s) in
-    let over : ClosedBy ds (deps_of s) part closed =
-    subst (λ (xs : List Dep). ClosedBy ds xs part closed) members clause in
-    over (width_of s) (subst (λ (xs : List Dep). All (IsDepWithin (universe_of s)) xs) (sym e) s.valid.deps_within)
-    within
+closure_over s ds part closed e within clause =
+    let over : ClosedBy (deps_of s) part closed = subst (λ (xs : List Dep). ClosedBy xs part closed) e clause in
+    over (width_of s) s.valid.deps_within within
 
 -- ---- what is known of the schemes of a plan
 pub scheme_of : (old new : List SchemeClosure) (i : ℕ) (d : SchemeClosure) → schemes_of_closures new ≡ schemes_of_closures old

@@ -1,15 +1,11 @@
 -- Closures inside the schemes of a plan: for the functions below `losses`. `Desk` does not cite them.
-use Rattle.std.specs.Prelude.{◌≡◌, ◌↔◌, ℕ, true, List, map, length, replicate}
+use Rattle.std.specs.Prelude.{◌≡◌, ◌↔◌, ℕ, true, List, map}
 use Rattle.attr_sets.specs.Attributes.{Attributes, below, IsSubset}
 use Rattle.attr_sets.specs.Sets.{attributes}
 use Rattle.attr_sets.specs.declared.set.AttrSet.{AttrSet}
 use Rattle.dep_model.specs.Dependencies.{Dependency, functional_part}
 use Rattle.dep_model.specs.Keys.{InClosure}
 use Rattle.dep_model.specs.Plans.{schemes_of}
-use Rattle.dep_model.specs.Schemas.{deps_of}
-use Rattle.dep_model.specs.declared.schema.Schema.{Schema}
-use Rattle.fd_closure.specs.Counting.{switches_of}
-use Rattle.fd_closure.specs.declared.counting.Counters.{Counters}
 use Rattle.preservation.specs.declared.scheme_closure.SchemeClosure.{SchemeClosure}
 
 -- what a part of a scheme determines inside it, by the functional dependencies over n attributes
@@ -30,7 +26,3 @@ schemes_of_closures closures = map (λ closure. closure.scheme) closures
 -- the plan that they make
 abbrev pub plan_of_closures : List SchemeClosure → List Attributes
 plan_of_closures closures = schemes_of (schemes_of_closures closures)
-
--- counters by which all dependencies of a schema count
-abbrev pub AreAllOn : Schema → Counters → Type 0
-AreAllOn s counters = switches_of counters ≡ replicate (length (deps_of s)) true

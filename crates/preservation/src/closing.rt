@@ -2,10 +2,10 @@ ghost use Rattle.std.specs.Prelude.{◌≡◌, ◌⊎◌, All, IfSome};
 ghost use Rattle.attr_sets.specs.Attributes.{IsSubset};
 ghost use Rattle.attr_sets.specs.Sets.{attributes};
 ghost use Rattle.dep_model.specs.Dependencies.{ObeysFd};
-ghost use Rattle.dep_model.specs.Schemas.{width_of, theory_of, universe_of};
+ghost use Rattle.dep_model.specs.Schemas.{width_of, deps_of, theory_of, universe_of};
 ghost use Rattle.dep_model.specs.Tuples.{Relation};
-ghost use Rattle.fd_closure.specs.Counting.{switches_of};
-ghost use Rattle.preservation.specs.SchemeClosures.{IsSchemeClosure, schemes_of_closures, plan_of_closures, AreAllOn};
+ghost use Rattle.fd_closure.specs.Counting.{FitsList};
+ghost use Rattle.preservation.specs.SchemeClosures.{IsSchemeClosure, schemes_of_closures, plan_of_closures};
 ghost use Rattle.preservation.specs.Keeping.{FollowsInside, ObeysInside};
 ghost use Rattle.preservation.specs.FunctionallyClosed.{TellsKeptClosure, IsFunctionallyClosedIn, IsKeptClosure};
 
@@ -30,7 +30,7 @@ pub fn closure_after(
     from: AttrSet,
     wanted: AttrSet,
 ) -> AttrSet
-    requires on { AreAllOn schema.now counters.old }
+    requires fits { FitsList counters.old (deps_of schema.now) }
     requires known { All (IsSchemeClosure (width_of schema.now) (theory_of schema.now)) closures.old }
     requires last { IfSome last
         (TellsKeptClosure (width_of schema.now) (theory_of schema.now) (plan_of_closures closures.old)) }
@@ -42,7 +42,7 @@ pub fn closure_after(
         (attributes from) (attributes result) }
     ensures known { All (IsSchemeClosure (width_of schema.now) (theory_of schema.now)) closures.new }
     ensures schemes { schemes_of_closures closures.new ≡ schemes_of_closures closures.old }
-    ensures switches { switches_of counters.new ≡ switches_of counters.old }
+    ensures fits { FitsList counters.new (deps_of schema.now) }
 {
     if let Some(previous) = last {
         if previous.from == from {
@@ -64,7 +64,7 @@ pub fn kept_closure(
     from: AttrSet,
     wanted: AttrSet,
 ) -> AttrSet
-    requires on { AreAllOn schema.now counters.old }
+    requires fits { FitsList counters.old (deps_of schema.now) }
     requires known { All (IsSchemeClosure (width_of schema.now) (theory_of schema.now)) closures.old }
     requires from { IsSubset (attributes from) (universe_of schema.now) }
     ensures follows { FollowsInside (width_of schema.now) (theory_of schema.now) (plan_of_closures closures.old)
@@ -74,7 +74,7 @@ pub fn kept_closure(
         (attributes from) (attributes result) }
     ensures known { All (IsSchemeClosure (width_of schema.now) (theory_of schema.now)) closures.new }
     ensures schemes { schemes_of_closures closures.new ≡ schemes_of_closures closures.old }
-    ensures switches { switches_of counters.new ≡ switches_of counters.old }
+    ensures fits { FitsList counters.new (deps_of schema.now) }
 {
     let mut closed = from;
     loop {
@@ -96,7 +96,7 @@ fn with_schemes(
     closures: &mut [SchemeClosure],
     closed: AttrSet,
 ) -> AttrSet
-    requires on { AreAllOn schema.now counters.old }
+    requires fits { FitsList counters.old (deps_of schema.now) }
     requires known { All (IsSchemeClosure (width_of schema.now) (theory_of schema.now)) closures.old }
     requires closed { IsSubset (attributes closed) (universe_of schema.now) }
     ensures grows { IsSubset (attributes closed) (attributes result) }
@@ -110,7 +110,7 @@ fn with_schemes(
         (attributes closed) (attributes closed)) (schemes_of_closures closures.old) }
     ensures known { All (IsSchemeClosure (width_of schema.now) (theory_of schema.now)) closures.new }
     ensures schemes { schemes_of_closures closures.new ≡ schemes_of_closures closures.old }
-    ensures switches { switches_of counters.new ≡ switches_of counters.old }
+    ensures fits { FitsList counters.new (deps_of schema.now) }
 {
     let mut more = closed;
     for i in 0..closures.len() {

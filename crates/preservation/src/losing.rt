@@ -4,9 +4,9 @@ ghost use Rattle.attr_sets.specs.Sets.{attributes};
 ghost use Rattle.dep_model.specs.Deps.{dependency_of, IsDepWithin};
 ghost use Rattle.dep_model.specs.Plans.{schemes_of};
 ghost use Rattle.dep_model.specs.Preservation.{KeepsDependencies};
-ghost use Rattle.dep_model.specs.Schemas.{width_of, theory_of, universe_of};
-ghost use Rattle.fd_closure.specs.Counting.{switches_of};
-ghost use Rattle.preservation.specs.SchemeClosures.{IsSchemeClosure, schemes_of_closures, plan_of_closures, AreAllOn};
+ghost use Rattle.dep_model.specs.Schemas.{width_of, deps_of, theory_of, universe_of};
+ghost use Rattle.fd_closure.specs.Counting.{FitsList};
+ghost use Rattle.preservation.specs.SchemeClosures.{IsSchemeClosure, schemes_of_closures, plan_of_closures};
 ghost use Rattle.preservation.specs.Keeping.{IsKept, IsLostOn, LossesOf};
 ghost use Rattle.preservation.specs.FunctionallyClosed.{TellsKeptClosure};
 
@@ -63,7 +63,7 @@ fn loss_of(
     last: Option<Closed>,
     dep: Dep,
 ) -> Option<Closed>
-    requires on { AreAllOn schema.now counters.old }
+    requires fits { FitsList counters.old (deps_of schema.now) }
     requires known { All (IsSchemeClosure (width_of schema.now) (theory_of schema.now)) closures.old }
     requires last { IfSome last
         (TellsKeptClosure (width_of schema.now) (theory_of schema.now) (plan_of_closures closures.old)) }
@@ -76,7 +76,7 @@ fn loss_of(
         (plan_of_closures closures.old) (dependency_of dep)) }
     ensures known { All (IsSchemeClosure (width_of schema.now) (theory_of schema.now)) closures.new }
     ensures schemes { schemes_of_closures closures.new ≡ schemes_of_closures closures.old }
-    ensures switches { switches_of counters.new ≡ switches_of counters.old }
+    ensures fits { FitsList counters.new (deps_of schema.now) }
 {
     match dep {
         Dep::Fd { lhs, rhs } => {

@@ -1,9 +1,9 @@
 ghost use Rattle.std.specs.Prelude.{◌≡◌, All, IfOk};
 ghost use Rattle.attr_sets.specs.Attributes.{IsSubset, intersection};
 ghost use Rattle.attr_sets.specs.Sets.{attributes};
-ghost use Rattle.dep_model.specs.Schemas.{width_of, theory_of, universe_of};
-ghost use Rattle.fd_closure.specs.Counting.{switches_of};
-ghost use Rattle.preservation.specs.SchemeClosures.{IsSchemeClosure, schemes_of_closures, AreAllOn};
+ghost use Rattle.dep_model.specs.Schemas.{width_of, deps_of, theory_of, universe_of};
+ghost use Rattle.fd_closure.specs.Counting.{FitsList};
+ghost use Rattle.preservation.specs.SchemeClosures.{IsSchemeClosure, schemes_of_closures};
 
 use attr_sets::AttrSet;
 use dep_model::{OutOfMemory, Schema};
@@ -27,12 +27,12 @@ pub fn scheme_closures(
     counters: &mut Counters,
     schemes: &[AttrSet],
 ) -> Result<Vec<SchemeClosure>, OutOfMemory>
-    requires on { AreAllOn schema.now counters.old }
+    requires fits { FitsList counters.old (deps_of schema.now) }
     requires schemes { All (λ scheme. IsSubset (attributes scheme)
         (universe_of schema.now)) schemes.now }
     ensures known { IfOk result (λ v. All (IsSchemeClosure (width_of schema.now) (theory_of schema.now)) v.items) }
     ensures schemes { IfOk result (λ v. schemes_of_closures v.items ≡ schemes.now) }
-    ensures switches { switches_of counters.new ≡ switches_of counters.old }
+    ensures fits { FitsList counters.new (deps_of schema.now) }
 {
     let mut closures = Vec::with_capacity(alloc, schemes.len())?;
     for scheme in schemes {
@@ -48,13 +48,13 @@ fn closure_within(
     scheme: AttrSet,
     part: AttrSet,
 ) -> SchemeClosure
-    requires on { AreAllOn schema.now counters.old }
+    requires fits { FitsList counters.old (deps_of schema.now) }
     requires scheme { IsSubset (attributes scheme) (universe_of schema.now) }
     requires part { IsSubset (attributes part) (attributes scheme) }
     ensures known { IsSchemeClosure (width_of schema.now) (theory_of schema.now) result }
     ensures scheme { result.scheme ≡ scheme }
     ensures part { result.part ≡ part }
-    ensures switches { switches_of counters.new ≡ switches_of counters.old }
+    ensures fits { FitsList counters.new (deps_of schema.now) }
 {
     let closed = closure_with(counters, schema.deps(), part).intersection(scheme);
     SchemeClosure {
@@ -71,14 +71,14 @@ pub fn closure_covering(
     closure: SchemeClosure,
     closed: AttrSet,
 ) -> SchemeClosure
-    requires on { AreAllOn schema.now counters.old }
+    requires fits { FitsList counters.old (deps_of schema.now) }
     requires known { IsSchemeClosure (width_of schema.now) (theory_of schema.now) closure }
     ensures known { IsSchemeClosure (width_of schema.now) (theory_of schema.now) result }
     ensures scheme { result.scheme ≡ closure.scheme }
     ensures part { IsSubset (attributes result.part) (attributes closed) }
     ensures covers { IsSubset (intersection (attributes closed) (attributes closure.scheme))
         (attributes result.closed) }
-    ensures switches { switches_of counters.new ≡ switches_of counters.old }
+    ensures fits { FitsList counters.new (deps_of schema.now) }
 {
     let part = closed.intersection(closure.scheme);
     if closure.part.is_subset(part) && part.is_subset(closure.closed) {

@@ -9,7 +9,6 @@ mod printing;
 mod spelling;
 
 pub use printing::{
-    add, add_dep, add_digit, add_number, add_set, add_type_word, print_dep, print_deps,
-    print_schema, print_set,
+    add, add_dep, add_digit, add_number, add_set, add_type_word, print_dep, print_deps, print_set,
 };
 pub use spelling::{add_name, add_quoted, is_schema_word};

@@ -4,7 +4,7 @@ ghost use Rattle.attr_sets.specs.Attributes.{IsSubset};
 ghost use Rattle.attr_sets.specs.Sets.{attributes};
 ghost use Rattle.dep_model.specs.Deps.{dependency_of, dependencies_of, IsDepWithin};
 ghost use Rattle.dep_model.specs.Columns.{is_column_type};
-ghost use Rattle.dep_model.specs.Schemas.{naming_of, width_of, types_of, nullable_of, theory_of, universe_of};
+ghost use Rattle.dep_model.specs.Schemas.{naming_of, width_of, types_of, nullable_of, universe_of};
 ghost use Rattle.schema_printer.specs.Printing.{set_text, dependency_text, members_from, schema_text, schema_lines, nullable_lines, declaring_lines, lines_text, words_text, run_line, runs_of, type_word, same_column, is_integer};
 ghost use Rattle.schema_printer.specs.Spelling.{spelling, printed_names_of};
 ghost use Rattle.dep_model.specs.Names.{quoted};
@@ -13,19 +13,6 @@ use crate::spelling::{add_name, add_quoted};
 use attr_sets::AttrSet;
 use dep_model::{ColumnType, Dep, Name, Naming, OutOfMemory, Schema};
 use std::alloc::Global;
-
-/// The schema in the one form: the lines that declare its attributes, and a line for each dependency.
-/// Where its naming is bare, no name is reserved, its dependencies are within the limit of a text and
-/// the text is short enough to be read, it means the same schema.
-///
-/// The commands print a cover or what was discovered, by `print_deps`. This one stays for tests: it is
-/// the text that the law `printed_schema_means` of the grammar is about.
-pub fn print_schema(alloc: Global, schema: &Schema) -> Result<Vec<u8>, OutOfMemory>
-    ensures text { IfOk result
-        (λ text. text.items ≡ schema_text schema.now (theory_of schema.now)) }
-{
-    print_deps(alloc, schema, schema.deps())
-}
 
 /// The lines that declare the schema's attributes, and a line for each of these dependencies.
 #[tactic(auto, unfolding(crate::specs::Printing::schema_text))]

@@ -1,6 +1,6 @@
 //! Tables handed to destinations.
 //!
-//! [`write_tables`] hands each table in order to each destination in order. A destination is left at
+//! [`write_tables_to_list`] hands each table in order to each destination in order. A destination is left at
 //! its first fault, and the next one begins; each has an end of its own. [`laws`] says what they then hold.
 #![tactic(auto)]
 
@@ -9,4 +9,4 @@ pub mod laws;
 mod writing;
 
 pub use end::WriteOutcome;
-pub use writing::{write_tables, write_tables_to_list};
+pub use writing::write_tables_to_list;

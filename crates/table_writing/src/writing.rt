@@ -17,24 +17,6 @@ use std::alloc::Global;
 /// Each destination in order gets each table in order, up to its first fault.
 ///
 /// The memory for the outcomes is taken before the first call of a destination.
-pub fn write_tables(
-    alloc: Global,
-    destinations: &mut Vec<Box<dyn Destination>>,
-    tables: &ChosenTables,
-) -> Result<Vec<WriteOutcome>, OutOfMemory>
-    ensures written { IfOk result (λ ends. AtEachPosition
-        (WrittenDestination ⟦<Box<dyn Destination> as Destination>⟧.is_known
-        ⟦<Box<dyn Destination> as Destination>⟧.finished
-        ⟦<Box<dyn Destination> as Destination>⟧.begun
-        ⟦<Box<dyn Destination> as Destination>⟧.width
-        ⟦<Box<dyn Destination> as Destination>⟧.faults (table_values tables.now))
-        destinations.old.items destinations.new.items ends.items) }
-    ensures err { OnErr result (destinations.new.items ≡ destinations.old.items) }
-{
-    write_tables_to_list(alloc, destinations, tables)
-}
-
-/// The same, of destinations of one type.
 pub fn write_tables_to_list<T: Destination>(
     alloc: Global,
     destinations: &mut Vec<T>,

@@ -5,7 +5,7 @@ use named_tables::ChosenTables;
 use std::alloc::Global;
 use std::process::Abort;
 use std::test::Fail;
-use table_writing::{WriteOutcome, write_tables, write_tables_to_list};
+use table_writing::{WriteOutcome, write_tables_to_list};
 
 // The end of the destination that fails at this call, and how many tables it then holds. The calls of a
 // table are its begin, one for each row, and its end: 4 of the first table, 5 of each other.
@@ -78,7 +78,7 @@ fn each_destination_has_an_end_of_its_own(rt: HostRuntime) -> Result<(), Fail> {
     destinations.push(Box::new(alloc, WithoutMemory::new())?)?;
     let whole = MemoryDestination::new(alloc, Vec::new(alloc));
     destinations.push(Box::new(alloc, whole)?)?;
-    let ends = write_tables(alloc, &mut destinations, &made)?;
+    let ends = write_tables_to_list(alloc, &mut destinations, &made)?;
     assert_eq!(rt;
         ends.as_slice(),
         [
@@ -88,7 +88,7 @@ fn each_destination_has_an_end_of_its_own(rt: HostRuntime) -> Result<(), Fail> {
         ]
         .as_slice()
     );
-    let ends = write_tables(alloc, &mut destinations, &made)?;
+    let ends = write_tables_to_list(alloc, &mut destinations, &made)?;
     assert_eq!(rt;
         ends.as_slice(),
         [

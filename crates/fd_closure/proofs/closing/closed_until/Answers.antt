@@ -6,7 +6,7 @@ use Rattle.attr_sets.specs.Sets.{attributes}
 use Rattle.attr_sets.specs.declared.set.TheConstants.{MOST_ATTRIBUTES}
 use Rattle.attr_sets.proofs.AttributesLemmas.{attributes_below, tell_subset, same_from_within, IsSubset-same, count_below-lt, count_below-le}
 use Rattle.dep_model.proofs.RuleLemmas.{reflexivity_obeyed}
-use Rattle.fd_closure.proofs.SwitchLemmas.{grows-further}
+use Rattle.fd_closure.proofs.GrowthLemmas.{grows-further}
 use Rattle.fd_closure.proofs.closing.closed_until.Goals as goal
 
 pub loop-wanted-init : goal.loop-wanted-init

@@ -3,7 +3,7 @@ use Rattle.std.proofs.Common.{◌-◌}
 use Rattle.attr_sets.specs.Attributes.{count_below}
 use Rattle.attr_sets.specs.Sets.{attributes}
 use Rattle.attr_sets.specs.declared.set.TheConstants.{MOST_ATTRIBUTES}
-use Rattle.fd_closure.specs.Switches.{Grows}
+use Rattle.fd_closure.specs.Growth.{Grows}
 use Rattle.fd_closure.proofs.closing.closed_until.Given as goal
 
 abbrev pub invariant-loop-wanted : goal.invariant-loop-wanted

@@ -1,7 +1,7 @@
 -- What the loop of `add_ready_members` keeps: `Grows`.
 use Rattle.attr_sets.specs.Sets.{attributes}
-use Rattle.fd_closure.specs.Switches.{members_on, Grows}
+use Rattle.fd_closure.specs.Growth.{Grows}
 use Rattle.fd_closure.proofs.counting.add_ready_members.Given as goal
 
 abbrev pub invariant-loop-k : goal.invariant-loop-k
-invariant-loop-k l = Grows (members_on l.on l.deps) (attributes l.initial.more) (attributes l.more)
+invariant-loop-k l = Grows l.deps (attributes l.initial.more) (attributes l.more)

@@ -3,11 +3,11 @@ use Rattle.std.proofs.Common.{◌-◌}
 use Rattle.attr_sets.specs.Attributes.{count_below}
 use Rattle.attr_sets.specs.Sets.{attributes}
 use Rattle.attr_sets.specs.declared.set.TheConstants.{MOST_ATTRIBUTES}
-use Rattle.fd_closure.specs.Switches.{members_on, Grows}
+use Rattle.fd_closure.specs.Growth.{Grows}
 use Rattle.fd_closure.proofs.counting.close_from.Given as goal
 
-abbrev pub invariant-loop-wanted : goal.invariant-loop-wanted
-invariant-loop-wanted l = Grows (members_on l.on l.deps) (attributes l.initial.closed) (attributes l.closed)
+abbrev pub invariant-loop-more : goal.invariant-loop-more
+invariant-loop-more l = Grows l.deps (attributes l.initial.closed) (attributes l.closed)
 
-abbrev pub decreases-loop-wanted : goal.decreases-loop-wanted
-decreases-loop-wanted l = MOST_ATTRIBUTES - count_below (attributes l.closed) MOST_ATTRIBUTES
+abbrev pub decreases-loop-more : goal.decreases-loop-more
+decreases-loop-more l = MOST_ATTRIBUTES - count_below (attributes l.closed) MOST_ATTRIBUTES

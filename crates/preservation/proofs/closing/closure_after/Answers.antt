@@ -24,5 +24,5 @@ returns-then-eq c =
       found = inr all;
       known = c.requires.known;
       schemes = refl;
-      switches = refl;
+      fits = c.requires.fits;
     }

@@ -34,7 +34,7 @@ loop-wanted-init c = record {
   kept = λ r inside. reflexivity_obeyed (attributes c.args.from) (attributes c.args.from) r (λ k m. m);
   known = c.requires.known;
   schemes = refl;
-  switches = refl;
+  fits = c.requires.fits;
 }
 
 pub with_schemes-more-requires-clause-closed : goal.with_schemes-more-requires-clause-closed
@@ -54,7 +54,7 @@ loop-wanted-preserved c =
           c.args.closures.now c.loop-wanted.closures r before.schemes inside));
       known = more.ensures.known;
       schemes = more.ensures.schemes ∙ before.schemes;
-      switches = more.ensures.switches ∙ before.switches;
+      fits = more.ensures.fits;
     }
 
 pub loop-wanted-smaller : goal.loop-wanted-smaller
@@ -98,7 +98,7 @@ returns-then-eq c =
       });
       known = more.ensures.known;
       schemes = more.ensures.schemes ∙ before.schemes;
-      switches = more.ensures.switches ∙ before.switches;
+      fits = more.ensures.fits;
     }
 
 pub returns-then-is_subset : goal.returns-then-is_subset
@@ -114,5 +114,5 @@ returns-then-is_subset c =
       found = inl (c.if-is_subset.ensures.subset.0 refl);
       known = more.ensures.known;
       schemes = more.ensures.schemes ∙ before.schemes;
-      switches = more.ensures.switches ∙ before.switches;
+      fits = more.ensures.fits;
     }

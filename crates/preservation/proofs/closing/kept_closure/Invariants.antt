@@ -1,14 +1,14 @@
 -- What the loop of `kept_closure` keeps: `grows`, `within`, `kept`, `known`, `schemes` and
--- `switches`; and by what it ends.
+-- `fits`; and by what it ends.
 use Rattle.std.proofs.Common.{◌≡◌, ◌-◌}
 use Rattle.std.specs.Prelude.{All}
 use Rattle.attr_sets.specs.Attributes.{IsSubset, count_below}
 use Rattle.attr_sets.specs.Sets.{attributes}
 use Rattle.attr_sets.specs.declared.set.TheConstants.{MOST_ATTRIBUTES}
 use Rattle.dep_model.specs.Dependencies.{ObeysFd}
-use Rattle.dep_model.specs.Schemas.{width_of, theory_of, universe_of}
+use Rattle.dep_model.specs.Schemas.{width_of, deps_of, theory_of, universe_of}
 use Rattle.dep_model.specs.Tuples.{Relation}
-use Rattle.fd_closure.specs.Counting.{switches_of}
+use Rattle.fd_closure.specs.Counting.{FitsList}
 use Rattle.preservation.specs.SchemeClosures.{IsSchemeClosure, schemes_of_closures, plan_of_closures}
 use Rattle.preservation.specs.Keeping.{ObeysInside}
 use Rattle.preservation.proofs.closing.kept_closure.Given as goal
@@ -21,7 +21,7 @@ invariant-loop-wanted l = record {
       → ObeysFd (attributes l.initial.closed) (attributes l.closed) r;
   known : All (IsSchemeClosure (width_of l.schema) (theory_of l.schema)) l.closures;
   schemes : schemes_of_closures l.closures ≡ schemes_of_closures l.initial.closures;
-  switches : switches_of l.counters ≡ switches_of l.initial.counters;
+  fits : FitsList l.counters (deps_of l.schema);
 }
 
 abbrev pub decreases-loop-wanted : goal.decreases-loop-wanted

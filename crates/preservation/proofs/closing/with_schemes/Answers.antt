@@ -1,6 +1,6 @@
 -- What is left to prove of `with_schemes`: its clause `functionally_closed` and that the invariant
 -- of its loop holds at first and stays, by `KeepingLemmas` and `KnownLemmas`.
-use Rattle.std.proofs.Common.{◌<◌, ◌≤◌, length, get_or, inl, inr, refl, sym, subst, ◌∙◌, arith, take_all}
+use Rattle.std.proofs.Common.{◌<◌, ◌≤◌, length, get_or, inl, inr, refl, sym, subst, arith, take_all}
 use Rattle.std.proofs.lemmas.Bool.{cases_Bool}
 use Rattle.std.proofs.lemmas.List.{length-map}
 use Rattle.std.proofs.lemmas.List.Elements.{All-more, All-set}
@@ -25,7 +25,7 @@ loop-i-init c = record {
   closed_so_far = λ k d l. absurd (omega arith);
   known = c.requires.known;
   schemes = refl;
-  switches = refl;
+  fits = c.requires.fits;
 }
 
 pub loop-i-preserved : goal.loop-i-preserved
@@ -70,7 +70,7 @@ loop-i-preserved c =
           x y within implied (λ k m. before.grows k (x_in k m))));
       known = All-set (IsSchemeClosure n ds) c.loop-i.closures i closure.result closure.ensures.known before.known;
       schemes = same_schemes old c.loop-i.closures i closure.result nowhere before.schemes closure.ensures.scheme;
-      switches = closure.ensures.switches ∙ before.switches;
+      fits = closure.ensures.fits;
     }
 
 pub returns-clause-functionally_closed : goal.returns-clause-functionally_closed

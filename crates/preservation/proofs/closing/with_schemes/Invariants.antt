@@ -5,9 +5,9 @@ use Rattle.std.specs.Prelude.{All}
 use Rattle.attr_sets.specs.Attributes.{IsSubset}
 use Rattle.attr_sets.specs.Sets.{attributes}
 use Rattle.dep_model.specs.Dependencies.{ObeysFd}
-use Rattle.dep_model.specs.Schemas.{width_of, theory_of, universe_of}
+use Rattle.dep_model.specs.Schemas.{width_of, deps_of, theory_of, universe_of}
 use Rattle.dep_model.specs.Tuples.{Relation}
-use Rattle.fd_closure.specs.Counting.{switches_of}
+use Rattle.fd_closure.specs.Counting.{FitsList}
 use Rattle.preservation.specs.SchemeClosures.{IsSchemeClosure, schemes_of_closures, plan_of_closures}
 use Rattle.preservation.specs.Keeping.{ObeysInside}
 use Rattle.preservation.specs.FunctionallyClosed.{IsFunctionallyClosedIn}
@@ -23,5 +23,5 @@ invariant-loop-i l = record {
       (attributes l.initial.more) (attributes l.more)) (take l.i (schemes_of_closures l.initial.closures));
   known : All (IsSchemeClosure (width_of l.schema) (theory_of l.schema)) l.closures;
   schemes : schemes_of_closures l.closures ≡ schemes_of_closures l.initial.closures;
-  switches : switches_of l.counters ≡ switches_of l.initial.counters;
+  fits : FitsList l.counters (deps_of l.schema);
 }

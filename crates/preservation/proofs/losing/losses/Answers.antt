@@ -1,6 +1,6 @@
 -- What is left to prove of `losses`: its clause `keeps`, what `loss_of` requires, and that the
 -- invariant of its loop holds at first and stays, by `KnownLemmas` and `LossLemmas`.
-use Rattle.std.proofs.Common.{◌≡◌, ◌<◌, true, List, length, replicate, subst, sym, refl, ap, ◌∙◌}
+use Rattle.std.proofs.Common.{◌≡◌, ◌<◌, List, length, subst, sym, refl, ap, ◌∙◌}
 use Rattle.std.specs.Prelude.{All}
 use Rattle.dep_model.specs.declared.dep.Dep.{Dep}
 use Rattle.dep_model.specs.declared.dep.Dep.TheVariants.{Fd}
@@ -24,8 +24,7 @@ loop-k-init c = record {
   losses = no_losses _ _ _ _ _ _ refl c.new-losses.ensures.items;
   known = c.in_ok-closures.ensures.known;
   schemes = c.in_ok-closures.ensures.schemes;
-  switches = c.scheme_closures.ensures.switches ∙ c.in_ok-counters.ensures.on
-      ∙ ap (λ (ds : List Dep). replicate (length ds) true) c.deps.ensures.deps;
+  fits = c.scheme_closures.ensures.fits;
   last = tt;
 }
 
@@ -61,7 +60,6 @@ loop-k-preserved c =
     let schemes = subst (λ (l : List SchemeClosure). schemes_of_closures l ≡ c.args.schemes.now) back
     (call.ensures.schemes ∙ ap schemes_of_closures given ∙ before.schemes) in
     let plan_of = ap schemes_of_closures given ∙ before.schemes in
-    let switches = call.ensures.switches ∙ before.switches in
     elim c.match-loss.branch [
       | in-Some+in_ok-push-in-Some w ↦ record {
         losses = rw w.losses-is
@@ -69,7 +67,7 @@ loop-k-preserved c =
             (rw plan_of at (rw w.in-Some.is at call.ensures.lost)) refl w.in_ok-push-in-Some.ensures.items);
         known = known;
         schemes = schemes;
-        switches = switches;
+        fits = call.ensures.fits;
         last = rw w.last-is (rw plan_of at (rw w.in-Some.is at call.ensures.all));
       }
       | in-None w ↦ record {
@@ -78,7 +76,7 @@ loop-k-preserved c =
             (rw plan_of at (rw w.in-None.is at call.ensures.kept)));
         known = known;
         schemes = schemes;
-        switches = switches;
+        fits = call.ensures.fits;
         last = rw w.last-is before.last;
       }
     ]

@@ -1,9 +1,10 @@
--- What the loop of `losses` keeps: `losses`, `known`, `schemes`, `switches` and `last`.
+-- What the loop of `losses` keeps: `losses`, `known`, `schemes`, `fits` and `last`.
 use Rattle.std.proofs.Common.{◌≡◌, take}
 use Rattle.std.specs.Prelude.{All, IfSome}
 use Rattle.dep_model.specs.Plans.{schemes_of}
-use Rattle.dep_model.specs.Schemas.{width_of, theory_of}
-use Rattle.preservation.specs.SchemeClosures.{IsSchemeClosure, schemes_of_closures, AreAllOn}
+use Rattle.dep_model.specs.Schemas.{width_of, deps_of, theory_of}
+use Rattle.fd_closure.specs.Counting.{FitsList}
+use Rattle.preservation.specs.SchemeClosures.{IsSchemeClosure, schemes_of_closures}
 use Rattle.preservation.specs.Keeping.{LossesFrom}
 use Rattle.preservation.specs.FunctionallyClosed.{TellsKeptClosure}
 use Rattle.preservation.proofs.losing.losses.Given as goal
@@ -15,6 +16,6 @@ invariant-loop-k l = record {
       (take l.k (theory_of l.schema)) l.losses.items;
   known : All (IsSchemeClosure (width_of l.schema) (theory_of l.schema)) l.closures.items;
   schemes : schemes_of_closures l.closures.items ≡ l.schemes;
-  switches : AreAllOn l.schema l.counters;
+  fits : FitsList l.counters (deps_of l.schema);
   last : IfSome l.last (TellsKeptClosure (width_of l.schema) (theory_of l.schema) (schemes_of l.schemes));
 }

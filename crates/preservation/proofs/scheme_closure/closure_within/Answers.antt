@@ -4,7 +4,6 @@ use Rattle.attr_sets.specs.Sets.{attributes}
 use Rattle.dep_model.specs.Dependencies.{functional_part}
 use Rattle.dep_model.specs.Keys.{InClosure}
 use Rattle.dep_model.specs.Schemas.{width_of, theory_of}
-use Rattle.fd_closure.specs.Counting.{switches_of}
 use Rattle.attr_sets.proofs.AttributesLemmas.{same_at}
 use Rattle.preservation.proofs.KnownLemmas.{closure_over}
 use Rattle.preservation.proofs.scheme_closure.closure_within.Goals as goal
@@ -15,7 +14,7 @@ returns-clause-known c =
     let part = attributes c.args.part in
     let all = attributes c.closure_with.result in
     let exact : (a : ℕ) → (all a ≡ true) ↔ InClosure (width_of s) (functional_part (theory_of s)) part a =
-    closure_over s (switches_of c.args.counters.now) c.deps.result.now part all c.deps.ensures.deps c.requires.on
+    closure_over s c.deps.result.now part all c.deps.ensures.deps
     (λ k m. c.requires.scheme k (c.requires.part k m)) c.closure_with.ensures.closure in
     record {
       universe = c.requires.scheme;

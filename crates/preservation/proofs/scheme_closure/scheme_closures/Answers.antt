@@ -28,7 +28,7 @@ loop-scheme-preserved c =
           ∙ ap (λ (l : List AttrSet). l ++ scheme new.result ∷ []) c.loop-scheme.invariant.schemes
           ∙ ap (λ (scheme : AttrSet). take i schemes ++ scheme ∷ []) new.ensures.scheme
           ∙ sym (take_more schemes i first c.loop-scheme-test.true);
-      switches = new.ensures.switches ∙ c.loop-scheme.invariant.switches;
+      fits = new.ensures.fits;
     }
 
 pub returns-clause-schemes : goal.returns-clause-schemes

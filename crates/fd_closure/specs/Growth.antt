@@ -1,17 +1,10 @@
--- The members of a list that are switched on, and how a set grows by them: for the closure by
--- counting. `Desk` does not cite it.
-use Rattle.std.specs.Prelude.{ℕ, Bool, if◌then◌else◌, List, [], ◌∷◌, All}
+-- How a set grows by the dependencies of a list: for closures. `Desk` does not cite it.
+use Rattle.std.specs.Prelude.{ℕ, List, All}
 use Rattle.attr_sets.specs.Attributes.{Attributes, IsSubset}
 use Rattle.dep_model.specs.declared.dep.Dep.{Dep}
 use Rattle.dep_model.specs.Dependencies.{fd, functional_part}
 use Rattle.dep_model.specs.Deps.{dependencies_of, IsDepWithin}
 use Rattle.dep_model.specs.Implication.{Implies}
-
--- the members of a list that are on
-abbrev pub members_on : List Bool → List Dep → List Dep
-members_on [] ds = []
-members_on (on ∷ others) [] = []
-members_on (on ∷ others) (d ∷ ds) = if on then d ∷ members_on others ds else members_on others ds
 
 -- a set grows to another, which it determines by the functional dependencies of a list, with their
 -- attributes alone
