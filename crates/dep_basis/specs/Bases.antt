@@ -1,5 +1,5 @@
 -- The dependency basis of a set of attributes, and its traces on a scheme: for `basis`,
--- `trace_basis` and the command `basis` (`desk_implication/Bases`).
+-- `trace_basis_by` and the command `basis` (`desk_implication/Bases`).
 use Rattle.std.specs.Prelude.{◌≡◌, ℕ, ◌<◌, ◌↔◌, ◌⊎◌, true, false, List, All, Any}
 use Rattle.attr_sets.specs.Attributes.{Attributes, below, only, difference, IsSubset, Intersects}
 use Rattle.attr_sets.specs.declared.set.AttrSet.{AttrSet}

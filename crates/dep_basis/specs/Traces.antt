@@ -1,4 +1,4 @@
--- The blocks that code holds, and their traces on a scheme: for `basis` and `trace_basis`, by
+-- The blocks that code holds, and their traces on a scheme: for `basis` and `trace_basis_by`, by
 -- `Bases`, and for the command `basis` (`desk_implication/Bases`).
 use Rattle.std.specs.Prelude.{◌≡◌, ℕ, ◌<◌, ◌≤◌, ◌↔◌, ◌⊎◌, true, List, All, AllPairs, Any, take, drop}
 use Rattle.attr_sets.specs.Attributes.{Attributes, intersection, IsEmpty, Disjoint, IsFirstFrom}

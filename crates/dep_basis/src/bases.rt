@@ -33,17 +33,8 @@ pub fn basis_by(deps: &[Dep], width: u8, lhs: AttrSet) -> Blocks
     traces(deps, width, AttrSet::full(width), lhs)
 }
 
-/// What a scheme has of a dependency basis. It decides what is implied on the scheme.
-pub fn trace_basis(schema: &Schema, scheme: AttrSet, lhs: AttrSet) -> Blocks
-    requires scheme { IsSubset (attributes scheme) (universe_of schema.now) }
-    requires lhs { IsSubset (attributes lhs) (attributes scheme) }
-    ensures basis { IsTraceBasis (width_of schema.now) (theory_of schema.now) (attributes scheme)
-        (attributes lhs) result }
-{
-    trace_basis_by(schema.deps(), schema.width(), scheme, lhs)
-}
-
-/// What a scheme has of a dependency basis by a list of dependencies over this many attributes.
+/// What a scheme has of a dependency basis by a list of dependencies over this many attributes. It
+/// decides what is implied on the scheme.
 pub fn trace_basis_by(deps: &[Dep], width: u8, scheme: AttrSet, lhs: AttrSet) -> Blocks
     requires width { width ≤ MOST_ATTRIBUTES }
     requires deps { All (IsDepWithin (below width)) deps.now }

@@ -1,8 +1,8 @@
 //! Dependency bases: the closed set and the blocks of a left side, by which implication by functional
 //! and multivalued dependencies is decided (Beeri 1980).
 //!
-//! `basis` gives exactly the closed set and the blocks, `trace_basis` what a scheme has of them, and so
-//! its parts; `closure_of` and `block` give one of them alone, and `has_two_parts` stops as soon as it
+//! `basis` gives exactly the closed set and the blocks, `trace_basis_by` what a scheme has of them, and
+//! so its parts; `closure_of` and `block` give one of them alone, and `has_two_parts` stops as soon as it
 //! knows. `decide` says whether a schema implies a dependency, and where it does not, names two rows
 //! that obey the schema and break it; `witness` makes these rows. `is_superkey` says whether a set
 //! determines a scheme. The calls named `.._by` ask the same of a list of dependencies over a number of
@@ -27,9 +27,7 @@ mod showing;
 mod superkeys;
 mod witnessing;
 
-pub use bases::{
-    basis, basis_by, block, block_by, closure_by, closure_of, trace_basis, trace_basis_by,
-};
+pub use bases::{basis, basis_by, block, block_by, closure_by, closure_of, trace_basis_by};
 pub use chains::functional_chain;
 pub use deciding::{Decision, decide, decide_by};
 pub use gathering::Blocks;

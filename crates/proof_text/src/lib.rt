@@ -1,7 +1,7 @@
 //! Certificates: derivations as numbered lines of text, which anybody can write and check.
 //!
-//! `read_proof` takes a text from any hand. It gives the derivation whose nodes the lines are, or refuses
-//! the first line that goes wrong; what it gives concludes a dependency by the rules alone. `print_proof`
+//! `read_concluded` takes a text from any hand. It gives the derivation whose nodes the lines are, with the
+//! dependency that it concludes by the rules alone, or refuses the first line that goes wrong. `print_proof`
 //! writes the one text of a derivation, a line for each node in post-order.
 #![tactic(auto)]
 
@@ -16,5 +16,5 @@ pub use line::{Body, read_body, stated_dependency};
 pub use node::{Concluded, same_dependency};
 pub use printing::print_proof;
 pub use proof_grammar::{ProofRefusal, ProofRefusalKind};
-pub use text::{MOST_PROOF_BYTES, is_blank, is_yes, read_concluded, read_proof};
+pub use text::{MOST_PROOF_BYTES, is_blank, is_yes, read_concluded};
 pub use words::{colon, rule_word};

@@ -18,7 +18,6 @@ use crate::checker_state::CheckerState;
 use crate::line::read_line;
 use crate::node::Concluded;
 use dep_model::{Failure, Schema};
-use derivation::Deriv;
 use lexer::{Mode, TokenKind, Word, cut_line, without_mark};
 use proof_grammar::{ProofRefusal, ProofRefusalKind};
 use std::alloc::Global;
@@ -27,30 +26,9 @@ use tokens::{Cursor, Guide, Names, NextToken};
 /// The most bytes of a certificate.
 pub const MOST_PROOF_BYTES: usize = 268_435_456;
 
-/// The derivation that a certificate spells, within the limits on lines and levels, or its refusal: the
-/// first line that goes wrong, and there the first diagnostic in the order of `ProofRefusalKind`, but
-/// that an unused line is reported at the text's end.
-pub fn read_proof(
-    alloc: Global,
-    schema: &Schema,
-    text: &[u8],
-) -> Result<Box<Deriv>, Failure<ProofRefusal>>
-    requires { length text.now ≤ MOST_PROOF_BYTES }
-    ensures ok { IfOk result (λ deriv. SpellsWithin schema.now text.now (tree_of deriv.value)) }
-    // It proves a dependency, within the limits of a certificate.
-    ensures checked { IfOk result (λ deriv. IsChecked schema.now (tree_of deriv.value)) }
-    ensures err { IfErr result (RefusesAs (RefusesProof schema.now text.now)) }
-    // The dependencies that it names can be printed.
-    ensures within { IfErr result
-        (RefusesAs (λ refusal. IsRefusalWithin (universe_of schema.now) refusal.kind)) }
-{
-    match read_concluded(alloc, schema, text) {
-        Ok(read) => Ok(read.deriv),
-        Err(failure) => Err(failure),
-    }
-}
-
-/// The same with the dependency that the derivation concludes.
+/// The derivation that a certificate spells, within the limits on lines and levels, and the dependency
+/// that it concludes, or its refusal: the first line that goes wrong, and there the first diagnostic in
+/// the order of `ProofRefusalKind`, but that an unused line is reported at the text's end.
 pub fn read_concluded(
     alloc: Global,
     schema: &Schema,
@@ -60,9 +38,11 @@ pub fn read_concluded(
     ensures ok { IfOk result (λ read. SpellsWithin schema.now text.now (tree_of read.deriv.value)) }
     ensures concludes { IfOk result
         (λ read. Proves schema.now (tree_of read.deriv.value) (dependency_of read.dep)) }
+    // It proves a dependency, within the limits of a certificate.
     ensures checked { IfOk result (λ read. IsChecked schema.now (tree_of read.deriv.value)) }
     ensures dep { IfOk result (λ read. IsDepWithin (universe_of schema.now) read.dep) }
     ensures err { IfErr result (RefusesAs (RefusesProof schema.now text.now)) }
+    // The dependencies that it names can be printed.
     ensures within { IfErr result
         (RefusesAs (λ refusal. IsRefusalWithin (universe_of schema.now) refusal.kind)) }
 {
