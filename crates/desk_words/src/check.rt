@@ -6,7 +6,7 @@ ghost use Rattle.desk_words.specs.Forms as forms;
 
 use crate::command::Command;
 use crate::questions::{PlanQuestion, RowsQuestion, SchemaQuestion, Task};
-use crate::shapes::{normal_form, over, schema_and_plan, schema_and_rows};
+use crate::shapes::{is_word, normal_form, over, schema_and_plan, schema_and_rows};
 use desk_outside::Argument;
 
 /// After `check`.
@@ -17,31 +17,31 @@ pub fn after_check(words: &[Argument]) -> Option<Command<'_>>
     let [what, rest @ ..] = words else {
         return None;
     };
-    if what.bytes() == b"proof".as_slice() {
+    if is_word(what, b"proof") {
         return after_check_proof(rest);
     }
-    if what.bytes() == b"derivation".as_slice() {
+    if is_word(what, b"derivation") {
         return after_check_derivation(rest);
     }
-    if what.bytes() == b"rows".as_slice() {
+    if is_word(what, b"rows") {
         return schema_and_rows(RowsQuestion::CheckRows, rest);
     }
-    if what.bytes() == b"key".as_slice() {
+    if is_word(what, b"key") {
         return after_check_key(rest);
     }
-    if what.bytes() == b"join".as_slice() {
+    if is_word(what, b"join") {
         return schema_and_plan(PlanQuestion::CheckJoin, rest);
     }
-    if what.bytes() == b"form".as_slice() {
+    if is_word(what, b"form") {
         return after_check_form(rest);
     }
-    if what.bytes() == b"keeps".as_slice() {
+    if is_word(what, b"keeps") {
         return schema_and_plan(PlanQuestion::CheckKeeps, rest);
     }
-    if what.bytes() == b"same".as_slice() {
+    if is_word(what, b"same") {
         return after_check_same(rest);
     }
-    if what.bytes() == b"cover".as_slice() {
+    if is_word(what, b"cover") {
         return after_check_cover(rest);
     }
     None

@@ -10,7 +10,7 @@ use crate::persons::{Persons, count_of};
 use crate::questions::{RulesQuestion, SchemaQuestion, Task};
 use crate::rows::over_rows;
 use crate::rules::after_discover;
-use crate::shapes::{no_more_arguments, over, schema_alone};
+use crate::shapes::{is_word, no_more_arguments, over, schema_alone};
 use crate::tables::{after_ddl, after_draw, after_keys, after_split, after_sql};
 use desk_outside::Argument;
 use sql_lexemes::Dialect;
@@ -63,20 +63,19 @@ pub fn parse(words: &[Argument]) -> Option<Command<'_>>
     let [verb, rest @ ..] = words else {
         return None;
     };
-    if verb.bytes() == b"discover".as_slice() {
+    if is_word(verb, b"discover") {
         return after_discover(rest);
     }
-    if verb.bytes() == b"import".as_slice() {
+    if is_word(verb, b"import") {
         return after_import(rest);
     }
-    if verb.bytes() == b"sample".as_slice() {
+    if is_word(verb, b"sample") {
         return after_sample(rest);
     }
-    let name = verb.bytes();
-    if name == b"help".as_slice() || name == b"--help".as_slice() || name == b"-h".as_slice() {
+    if is_word(verb, b"help") || is_word(verb, b"--help") || is_word(verb, b"-h") {
         return no_more_arguments(Command::Help, rest);
     }
-    if verb.bytes() == b"--version".as_slice() {
+    if is_word(verb, b"--version") {
         return no_more_arguments(Command::Version, rest);
     }
     over_schema(verb, rest)
@@ -101,7 +100,7 @@ fn after_sample(words: &[Argument]) -> Option<Command<'_>>
 fn over_schema<'a>(verb: &Argument, rest: &'a [Argument]) -> Option<Command<'a>>
     ensures form { option_map command_form result ≡ forms.form_over_schema verb.now rest.now }
 {
-    if verb.bytes() == b"implies".as_slice() {
+    if is_word(verb, b"implies") {
         let [schema, goal] = rest else {
             return None;
         };
@@ -112,13 +111,13 @@ fn over_schema<'a>(verb: &Argument, rest: &'a [Argument]) -> Option<Command<'a>>
             },
         );
     }
-    if verb.bytes() == b"check".as_slice() {
+    if is_word(verb, b"check") {
         return after_check(rest);
     }
-    if verb.bytes() == b"cover".as_slice() {
+    if is_word(verb, b"cover") {
         return schema_alone(SchemaQuestion::Cover, rest);
     }
-    if verb.bytes() == b"basis".as_slice() {
+    if is_word(verb, b"basis") {
         let [schema, set] = rest else {
             return None;
         };
@@ -129,7 +128,7 @@ fn over_schema<'a>(verb: &Argument, rest: &'a [Argument]) -> Option<Command<'a>>
             },
         );
     }
-    if verb.bytes() == b"closure".as_slice() {
+    if is_word(verb, b"closure") {
         let [schema, set] = rest else {
             return None;
         };
@@ -140,7 +139,7 @@ fn over_schema<'a>(verb: &Argument, rest: &'a [Argument]) -> Option<Command<'a>>
             },
         );
     }
-    if verb.bytes() == b"project".as_slice() {
+    if is_word(verb, b"project") {
         let [schema, set] = rest else {
             return None;
         };
@@ -151,31 +150,31 @@ fn over_schema<'a>(verb: &Argument, rest: &'a [Argument]) -> Option<Command<'a>>
             },
         );
     }
-    if verb.bytes() == b"keys".as_slice() {
+    if is_word(verb, b"keys") {
         return after_keys(rest);
     }
-    if verb.bytes() == b"synthesize".as_slice() {
+    if is_word(verb, b"synthesize") {
         return schema_alone(SchemaQuestion::Synthesize, rest);
     }
-    if verb.bytes() == b"split".as_slice() {
+    if is_word(verb, b"split") {
         return after_split(rest);
     }
-    if verb.bytes() == b"exhibit".as_slice() {
+    if is_word(verb, b"exhibit") {
         return schema_alone(SchemaQuestion::Exhibit, rest);
     }
-    if verb.bytes() == b"explain".as_slice() {
+    if is_word(verb, b"explain") {
         return after_explain(rest);
     }
-    if verb.bytes() == b"ddl".as_slice() {
+    if is_word(verb, b"ddl") {
         return after_ddl(rest);
     }
-    if verb.bytes() == b"sql".as_slice() {
+    if is_word(verb, b"sql") {
         return after_sql(rest);
     }
-    if verb.bytes() == b"draw".as_slice() {
+    if is_word(verb, b"draw") {
         return after_draw(rest);
     }
-    if verb.bytes() == b"report".as_slice() {
+    if is_word(verb, b"report") {
         return after_report(rest);
     }
     over_rows(verb, rest)

@@ -6,7 +6,7 @@ ghost use Rattle.desk_words.specs.Forms as forms;
 
 use crate::command::Command;
 use crate::questions::SchemaQuestion;
-use crate::shapes::schema_alone;
+use crate::shapes::{is_word, schema_alone};
 use desk_outside::Argument;
 use normal_forms::Form;
 
@@ -18,16 +18,16 @@ pub fn after_explain(words: &[Argument]) -> Option<Command<'_>>
     let [what, rest @ ..] = words else {
         return None;
     };
-    if what.bytes() == b"cover".as_slice() {
+    if is_word(what, b"cover") {
         return schema_alone(SchemaQuestion::ExplainCover, rest);
     }
-    if what.bytes() == b"keys".as_slice() {
+    if is_word(what, b"keys") {
         return schema_alone(SchemaQuestion::ExplainKeys, rest);
     }
-    if what.bytes() == b"synthesize".as_slice() {
+    if is_word(what, b"synthesize") {
         return schema_alone(SchemaQuestion::ExplainSynthesize, rest);
     }
-    if what.bytes() == b"split".as_slice() {
+    if is_word(what, b"split") {
         return after_explain_split(rest);
     }
     None
@@ -41,10 +41,10 @@ fn after_explain_split(words: &[Argument]) -> Option<Command<'_>>
     let [what, rest @ ..] = words else {
         return None;
     };
-    if what.bytes() == b"bcnf".as_slice() {
+    if is_word(what, b"bcnf") {
         return schema_alone(SchemaQuestion::ExplainSplit { form: Form::Bcnf }, rest);
     }
-    if what.bytes() == b"4nf".as_slice() {
+    if is_word(what, b"4nf") {
         return schema_alone(SchemaQuestion::ExplainSplit { form: Form::Fourth }, rest);
     }
     None

@@ -5,6 +5,7 @@ ghost use Rattle.desk_words.specs.Commands.{command_form};
 ghost use Rattle.desk_words.specs.Forms as forms;
 
 use crate::command::Command;
+use crate::shapes::is_word;
 use desk_outside::Argument;
 use sql_lexemes::Dialect;
 
@@ -16,7 +17,7 @@ pub fn after_import(words: &[Argument]) -> Option<Command<'_>>
     let [kind, rest @ ..] = words else {
         return None;
     };
-    if kind.bytes() == b"csv".as_slice() {
+    if is_word(kind, b"csv") {
         let [file] = rest else {
             return None;
         };
@@ -33,10 +34,10 @@ pub fn after_import(words: &[Argument]) -> Option<Command<'_>>
 fn dialect_of(word: &Argument) -> Option<Dialect>
     ensures dialect { result ≡ forms.dialect_of word.now }
 {
-    if word.bytes() == b"sqlite".as_slice() {
+    if is_word(word, b"sqlite") {
         return Some(Dialect::Sqlite);
     }
-    if word.bytes() == b"postgres".as_slice() {
+    if is_word(word, b"postgres") {
         return Some(Dialect::Postgres);
     }
     None

@@ -7,7 +7,7 @@ ghost use Rattle.desk_words.specs.Forms.{where_into};
 
 use crate::command::Command;
 use crate::questions::Task;
-use crate::shapes::{normal_form, over};
+use crate::shapes::{is_word, normal_form, over};
 use desk_outside::Argument;
 use normal_forms::Form;
 
@@ -19,7 +19,7 @@ pub fn after_migrate(words: &[Argument]) -> Option<Command<'_>>
     let [what, rest @ ..] = words else {
         return None;
     };
-    if what.bytes() == b"plan".as_slice() {
+    if is_word(what, b"plan") {
         return after_migrate_plan(rest);
     }
     match normal_form(what) {
@@ -60,7 +60,7 @@ fn after_migrate_plan(words: &[Argument]) -> Option<Command<'_>>
 fn over_into<'a>(word: &Argument, schema: &'a Argument, task: Task<'a>) -> Option<Command<'a>>
     ensures form { option_map command_form result ≡ where_into word.now schema.now (task_form task.entry) }
 {
-    if word.bytes() == b"into".as_slice() {
+    if is_word(word, b"into") {
         over(schema, task)
     } else {
         None

@@ -7,7 +7,7 @@ ghost use Rattle.desk_words.specs.Forms as forms;
 use crate::command::{Command, MOST_FILES};
 use crate::migrate::after_migrate;
 use crate::questions::{RowsQuestion, Task};
-use crate::shapes::{over, schema_and_rows};
+use crate::shapes::{is_word, over, schema_and_rows};
 use desk_outside::Argument;
 
 /// What is asked of a schema, to the rows of a file.
@@ -15,19 +15,19 @@ use desk_outside::Argument;
 pub fn over_rows<'a>(verb: &Argument, rest: &'a [Argument]) -> Option<Command<'a>>
     ensures form { option_map command_form result ≡ forms.form_over_rows verb.now rest.now }
 {
-    if verb.bytes() == b"migrate".as_slice() {
+    if is_word(verb, b"migrate") {
         return after_migrate(rest);
     }
-    if verb.bytes() == b"measure".as_slice() {
+    if is_word(verb, b"measure") {
         return after_measure(rest);
     }
-    if verb.bytes() == b"offences".as_slice() {
+    if is_word(verb, b"offences") {
         return after_offences(rest);
     }
-    if verb.bytes() == b"kept".as_slice() {
+    if is_word(verb, b"kept") {
         return schema_and_rows(RowsQuestion::Kept, rest);
     }
-    if verb.bytes() == b"rejoin".as_slice() {
+    if is_word(verb, b"rejoin") {
         return after_rejoin(rest);
     }
     None
@@ -71,7 +71,7 @@ fn after_offences_by_row<'a>(
     ensures form { option_map command_form result
         ≡ forms.offences_after_word what.now schema.now file.now }
 {
-    if what.bytes() != b"rows".as_slice() {
+    if !is_word(what, b"rows") {
         return None;
     }
     over(

@@ -7,6 +7,7 @@ ghost use Rattle.desk_words.specs.Forms as forms;
 use crate::bounds::{left_bound_of, row_bound_of};
 use crate::command::Command;
 use crate::questions::RulesQuestion;
+use crate::shapes::is_word;
 use desk_outside::Argument;
 
 /// After `discover`.
@@ -32,7 +33,7 @@ fn after_near<'a>(
     ensures form { option_map command_form result
         ≡ forms.discover_after_numbers what.now limit.now most.now file.now }
 {
-    if what.bytes() != b"near".as_slice() {
+    if !is_word(what, b"near") {
         return None;
     }
     match (row_bound_of(limit.bytes()), left_bound_of(most.bytes())) {
@@ -49,10 +50,10 @@ fn after_discover_word<'a>(what: &Argument, file: &'a Argument) -> Option<Comman
         Some(most) => return rules_of(RulesQuestion::Small { most }, file),
         None => {}
     }
-    if what.bytes() == b"keys".as_slice() {
+    if is_word(what, b"keys") {
         return rules_of(RulesQuestion::Keys, file);
     }
-    if what.bytes() == b"all".as_slice() {
+    if is_word(what, b"all") {
         return Some(Command::DiscoverAll { file });
     }
     None

@@ -1,6 +1,6 @@
 //! What commands have in common: the words that stand after their own.
 
-ghost use Rattle.std.specs.Prelude.{◌≡◌, Some, option_map};
+ghost use Rattle.std.specs.Prelude.{◌≡◌, Some, bytes_eq, option_map};
 ghost use Rattle.desk_words.specs.Commands.{command_form, plan_question, rows_question, schema_question, task_form};
 ghost use Rattle.desk_words.specs.Forms as forms;
 
@@ -8,6 +8,13 @@ use crate::command::Command;
 use crate::questions::{PlanQuestion, RowsQuestion, SchemaQuestion, Task};
 use desk_outside::Argument;
 use normal_forms::Form;
+
+/// Whether a word is this one.
+pub fn is_word(word: &Argument, name: &[u8]) -> bool
+    ensures exact { result ≡ bytes_eq word.now name.now }
+{
+    word.bytes() == name
+}
 
 /// The normal form that a word names.
 #[tactic(auto, unfolding(crate::specs::Forms::normal_form))]

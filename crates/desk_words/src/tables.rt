@@ -6,7 +6,7 @@ ghost use Rattle.desk_words.specs.Forms as forms;
 
 use crate::command::Command;
 use crate::questions::{PlanQuestion, SchemaQuestion, Task};
-use crate::shapes::{normal_form, over, schema_alone, schema_and_plan};
+use crate::shapes::{is_word, normal_form, over, schema_alone, schema_and_plan};
 use desk_outside::Argument;
 use normal_forms::Form;
 
@@ -41,13 +41,13 @@ pub fn after_split(words: &[Argument]) -> Option<Command<'_>>
     let [what, rest @ ..] = words else {
         return None;
     };
-    if what.bytes() == b"bcnf".as_slice() {
+    if is_word(what, b"bcnf") {
         return schema_alone(SchemaQuestion::Split { form: Form::Bcnf }, rest);
     }
-    if what.bytes() == b"4nf".as_slice() {
+    if is_word(what, b"4nf") {
         return schema_alone(SchemaQuestion::Split { form: Form::Fourth }, rest);
     }
-    if what.bytes() == b"wide-bcnf".as_slice() {
+    if is_word(what, b"wide-bcnf") {
         return schema_alone(SchemaQuestion::SplitWide, rest);
     }
     None
@@ -61,7 +61,7 @@ pub fn after_ddl(words: &[Argument]) -> Option<Command<'_>>
     let [what, rest @ ..] = words else {
         return None;
     };
-    if what.bytes() == b"plan".as_slice() {
+    if is_word(what, b"plan") {
         return schema_and_plan(PlanQuestion::Ddl, rest);
     }
     match normal_form(what) {
@@ -78,7 +78,7 @@ pub fn after_sql(words: &[Argument]) -> Option<Command<'_>>
     let [what, rest @ ..] = words else {
         return None;
     };
-    if what.bytes() == b"check".as_slice() {
+    if is_word(what, b"check") {
         let [schema, name] = rest else {
             return None;
         };
@@ -89,7 +89,7 @@ pub fn after_sql(words: &[Argument]) -> Option<Command<'_>>
             },
         );
     }
-    if what.bytes() == b"migrate".as_slice() {
+    if is_word(what, b"migrate") {
         return after_sql_migrate(rest);
     }
     None
@@ -103,7 +103,7 @@ fn after_sql_migrate(words: &[Argument]) -> Option<Command<'_>>
     let [what, rest @ ..] = words else {
         return None;
     };
-    if what.bytes() == b"plan".as_slice() {
+    if is_word(what, b"plan") {
         return after_sql_migrate_plan(rest);
     }
     match normal_form(what) {
@@ -153,7 +153,7 @@ pub fn after_draw(words: &[Argument]) -> Option<Command<'_>>
     let [what, rest @ ..] = words else {
         return None;
     };
-    if what.bytes() == b"plan".as_slice() {
+    if is_word(what, b"plan") {
         return schema_and_plan(PlanQuestion::Draw, rest);
     }
     match normal_form(what) {
