@@ -3,3 +3,4 @@ pub mod HeldFacts
 pub mod FolderFacts
 pub mod SeriesFacts
 pub mod PlannedFacts
+pub mod LoadFacts

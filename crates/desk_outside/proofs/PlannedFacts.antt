@@ -1,6 +1,5 @@
 -- What a call of an object in memory did, by whether its number was planned: its count, its cause and its answer.
 use Rattle.std.proofs.Common.{arith, ◌≡◌, ◌↔◌, ℕ, Bool, true, false, IsTrue, Result, Ok, Err, IsErrOf, refl, sym, ap, ◌∙◌}
-use Rattle.desk_outside.specs.declared.failure.OutsideFault.{OutsideFault}
 use Rattle.desk_outside.specs.declared.failure.OutsideFault.TheVariants.{Failed}
 use Rattle.desk_outside.specs.Causes.{count_on, HasOutsideCause}
 use Rattle.desk_outside.specs.Planned.{FaultPlan, CountsCall, CountsFault}
