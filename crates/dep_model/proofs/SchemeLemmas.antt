@@ -5,7 +5,7 @@ use Rattle.std.proofs.lemmas.Bool.Decides.{nat_tests}
 use Rattle.std.proofs.lemmas.List.{get_or_past, get_or-map, get_or_append_left, length-map, same_lists, get_or_default}
 use Rattle.std.proofs.lemmas.List.Elements.{All-contains}
 use Rattle.std.proofs.Math.Seq.{get_or-append_seam}
-use Rattle.std.specs.Prelude.{Contains, All}
+use Rattle.std.specs.Prelude.{Contains}
 use Rattle.attr_sets.specs.Attributes.{Attributes, below, union, difference, IsSubset, count_below}
 use Rattle.attr_sets.proofs.AttributesLemmas.{count_below-mono, count_below-before_member, count_below-member, count_below-outside, count_below-below, count_below-equal}
 use Rattle.dep_model.specs.Tuples.{Tuple, Relation, value_at, AgreeOn}
