@@ -10,7 +10,8 @@ use crate::persons::{Persons, count_of};
 use crate::questions::{RulesQuestion, SchemaQuestion, Task};
 use crate::rows::over_rows;
 use crate::rules::after_discover;
-use crate::shapes::{is_word, no_more_arguments, over, schema_alone};
+use crate::sets::{after_basis, after_closure, after_implies, after_project};
+use crate::shapes::{is_word, no_more_arguments, schema_alone};
 use crate::tables::{after_ddl, after_draw, after_keys, after_split, after_sql};
 use desk_outside::Argument;
 use sql_lexemes::Dialect;
@@ -96,20 +97,12 @@ fn after_sample(words: &[Argument]) -> Option<Command<'_>>
 }
 
 // What is asked of a schema.
-#[tactic(auto, unfolding(crate::specs::Forms::form_over_schema, crate::specs::Forms::schema_and_word))]
+#[tactic(auto, unfolding(crate::specs::Forms::form_over_schema))]
 fn over_schema<'a>(verb: &Argument, rest: &'a [Argument]) -> Option<Command<'a>>
     ensures form { option_map command_form result ≡ forms.form_over_schema verb.now rest.now }
 {
     if is_word(verb, b"implies") {
-        let [schema, goal] = rest else {
-            return None;
-        };
-        return over(
-            schema,
-            Task::OfSchema {
-                question: SchemaQuestion::Implies { goal },
-            },
-        );
+        return after_implies(rest);
     }
     if is_word(verb, b"check") {
         return after_check(rest);
@@ -118,37 +111,13 @@ fn over_schema<'a>(verb: &Argument, rest: &'a [Argument]) -> Option<Command<'a>>
         return schema_alone(SchemaQuestion::Cover, rest);
     }
     if is_word(verb, b"basis") {
-        let [schema, set] = rest else {
-            return None;
-        };
-        return over(
-            schema,
-            Task::OfSchema {
-                question: SchemaQuestion::Basis { set },
-            },
-        );
+        return after_basis(rest);
     }
     if is_word(verb, b"closure") {
-        let [schema, set] = rest else {
-            return None;
-        };
-        return over(
-            schema,
-            Task::OfSchema {
-                question: SchemaQuestion::Closure { set },
-            },
-        );
+        return after_closure(rest);
     }
     if is_word(verb, b"project") {
-        let [schema, set] = rest else {
-            return None;
-        };
-        return over(
-            schema,
-            Task::OfSchema {
-                question: SchemaQuestion::Project { set },
-            },
-        );
+        return after_project(rest);
     }
     if is_word(verb, b"keys") {
         return after_keys(rest);

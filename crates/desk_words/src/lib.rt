@@ -15,6 +15,7 @@ mod persons;
 mod questions;
 mod rows;
 mod rules;
+mod sets;
 mod shapes;
 mod tables;
 
