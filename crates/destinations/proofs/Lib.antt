@@ -1,3 +1,4 @@
 pub mod BufferLemmas
 pub mod FileLemmas
 pub mod SqlLemmas
+pub mod FileSteps
