@@ -1,4 +1,5 @@
--- When words are answered, as the laws of `complete` say it: the commands on schemas, goals, certificates, rows and designs that `complete` names. `Desk` does not cite it.
+-- When words are answered, as the laws of `complete` say it: the commands on schemas, goals, certificates, rows
+-- and designs that `complete` names. `Desk` does not cite it.
 use Rattle.std.specs.Prelude.{ℕ, List, [], ◌∷◌, codes}
 use Rattle.dep_model.specs.Dependencies.{Dependency}
 use Rattle.dep_model.specs.Tuples.{Relation}

@@ -1,4 +1,5 @@
--- When words are answered, as the laws of `complete_measures` say it: what is wrong with rows. `Desk` does not cite it.
+-- When words are answered, as the laws of `complete_measures` say it: what is wrong with rows. `Desk` does not
+-- cite it.
 use Rattle.std.specs.Prelude.{ℕ, List, [], ◌∷◌, codes}
 use Rattle.armstrong_rel.specs.Refusals.{IsFirstMvd}
 use Rattle.dep_model.specs.Schemas.{theory_of}

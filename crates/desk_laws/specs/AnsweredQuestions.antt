@@ -1,4 +1,5 @@
--- When words are answered, as the laws of `complete_questions` say it: questions about a schema. `Desk` does not cite it.
+-- When words are answered, as the laws of `complete_questions` say it: questions about a schema. `Desk` does not
+-- cite it.
 use Rattle.std.specs.Prelude.{ℕ, List, [], ◌∷◌, codes, All}
 use Rattle.attr_sets.specs.Attributes.{Attributes, IsEmpty}
 use Rattle.attr_sets.specs.declared.set.AttrSet.{AttrSet}

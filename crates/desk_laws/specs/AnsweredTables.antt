@@ -1,4 +1,5 @@
--- When words are answered, as the laws of `complete_tables` say it: normal forms, plans and tables. `Desk` does not cite it.
+-- When words are answered, as the laws of `complete_tables` say it: normal forms, plans and tables. `Desk` does
+-- not cite it.
 use Rattle.std.specs.Prelude.{◌≡◌, ◌≤◌, ℕ, true, List, [], ◌∷◌, Ok, Some, codes, All, length}
 use Rattle.armstrong_rel.specs.Refusals.{IsFirstMvd, HasTooManyRows, IsTooWideToExhibit}
 use Rattle.candidate_search.specs.declared.side.TooManyLeftSides.{TooManyLeftSides}

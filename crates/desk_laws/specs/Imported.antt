@@ -60,7 +60,8 @@ pub record PlanIsImported (looks : Looks) (before after : Files) (schema_name pl
   pub design : IsDesignOf schema plan.names plan.schemes tables
   pub imported : AreImported looks after file schema tables
 
--- the tables of the plan of a normal form, whose schema stands in a file, have their numbers as names, and are imported
+-- the tables of the plan of a normal form, whose schema stands in a file, have their numbers as names, and are
+-- imported
 -- of a file of SQL
 pub record FormIsImported (looks : Looks) (before after : Files) (form : Form) (schema_name file : List ℕ)
     : Type 0 where

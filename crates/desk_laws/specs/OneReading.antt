@@ -70,7 +70,8 @@ pub record AskForAPage (words : List (List ℕ)) (one other : ResponseValue) : T
   pub forms : form_of words ≡ Some (over_schema file task)
   pub reports : BothReport task one other
 
--- the refusal of a search for rules that meets too many candidates: of a column of the file for left sides, or for keys
+-- the refusal of a search for rules that meets too many candidates: of a column of the file for left sides, or
+-- for keys
 abbrev pub RefusesSearch : RulesQuestion → List ℕ → Headed → Allowed
 RefusesSearch minimal_rules file headed = RefusesRules (length (names_under headed)) file headed
 RefusesSearch (small_rules most) file headed = RefusesRules most file headed
