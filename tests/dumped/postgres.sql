@@ -21,3 +21,19 @@ CREATE FUNCTION public.f() RETURNS int LANGUAGE plpgsql AS $body$ BEGIN CREATE T
 COMMENT ON TABLE public.plain IS 'CREATE TABLE public.plain (x int); E''';
 INSERT INTO public.plain (name, mail, note) VALUES ('CREATE TABLE public.plain (x int);', NULL, E'\\.'), (E'a\nb', 'm', E'tab\t''');
 INSERT INTO public.child VALUES (1, 'PRIMARY KEY (', NULL, 1.5);
+CREATE TABLE public.words (id integer PRIMARY KEY, exclude boolean NOT NULL, "like" text UNIQUE, amount integer, EXCLUDE USING btree (amount WITH =), EXCLUDE (id WITH =));
+CREATE UNIQUE INDEX words_sum ON public.words ((id + amount));
+CREATE UNIQUE INDEX words_joined ON public.words (amount, ("like" || 'x'));
+CREATE UNIQUE INDEX words_call ON public.words (exclude, abs(amount));
+CREATE UNIQUE INDEX words_ordered ON public.words USING btree ("like" COLLATE "C" text_pattern_ops DESC NULLS LAST, amount NULLS FIRST);
+CREATE TABLE public.arrays (a int[] DEFAULT ARRAY[1, 2] NOT NULL, b text DEFAULT (ARRAY['x', 'y,z'])[1] NOT NULL, c text[] DEFAULT ARRAY['a', ']'],
+  d int[][] DEFAULT ARRAY[ARRAY[1, 2], ARRAY[3, 4]], e int CHECK (e = ANY (ARRAY[1, 2])) UNIQUE, f int NOT NULL, UNIQUE (f));
+CREATE TABLE public.nulls (a int, b int, c int, d int UNIQUE NULLS NOT DISTINCT, e int, UNIQUE (a), UNIQUE NULLS NOT DISTINCT (a), UNIQUE NULLS DISTINCT (b));
+CREATE UNIQUE INDEX nulls_index ON public.nulls USING btree (b, c) INCLUDE (e) NULLS NOT DISTINCT WITH (fillfactor = 90);
+ALTER TABLE ONLY public.nulls ADD CONSTRAINT nulls_later UNIQUE NULLS NOT DISTINCT (c, e);
+CREATE TABLE public.commented (a int /* a comment, /* one within */ UNIQUE, /*/ and another */ */ NOT NULL, b text /**/ UNIQUE) /* CREATE TABLE public.commented (x int); */;
+CREATE TABLE public.altered (a int, b int UNIQUE);
+ALTER TABLE public.altered ADD COLUMN c text DEFAULT '' NOT NULL;
+ALTER TABLE public.altered DROP COLUMN b;
+ALTER TABLE public.altered RENAME COLUMN a TO "new name";
+ALTER TABLE public.altered ADD UNIQUE (c);

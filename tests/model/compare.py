@@ -9,6 +9,7 @@ out: the program refuses such words, and the model reads them. The last line is 
 often each status came. DESK_KEEP=DIR keeps the files elsewhere. Runs one program at a time.
 """
 import collections
+import functools
 import os
 import pathlib
 import random
@@ -631,24 +632,31 @@ def f_import_csv(m):
 
 # ---- SQL that defines tables
 
-SQL_NAMES = ["a", "b", "c", "d", "e", "Id", "city", "Select", "key", "primary", "Unit price", 'say "hi"', "n\u00e9e", "like", "text", "x" * 63]
+SQL_NAMES = ["a", "b", "c", "d", "e", "Id", "city", "Select", "key", "primary", "Unit price", 'say "hi"', "n\u00e9e", "like", "exclude", "it's", "text", "x" * 63]
 SQL_TYPES = ["INTEGER", "int", "bigint", "Int8", "smallint", "TEXT", "text", "", "date", "uuid", "timestamp", "timestamp without time zone",
              "timestamp with time zone", "timestamp(3)", "numeric", "numeric(10,2)", "decimal(15)", "DECIMAL (15, 9)", "numeric(16,2)", "numeric(5,10)",
              "numeric(010,2)", "numeric(-1)", "serial", "BIGSERIAL", "varchar(80)", "character varying(20)", "double precision", "s.mood", "int[]",
              "int[][3]", "int[3]", "int(11)", "integer(4)", "\"Mood\"", "enum('a','b')", "INT UNSIGNED", "real", "x" * 64, "text[]", "json", "a$b", "tinyint"]
 SQL_AFTER = ["NOT NULL", "not null", "NULL", "PRIMARY KEY", "primary key AUTOINCREMENT", "UNIQUE", "DEFAULT 1", "DEFAULT 'it''s; a'", "default (now())",
              "CHECK (a IS NOT NULL)", "COLLATE NOCASE", "collate \"C\"", "REFERENCES t2 (a)", "CONSTRAINT n1 NOT NULL", "CONSTRAINT \"u x\" UNIQUE",
-             "GENERATED ALWAYS AS (1 + (2))", "NOT /* c */ NULL", "UNIQUE ON CONFLICT IGNORE", "NOT DEFERRABLE NULL", "AS (a)", "DEFAULT NULL"]
+             "GENERATED ALWAYS AS (1 + (2))", "NOT /* c */ NULL", "DEFAULT ARRAY[1, 2]", "DEFAULT (ARRAY['a', b[1]])[1]", "unique nulls not distinct", "UNIQUE NULLS DISTINCT",
+             "NOT /* a /* b */ c */ NULL", "DEFAULT 1]", "UNIQUE ON CONFLICT IGNORE", "NOT DEFERRABLE NULL", "AS (a)", "DEFAULT NULL"]
 SQL_CONSTRAINTS = ["PRIMARY KEY ({0})", "UNIQUE ({0})", "CONSTRAINT k1 UNIQUE ({0})", "CONSTRAINT \"k 2\" PRIMARY KEY ({0})", "unique nulls not distinct ({0})",
                    "UNIQUE NULLS DISTINCT ({0})", "FOREIGN KEY ({0}) REFERENCES t2 ({0})", "CHECK (({1} > 0) AND ({1} IS NOT NULL))", "EXCLUDE USING gist ({1} WITH &&)",
-                   "CONSTRAINT c3 CHECK ({1} <> 'UNIQUE (x)')", "UNIQUE ({0}) ON CONFLICT REPLACE", "PRIMARY KEY ({0} DESC)", "UNIQUE ({0} COLLATE NOCASE ASC)"]
+                   "CONSTRAINT c3 CHECK ({1} <> 'UNIQUE (x)')", "UNIQUE ({0}) ON CONFLICT REPLACE", "PRIMARY KEY ({0} DESC)", "UNIQUE ({0} COLLATE NOCASE ASC)", "EXCLUDE ({1} WITH =)",
+                   "UNIQUE ({0} COLLATE pg_catalog.\"C\" text_ops DESC NULLS LAST)", "UNIQUE ({0} + 1)", "PRIMARY KEY ({0} AUTOINCREMENT)", "UNIQUE ({1} COLLATE, {0})",
+                   "UNIQUE NULLS ({0})", "UNIQUE NULLS NOT ({0})"]
 SQL_LATER = ["ALTER TABLE {t} ADD CONSTRAINT x1 PRIMARY KEY ({0});", "alter table only {t} add unique ({0});", "ALTER TABLE IF EXISTS {t} ADD UNIQUE ({0}) DEFERRABLE;",
-             "ALTER TABLE {t} ADD CONSTRAINT x2 UNIQUE USING INDEX i2;", "ALTER TABLE {t} OWNER TO postgres;", "ALTER TABLE {t} ADD COLUMN z int UNIQUE;",
+             "ALTER TABLE {t} ADD CONSTRAINT x2 UNIQUE USING INDEX i2;", "ALTER TABLE {t} OWNER TO postgres;",
              "CREATE UNIQUE INDEX i1 ON {t} ({0});", "CREATE UNIQUE INDEX i2 ON ONLY {t} USING btree ({0});", "create unique index if not exists i3 on {t} ({0} DESC);",
              "CREATE UNIQUE INDEX i4 ON {t} ({0}) WHERE {1} IS NOT NULL;", "CREATE UNIQUE INDEX i5 ON {t} (lower({1}));", "CREATE UNIQUE INDEX i6 ON {t} ({1}, (1));",
              "CREATE INDEX i7 ON {t} ({0});", "CREATE UNIQUE INDEX i8 ON t2 ({0});", "ALTER TABLE t2 ADD UNIQUE ({0});", "CREATE UNIQUE INDEX i9 ON {t} ({0}) INCLUDE ({1});",
              "COMMENT ON TABLE {t} IS 'CREATE TABLE t (x);';", "INSERT INTO {t} VALUES(1,'PRIMARY KEY (a));');", "SELECT pg_catalog.set_config('search_path', '', false);",
-             "ALTER TABLE ONLY {t} ALTER COLUMN {1} SET DEFAULT nextval('s'::regclass);"]
+             "ALTER TABLE ONLY {t} ALTER COLUMN {1} SET DEFAULT nextval('s'::regclass);", "CREATE UNIQUE INDEX i10 ON {t} ({0}) NULLS NOT DISTINCT;",
+             "CREATE UNIQUE INDEX i11 ON {t} USING btree ({0}) INCLUDE ({1}) NULLS NOT DISTINCT WITH (fillfactor=70);", "CREATE UNIQUE INDEX i12 ON {t} ({1} || 'x');",
+             "CREATE UNIQUE INDEX i13 ON {t} ({1} text_ops, {0} ASC NULLS FIRST);", "ALTER TABLE t2 DROP COLUMN {1};", "ALTER TABLE t2 ADD z int;",
+             "ALTER TABLE {t} ADD EXCLUDE USING gist ({1} WITH =);", "ALTER TABLE {t} ADD CHECK ({1} > 0);", "ALTER TABLE ONLY {t} ADD UNIQUE NULLS NOT DISTINCT ({0});"]
+SQL_ALTERED = ["ALTER TABLE {t} ADD COLUMN z int UNIQUE;", "ALTER TABLE {t} ADD exclude boolean;", "ALTER TABLE ONLY {t} DROP COLUMN {1};", "alter table {t} rename {1} to zz;"]
 SQL_NOISE = ["CREATE TABLE t2 (a int PRIMARY KEY, b text UNIQUE);", "-- CREATE TABLE t (a);\n", "/* ; ' */", "BEGIN TRANSACTION;", "PRAGMA foreign_keys=OFF;", ";",
              "SET client_encoding = 'UTF8';", "CREATE VIEW v AS SELECT 1;", "CREATE TRIGGER r AFTER INSERT ON t BEGIN SELECT ')'; END;", ") ; (a;b)", "CREATE TYPE mood AS ENUM ('a');",
              "COPY public.t2 (a, b) FROM stdin;\n1\tCREATE TABLE t (x int);\n'\t(\n\\.\n", "\\restrict x'\n", "SELECT $$ ' ; $$;", "SELECT $a$ $$ ; $a$, E'\\';';", "SELECT E'it''s';",
@@ -667,6 +675,8 @@ class SqlMaker:
             return name if r.random() < .8 else name.swapcase()
         if self.sqlite and "]" not in name and r.random() < .2:
             return f"[{name}]"
+        if self.sqlite and r.random() < .15:
+            return "'" + name.replace("'", "''") + "'"
         quote = "`" if self.sqlite and r.random() < .2 else '"'
         return quote + name.replace(quote, quote * 2) + quote
 
@@ -683,7 +693,7 @@ class SqlMaker:
         names = r.sample(SQL_NAMES, r.randint(1, 5))
         if r.random() < .03:
             names.append(r.choice((names[0].upper(), "", "x" * 64)))
-        elements = [" ".join([self.name(n, n.lower() in ("primary", "like", "key")), r.choice(SQL_TYPES),
+        elements = [" ".join([self.name(n, n.lower() in ("primary", "key") or n == "like" and not self.sqlite), r.choice(SQL_TYPES),
                               *r.choices(SQL_AFTER, k=r.choice((0, 0, 1, 1, 2, 3)))]) for n in names]
         for _ in range(r.choice((0, 0, 1, 1, 2))):
             elements.append(r.choice(SQL_CONSTRAINTS).format(self.names(names), self.name(names[0])))
@@ -697,6 +707,8 @@ class SqlMaker:
         r = self.r
         names, created = self.table(table)
         later = [r.choice(SQL_LATER).format(self.names(names), self.name(names[0]), t=table) for _ in range(r.choice((0, 1, 1, 2, 4)))]
+        if r.random() < .03:
+            later.append(r.choice(SQL_ALTERED).format(self.names(names), self.name(names[0]), t=table))
         statements = [created, *later] + r.choices(SQL_NOISE, k=r.choice((0, 1, 2, 4)))
         if r.random() < .02:
             statements.append(created)
@@ -718,7 +730,9 @@ def f_import_sql(m):
     sql.sqlite = r.random() < .5
     table = r.choice(("t", "t", "public.t", "Main.T", '"t"', "a.b.t", '"Order Lines"'))
     plain = table.replace('"', "")
-    word = r.choice((plain, plain, plain, plain.upper(), plain.split(".")[-1], plain.split(".")[-1])) if r.random() < .95 else r.choice(("u", "", ".t", "a..t", "t.", "a.b.c.t", "t2", "b.t"))
+    quoted = ".".join('"' + part + '"' for part in plain.split("."))
+    word = (r.choice((plain, plain, plain.upper(), plain.split(".")[-1], plain.split(".")[-1], quoted, table)) if r.random() < .95
+            else r.choice(("u", "", ".t", "a..t", "t.", "a.b.c.t", "t2", "b.t", '"a.b".t', '"t', '""', '"t"x', '"T".')))
     return ["import", "sqlite" if sql.sqlite else "postgres", "f", word], {"f": sql.text(table)}
 
 
@@ -739,6 +753,28 @@ def f_rejoin(m):
     for k, x in enumerate(m.plan(n, .9, 3), 1):
         part = [tuple(row[a] for a in members(x)) for row in rows if r.random() < .95]
         files[f"f{k}"] = m.csv(s[0], part, x, .05)
+        words.append(f"f{k}")
+    return words, files
+
+
+def f_rejoin_many(m):
+    """In one of five, files of which two share no column and have too many rows together, so that the order changes."""
+    r = m.r
+    if r.random() < .8:
+        return f_rejoin(m)
+    names = ["A", "B", "C", "D"][:r.choice((2, 3, 3, 4))]
+    cut = r.randint(1, len(names) - 1)
+    counts = r.choice(((3163, 3163), (3163, 3163), (3170, 3200), (2, 3163), (3163, 1)))
+    sides, parts = (names[:cut], names[cut:]), []
+    for side, count in zip(sides, counts):
+        parts.append((side, [[str(i * 7 % count + k) for k in range(len(side))] for i in range(count)]))
+    for _ in range(r.choice((0, 1, 1, 2))):
+        some = [name for name in names if r.random() < .6] or names[:1]
+        parts.append((some, [[str(r.randint(0, 4)) for _ in some] for _ in range(r.choice((0, 1, 3, 3163)))]))
+    r.shuffle(parts)
+    files, words = {"s": f"attributes {' '.join(names)}\n".encode()}, ["rejoin", "s"]
+    for k, (side, rows) in enumerate(parts, 1):
+        files[f"f{k}"] = "".join(",".join(row) + "\n" for row in [side, *rows]).encode()
         words.append(f"f{k}")
     return words, files
 
@@ -810,7 +846,9 @@ def f_check_cover(m):
 
 
 TABLES = ["t", "orders", "public.addresses", "a.b.c", "a.b.c.d", "joined", "main.Joined", "x.T12", "t1x", "joined.t", "_x", "1x", "a..b",
-          "", ".", "a b", 'a"b', "a;b", "t_1", "T", "x" * 63, "x" * 64, "é", "t0", "a.t", "select"]
+          "", ".", "a b", 'a"b', "a;b", "t_1", "T", "x" * 63, "x" * 64, "é", "t0", "a.t", "select",
+          '"a b"', 'main."two words"', '"a.b".c', '"a""b"', '"t0"', 'x."Joined"', '"joined".t', '"a"b', '"a', '""', '"é"."1".x', '"a"."b"."c"."d"',
+          '"' + "x" * 63 + '"', '"' + "x" * 64 + '"', '"a"."', '"a".', 'a."b"', '"\x01"', '"""', '""""', '"a".."b"']
 
 
 def f_sql(m):
@@ -876,6 +914,12 @@ def difference_of_page(program, words, files, folder, text, want):
     return f"at byte {at}: {text[max(at - 200, 0):at + 200]!r}\n   the model {want[max(at - 200, 0):at + 200]!r}"
 
 
+@functools.cache
+def help_lines(program):
+    """The lines of `help`, of which the model knows only how near they are."""
+    return subprocess.run([program, "help"], capture_output=True, text=True, timeout=120).stdout.splitlines()
+
+
 def difference(program, words, files):
     with tempfile.TemporaryDirectory() as folder:
         for name, data in files.items():
@@ -894,8 +938,9 @@ def difference(program, words, files):
             wrong.append(bad)
     elif want.free is None and done.stdout != want.text:
         wrong.append(f"printed {done.stdout[:600]!r}\n   the model {want.text[:600]!r}")
-    if done.stderr:
-        wrong.append(f"standard error {done.stderr[:200]!r}")
+    noticed = model.notice(want, words, help_lines(program))
+    if done.stderr != noticed:
+        wrong.append(f"standard error {done.stderr[:200]!r}, the model {noticed[:200]!r}")
     expected = {**files, **want.wrote}
     if wrote != expected:
         names = sorted(n for n in set(wrote) | set(expected) if wrote.get(n) != expected.get(n))

@@ -5,7 +5,9 @@ refusal is the least of all that stand.
 """
 import re
 
-BLANK = re.compile(rb"[ \t\r\n\f]+|--[^\n]*|/\*.*?\*/", re.DOTALL)
+BLANK = re.compile(rb"[ \t\r\n\f]+|--[^\n]*", re.DOTALL)
+COMMENT = re.compile(rb"/\*.*?\*/", re.DOTALL)
+COMMENT_MARK = re.compile(rb"/\*|\*/")
 WORD = re.compile(rb"[A-Za-z_\x80-\xff][A-Za-z0-9_$\x80-\xff]*")
 NUMBER = re.compile(rb"[0-9][A-Za-z0-9_.]*")
 TAG = re.compile(rb"\$(?:[A-Za-z_\x80-\xff][A-Za-z0-9_\x80-\xff]*)?\$")
@@ -15,14 +17,15 @@ QUOTES = {b'"': re.compile(rb'"(?:[^"]|"")*+"', re.DOTALL), b"`": re.compile(rb"
           b"[": re.compile(rb"\[[^\]]*\]", re.DOTALL)}
 TYPE = re.compile(rb"[A-Za-z0-9_ (),.\[\]]{1,63}")
 
-NO_COLUMN = {b"primary", b"unique", b"foreign", b"check", b"exclude", b"like"}
+NO_COLUMN = {b"primary", b"unique", b"foreign", b"check"}
+NO_CLASS = {b"collate", b"asc", b"desc", b"nulls"}
 AFTER_TYPE = {b"constraint", b"not", b"null", b"primary", b"unique", b"default", b"check", b"collate", b"references",
               b"generated", b"as"}
 INTEGERS = {b"int", b"integer", b"smallint", b"bigint", b"int2", b"int4", b"int8", b"tinyint", b"mediumint"}
 SERIALS = {b"serial", b"bigserial", b"smallserial", b"serial2", b"serial4", b"serial8"}
 NUMBERS = {"strange byte": 1, "open quote": 1, "open comment": 1, "table defined twice": 3, "bad name": 4,
            "name declared twice": 5, "expected a name": 6, "expected (": 6, "expected , or )": 6, "expected KEY": 6,
-           "too many attributes": 7, "too many dependencies": 8, "unknown name": 9}
+           "too many attributes": 7, "too many dependencies": 8, "unknown name": 9, "the table is altered": 10}
 
 
 class Stop(Exception):
@@ -70,10 +73,25 @@ class Lexer:
             elif found := BLANK.match(data, self.at):
                 self.at = found.end()
             elif data.startswith(b"/*", self.at):
-                raise Stop("open comment", self.at)
+                self.at = self.comment_end()
             else:
                 return
             self.line_start = False
+
+    def comment_end(self):
+        """Where the comment ends that begins here; those of PostgreSQL nest."""
+        if not self.postgres:
+            found = COMMENT.match(self.data, self.at)
+            if found:
+                return found.end()
+            raise Stop("open comment", self.at)
+        depth, at = 0, self.at
+        while found := COMMENT_MARK.search(self.data, at):
+            depth += 1 if found.group() == b"/*" else -1
+            at = found.end()
+            if not depth:
+                return at
+        raise Stop("open comment", self.at)
 
     def next(self):
         """The next lexeme, or None at the end."""
@@ -89,7 +107,7 @@ class Lexer:
             found = (ESCAPED if self.postgres and touching else PLAIN).match(data, at)
             if not found:
                 raise Stop("open quote", at)
-            kind, end = "string", found.end()
+            kind, end = "string" if self.postgres else "quoted", found.end()
         elif self.postgres and (tag := TAG.match(data, at)):
             end = data.find(tag.group(), tag.end())
             if end < 0:
@@ -170,11 +188,38 @@ def parted(lexemes):
     return list(zip([0] + [k + 1 for k in cuts], cuts + [len(lexemes)]))
 
 
+def elements(lexemes):
+    """The elements after the bracket of a table, each as from where to where, and where the bracket is that closes the table,
+    or None. A comma or that bracket stands in no other one, round or square."""
+    out, start, depth = [], 0, 0
+    for k, lexeme in enumerate(lexemes):
+        if depth == 0 and (lexeme.is_mark(b",") or lexeme.is_mark(b")")):
+            out.append((start, k))
+            start = k + 1
+            if lexeme.is_mark(b")"):
+                return out, k
+        elif lexeme.is_mark(b"(") or lexeme.is_mark(b"["):
+            depth += 1
+        elif depth and (lexeme.is_mark(b")") or lexeme.is_mark(b"]")):
+            depth -= 1
+    return [*out, (start, len(lexemes))], None
+
+
+def begins_constraint(lexeme, after):
+    """A constraint begins with a lexeme; another one, if any, follows."""
+    return lexeme.is_word(*NO_COLUMN) or lexeme.is_word(b"exclude") and after is not None and (after.is_word(b"using") or after.is_mark(b"("))
+
+
+def not_distinct(lexemes, at):
+    """NULLS NOT DISTINCT stands at a place."""
+    return [y.kind == "word" and y.text.lower() for y in lexemes[at:at + 3]] == [b"nulls", b"not", b"distinct"]
+
+
 class Table:
     def __init__(self, postgres, wanted):
         self.postgres, self.wanted = postgres, wanted
         self.columns, self.keys = [], []
-        self.found = self.binds = False
+        self.found = False
 
     # ---- names
     def parts(self, lexemes):
@@ -216,7 +261,13 @@ class Table:
             word(b"only")
             if self.is_meant(x[k:]):
                 k += self.parts(x[k:])
-                if word(b"add") and not any(y.is_word(b"using") for y in x[k:]):
+                if word(b"drop", b"rename"):
+                    raise Stop("the table is altered", x[k - 1].place)
+                if word(b"add") and k < len(x):
+                    if not x[k].is_word(b"constraint") and not begins_constraint(x[k], x[k + 1] if k + 1 < len(x) else None):
+                        raise Stop("the table is altered", x[k - 1].place)
+                    if any(y.is_word(b"using") for y in x[k:]):
+                        return
                     if word(b"constraint"):
                         self.expect_name(x[k:], end)
                         k += 1
@@ -229,16 +280,14 @@ class Table:
         x = x[self.parts(x):]
         if not x or not x[0].is_mark(b"("):
             raise Stop("expected (", x[0].place if x else end)
-        close = partner(x, 0)
-        inner = x[1:close]
-        for start, stop in parted(inner):
-            after = inner[stop].place if stop < len(inner) else end if close is None else x[close].place
-            self.read_element(inner[start:stop], after)
+        inner = x[1:]
+        found, close = elements(inner)
+        for start, stop in found:
+            self.read_element(inner[start:stop], inner[stop].place if stop < len(inner) else end)
         if close is None:
             raise Stop("expected , or )", end)
         if not self.columns:
-            raise Stop("expected a name", x[close].place)
-        self.binds = any(y.is_word(b"rowid", b"strict") for y in x[close + 1:])
+            raise Stop("expected a name", inner[close].place)
 
     def read_index(self, x, end, place):
         plain = list(outside(x))
@@ -255,16 +304,13 @@ class Table:
             x = x[2:]
         if not x or not x[0].is_mark(b"("):
             return
-        close = next((k for k, y in enumerate(x) if y.is_mark(b")")), len(x))
-        if any(y.is_mark(b"(") for y in x[1:close]):
+        close = partner(x, 0)
+        if not self.are_columns(x):
             return
-        try:
-            parts = self.read_list(x, end)
-        except Stop as stop:
-            if stop.text == "expected a name":
-                return
-            raise
-        self.state(False, place, parts)
+        parts = self.read_list(x, end)
+        after = x[close + 1:]
+        kind = "nulls" if any(not_distinct(after, k) for k, y in outside(after)) else "unique"
+        self.state(kind, place, parts)
 
     # ---- elements
     def expect_name(self, x, end):
@@ -277,17 +323,18 @@ class Table:
         if x[0].is_word(b"constraint"):
             self.expect_name(x[1:], end)
             x = x[2:]
-        elif not x[0].is_word(*NO_COLUMN):
+        elif not begins_constraint(x[0], x[1] if len(x) > 1 else None) and not (self.postgres and x[0].is_word(b"like")):
             return self.read_column(x)
-        if x and x[0].is_word(b"like"):
+        if x and self.postgres and x[0].is_word(b"like"):
             raise Stop("expected a name", x[0].place)
         self.read_key(x, end)
 
     def read_key(self, x, end):
         if not x or not x[0].is_word(b"primary", b"unique"):
             return
-        primary, rest = x[0].is_word(b"primary"), x[1:]
-        if primary:
+        rest = x[1:]
+        kind = "primary" if x[0].is_word(b"primary") else "nulls" if not_distinct(x, 1) else "unique"
+        if kind == "primary":
             if not rest or not rest[0].is_word(b"key"):
                 raise Stop("expected KEY", rest[0].place if rest else end)
             rest = rest[1:]
@@ -296,7 +343,28 @@ class Table:
                 rest = rest[2:]
             elif len(rest) > 2 and rest[1].is_word(b"not") and rest[2].is_word(b"distinct"):
                 rest = rest[3:]
-        self.state(primary, x[0].place, self.read_list(rest, end))
+        parts = self.read_list(rest, end)
+        if self.are_columns(rest):
+            self.state(kind, x[0].place, parts)
+
+    def are_columns(self, x):
+        """Each part of a list is a name, with nothing else after it than what orders it."""
+        inner = x[1:partner(x, 0)]
+        return all(self.is_column(inner[start:stop]) for start, stop in parted(inner))
+
+    def is_column(self, x):
+        if not x or not x[0].is_name():
+            return False
+        k = 1
+        if len(x) > k + 1 and x[k].is_word(b"collate") and x[k + 1].is_name():
+            k += 1 + self.parts(x[k + 1:])
+        if len(x) > k and x[k].is_name() and not x[k].is_word(*NO_CLASS):
+            k += 1
+        if len(x) > k and x[k].is_word(b"asc", b"desc"):
+            k += 1
+        if len(x) > k + 1 and x[k].is_word(b"nulls") and x[k + 1].is_word(b"first", b"last"):
+            k += 2
+        return k == len(x)
 
     def read_list(self, x, end):
         """Names of the parts, with their places."""
@@ -314,10 +382,10 @@ class Table:
             raise Stop("expected , or )", end)
         return out
 
-    def state(self, primary, place, parts):
+    def state(self, kind, place, parts):
         if len(self.keys) == 4096:
             raise Stop("too many dependencies", place)
-        self.keys.append((primary, parts))
+        self.keys.append((kind, parts))
 
     def read_column(self, x):
         self.expect_name(x, None)
@@ -335,14 +403,16 @@ class Table:
         after = [k for k, y in outside(rest)]
         never_by_words = any(rest[k].is_word(b"not") and k + 1 < len(rest) and rest[k + 1].is_word(b"null") for k in after)
         never = self.postgres and text in SERIALS or never_by_words
-        self.columns.append({"name": name, "type": self.type_of(type_, text), "never": never, "integer": text == b"integer"})
+        self.columns.append({"name": name, "type": self.type_of(type_, text), "never": never})
         for k in after:
             if rest[k].is_word(b"unique"):
-                self.state(False, rest[k].place, [(name, place)])
+                self.state("nulls" if not_distinct(rest, k + 1) else "unique", rest[k].place, [(name, place)])
             elif rest[k].is_word(b"primary") and k + 1 < len(rest) and rest[k + 1].is_word(b"key"):
-                self.state(True, rest[k].place, [(name, place)])
+                self.state("primary", rest[k].place, [(name, place)])
 
     def type_of(self, x, text):
+        if not x:
+            return "text" if self.postgres else 'other "blob"'
         if all(y.kind == "word" for k, y in outside(x)):
             if text in (b"", b"text"):
                 return "text"
@@ -378,10 +448,30 @@ def is_name(name):
     return 1 <= len(name) <= 63 and all(b >= 32 and b != 127 for b in name)
 
 
-def wanted_parts(word):
-    """The parts of a word that names a table, or None."""
-    parts = word.split(b".")
-    return parts if len(parts) <= 3 and all(parts) else None
+# A part of a table's name and what follows it: a dot and the next part, or the end.
+PART = re.compile(rb'(?:"((?:[^"]|"")*)"|([^".][^.]*))(\.|\Z)', re.DOTALL)
+
+
+def table_parts(word, is_name):
+    """The parts of a word that names a table, each with whether it is quoted, or None."""
+    parts, place, more = [], 0, True
+    while more:
+        found = PART.match(word, place)
+        if found is None or len(parts) == 3:
+            return None
+        quoted = found[1] is not None
+        name = found[1].replace(b'""', b'"') if quoted else found[2]
+        if quoted and not is_name(name):
+            return None
+        parts.append((name, quoted))
+        place, more = found.end(), found[3] == b"."
+    return parts
+
+
+def wanted_parts(word, is_name):
+    """The names of the parts of a word that names a table, or None."""
+    parts = table_parts(word, is_name)
+    return parts and [name for name, _ in parts]
 
 
 def read(data, dialect, wanted):
@@ -408,26 +498,28 @@ def imported(data, dialect, wanted, new_schema):
         return None
     place = {column["name"].lower(): k for k, column in enumerate(table.columns)}
     keys = []
-    for primary, parts in table.keys:
+    for kind, parts in table.keys:
         for name, at in parts:
             if name.lower() not in place or not is_name(name):
                 raise Stop("unknown name", at)
-        keys.append((primary, [place[name.lower()] for name, at in parts]))
+        keys.append((kind, [place[name.lower()] for name, at in parts]))
     whole = (1 << len(table.columns)) - 1
     never = sum(1 << k for k, column in enumerate(table.columns) if column["never"])
-    for primary, key in keys:
-        if primary and (table.postgres or table.binds or len(key) == 1 and table.columns[key[0]]["integer"]):
+    for kind, key in keys:
+        if kind == "primary":
             never |= sum(1 << k for k in set(key))
     schema = new_schema([c["name"] for c in table.columns], [c["type"] for c in table.columns], whole & ~never)
-    lines, before = [], set()
-    for primary, key in keys:
+    lines, determines = [], {}
+    for kind, key in keys:
         x = sum(1 << k for k in set(key))
-        if x != whole and x not in before:
-            if x & ~never:
-                lines.append(b"# %s %s: missing values are not compared" % (b"PRIMARY KEY" if primary else b"UNIQUE", schema.set(x)))
-            else:
-                lines.append(schema.set(x) + b" -> " + schema.set(whole & ~x))
-        before.add(x)
+        determined = not x & ~never or kind == "nulls"
+        if x == whole or determines.get(x, False) or x in determines and not determined:
+            continue
+        determines[x] = determined
+        if determined:
+            lines.append(schema.set(x) + b" -> " + schema.set(whole & ~x))
+        else:
+            lines.append(b"# %s %s: missing values are not compared" % (b"PRIMARY KEY" if kind == "primary" else b"UNIQUE", schema.set(x)))
     return schema, lines
 
 

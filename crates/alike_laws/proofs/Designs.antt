@@ -1,7 +1,7 @@
 -- The answers of `ddl`, `draw`, `sql check` and `sql migrate` move to a schema that is built again.
 use Rattle.std.proofs.Common.{◌≡◌, ◌↔◌, ◌⊎◌, ◌≤◌, ℕ, List, [], ◌∷◌, ◌++◌, map, All, Contains, MatchOption, Some, codes, slice_get, slice_index_or, take, false, true, Option, None, Vec, length, is_some, decimal, refl, sym, subst, ap, ap₂, ◌∙◌, inl, inr}
 use Rattle.std.specs.Prelude.{⊤, AllPairs, filter, if◌then◌else◌, not}
-use Rattle.std.specs.List.{list_any, flat_map, range_with_len, zip}
+use Rattle.std.specs.List.{flat_map, range_with_len, zip}
 use Rattle.std.specs.declared.alloc.Global.{Global}
 use Rattle.attr_sets.specs.Attributes.{Attributes, difference}
 use Rattle.attr_sets.specs.Sets.{attributes, is_disjoint}
@@ -49,7 +49,7 @@ use Rattle.sql_evaluation.specs.Running.{State, Cast, Fails, engine_at, outcome}
 use Rattle.sql_evaluation.specs.Rules.{RefusesBroken}
 use Rattle.migrate_queries.specs.Created.{column_made, key_made, keys_made, left_out_words, references_made, remarks_made, table_made}
 use Rattle.migrate_queries.specs.Moving.{attribute_names}
-use Rattle.migrate_queries.specs.Script.{copy_name, view_name, copy_query, fill_query, fill, view_query, copied_rows, viewed_rows, testing, migration}
+use Rattle.migrate_queries.specs.Script.{copy_name, view_name, copy_query, fill_query, fill, view_query, width_query, table_rows, viewed_rows, testing, migration}
 use Rattle.migrate_laws.specs.Moved.{HasMoved}
 use Rattle.sql_names.specs.Names.{quoted_name}
 use Rattle.sql_syntax.specs.Syntax.{Query, attribute}
@@ -59,8 +59,8 @@ use Rattle.table_queries.specs.Meanings.{IsGiven, GivesNone}
 use Rattle.table_queries.specs.Queries.{breaches_of, rows_of}
 use Rattle.table_scripts.specs.Checking.{breaches_text, check_text, missing_text, rule_text, rules_text, value_text}
 use Rattle.table_scripts.specs.Migrating.{FillsTables, ViewIs, ViewIsTable, migrate_text, stored_of}
-use Rattle.table_names.specs.TableNames.{GivenNames, is_given}
-use Rattle.table_scripts.specs.Naming.{dotted_parts, last_of, quoted_table}
+use Rattle.table_names.specs.TableNames.{GivenNames}
+use Rattle.table_scripts.specs.Naming.{met_name, quoted_table}
 use Rattle.alike_laws.proofs.Derivations.{said, said_back}
 use Rattle.alike_laws.proofs.Keys.{wide_back}
 use Rattle.alike_laws.proofs.Plans.{with_plan_moved, without_loss_moved}
@@ -296,10 +296,10 @@ module _ (s : Schema) (f : Frame s) where
   plan_drawn_moved names plan response (schemes, same, drawn) = (schemes, same, tables_drawn_moved names schemes response drawn)
 
   -- ---- `sql check`
-  query_moved : (table : List ℕ) (d : Dependency) → check_query s table d ≡ check_query built table d
+  query_moved : (table : List ℕ) (line : ℕ) (d : Dependency) → check_query s table line d ≡ check_query built table line d
   unfolding values_query groups_of_several count_of_several counts_query three_counts groups_of_unpaired
       count_of_unpaired
-  query_moved table d = refl
+  query_moved table line d = refl
 
   holds_back : (e : Engine) (table : List ℕ) (cell : ℕ → List ℕ → Cell) (r : Relation) → Holds e table built cell r
       → Holds e table s cell r
@@ -308,9 +308,10 @@ module _ (s : Schema) (f : Frame s) where
 
   breach_shown_moved : (e : Engine) (table : List ℕ) → NoBreachShown e s table ≡ NoBreachShown e built table
   breach_shown_moved e table =
-      ap (λ (ds : List Dependency). All (λ d. ShowsNothing e (check_query s table d)) ds) f.theory
-      ∙ ap (λ (query : Dependency → Option Query). All (λ d. ShowsNothing e (query d)) (theory_of built))
-      (λ i d. query_moved table d i)
+      ap (λ (ds : List Dependency). All (λ rule. ShowsNothing e (check_query s table rule.0 rule.1)) (zip (lines_of s) ds)) f.theory
+      ∙ ap (λ (query : ℕ → Dependency → Option Query).
+      All (λ rule. ShowsNothing e (query rule.0 rule.1)) (zip (lines_of s) (theory_of built)))
+      (λ i line d. query_moved table line d i)
 
   -- what is said of the attributes of which no value may be missing
   required_moved : (P : Attributes → Type 0) → P (required_of s) → P (required_of built)
@@ -378,7 +379,7 @@ module _ (s : Schema) (f : Frame s) where
   rule_moved table line d =
       ap (λ (query : Option Query).
       codes "-- line " ++ decimal line ++ codes ": " ++ dependency_text (printed_names_of s) d ++ breaches_text query)
-      (query_moved table d)
+      (query_moved table line d)
 
   rules_moved : (table : List ℕ) → rules_text s table ≡ rules_text built table
   rules_moved table =
@@ -410,8 +411,8 @@ module _ (s : Schema) (f : Frame s) where
   other_name_moved : (names : GivenNames) (name : List ℕ) (rest after : Allowed)
       → ((response : ResponseValue) → rest response → after response)
       → (response : ResponseValue)
-      → Unless (MetNameStops names name) (list_any (is_given (last_of (dotted_parts name))) names ≡ false) rest response
-      → Unless (MetNameStops names name) (list_any (is_given (last_of (dotted_parts name))) names ≡ false) after response
+      → Unless (MetNameStops names name) (met_name names name ≡ None) rest response
+      → Unless (MetNameStops names name) (met_name names name ≡ None) after response
   other_name_moved names name rest after moves response (inl stops) = inl stops
   other_name_moved names name rest after moves response (inr (free, answers)) = inr (free, moves response answers)
 
@@ -473,12 +474,12 @@ module _ (s : Schema) (f : Frame s) where
       (remarks_moved table) (keys_made_moved table)
 
   migration_moved : (name : List ℕ) (tables : List TableDesign) → migration s name tables ≡ migration built name tables
-  unfolding copy_query fill_query fill view_query copied_rows viewed_rows
+  unfolding copy_query fill_query fill view_query width_query table_rows viewed_rows
   migration_moved name tables =
       ap (λ (made : TableDesign → List Statement).
       remark (codes "all of it or nothing, where the first error ends it: psql -v ON_ERROR_STOP=1, sqlite3 -bail")
       ∷ begin ∷ ((create_from copy_name (copy_query s name) ∷ (flat_map made tables ++ (map (fill s) tables
-      ++ (create_view view_name (view_query s tables) ∷ testing s)))) ++ commit ∷ []))
+      ++ (create_view view_name (view_query s tables) ∷ testing s name)))) ++ commit ∷ []))
       (λ i table. table_made_moved tables table i)
 
   -- what an engine has after a run
@@ -519,8 +520,10 @@ module _ (s : Schema) (f : Frame s) where
   sound_run_back : (fails : Fails) (cast : Cast) (name : List ℕ) (cell : ℕ → List ℕ → Cell) (r : Relation)
       (tables : List TableDesign) (start : State) → IsSoundRun fails cast built name cell r tables start
       → IsSoundRun fails cast s name cell r tables start
+  unfolding holds_back
   sound_run_back fails cast name cell r tables start is = record {
     holds = holds_back (engine_at cast start) name cell r is.holds;
+    whole = is.whole;
     legal = said_back s f (λ ds. IsLegal (width_of s) ds r) is.legal;
     none_missing = required_back (NoneMissingOf cell r) is.none_missing;
     integers = is.integers;
@@ -535,6 +538,7 @@ module _ (s : Schema) (f : Frame s) where
   }
 
   script_moved : (name : List ℕ) (tables : List TableDesign) → IsSoundScript s name tables → IsSoundScript built name tables
+  unfolding holds_back
   script_moved name tables is = record {
     fills = fills_moved tables is.fills;
     view = view_is_moved tables is.view;
@@ -542,6 +546,12 @@ module _ (s : Schema) (f : Frame s) where
         has_moved_moved cast cell r tables last
         (is.moves fails cast cell r start last (holds_back (engine_at cast start) name cell r holds)
         (ap (λ (script : List Statement). outcome fails cast script start) (migration_moved name tables) ∙ ends));
+    whole = λ fails cast cell r start last holds ends.
+        is.whole fails cast cell r start last (holds_back (engine_at cast start) name cell r holds)
+        (ap (λ (script : List Statement). outcome fails cast script start) (migration_moved name tables) ∙ ends);
+    leaves = λ fails cast cell r start last holds ends.
+        is.leaves fails cast cell r start last (holds_back (engine_at cast start) name cell r holds)
+        (ap (λ (script : List Statement). outcome fails cast script start) (migration_moved name tables) ∙ ends);
     undoes = λ fails cast start kept stops.
         is.undoes fails cast start kept
         (ap (λ (script : List Statement). outcome fails cast script start) (migration_moved name tables) ∙ stops);

@@ -117,7 +117,6 @@ module _ (s : Schema) (f : Frame s) where
           natural = is.natural;
           gives_back = said s f (λ ds. GivesBack (width_of s) ds tables rows) is.gives_back;
           covered = is.covered;
-          within_limit = is.within_limit;
         },
         says,
       )

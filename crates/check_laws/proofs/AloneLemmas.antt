@@ -18,7 +18,7 @@ use Rattle.sql_syntax.specs.Syntax.{column, Item, own, named, count, number_zero
 use Rattle.table_queries.specs.Queries.{several, unpaired}
 use Rattle.table_queries.specs.Meanings.{GivesNone}
 use Rattle.check_queries.specs.Columns.{column_at, group_name}
-use Rattle.check_queries.specs.Checks.{values_query, count_name, count_column, count_of_several, first_count, second_count, count_of_both, counts_query, three_counts, sum_column, product_of_counts, count_of_unpaired}
+use Rattle.check_queries.specs.Checks.{line_item, values_query, count_name, count_column, count_of_several, first_count, second_count, count_of_both, counts_query, three_counts, sum_column, product_of_counts, count_of_unpaired}
 use Rattle.sql_evaluation.specs.Cells.{Cell, missing, number, same_row, multiplied, subtracted}
 use Rattle.sql_evaluation.specs.Values.{each, of_both, Look, look_at, View, sum_of, holds}
 use Rattle.sql_evaluation.specs.Evaluation.{Engine, key_cell, row_view, item_name, item_value, with_items, selected, evaluate}
@@ -32,31 +32,40 @@ use Rattle.check_laws.proofs.ThreeLemmas.{union-known, sum_of_three, size_on}
 use Rattle.check_laws.proofs.UnpairedLemmas.{uneven, uneven_at, unpaired-none}
 
 -- ---- a count that passes a test
-abbrev pub if_true : Bool → Cell → List (List Cell)
-if_true b v = if b then (v ∷ []) ∷ [] else []
+abbrev pub if_true : ℕ → Bool → Cell → List (List Cell)
+if_true line b v = if b then (number (pos line) ∷ v ∷ []) ∷ [] else []
 
-outer-cases : (cast : List ℕ → Option ℤ) (v : Cell) (b : Bool)
-    → option_map (with_items false (own count_column ∷ []))
-    (option_and_then (each (λ (w : View). each (item_value cast w) (own count_column ∷ [])))
+abbrev count_items : ℕ → List Item
+count_items line = line_item line ∷ own count_column ∷ []
+
+abbrev line_and_count : List (List ℕ)
+line_and_count = codes "line" ∷ codes "n" ∷ []
+
+outer-cases : (cast : List ℕ → Option ℤ) (line : ℕ) (v : Cell) (b : Bool)
+    → option_map (with_items false (count_items line))
+    (option_and_then (each (λ (w : View). each (item_value cast w) (count_items line)))
     (option_and_then (λ (c : Bool). option_map (λ (rest : List View). if c then row_view (look_at (codes "c") (codes "n" ∷ []) (v ∷ [])) ∷ rest else rest) (Some [])) (Some b)))
-    ≡ Some (record { names = codes "n" ∷ []; rows = if_true b v })
-outer-cases cast v true = refl
-outer-cases cast v false = refl
+    ≡ Some (record { names = line_and_count; rows = if_true line b v })
+outer-cases cast line v true = refl
+outer-cases cast line v false = refl
 
-outer-known : (e : Engine) (inner : Query) (v : Cell) (test : Condition) (b : Bool)
+outer-known : (e : Engine) (inner : Query) (line : ℕ) (v : Cell) (test : Condition) (b : Bool)
     → evaluate e inner ≡ Some (record { names = codes "n" ∷ []; rows = (v ∷ []) ∷ [] })
     → holds e.cast (row_view (look_at (codes "c") (codes "n" ∷ []) (v ∷ []))) test ≡ Some b
-    → evaluate e (select false (own count_column ∷ []) inner (codes "c") (rows_where test)) ≡ Some (record { names = codes "n" ∷ []; rows = if_true b v })
-outer-known e inner v test b given tested =
-    ap (option_and_then (selected e.cast false (own count_column ∷ []) (codes "c") (rows_where test))) given
-    ∙ ap (λ (found : Option Bool). option_map (with_items false (own count_column ∷ []))
-    (option_and_then (each (λ (w : View). each (item_value e.cast w) (own count_column ∷ [])))
+    → evaluate e (select false (count_items line) inner (codes "c") (rows_where test)) ≡ Some (record { names = line_and_count; rows = if_true line b v })
+outer-known e inner line v test b given tested =
+    ap (option_and_then (selected e.cast false (count_items line) (codes "c") (rows_where test))) given
+    ∙ ap (λ (found : Option Bool). option_map (with_items false (count_items line))
+    (option_and_then (each (λ (w : View). each (item_value e.cast w) (count_items line)))
     (option_and_then (λ (c : Bool). option_map (λ (rest : List View). if c then row_view (look_at (codes "c") (codes "n" ∷ []) (v ∷ [])) ∷ rest else rest) (Some [])) found))) tested
-    ∙ outer-cases e.cast v b
+    ∙ outer-cases e.cast line v b
 
-pub none_if_false : (b : Bool) (v : Cell) → (if_true b v ≡ []) ↔ (b ≡ false)
-none_if_false true v = (λ e. absurd (shows_none (if_true true v) (v ∷ []) e (Contains-head (v ∷ []) [])), λ e. absurd (true≢false e))
-none_if_false false v = (λ e. refl, λ e. refl)
+pub none_if_false : (line : ℕ) (b : Bool) (v : Cell) → (if_true line b v ≡ []) ↔ (b ≡ false)
+none_if_false line true v = (
+  λ e. absurd (shows_none (if_true line true v) (number (pos line) ∷ v ∷ []) e (Contains-head (number (pos line) ∷ v ∷ []) [])),
+  λ e. absurd (true≢false e),
+)
+none_if_false line false v = (λ e. refl, λ e. refl)
 
 -- ---- functional dependencies
 abbrev size_of_values : Schema → Cells → Attributes → Relation → ℕ
@@ -69,12 +78,12 @@ count-known e table s cell r w held =
     ap (option_and_then (selected e.cast false (named count count_name ∷ []) (codes "d") (groups_by [] None))) (values-known e table s cell r w held)
     ∙ ap (λ (n : ℕ). Some (record { names = codes "n" ∷ []; rows = (number (pos n) ∷ []) ∷ [] })) (length-map (values_of s cell w r) (look s w))
 
-pub count_several-known : (e : Engine) (table : List ℕ) (s : Schema) (cell : Cells) (r : Relation) (w : Attributes) → Holds e table s cell r
-    → evaluate e (count_of_several s table w)
-    ≡ Some (record { names = codes "n" ∷ []; rows = if_true (nat_lt 1 (size_of_values s cell w r)) (number (pos (size_of_values s cell w r))) })
+pub count_several-known : (e : Engine) (table : List ℕ) (s : Schema) (cell : Cells) (r : Relation) (line : ℕ) (w : Attributes) → Holds e table s cell r
+    → evaluate e (count_of_several s table line w)
+    ≡ Some (record { names = line_and_count; rows = if_true line (nat_lt 1 (size_of_values s cell w r)) (number (pos (size_of_values s cell w r))) })
 unfolding count_of_several
-count_several-known e table s cell r w held =
-    outer-known e (select false (named count count_name ∷ []) (values_query s table w) (codes "d") (groups_by [] None))
+count_several-known e table s cell r line w held =
+    outer-known e (select false (named count count_name ∷ []) (values_query s table w) (codes "d") (groups_by [] None)) line
     (number (pos (size_of_values s cell w r))) (exceeds (column count_column) number_one) (nat_lt 1 (size_of_values s cell w r))
     (count-known e table s cell r w held) refl
 
@@ -88,14 +97,14 @@ pub class-all : (s : Schema) (cell : Cells) (w x : Attributes) (r : Relation) (k
     → class_of s cell w x r key ≡ values_of s cell w r
 class-all s cell w x r key empty h =
     let v = value-row s cell x r key h in
-    let nothing : key ≡ [] = sym v.2 ∙ ap (map (λ (k : ℕ). compared_cell s cell k (value_at v.0 k))) empty in
+    let nothing : key ≡ [] = sym v.2 ∙ ap (map (λ (k : ℕ). compared_cell cell k (value_at v.0 k))) empty in
     filter-all (λ (row : List Cell). same_row (pick s w x row) key) (values_of s cell w r)
     (λ row. (same_row-decides (pick s w x row) key).1 (ap (map (λ (k : ℕ). get_or row (count_below w k) missing)) empty ∙ sym nothing))
 
-pub count_several-none : (e : Engine) (table : List ℕ) (s : Schema) (cell : Cells) (r : Relation) (x w : Attributes) → Holds e table s cell r → IsOver (width_of s) r
+pub count_several-none : (e : Engine) (table : List ℕ) (s : Schema) (cell : Cells) (r : Relation) (line : ℕ) (x w : Attributes) → Holds e table s cell r → IsOver (width_of s) r
     → members_below (width_of s) x ≡ [] → IsSubset x w → IsSubset w (universe_of s)
-    → (if_true (nat_lt 1 (size_of_values s cell w r)) (number (pos (size_of_values s cell w r))) ≡ []) ↔ GivesNone (width_of s) (several x w) r
-count_several-none e table s cell r x w held over empty within low = (
+    → (if_true line (nat_lt 1 (size_of_values s cell w r)) (number (pos (size_of_values s cell w r))) ≡ []) ↔ GivesNone (width_of s) (several x w) r
+count_several-none e table s cell r line x w held over empty within low = (
   λ none. law.0 (nil_from_none (filter (more_than_one s cell w x r) (values_of s cell x r)) (λ key h.
       let at = filter-member (more_than_one s cell w x r) (values_of s cell x r) key h in
       true≢false (sym at.1 ∙ ap (λ (rows : List (List Cell)). nat_lt 1 (length rows)) (class-all s cell w x r key empty at.0) ∙ told.0 none))),
@@ -115,8 +124,8 @@ count_several-none e table s cell r x w held over empty within low = (
     law : (filter (more_than_one s cell w x r) (values_of s cell x r) ≡ []) ↔ GivesNone (width_of s) (several x w) r
     law = several-none e table s cell r x w held over within low
 
-    told : (if_true (nat_lt 1 (size_of_values s cell w r)) (number (pos (size_of_values s cell w r))) ≡ []) ↔ (nat_lt 1 (size_of_values s cell w r) ≡ false)
-    told = none_if_false (nat_lt 1 (size_of_values s cell w r)) (number (pos (size_of_values s cell w r)))
+    told : (if_true line (nat_lt 1 (size_of_values s cell w r)) (number (pos (size_of_values s cell w r))) ≡ []) ↔ (nat_lt 1 (size_of_values s cell w r) ≡ false)
+    told = none_if_false line (nat_lt 1 (size_of_values s cell w r)) (number (pos (size_of_values s cell w r)))
 
 -- ---- multivalued dependencies
 -- items that count show a count of all rows
@@ -193,15 +202,15 @@ surplus-told a b c =
       λ none. (Decides-int_eq (pos (a * b)) (pos c)).1 (sym (-ℤ-+ℤ_cancel (pos (a * b)) (pos c)) ∙ ap (λ (n : ℤ). n +ℤ pos c) none ∙ +ℤ_idl (pos c)),
     ))
 
-pub count_unpaired-known : (e : Engine) (table : List ℕ) (s : Schema) (cell : Cells) (r : Relation) (x y z : Attributes) → Holds e table s cell r → members_below (width_of s) x ≡ []
-    → evaluate e (count_of_unpaired s table x y z)
+pub count_unpaired-known : (e : Engine) (table : List ℕ) (s : Schema) (cell : Cells) (r : Relation) (line : ℕ) (x y z : Attributes) → Holds e table s cell r → members_below (width_of s) x ≡ []
+    → evaluate e (count_of_unpaired s table line x y z)
     ≡ Some (record {
-      names = codes "n" ∷ [];
-      rows = if_true (uneven (size_of_values s cell (union x y) r) (size_of_values s cell (union x z) r) (size_of_values s cell (union x (union y z)) r))
+      names = line_and_count;
+      rows = if_true line (uneven (size_of_values s cell (union x y) r) (size_of_values s cell (union x z) r) (size_of_values s cell (union x (union y z)) r))
           (number (surplus (size_of_values s cell (union x y) r) (size_of_values s cell (union x z) r) (size_of_values s cell (union x (union y z)) r)));
     })
 unfolding count_of_unpaired
-count_unpaired-known e table s cell r x y z held empty =
+count_unpaired-known e table s cell r line x y z held empty =
     let a = size_of_values s cell (union x y) r in
     let b = size_of_values s cell (union x z) r in
     let c = size_of_values s cell (union x (union y z)) r in
@@ -211,7 +220,7 @@ count_unpaired-known e table s cell r x y z held empty =
     ap (option_and_then (selected e.cast false items (codes "e") (groups_by [] None))) (three-alone e table s cell r x y z held empty)
     ∙ ap (λ (row : Option (List Cell)). option_map (with_items false items) (option_and_then (λ (y : List Cell). option_map (λ (ys : List (List Cell)). y ∷ ys) (Some [])) row))
     (surplus-known e.cast a b c) in
-    outer-known e inner (number (surplus a b c)) (differs (column count_column) number_zero) (uneven a b c) given (ap (λ (t : Bool). Some t) (surplus-told a b c))
+    outer-known e inner line (number (surplus a b c)) (differs (column count_column) number_zero) (uneven a b c) given (ap (λ (t : Bool). Some t) (surplus-told a b c))
 
 -- ---- what it shows
 pub count_unpaired-none : (e : Engine) (table : List ℕ) (s : Schema) (cell : Cells) (r : Relation) (x y z : Attributes) → Holds e table s cell r → IsOver (width_of s) r

@@ -123,7 +123,7 @@ group_items s cast cell w x r counts cells key within shows h =
     let own : each (item_value cast (group_view columns looks (cells_on s cell x v.0))) (groups_made s x ++ counts)
     ≡ Some (cells_on s cell x v.0 ++ cells (length (filter (in_group columns (cells_on s cell x v.0)) looks))) =
     each-append (item_value cast (group_view columns looks (cells_on s cell x v.0))) (λ (k : ℕ). named (column (column_at s (codes "d") k)) (group_name x k))
-    (λ (k : ℕ). compared_cell s cell k (value_at v.0 k)) (members_below (width_of s) x) counts
+    (λ (k : ℕ). compared_cell cell k (value_at v.0 k)) (members_below (width_of s) x) counts
     (cells (length (filter (in_group columns (cells_on s cell x v.0)) looks)))
     (λ k m. key-shown s cell x v.0 k m) (shows cast columns looks (cells_on s cell x v.0)) in
     subst (λ (z : List Cell). each (item_value cast (group_view columns looks z)) (groups_made s x ++ counts) ≡ Some (z ++ cells (length (filter (in_group columns z) looks)))) v.2 own

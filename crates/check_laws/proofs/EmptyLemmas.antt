@@ -1,12 +1,10 @@
 -- The empty text as the missing value, in the columns in which values may be missing.
 use Rattle.std.proofs.Common.{◌≡◌, ℕ, Bool, true, false, List, [], ◌∷◌, length, refl, sym, ap, ◌∙◌, inl, inr, arith}
 use Rattle.std.proofs.lemmas.Bool.{cases_Bool, true≢false}
-use Rattle.std.specs.Prelude.{◌↔◌, if◌then◌else◌}
+use Rattle.std.specs.Prelude.{◌↔◌}
 use Rattle.dep_model.specs.declared.schema.Schema.{Schema}
-use Rattle.dep_model.specs.Columns.{is_plain_type}
 use Rattle.dep_model.specs.Schemas.{nullable_of}
 use Rattle.dep_model.specs.Tuples.{Relation, value_at}
-use Rattle.check_queries.specs.Columns.{type_at}
 use Rattle.check_queries.specs.Checks.{required_of}
 use Rattle.sql_evaluation.specs.Cells.{Cell, missing, text, number, text_of, is_none}
 use Rattle.sql_evaluation.specs.Evaluation.{Engine}
@@ -20,23 +18,15 @@ bytes_in missing = []
 bytes_in (text t) = t
 bytes_in (number n) = []
 
-text_in : (nullable : Bool) (v : List ℕ) → bytes_in (held_text nullable v) ≡ v
+text_compared : (nullable : Bool) (v : List ℕ) → bytes_in (text_of (held_text nullable v)) ≡ v
 unfolding bytes_in
-text_in true [] = refl
-text_in false [] = refl
-text_in nullable (b ∷ v) = refl
-
-text_compared : (plain nullable : Bool) (v : List ℕ) → bytes_in (if plain then text_of (held_text nullable v) else held_text nullable v) ≡ v
-unfolding bytes_in
-text_compared false nullable v = text_in nullable v
-text_compared true true [] = refl
-text_compared true false [] = refl
-text_compared true nullable (b ∷ v) = refl
+text_compared true [] = refl
+text_compared false [] = refl
+text_compared nullable (b ∷ v) = refl
 
 values_apart : (s : Schema) (r : Relation) → AreApart s (cell_of s) r
 values_apart s r k low t u ht hu same =
-    let plain = is_plain_type (type_at s k) in
-    sym (text_compared plain (nullable_of s k) (value_at t k)) ∙ ap bytes_in same ∙ text_compared plain (nullable_of s k) (value_at u k)
+    sym (text_compared (nullable_of s k) (value_at t k)) ∙ ap bytes_in same ∙ text_compared (nullable_of s k) (value_at u k)
 
 pub some_engine_holds_missing : (table : List ℕ) (s : Schema) (r : Relation) → (e : Engine) × CastsIntegers e.cast × Holds e table s (cell_of s) r
 some_engine_holds_missing table s r = some_engine_holds table s (cell_of s) r (values_apart s r)

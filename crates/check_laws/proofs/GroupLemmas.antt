@@ -34,11 +34,11 @@ pick s w x row = map (λ k. get_or row (count_below w k) missing) (members_below
 
 pub pick-cells : (s : Schema) (cell : Cells) (w x : Attributes) (t : Tuple) → IsSubset x w → pick s w x (cells_on s cell w t) ≡ cells_on s cell x t
 pick-cells s cell w x t within =
-    map-known (λ (k : ℕ). get_or (cells_on s cell w t) (count_below w k) missing) (λ (k : ℕ). compared_cell s cell k (value_at t k)) (members_below (width_of s) x)
+    map-known (λ (k : ℕ). get_or (cells_on s cell w t) (count_below w k) missing) (λ (k : ℕ). compared_cell cell k (value_at t k)) (members_below (width_of s) x)
     (λ k h.
     let m = member_of (width_of s) x k h in
-    get_or-map (λ (j : ℕ). compared_cell s cell j (value_at t j)) (members_below (width_of s) w) (count_below w k) k missing (place_low (width_of s) w k m.0 (within k m.1))
-    ∙ ap (λ (j : ℕ). compared_cell s cell j (value_at t j)) (members_below-at (width_of s) w k k m.0 (within k m.1)))
+    get_or-map (λ (j : ℕ). compared_cell cell j (value_at t j)) (members_below (width_of s) w) (count_below w k) k missing (place_low (width_of s) w k m.0 (within k m.1))
+    ∙ ap (λ (j : ℕ). compared_cell cell j (value_at t j)) (members_below-at (width_of s) w k k m.0 (within k m.1)))
 
 -- each row is that of a tuple
 pub value-row : (s : Schema) (cell : Cells) (w : Attributes) (r : Relation) (row : List Cell) → Contains (values_of s cell w r) row
@@ -52,9 +52,9 @@ row-value s cell w r t h =
 
 -- ---- its columns
 look-known : (s : Schema) (cell : Cells) (w : Attributes) (t : Tuple) (k : ℕ) → k < width_of s → w k ≡ true
-    → look_at (codes "d") (names_on s w) (cells_on s cell w t) (column_at s (codes "d") k) ≡ Some (compared_cell s cell k (value_at t k))
+    → look_at (codes "d") (names_on s w) (cells_on s cell w t) (column_at s (codes "d") k) ≡ Some (compared_cell cell k (value_at t k))
 look-known s cell w t k low inside =
-    named_cell-member (name_at s) (λ (j : ℕ). compared_cell s cell j (value_at t j)) (members_below (width_of s) w) k (names_on_apart s w) (is_member_of (width_of s) w k low inside)
+    named_cell-member (name_at s) (λ (j : ℕ). compared_cell cell j (value_at t j)) (members_below (width_of s) w) k (names_on_apart s w) (is_member_of (width_of s) w k low inside)
 
 abbrev pub look : Schema → Attributes → List Cell → Look
 look s w row = look_at (codes "d") (names_on s w) row
@@ -65,7 +65,7 @@ key-known s cell w x r row within h =
     let v = value-row s cell w r row h in
     subst (λ (z : List Cell). each (look s w z) (columns_on s (codes "d") x) ≡ Some (pick s w x z)) v.2
     (each-map (look s w (cells_on s cell w v.0)) (column_at s (codes "d")) (members_below (width_of s) x)
-    ∙ each-known (λ (k : ℕ). look s w (cells_on s cell w v.0) (column_at s (codes "d") k)) (λ (k : ℕ). compared_cell s cell k (value_at v.0 k)) (members_below (width_of s) x)
+    ∙ each-known (λ (k : ℕ). look s w (cells_on s cell w v.0) (column_at s (codes "d") k)) (λ (k : ℕ). compared_cell cell k (value_at v.0 k)) (members_below (width_of s) x)
     (λ k m. let at = member_of (width_of s) x k m in look-known s cell w v.0 k at.0 (within k at.1))
     ∙ ap (λ (key : List Cell). Some key) (sym (pick-cells s cell w x v.0 within)))
 
@@ -111,9 +111,9 @@ class-known s cell w x r key within =
 
 -- ---- what is shown of a group
 pub key-shown : (s : Schema) (cell : Cells) (x : Attributes) (t : Tuple) (k : ℕ) → Contains (members_below (width_of s) x) k
-    → key_cell (columns_on s (codes "d") x) (cells_on s cell x t) (column_at s (codes "d") k) ≡ Some (compared_cell s cell k (value_at t k))
+    → key_cell (columns_on s (codes "d") x) (cells_on s cell x t) (column_at s (codes "d") k) ≡ Some (compared_cell cell k (value_at t k))
 key-shown s cell x t k h =
-    key_cell-member (column_at s (codes "d")) (codes "d") (λ (j : ℕ). compared_cell s cell j (value_at t j)) (members_below (width_of s) x) k (λ m. refl) (names_on_apart s x) h
+    key_cell-member (column_at s (codes "d")) (codes "d") (λ (j : ℕ). compared_cell cell j (value_at t j)) (members_below (width_of s) x) k (λ m. refl) (names_on_apart s x) h
 
 pub items-shown : (s : Schema) (cast : List ℕ → Option ℤ) (cell : Cells) (x : Attributes) (looks : List Look) (r : Relation) (key : List Cell) → Contains (values_of s cell x r) key
     → each (item_value cast (group_view (columns_on s (codes "d") x) looks key)) (items_on s (codes "d") x) ≡ Some key
@@ -122,7 +122,7 @@ items-shown s cast cell x looks r key h =
     let columns = columns_on s (codes "d") x in
     subst (λ (z : List Cell). each (item_value cast (group_view columns looks z)) (items_on s (codes "d") x) ≡ Some z) v.2
     (each-map (item_value cast (group_view columns looks (cells_on s cell x v.0))) (λ (k : ℕ). own (column_at s (codes "d") k)) (members_below (width_of s) x)
-    ∙ each-known (λ (k : ℕ). item_value cast (group_view columns looks (cells_on s cell x v.0)) (own (column_at s (codes "d") k))) (λ (k : ℕ). compared_cell s cell k (value_at v.0 k)) (members_below (width_of s) x)
+    ∙ each-known (λ (k : ℕ). item_value cast (group_view columns looks (cells_on s cell x v.0)) (own (column_at s (codes "d") k))) (λ (k : ℕ). compared_cell cell k (value_at v.0 k)) (members_below (width_of s) x)
     (λ k m. key-shown s cell x v.0 k m))
 
 -- ---- tests of groups

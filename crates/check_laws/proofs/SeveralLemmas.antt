@@ -2,7 +2,7 @@
 use Rattle.std.proofs.Common.{◌≡◌, ◌<◌, ℕ, Bool, true, false, List, [], ◌∷◌, length, get_or, map, filter, Some, Option, refl, sym, ap, subst, ◌∙◌, arith}
 use Rattle.std.proofs.lemmas.Bool.{ltb-true}
 use Rattle.std.proofs.lemmas.Bool.Decides.{nat_tests}
-use Rattle.std.proofs.lemmas.List.{get_or-map, map-id, length-map}
+use Rattle.std.proofs.lemmas.List.{get_or-map, length-map}
 use Rattle.std.specs.Int.Signed.{lt_z}
 use Rattle.std.specs.Prelude.{◌↔◌, ℤ, pos, nat_lt, Contains, option_map, option_and_then, codes}
 use Rattle.attr_sets.specs.Attributes.{Attributes, count_below, IsSubset}
@@ -21,8 +21,8 @@ use Rattle.sql_syntax.specs.Syntax.{count, number_one, exceeds, Condition, group
 use Rattle.table_queries.specs.Queries.{several}
 use Rattle.table_queries.specs.Meanings.{GivesNone}
 use Rattle.check_queries.specs.Columns.{columns_on, items_on}
-use Rattle.check_queries.specs.Checks.{groups_of_several}
-use Rattle.sql_evaluation.specs.Cells.{Cell, missing, same_row}
+use Rattle.check_queries.specs.Checks.{line_item, groups_of_several}
+use Rattle.sql_evaluation.specs.Cells.{Cell, missing, number, same_row}
 use Rattle.sql_evaluation.specs.Values.{each, Look, View, holds}
 use Rattle.sql_evaluation.specs.Evaluation.{Engine, group_view, having_true, item_name, item_value, with_items, selected, evaluate}
 use Rattle.check_laws.specs.Holding.{compared_cell, Holds}
@@ -34,19 +34,19 @@ use Rattle.check_laws.proofs.GroupLemmas.{Cells, look, pick, pick-cells, row-val
 -- ---- tuples that agree
 pub agree-cells : (s : Schema) (cell : Cells) (x : Attributes) (t u : Tuple) → AgreeOn x t u → cells_on s cell x t ≡ cells_on s cell x u
 agree-cells s cell x t u agree =
-    map-known (λ (k : ℕ). compared_cell s cell k (value_at t k)) (λ (k : ℕ). compared_cell s cell k (value_at u k)) (members_below (width_of s) x)
-    (λ k h. ap (compared_cell s cell k) (agree k (member_of (width_of s) x k h).1))
+    map-known (λ (k : ℕ). compared_cell cell k (value_at t k)) (λ (k : ℕ). compared_cell cell k (value_at u k)) (members_below (width_of s) x)
+    (λ k h. ap (compared_cell cell k) (agree k (member_of (width_of s) x k h).1))
 
 pub cells-agree : (e : Engine) (table : List ℕ) (s : Schema) (cell : Cells) (r : Relation) (x : Attributes) (t u : Tuple) → Holds e table s cell r
     → IsSubset x (universe_of s) → Contains r t → Contains r u → cells_on s cell x t ≡ cells_on s cell x u → AgreeOn x t u
 cells-agree e table s cell r x t u held within ht hu same k inside =
     let low : k < width_of s = ltb-true k (width_of s) (within k inside) in
-    let at = λ (v : Tuple). get_or-map (λ (j : ℕ). compared_cell s cell j (value_at v j)) (members_below (width_of s) x) (count_below x k) k missing (place_low (width_of s) x k low inside) in
+    let at = λ (v : Tuple). get_or-map (λ (j : ℕ). compared_cell cell j (value_at v j)) (members_below (width_of s) x) (count_below x k) k missing (place_low (width_of s) x k low inside) in
     let here = members_below-at (width_of s) x k k low inside in
     held.apart k low t u ht hu
-    (sym (at t ∙ ap (λ (j : ℕ). compared_cell s cell j (value_at t j)) here)
+    (sym (at t ∙ ap (λ (j : ℕ). compared_cell cell j (value_at t j)) here)
     ∙ ap (λ (row : List Cell). get_or row (count_below x k) missing) same
-    ∙ at u ∙ ap (λ (j : ℕ). compared_cell s cell j (value_at u j)) here)
+    ∙ at u ∙ ap (λ (j : ℕ). compared_cell cell j (value_at u j)) here)
 
 -- ---- the query
 abbrev pub more_than_one : Schema → Cells → Attributes → Attributes → Relation → List Cell → Bool
@@ -61,14 +61,21 @@ group-tested s cast cell w x r key within =
     ap (λ (rows : List Look). Some (lt_z (pos 1) (pos (length rows)))) (class-known s cell w x r key within)
     ∙ ap (λ (n : ℕ). Some (lt_z (pos 1) (pos n))) (length-map (class_of s cell w x r key) (look s w))
 
-pub several-known : (e : Engine) (table : List ℕ) (s : Schema) (cell : Cells) (r : Relation) (x w : Attributes) → Holds e table s cell r
+-- a row after the line of a dependency
+abbrev pub after_line : ℕ → List Cell → List Cell
+after_line line row = number (pos line) ∷ row
+
+pub several-known : (e : Engine) (table : List ℕ) (s : Schema) (cell : Cells) (r : Relation) (line : ℕ) (x w : Attributes) → Holds e table s cell r
     → IsSubset x w → is_not_empty (columns_on s (codes "d") x) ≡ true
-    → evaluate e (groups_of_several s table x w)
-    ≡ Some (record { names = map item_name (items_on s (codes "d") x); rows = filter (more_than_one s cell w x r) (values_of s cell x r) })
+    → evaluate e (groups_of_several s table line x w)
+    ≡ Some (record {
+      names = codes "line" ∷ map item_name (items_on s (codes "d") x);
+      rows = map (after_line line) (filter (more_than_one s cell w x r) (values_of s cell x r));
+    })
 unfolding groups_of_several
-several-known e table s cell r x w held within not_empty =
+several-known e table s cell r line x w held within not_empty =
     let columns = columns_on s (codes "d") x in
-    let items = items_on s (codes "d") x in
+    let items = line_item line ∷ items_on s (codes "d") x in
     let looks = looks_of s cell w r in
     let keys = values_of s cell x r in
     let test = more_than_one s cell w x r in
@@ -82,9 +89,8 @@ several-known e table s cell r x w held within not_empty =
     (λ key h. group-tested s e.cast cell w x r key within)))
     ∙ ap (option_map (with_items false items))
     (each-map shown (group_view columns looks) (filter test keys)
-    ∙ each-known (λ (key : List Cell). shown (group_view columns looks key)) (λ (key : List Cell). key) (filter test keys)
-    (λ key h. items-shown s e.cast cell x looks r key (filter-member test keys key h).0)
-    ∙ ap (λ (found : List (List Cell)). Some found) (map-id (filter test keys)))
+    ∙ each-known (λ (key : List Cell). shown (group_view columns looks key)) (after_line line) (filter test keys)
+    (λ key h. ap (option_map (after_line line)) (items-shown s e.cast cell x looks r key (filter-member test keys key h).0)))
 
 -- ---- what it shows
 pub nil_from_none : {X : Type 0} (xs : List X) → ((x : X) → Contains xs x → ⊥) → xs ≡ []

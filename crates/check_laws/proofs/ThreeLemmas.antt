@@ -123,8 +123,8 @@ entry-key s cell x r p h =
     let v = value-row s cell x r p.first h in
     subst (λ (key : List Cell). each (look_at (codes "e") (all_names s x) (key ++ p.second)) (groups_on s x) ≡ Some key) v.2
     (each-map (look_at (codes "e") (all_names s x) (cells_on s cell x v.0 ++ p.second)) (group_at x) (members_below (width_of s) x)
-    ∙ each-known (λ (k : ℕ). look_at (codes "e") (all_names s x) (cells_on s cell x v.0 ++ p.second) (group_at x k)) (λ (k : ℕ). compared_cell s cell k (value_at v.0 k)) (members_below (width_of s) x)
-    (λ k m. named-left (number_name x) (λ (j : ℕ). compared_cell s cell j (value_at v.0 j)) (members_below (width_of s) x) count_names p.second k (number_names_apart s x) m))
+    ∙ each-known (λ (k : ℕ). look_at (codes "e") (all_names s x) (cells_on s cell x v.0 ++ p.second) (group_at x k)) (λ (k : ℕ). compared_cell cell k (value_at v.0 k)) (members_below (width_of s) x)
+    (λ k m. named-left (number_name x) (λ (j : ℕ). compared_cell cell j (value_at v.0 j)) (members_below (width_of s) x) count_names p.second k (number_names_apart s x) m))
 
 -- ---- the groups
 abbrev pub looks_in : Schema → Cells → Attributes → Relation → Attributes → Attributes → Attributes → List Look
@@ -214,4 +214,4 @@ pub count-cell : (s : Schema) (cell : Cells) (x : Attributes) (r : Relation) (na
 count-cell s cell x r name key tail h apart =
     let v = value-row s cell x r key h in
     subst (λ (z : List Cell). look_in s x (pair z tail) (sum_column name) ≡ named_cell count_names tail name) v.2
-    (named-right (number_name x) (λ (j : ℕ). compared_cell s cell j (value_at v.0 j)) (members_below (width_of s) x) count_names tail name apart)
+    (named-right (number_name x) (λ (j : ℕ). compared_cell cell j (value_at v.0 j)) (members_below (width_of s) x) count_names tail name apart)

@@ -2,7 +2,6 @@
 use Rattle.std.proofs.Common.{◌≡◌, ◌+◌, ◌*◌, ℕ, Bool, true, false, not, List, [], ◌∷◌, length, map, filter, Some, Option, refl, sym, ap, subst, ◌∙◌, inl, inr, arith}
 use Rattle.std.proofs.lemmas.Bool.{cases_Bool, true≢false}
 use Rattle.std.proofs.lemmas.Bool.Decides.{Decides-int_eq, same_from_decides}
-use Rattle.std.proofs.lemmas.List.{map-id}
 use Rattle.std.specs.Ordering.{int_eq}
 use Rattle.std.specs.Prelude.{◌↔◌, ℤ, pos, ◌*ℤ◌, Contains, option_map, option_and_then, codes}
 use Rattle.std.specs.Set.{distinct_count, is_member}
@@ -24,7 +23,7 @@ use Rattle.sql_syntax.specs.Syntax.{column, named, attribute, Condition, differs
 use Rattle.table_queries.specs.Queries.{unpaired}
 use Rattle.table_queries.specs.Meanings.{GivesNone}
 use Rattle.check_queries.specs.Columns.{name_at, columns_on, group_at, groups_on, groups_shown}
-use Rattle.check_queries.specs.Checks.{sum_column, product_of_counts, groups_of_unpaired}
+use Rattle.check_queries.specs.Checks.{line_item, sum_column, product_of_counts, groups_of_unpaired}
 use Rattle.sql_evaluation.specs.Cells.{Cell, number, same_row, multiplied, differ, total}
 use Rattle.sql_evaluation.specs.Values.{each, of_both, named_cell, Look, look_at, View, sum_of, holds}
 use Rattle.sql_evaluation.specs.Evaluation.{Engine, group_view, group_views, having_true, item_name, item_value, with_items, selected, evaluate}
@@ -34,7 +33,7 @@ use Rattle.check_laws.proofs.ColumnLemmas.{key_cell-member}
 use Rattle.check_laws.proofs.CellLemmas.{same_row-decides}
 use Rattle.check_laws.proofs.ValuesLemmas.{cells_on, values_of}
 use Rattle.check_laws.proofs.GroupLemmas.{Cells, pick, pick-cells, value-row, row-value, taken-map}
-use Rattle.check_laws.proofs.SeveralLemmas.{agree-cells, cells-agree, nil_from_none, shows_none}
+use Rattle.check_laws.proofs.SeveralLemmas.{after_line, agree-cells, cells-agree, nil_from_none, shows_none}
 use Rattle.check_laws.proofs.CountsLemmas.{number_name, number_names_apart, count_names, all_names, in_first, in_second, in_third}
 use Rattle.check_laws.proofs.ThreeLemmas.{size_on, entry, all_entries, row_of_entry, three-known, look_in, looks_in, groups-again, group-rows, sum_of_three, count-cell}
 
@@ -106,24 +105,27 @@ items-shown s cast cell x looks r key h =
     let columns = groups_on s x in
     subst (λ (z : List Cell). each (item_value cast (group_view columns looks z)) (groups_shown s x) ≡ Some z) v.2
     (each-map (item_value cast (group_view columns looks (cells_on s cell x v.0))) (λ (k : ℕ). named (column (group_at x k)) (attribute (name_at s k))) (members_below (width_of s) x)
-    ∙ each-known (λ (k : ℕ). item_value cast (group_view columns looks (cells_on s cell x v.0)) (named (column (group_at x k)) (attribute (name_at s k)))) (λ (k : ℕ). compared_cell s cell k (value_at v.0 k)) (members_below (width_of s) x)
-    (λ k m. key_cell-member (group_at x) (codes "e") (λ (j : ℕ). compared_cell s cell j (value_at v.0 j)) (members_below (width_of s) x) k (λ j. refl) (number_names_apart s x) m))
+    ∙ each-known (λ (k : ℕ). item_value cast (group_view columns looks (cells_on s cell x v.0)) (named (column (group_at x k)) (attribute (name_at s k)))) (λ (k : ℕ). compared_cell cell k (value_at v.0 k)) (members_below (width_of s) x)
+    (λ k m. key_cell-member (group_at x) (codes "e") (λ (j : ℕ). compared_cell cell j (value_at v.0 j)) (members_below (width_of s) x) k (λ j. refl) (number_names_apart s x) m))
 
 looks-are : (s : Schema) (cell : Cells) (x : Attributes) (r : Relation) (w1 w2 w3 : Attributes)
     → map (look_at (codes "e") (all_names s x)) (map row_of_entry (all_entries s cell x r w1 w2 w3)) ≡ looks_in s cell x r w1 w2 w3
 looks-are s cell x r w1 w2 w3 = map-map (look_at (codes "e") (all_names s x)) row_of_entry (all_entries s cell x r w1 w2 w3)
 
-pub unpaired-known : (e : Engine) (table : List ℕ) (s : Schema) (cell : Cells) (r : Relation) (x y z : Attributes) → Holds e table s cell r
+pub unpaired-known : (e : Engine) (table : List ℕ) (s : Schema) (cell : Cells) (r : Relation) (line : ℕ) (x y z : Attributes) → Holds e table s cell r
     → is_not_empty (columns_on s (codes "d") x) ≡ true → is_not_empty (groups_on s x) ≡ true
-    → evaluate e (groups_of_unpaired s table x y z)
-    ≡ Some (record { names = map item_name (groups_shown s x); rows = filter (uneven_at s cell x r (union x y) (union x z) (union x (union y z))) (values_of s cell x r) })
+    → evaluate e (groups_of_unpaired s table line x y z)
+    ≡ Some (record {
+      names = codes "line" ∷ map item_name (groups_shown s x);
+      rows = map (after_line line) (filter (uneven_at s cell x r (union x y) (union x z) (union x (union y z))) (values_of s cell x r));
+    })
 unfolding groups_of_unpaired
-unpaired-known e table s cell r x y z held not_empty not_empty' =
+unpaired-known e table s cell r line x y z held not_empty not_empty' =
     let w1 = union x y in
     let w2 = union x z in
     let w3 = union x (union y z) in
     let columns = groups_on s x in
-    let items = groups_shown s x in
+    let items = line_item line ∷ groups_shown s x in
     let looks = looks_in s cell x r w1 w2 w3 in
     let keys = values_of s cell x r in
     let test = uneven_at s cell x r w1 w2 w3 in
@@ -139,9 +141,8 @@ unpaired-known e table s cell r x y z held not_empty not_empty' =
     (λ key h. group-tested s e.cast cell x r w1 w2 w3 key h)))
     ∙ ap (option_map (with_items false items))
     (each-map shown (group_view columns looks) (filter test keys)
-    ∙ each-known (λ (key : List Cell). shown (group_view columns looks key)) (λ (key : List Cell). key) (filter test keys)
-    (λ key h. items-shown s e.cast cell x looks r key (filter-member test keys key h).0)
-    ∙ ap (λ (found : List (List Cell)). Some found) (map-id (filter test keys)))
+    ∙ each-known (λ (key : List Cell). shown (group_view columns looks key)) (after_line line) (filter test keys)
+    (λ key h. ap (option_map (after_line line)) (items-shown s e.cast cell x looks r key (filter-member test keys key h).0)))
 
 -- ---- sizes of classes
 -- the tuples of a class

@@ -8,14 +8,13 @@ use Rattle.std.specs.Prelude.{ℤ, pos, negsuc, nat_eq, nat_lt, if◌then◌else
 use Rattle.std.specs.Str.{bytes_eq}
 use Rattle.std.specs.Str.Parse.{digits_value}
 use Rattle.dep_model.specs.declared.schema.Schema.{Schema}
-use Rattle.dep_model.specs.Columns.{is_plain_type}
 use Rattle.dep_model.specs.Integers.{IsNumeral, IsIntegerText}
 use Rattle.dep_model.specs.Projections.{members_below}
 use Rattle.dep_model.specs.Schemas.{width_of, universe_of}
 use Rattle.dep_model.specs.Tuples.{Tuple, Relation, value_at}
 use Rattle.dep_model.proofs.NumeralLemmas.{decimal_zero, decimal_numeral_model, decimal_integer}
-use Rattle.check_queries.specs.Columns.{name_at, type_at}
-use Rattle.sql_evaluation.specs.Cells.{Cell, text, integer_text, text_of}
+use Rattle.check_queries.specs.Columns.{name_at}
+use Rattle.sql_evaluation.specs.Cells.{Cell, text, integer_text}
 use Rattle.sql_evaluation.specs.Evaluation.{Rows, Engine}
 use Rattle.check_laws.specs.Holding.{AreHeld, AreApart, Holds, CastsIntegers}
 use Rattle.check_laws.proofs.CellLemmas.{is_member_of, names_on_apart}
@@ -165,15 +164,9 @@ bytes_in : Cell → List ℕ
 bytes_in (text t) = t
 bytes_in c = []
 
-compared_text : (plain : Bool) (v : List ℕ) → (if plain then text_of (text v) else text v) ≡ text v
-compared_text true v = refl
-compared_text false v = refl
-
 texts_apart : (s : Schema) (r : Relation) → AreApart s (λ k v. text v) r
 unfolding bytes_in
-texts_apart s r k low t u ht hu same =
-    let plain = is_plain_type (type_at s k) in
-    ap bytes_in (sym (compared_text plain (value_at t k)) ∙ same ∙ compared_text plain (value_at u k))
+texts_apart s r k low t u ht hu same = ap bytes_in same
 
 pub some_engine_holds_texts : (table : List ℕ) (s : Schema) (r : Relation)
     → (e : Engine) × CastsIntegers e.cast × Holds e table s (λ k v. text v) r

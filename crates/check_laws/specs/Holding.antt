@@ -1,11 +1,10 @@
 -- A table of an engine that holds a relation: for the laws of the queries of `sql check`.
 use Rattle.std.specs.Prelude.{◌≡◌, ℕ, ℤ, ◌<◌, Bool, if◌then◌else◌, Option, Some, List, [], ◌∷◌, Contains}
 use Rattle.dep_model.specs.declared.schema.Schema.{Schema}
-use Rattle.dep_model.specs.Columns.{is_plain_type}
 use Rattle.dep_model.specs.Integers.{IsIntegerText}
 use Rattle.dep_model.specs.Schemas.{width_of, nullable_of}
 use Rattle.dep_model.specs.Tuples.{Tuple, Relation, value_at}
-use Rattle.check_queries.specs.Columns.{name_at, type_at}
+use Rattle.check_queries.specs.Columns.{name_at}
 use Rattle.sql_evaluation.specs.Cells.{Cell, missing, text, integer_text, text_of}
 use Rattle.sql_evaluation.specs.Values.{named_cell}
 use Rattle.sql_evaluation.specs.Evaluation.{Rows, Engine}
@@ -21,15 +20,15 @@ AreHeld s cell names [] [] = Unit {0}
 AreHeld s cell names (row ∷ rows) (t ∷ r) = IsHeld s cell names row t × AreHeld s cell names rows r
 AreHeld s cell names rows r = ⊥
 
--- a value as it is compared: a text or an integer as text
-abbrev pub compared_cell : Schema → (ℕ → List ℕ → Cell) → ℕ → List ℕ → Cell
-compared_cell s cell k v = if is_plain_type (type_at s k) then text_of (cell k v) else cell k v
+-- a value as it is compared: by its text, whatever its type
+abbrev pub compared_cell : (ℕ → List ℕ → Cell) → ℕ → List ℕ → Cell
+compared_cell cell k v = text_of (cell k v)
 
 -- values of an attribute that differ are told apart where they are compared
 abbrev pub AreApart : Schema → (ℕ → List ℕ → Cell) → Relation → Type 0
 AreApart s cell r =
     (k : ℕ) → k < width_of s → (t u : Tuple) → Contains r t → Contains r u
-    → compared_cell s cell k (value_at t k) ≡ compared_cell s cell k (value_at u k) → value_at t k ≡ value_at u k
+    → compared_cell cell k (value_at t k) ≡ compared_cell cell k (value_at u k) → value_at t k ≡ value_at u k
 
 -- a table of an engine holds a relation: each value of attribute k as `cell k` has it
 pub record Holds (e : Engine) (table : List ℕ) (s : Schema) (cell : ℕ → List ℕ → Cell) (r : Relation) : Type 0 where

@@ -5,11 +5,11 @@ use Rattle.dep_model.specs.declared.column_type.ColumnType.TheVariants.{Integer}
 use Rattle.dep_model.specs.declared.schema.Schema.{Schema}
 use Rattle.dep_model.specs.Dependencies.{Dependency, Obeys}
 use Rattle.dep_model.specs.Integers.{IsIntegerText}
-use Rattle.dep_model.specs.Schemas.{width_of, theory_of, LegalFor}
+use Rattle.dep_model.specs.Schemas.{width_of, LegalFor}
 use Rattle.dep_model.specs.Tuples.{Tuple, Relation, value_at}
 use Rattle.sql_syntax.specs.Syntax.{Query}
 use Rattle.check_queries.specs.Columns.{type_at, column_at}
-use Rattle.check_queries.specs.Checks.{required_of, required_query, integer_query, check_query}
+use Rattle.check_queries.specs.Checks.{required_of, required_query, integer_query, rules_of, check_query}
 use Rattle.sql_evaluation.specs.Cells.{Cell, missing, text, number, is_none}
 use Rattle.sql_evaluation.specs.Evaluation.{Rows, Engine, evaluate}
 
@@ -50,13 +50,16 @@ abbrev pub ShowsIntegers : Engine → Schema → List ℕ → ℕ → Type 0
 ShowsIntegers e s table k = GivesNoRow e (integer_query table (column_at s (codes "r") k))
 
 -- ---- dependencies
--- the query of a dependency tells whether a relation obeys it
-abbrev pub TellsDependency : Engine → Schema → List ℕ → Relation → Dependency → Type 0
-TellsDependency e s table r d = Tells e (check_query s table d) (Obeys (width_of s) d r)
+-- the query of the dependency of a line tells whether a relation obeys it
+abbrev pub TellsDependency : Engine → Schema → List ℕ → Relation → ℕ → Dependency → Type 0
+TellsDependency e s table r line d = Tells e (check_query s table line d) (Obeys (width_of s) d r)
+
+abbrev pub TellsDependencies : Engine → Schema → List ℕ → Relation → Type 0
+TellsDependencies e s table r = All (λ rule. TellsDependency e s table r rule.0 rule.1) (rules_of s)
 
 -- no query of a dependency gives a row, and none ends with an error
 abbrev pub NoBreachShown : Engine → Schema → List ℕ → Type 0
-NoBreachShown e s table = All (λ d. ShowsNothing e (check_query s table d)) (theory_of s)
+NoBreachShown e s table = All (λ rule. ShowsNothing e (check_query s table rule.0 rule.1)) (rules_of s)
 
 -- ---- all of them
 -- the rules of a schema hold: no value is missing that may not be, the integers are integers, and the

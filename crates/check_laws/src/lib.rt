@@ -5,22 +5,22 @@
 //! Each law is a function that does nothing, whose clauses are the law; so the gate asks for its proof.
 #![tactic(auto)]
 
-ghost use Rattle.std.specs.Prelude.{◌≡◌, ◌↔◌, ◌<◌, ℕ, List, [], All, true};
+ghost use Rattle.std.specs.Prelude.{◌≡◌, ◌↔◌, ◌<◌, ℕ, List, [], true};
 ghost use Rattle.dep_model.specs.declared.schema.Schema.{Schema};
-ghost use Rattle.dep_model.specs.Schemas.{width_of, theory_of, nullable_of, LegalFor};
+ghost use Rattle.dep_model.specs.Schemas.{width_of, nullable_of, LegalFor};
 ghost use Rattle.dep_model.specs.Tuples.{Relation, IsOver};
 ghost use Rattle.check_queries.specs.Checks.{required_query};
 ghost use Rattle.sql_evaluation.specs.Cells.{Cell, missing, text};
 ghost use Rattle.sql_evaluation.specs.Evaluation.{Engine};
 ghost use Rattle.check_laws.specs.Holding.{AreApart, Holds, CastsIntegers, cell_of};
-ghost use Rattle.check_laws.specs.Telling.{Tells, NoneMissing, AreIntegers, ShowsIntegers, TellsDependency, NoBreachShown, RulesHold, NothingShown};
+ghost use Rattle.check_laws.specs.Telling.{Tells, NoneMissing, AreIntegers, ShowsIntegers, TellsDependencies, NoBreachShown, RulesHold, NothingShown};
 
 /// Over a table that holds a relation, whatever engine it is, the query of each dependency ends without an
 /// error, and gives no row exactly where the relation obeys the dependency. So no query of a dependency gives
 /// a row exactly where the relation is legal.
 pub fn queries_tell_dependencies()
     ensures each { (e : Engine) (table : List ℕ) (s : Schema) (cell : ℕ → List ℕ → Cell) (r : Relation)
-        → Holds e table s cell r → IsOver (width_of s) r → All (TellsDependency e s table r) (theory_of s) }
+        → Holds e table s cell r → IsOver (width_of s) r → TellsDependencies e s table r }
     ensures legal { (e : Engine) (table : List ℕ) (s : Schema) (cell : ℕ → List ℕ → Cell) (r : Relation)
         → Holds e table s cell r → IsOver (width_of s) r → LegalFor s r ↔ NoBreachShown e s table }
 {}
@@ -68,5 +68,5 @@ pub fn missing_values_are_told()
         → (cell_of s k v ≡ missing) ↔ (v ≡ []) }
     ensures none_missing { (s : Schema) (r : Relation) → NoneMissing s (cell_of s) r }
     ensures told { (e : Engine) (table : List ℕ) (s : Schema) (r : Relation)
-        → Holds e table s (cell_of s) r → IsOver (width_of s) r → All (TellsDependency e s table r) (theory_of s) }
+        → Holds e table s (cell_of s) r → IsOver (width_of s) r → TellsDependencies e s table r }
 {}

@@ -1,12 +1,13 @@
 -- The queries of `sql check` over a table, as values of SQL's syntax: for the laws of what they give, and
 -- for the script (`table_scripts`).
+use Rattle.std.specs.List.{zip}
 use Rattle.std.specs.Prelude.{ℕ, Bool, true, false, if◌then◌else◌, Option, Some, None, List, [], ◌∷◌, ◌++◌, codes, option_and_then}
 use Rattle.attr_sets.specs.Attributes.{Attributes, union, difference}
 use Rattle.dep_model.specs.declared.schema.Schema.{Schema}
 use Rattle.dep_model.specs.Projections.{members_below}
-use Rattle.dep_model.specs.Schemas.{width_of, universe_of, nullable_of}
+use Rattle.dep_model.specs.Schemas.{width_of, universe_of, nullable_of, lines_of, theory_of}
 use Rattle.sql_names.specs.Names.{is_not_empty}
-use Rattle.sql_syntax.specs.Syntax.{ColumnName, helper, Column, Scalar, column, as_text, as_integer, number_zero, number_one, count, sum_product, less_sum, sum, Condition, is_missing, differs, exceeds, either, Item, own, named, each_row, rows_where, groups_by, Query, stored, select, union_all}
+use Rattle.sql_syntax.specs.Syntax.{ColumnName, helper, Column, Scalar, column, as_text, as_integer, number_zero, number_one, written_number, count, sum_product, less_sum, sum, Condition, is_missing, differs, exceeds, either, Item, own, named, each_row, rows_where, groups_by, Query, stored, select, union_all}
 use Rattle.dep_model.specs.Dependencies.{Dependency}
 use Rattle.table_queries.specs.Queries.{several, unpaired, breaches_of}
 use Rattle.table_queries.specs.Queries as terms
@@ -49,6 +50,10 @@ integer_query table c =
     (rows_where (differs (as_text (as_integer (column c))) (as_text (column c))))
 
 -- ---- dependencies
+-- the dependencies of a schema after their lines, in the order of the file
+abbrev pub rules_of : Schema → List (ℕ × Dependency)
+rules_of s = zip (lines_of s) (theory_of s)
+
 -- the values on a set, each once
 unfoldable pub values_query : Schema → List ℕ → Attributes → Query
 values_query s table w = select true (compared_on s w) (stored table) (codes "r") each_row
@@ -60,21 +65,25 @@ count_name = helper (codes "n")
 abbrev pub count_column : Column
 count_column = record { alias = codes "c"; name = count_name }
 
+-- the line of a dependency, with which its query begins
+abbrev pub line_item : ℕ → Item
+line_item line = named (written_number line) (helper (codes "line"))
+
 -- the values on x beside which more than one on w stands; where x is empty, the count of those on w
-unfoldable pub groups_of_several : Schema → List ℕ → Attributes → Attributes → Query
-groups_of_several s table x w =
-    select false (items_on s (codes "d") x) (values_query s table w) (codes "d")
+unfoldable pub groups_of_several : Schema → List ℕ → ℕ → Attributes → Attributes → Query
+groups_of_several s table line x w =
+    select false (line_item line ∷ items_on s (codes "d") x) (values_query s table w) (codes "d")
     (groups_by (columns_on s (codes "d") x) (Some (exceeds count number_one)))
 
-unfoldable pub count_of_several : Schema → List ℕ → Attributes → Query
-count_of_several s table w =
-    select false (own count_column ∷ [])
+unfoldable pub count_of_several : Schema → List ℕ → ℕ → Attributes → Query
+count_of_several s table line w =
+    select false (line_item line ∷ own count_column ∷ [])
     (select false (named count count_name ∷ []) (values_query s table w) (codes "d") (groups_by [] None))
     (codes "c") (rows_where (exceeds (column count_column) number_one))
 
-abbrev pub several_query : Schema → List ℕ → Attributes → Attributes → Query
-several_query s table x w =
-    if has_members s x then groups_of_several s table x w else count_of_several s table w
+abbrev pub several_query : Schema → List ℕ → ℕ → Attributes → Attributes → Query
+several_query s table line x w =
+    if has_members s x then groups_of_several s table line x w else count_of_several s table line w
 
 -- ---- three counts
 abbrev pub counts_named : Scalar → Scalar → Scalar → List Item
@@ -112,29 +121,29 @@ product_of_counts = sum_product (sum_column (codes "y")) (sum_column (codes "z")
 
 -- the values on x whose counts on xy and xz have another product than the count on both; where x is
 -- empty, by how much the product is more
-unfoldable pub groups_of_unpaired : Schema → List ℕ → Attributes → Attributes → Attributes → Query
-groups_of_unpaired s table x y z =
-    select false (groups_shown s x) (three_counts s table x y z) (codes "e")
+unfoldable pub groups_of_unpaired : Schema → List ℕ → ℕ → Attributes → Attributes → Attributes → Query
+groups_of_unpaired s table line x y z =
+    select false (line_item line ∷ groups_shown s x) (three_counts s table x y z) (codes "e")
     (groups_by (groups_on s x) (Some (differs product_of_counts (sum (sum_column (codes "n"))))))
 
-unfoldable pub count_of_unpaired : Schema → List ℕ → Attributes → Attributes → Attributes → Query
-count_of_unpaired s table x y z =
-    select false (own count_column ∷ [])
+unfoldable pub count_of_unpaired : Schema → List ℕ → ℕ → Attributes → Attributes → Attributes → Query
+count_of_unpaired s table line x y z =
+    select false (line_item line ∷ own count_column ∷ [])
     (select false (named (less_sum product_of_counts (sum_column (codes "n"))) count_name ∷ [])
     (three_counts s table x y z) (codes "e") (groups_by [] None))
     (codes "c") (rows_where (differs (column count_column) number_zero))
 
-abbrev pub unpaired_query : Schema → List ℕ → Attributes → Attributes → Attributes → Query
-unpaired_query s table x y z =
-    if has_members s x then groups_of_unpaired s table x y z else count_of_unpaired s table x y z
+abbrev pub unpaired_query : Schema → List ℕ → ℕ → Attributes → Attributes → Attributes → Query
+unpaired_query s table line x y z =
+    if has_members s x then groups_of_unpaired s table line x y z else count_of_unpaired s table line x y z
 
 -- ---- terms
--- the query of a term that breaks a dependency; the other terms are of plans
-abbrev pub query_of : Schema → List ℕ → terms.Query → Option Query
-query_of s table (several x w) = Some (several_query s table x w)
-query_of s table (unpaired x y z) = Some (unpaired_query s table x y z)
-query_of s table term = None
+-- the query of a term that breaks the dependency of a line; the other terms are of plans
+abbrev pub query_of : Schema → List ℕ → ℕ → terms.Query → Option Query
+query_of s table line (several x w) = Some (several_query s table line x w)
+query_of s table line (unpaired x y z) = Some (unpaired_query s table line x y z)
+query_of s table line term = None
 
--- the query for what breaks a dependency; none where every relation obeys it
-abbrev pub check_query : Schema → List ℕ → Dependency → Option Query
-check_query s table d = option_and_then (query_of s table) (breaches_of (width_of s) d)
+-- the query for what breaks the dependency of a line; none where every relation obeys it
+abbrev pub check_query : Schema → List ℕ → ℕ → Dependency → Option Query
+check_query s table line d = option_and_then (query_of s table line) (breaches_of (width_of s) d)

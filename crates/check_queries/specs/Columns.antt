@@ -1,15 +1,14 @@
 -- The columns of a user's table in queries, whose names are the attributes of a schema: for the queries
 -- of `sql check` (`Checks`).
-use Rattle.std.specs.Prelude.{ℕ, Bool, ◌+◌, if◌then◌else◌, List, ◌++◌, [], map, codes, slice_index_or}
+use Rattle.std.specs.Prelude.{ℕ, ◌+◌, List, ◌++◌, [], map, codes, slice_index_or}
 use Rattle.std.specs.Fmt.{decimal}
 use Rattle.attr_sets.specs.Attributes.{Attributes, count_below}
 use Rattle.dep_model.specs.declared.column_type.ColumnType.{ColumnType}
 use Rattle.dep_model.specs.declared.column_type.ColumnType.TheVariants.{Text}
 use Rattle.dep_model.specs.declared.schema.Schema.{Schema}
-use Rattle.dep_model.specs.Columns.{is_plain_type}
 use Rattle.dep_model.specs.Projections.{members_below}
 use Rattle.dep_model.specs.Schemas.{names_of, width_of, types_of}
-use Rattle.sql_syntax.specs.Syntax.{ColumnName, attribute, helper, Column, column, as_text, Item, own, named}
+use Rattle.sql_syntax.specs.Syntax.{ColumnName, attribute, helper, Column, Scalar, column, as_text, with_empty_text, Item, own, named}
 
 -- ---- one column
 abbrev pub name_at : Schema → ℕ → List ℕ
@@ -25,12 +24,17 @@ named_column alias name = record { alias = alias; name = attribute name }
 abbrev pub column_at : Schema → List ℕ → ℕ → Column
 column_at s alias k = named_column alias (name_at s k)
 
--- a text or an integer is compared as text, any other value as it is
-abbrev pub compared : Bool → List ℕ → Column → Item
-compared plain name c = if plain then named (as_text (column c)) (attribute name) else own c
+-- the text of a value, by which it is compared whatever its type: what is cast to text may keep a collation, and
+-- what the empty text stands after has none
+abbrev pub by_text : Column → Scalar
+by_text c = with_empty_text (as_text (column c))
+
+-- a column of a source by its text, under its name
+abbrev pub compared : List ℕ → List ℕ → Item
+compared alias name = named (by_text (named_column alias name)) (attribute name)
 
 abbrev pub compared_at : Schema → ℕ → Item
-compared_at s k = compared (is_plain_type (type_at s k)) (name_at s k) (column_at s (codes "r") k)
+compared_at s k = compared (codes "r") (name_at s k)
 
 -- the name under which a query counts by an attribute of x: `c1`, `c2` and so on, ascending
 abbrev pub numbered_name : ℕ → ColumnName

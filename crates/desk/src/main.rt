@@ -1,5 +1,6 @@
 //! The program: it answers its words over the files of the current folder, on standard output, and
-//! ends with the number of the status, or with 6 where no memory was found. Tables that it migrates
+//! ends with the number of the status, or with 6 where no memory was found. A refusal goes to standard error
+//! too, where standard output is no terminal. Tables that it migrates
 //! become files of the current folder, `t1.csv`, `t1.sql` and so on, or those of a folder of their own.
 #![tactic(auto)]
 
@@ -9,10 +10,11 @@ use crate::words::words;
 use dep_model::OutOfMemory;
 use desk_cli::desk;
 use desk_outside::{Argument, FileFolder, ProgressLine, RealFiles, StdoutSink};
-use desk_process::exit_code;
+use desk_process::{NoticeSink, exit_code};
 use destinations::{Destination, FileDestination, TableFormat};
 use own_folder::{OwnFolderWriter, RealFolders};
 use row_store::Hashing;
+use std::io::IsTerminal;
 use std::process::ExitCode;
 use std::rt::Runtime;
 
@@ -39,6 +41,7 @@ fn main(rt: HostRuntime) -> ExitCode {
     }
     let hashing = Hashing::new(&rt);
     let progress = ProgressLine::new(alloc, &rt);
+    let mut notices = NoticeSink::new(rt.stderr(), !rt.stdout().is_terminal());
     let mut out = StdoutSink::new(rt, progress);
     exit_code(desk(
         alloc,
@@ -46,6 +49,7 @@ fn main(rt: HostRuntime) -> ExitCode {
         &words,
         &mut source,
         &mut out,
+        &mut notices,
         &mut destinations,
         &mut own,
     ))

@@ -21,7 +21,8 @@ use Rattle.desk_tables.specs.OwnFolders.{Looks}
 use Rattle.std.specs.Io.KnownBytes.{append_known}
 use Rattle.desk_cli.specs.FilesRead.{files_of_words}
 use Rattle.desk_inputs.specs.FilesBegun.{BeginsFront}
-use Rattle.desk_cli.specs.Desk.{IsLastBegun, Desk, Delivered, Delivers, FileSourceInCall, SinkInCall, reading_in_call, WritesWhole, WritesPart, IsNoOrStops}
+use Rattle.desk_cli.specs.Desk.{IsLastBegun, Desk, Delivered, Delivers, FileSourceInCall, SinkInCall, reading_in_call, Notes, notice_text, WritesWhole, WritesPart, IsNoOrStops}
+use Rattle.desk_cli.specs.Help.{hint_of}
 use Rattle.desk_cli.specs.Performs.{Answers}
 use Rattle.desk_inputs.specs.Readings.{known_files}
 
@@ -170,42 +171,48 @@ tables_only_with_yes destinations own response ending (Some ts) went other = abs
 
 -- ---- the top call
 -- an answer that is allowed, delivered
-pub desk_delivered : (words : List (List ℕ)) (looks : Looks) (source : FileSourceInCall) (sink : SinkInCall) (destinations : DestinationsInCall) (own : OwnInCall) (response : ResponseValue) (result : Result Status MemoryError)
+pub desk_delivered : (words : List (List ℕ)) (looks : Looks) (source : FileSourceInCall) (sink notices : SinkInCall) (destinations : DestinationsInCall) (own : OwnInCall) (response : ResponseValue) (result : Result Status MemoryError)
     → ((last : Option (List ℕ)) → IsLastBegun source last → Answers looks (reading_in_call source last) words response)
     → ((files : Files) → source.files ≡ Some files → (ErrorCountIncreased source.before source.after → ⊥) → Answers looks (known_files files) words response)
-    → Delivered sink destinations own response result → source.files_after ≡ source.files → source.before ≤ source.after
-    → BeginsFront (files_of_words words) source.begun_before source.begun_after → Desk words looks source sink destinations own result
-desk_delivered words looks source sink destinations own response result seen_so known_so delivered files reads begun = record {
+    → Delivered sink notices (hint_of words) destinations own response result → source.files_after ≡ source.files → source.before ≤ source.after
+    → BeginsFront (files_of_words words) source.begun_before source.begun_after → Desk words looks source sink notices destinations own result
+desk_delivered words looks source sink notices destinations own response result seen_so known_so delivered files reads begun = record {
   reads = begun;
   response = λ last named status is. ended last named status (delivered.ends status is);
   complete = λ files are calm calm_sink calm_destinations fine status is. whole files are calm calm_sink calm_destinations fine status (delivered.ends status is);
   stay = λ status is other. stays status other (delivered.ends status is);
-  memory = λ last named e is. ((delivered.memory e is).0, inr (response, seen_so last named, (delivered.memory e is).1));
+  memory = λ last named e is. ((delivered.memory e is).0, (delivered.memory e is).1, inr (response, seen_so last named, (delivered.memory e is).2));
   destinations_stay = delivered.count;
   files_stay = files;
   reads_later = reads;
   writes_later = delivered.later;
+  notes_later = delivered.notes_later;
 }
   where
-    ended : (last : Option (List ℕ)) → IsLastBegun source last → (status : Status) → WritesWhole sink (ComesTo destinations own response) status ⊎ WritesPart sink (ComesTo destinations own response) status
-        → WritesWhole sink (EndsAs destinations own (Answers looks (reading_in_call source last) words)) status ⊎ WritesPart sink (EndsAs destinations own (Answers looks (reading_in_call source last) words)) status
-    ended last named status (inl (ending, comes, same, written, fine)) = inl (ending, (response, seen_so last named, comes), same, written, fine)
-    ended last named status (inr (cannot, increased, (ending, comes, took))) = inr (cannot, increased, (ending, (response, seen_so last named, comes), took))
+    ended : (last : Option (List ℕ)) → IsLastBegun source last → (status : Status)
+        → WritesWhole sink notices (hint_of words) (ComesTo destinations own response) status ⊎ WritesPart sink notices (hint_of words) (ComesTo destinations own response) status
+        → WritesWhole sink notices (hint_of words) (EndsAs destinations own (Answers looks (reading_in_call source last) words)) status
+        ⊎ WritesPart sink notices (hint_of words) (EndsAs destinations own (Answers looks (reading_in_call source last) words)) status
+    ended last named status (inl (ending, comes, same, written, fine, noted)) = inl (ending, (response, seen_so last named, comes), same, written, fine, noted)
+    ended last named status (inr (cannot, increased, (ending, comes, took, noted))) = inr (cannot, increased, (ending, (response, seen_so last named, comes), took, noted))
 
     whole : (files : Files) → source.files ≡ Some files → (ErrorCountIncreased source.before source.after → ⊥) → (ErrorCountIncreased sink.before sink.after → ⊥) → NoneFails destinations → OwnIsFine own
-        → (status : Status) → WritesWhole sink (ComesTo destinations own response) status ⊎ WritesPart sink (ComesTo destinations own response) status
-        → Delivers sink destinations own (Answers looks (known_files files) words) status
-    whole files are calm calm_sink calm_destinations fine status (inl (ending, comes, same, written, none)) =
+        → (status : Status)
+        → WritesWhole sink notices (hint_of words) (ComesTo destinations own response) status ⊎ WritesPart sink notices (hint_of words) (ComesTo destinations own response) status
+        → Delivers sink notices (hint_of words) destinations own (Answers looks (known_files files) words) status
+    whole files are calm calm_sink calm_destinations fine status (inl (ending, comes, same, written, none, noted)) =
         let end = plain_outcome_without_failure destinations own response ending response.tables comes calm_destinations fine in (
           response,
           known_so files are calm,
           same ∙ ap (λ (e : OutcomeValue). e.status) end.0,
           written ∙ ap (λ (e : OutcomeValue). append_known sink.old e.text) end.0,
           end.1,
+          subst (λ (e : OutcomeValue). Notes notices (notice_text (hint_of words) e)) end.0 noted,
         )
     whole files are calm calm_sink calm_destinations fine status (inr (cannot, increased, part)) = absurd (calm_sink increased)
 
-    stays : (status : Status) → IsNoOrStops status → WritesWhole sink (ComesTo destinations own response) status ⊎ WritesPart sink (ComesTo destinations own response) status
+    stays : (status : Status) → IsNoOrStops status
+        → WritesWhole sink notices (hint_of words) (ComesTo destinations own response) status ⊎ WritesPart sink notices (hint_of words) (ComesTo destinations own response) status
         → (destinations.new ≡ destinations.old) × OwnStays own
-    stays status other (inl (ending, comes, same, written, none)) = tables_only_with_yes destinations own response ending response.tables comes (subst IsNoOrStops same other)
+    stays status other (inl (ending, comes, same, written, none, noted)) = tables_only_with_yes destinations own response ending response.tables comes (subst IsNoOrStops same other)
     stays status other (inr (cannot, increased, part)) = absurd (not_written status cannot other)

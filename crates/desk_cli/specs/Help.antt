@@ -1,9 +1,11 @@
--- What the program says of itself: for `help` and `version`.
-use Rattle.std.specs.Prelude.{ℕ, List, ◌++◌, codes}
+-- What the program says of itself: for `help` and `version`, and for words that form no command.
+use Rattle.std.specs.Prelude.{ℕ, List, [], ◌++◌, codes, Option, None, Some}
+use Rattle.desk_words.specs.Forms.{CommandForm, form_of}
+use Rattle.nearest_lines.specs.Nearest.{nearest}
 use Rattle.desk_texts.specs.Texts.{line}
 
 abbrev pub version_text : List ℕ
-version_text = line (codes "desk 0.8.0")
+version_text = line (codes "desk 0.9.0")
 
 abbrev pub help_text : List ℕ
 help_text =
@@ -75,5 +77,13 @@ help_text =
     ++ line (codes "desk help                             this text")
     ++ line (codes "desk --version                        the release")
     ++ line (codes "Status: 0 yes, 1 no, 2 refused, 3 a file cannot be read, 4 the output cannot be written, "
-    ++ codes "5 a target failed, 6 want of memory.")
+    ++ codes "5 a destination failed, 6 out of memory.")
     ++ line (codes "The formats are told in docs/FORMATS.md.")
+
+-- beside the refusal of words that form no command the nearest lines of `help` are shown
+abbrev pub hint_for : List (List ℕ) → Option CommandForm → List ℕ
+hint_for words None = nearest help_text words
+hint_for words (Some form) = []
+
+abbrev pub hint_of : List (List ℕ) → List ℕ
+hint_of words = hint_for words (form_of words)

@@ -1,8 +1,13 @@
+ghost use Rattle.std.specs.Prelude.{◌≡◌, IfOk};
+ghost use Rattle.nearest_lines.specs.Nearest.{nearest};
 ghost use Rattle.desk_responses.specs.ResponseValues.{Says};
 ghost use Rattle.desk_cli.specs.Help.{help_text, version_text};
 ghost use Rattle.desk_responses.specs.Responses.{RespondsAs};
 
+use dep_model::OutOfMemory;
+use desk_outside::Argument;
 use desk_responses::{EarlyExit, Response, Status};
+use nearest_lines::nearest;
 use std::alloc::Global;
 
 const HELP: &[u8] =
@@ -56,7 +61,7 @@ desk report SCHEMA                    a page of HTML that says of the schema wha
 desk report SCHEMA PLAN               the same with the tables of the plan
 desk help                             this text
 desk --version                        the release
-Status: 0 yes, 1 no, 2 refused, 3 a file cannot be read, 4 the output cannot be written, 5 a target failed, 6 want of memory.
+Status: 0 yes, 1 no, 2 refused, 3 a file cannot be read, 4 the output cannot be written, 5 a destination failed, 6 out of memory.
 The formats are told in docs/FORMATS.md.
 ";
 
@@ -70,11 +75,18 @@ pub fn help(alloc: Global) -> Result<Response, EarlyExit>
     }
 }
 
+/// The lines of the commands that are nearest to these words.
+pub fn nearest_commands(alloc: Global, words: &[Argument]) -> Result<Vec<u8>, OutOfMemory>
+    ensures lines { IfOk result (λ text. text.items ≡ nearest help_text words.now) }
+{
+    nearest(alloc, HELP, words)
+}
+
 /// The number of the release.
 pub fn version(alloc: Global) -> Result<Response, EarlyExit>
     ensures response { RespondsAs (Says Status.Yes version_text) result }
 {
-    match Vec::from_slice(alloc, b"desk 0.8.0\n") {
+    match Vec::from_slice(alloc, b"desk 0.9.0\n") {
         Ok(text) => Ok(Response::with_text(Status::Yes, text)),
         Err(_) => Err(EarlyExit::OutOfMemory),
     }

@@ -25,7 +25,8 @@ ghost use Rattle.sample_rows.specs.declared.rows.TheConstants.{MOST_PERSONS};
 ghost use Rattle.schema_reader.specs.declared.goal.TheConstants.{MOST_GOAL_BYTES};
 ghost use Rattle.schema_reader.specs.declared.set.TheConstants.{MOST_SET_BYTES};
 ghost use Rattle.schema_reader.specs.declared.text.TheConstants.{MOST_TEXT_BYTES};
-ghost use Rattle.table_scripts.specs.declared.naming.TheConstants.{MOST_PARTS, MOST_PART_BYTES};
+ghost use Rattle.table_scripts.specs.declared.naming.TheConstants.{MOST_PART_BYTES};
+ghost use Rattle.table_words.specs.declared.parts.TheConstants.{MOST_PARTS};
 
 /// What a schema and its text may have, and how many bytes a name.
 pub fn limits_of_schemas()

@@ -306,7 +306,7 @@ fn of_parts<F: FileSource>(
     if parts.len() > MOST_FILES {
         return Err(EarlyExit::OutOfMemory);
     }
-    rejoin(alloc, hashing, schema, &parts)
+    rejoin(alloc, hashing, schema, parts)
 }
 
 /// The rules that the rows of a file obey.

@@ -1,6 +1,7 @@
 ghost use Rattle.std.specs.Prelude.{◌≡◌, ◌≤◌, IfOk};
 ghost use Rattle.desk_words.specs.Commands.{command_form};
-ghost use Rattle.desk_cli.specs.Desk.{Desk, Delivered, source_in_call, sink_in_call};
+ghost use Rattle.desk_cli.specs.Desk.{Desk, Delivered, Notes, is_answer, notice_text, source_in_call, sink_in_call};
+ghost use Rattle.desk_cli.specs.Help.{hint_of};
 ghost use Rattle.desk_delivery.specs.Outcomes.{destinations_in_call, own_in_call};
 ghost use Rattle.own_folder.specs.OwnWriting.{folder_in_call, place_in_call};
 ghost use Rattle.desk_cli.specs.FilesRead.{files_of_command, files_of_words};
@@ -9,7 +10,7 @@ ghost use Rattle.desk_inputs.specs.FilesBegun.{BeginsFront};
 ghost use Rattle.desk_inputs.specs.Readings.{Reading, Shows};
 ghost use Rattle.desk_responses.specs.Responses.{response_value, RespondsAs};
 
-use crate::help::{help, version};
+use crate::help::{help, nearest_commands, version};
 use crate::imports::{of_imported, of_sql};
 use crate::tasks::{of_headed, of_whole, over_schema};
 use dep_model::OutOfMemory;
@@ -26,18 +27,21 @@ use std::alloc::Global;
 
 /// Answers the words over the files of the file source, in a status, a text that goes to the sink, and
 /// tables that go to the destinations, or to a folder of their own, which is made at the place of `own`.
+/// The text of an answer that is neither yes nor no goes to the sink of notices too, and where the words form
+/// no command the nearest lines of `help` after it; whether that can be written changes no status.
 ///
 /// The words are those after the program's name. The whole text is made before its first byte is
 /// written, and before the first call of a destination. The words are looked at first, then each file
 /// in the order of the words (read, its length, its grammar), then the goal (its length, its grammar),
 /// then the answer, then the destinations or the folder, then the sink; the first that applies
-/// decides. Values are hashed as the caller says, which changes no answer.
-pub fn desk<F: FileSource, K: Sink, M: FolderMaker, G: Folder>(
+/// decides. The notice is written after the text. Values are hashed as the caller says, which changes no answer.
+pub fn desk<F: FileSource, K: Sink, N: Sink, M: FolderMaker, G: Folder>(
     alloc: Global,
     hashing: Hashing,
     words: &[Argument],
     source: &mut F,
     out: &mut K,
+    notices: &mut N,
     destinations: &mut Vec<Box<dyn Destination>>,
     own: &mut OwnFolderWriter<M, G>,
 ) -> Result<Status, OutOfMemory>
@@ -48,6 +52,7 @@ pub fn desk<F: FileSource, K: Sink, M: FolderMaker, G: Folder>(
         (F.begun source.old)
         (F.begun source.new))
         (sink_in_call (K.contents out.old) (K.contents out.new) (K.faults out.old) (K.faults out.new))
+        (sink_in_call (N.contents notices.old) (N.contents notices.new) (N.faults notices.old) (N.faults notices.new))
         (destinations_in_call ⟦<Box<dyn Destination> as Destination>⟧.is_known
         ⟦<Box<dyn Destination> as Destination>⟧.finished
         ⟦<Box<dyn Destination> as Destination>⟧.begun
@@ -57,16 +62,26 @@ pub fn desk<F: FileSource, K: Sink, M: FolderMaker, G: Folder>(
         (folder_in_call G.contents G.begun G.faults own.old.folder.folder own.new.folder.folder))
         result }
 {
-    desk_over(alloc, hashing, words, source, out, destinations, own)
+    desk_over(
+        alloc,
+        hashing,
+        words,
+        source,
+        out,
+        notices,
+        destinations,
+        own,
+    )
 }
 
 // The same over destinations of one type.
-fn desk_over<F: FileSource, K: Sink, T: Destination, M: FolderMaker, G: Folder>(
+fn desk_over<F: FileSource, K: Sink, N: Sink, T: Destination, M: FolderMaker, G: Folder>(
     alloc: Global,
     hashing: Hashing,
     words: &[Argument],
     source: &mut F,
     out: &mut K,
+    notices: &mut N,
     destinations: &mut Vec<T>,
     own: &mut OwnFolderWriter<M, G>,
 ) -> Result<Status, OutOfMemory>
@@ -77,6 +92,7 @@ fn desk_over<F: FileSource, K: Sink, T: Destination, M: FolderMaker, G: Folder>(
         (F.begun source.old)
         (F.begun source.new))
         (sink_in_call (K.contents out.old) (K.contents out.new) (K.faults out.old) (K.faults out.new))
+        (sink_in_call (N.contents notices.old) (N.contents notices.new) (N.faults notices.old) (N.faults notices.new))
         (destinations_in_call T.is_known T.finished T.begun T.width T.faults destinations.old.items
         destinations.new.items)
         (own_in_call (place_in_call M.made M.faults own.old.place own.new.place)
@@ -84,19 +100,25 @@ fn desk_over<F: FileSource, K: Sink, T: Destination, M: FolderMaker, G: Folder>(
         result }
 {
     let response = answer(alloc, hashing, words, source, &own.place)?;
-    deliver(alloc, response, out, destinations, own)
+    let hint = hint(alloc, words)?;
+    deliver(alloc, response, &hint, out, notices, destinations, own)
 }
 
-/// Hands the tables of a response to the destinations, or to a folder of their own, and its text to the sink.
-pub fn deliver<K: Sink, T: Destination, M: FolderMaker, G: Folder>(
+/// Hands the tables of a response to the destinations, or to a folder of their own, its text to the sink, and then
+/// its notice, with a hint, to the sink of notices.
+pub fn deliver<K: Sink, N: Sink, T: Destination, M: FolderMaker, G: Folder>(
     alloc: Global,
     response: Response,
+    hint: &[u8],
     out: &mut K,
+    notices: &mut N,
     destinations: &mut Vec<T>,
     own: &mut OwnFolderWriter<M, G>,
 ) -> Result<Status, OutOfMemory>
     ensures delivers { Delivered
         (sink_in_call (K.contents out.old) (K.contents out.new) (K.faults out.old) (K.faults out.new))
+        (sink_in_call (N.contents notices.old) (N.contents notices.new) (N.faults notices.old) (N.faults notices.new))
+        hint.now
         (destinations_in_call T.is_known T.finished T.begun T.width T.faults destinations.old.items
         destinations.new.items)
         (own_in_call (place_in_call M.made M.faults own.old.place own.new.place)
@@ -104,9 +126,60 @@ pub fn deliver<K: Sink, T: Destination, M: FolderMaker, G: Folder>(
         (response_value response) result }
 {
     let end = deliver_tables(alloc, destinations, own, response)?;
-    match send(out, &end.text) {
+    let sent = send(out, &end.text);
+    note(notices, end.status, &end.text, hint);
+    match sent {
         Ok(()) => Ok(end.status),
         Err(_) => Ok(Status::CannotWrite),
+    }
+}
+
+// Writes the notice of an outcome: its text and a hint, where it is neither yes nor no. What cannot be written is
+// passed over.
+fn note<N: Sink>(notices: &mut N, status: Status, text: &[u8], hint: &[u8])
+    ensures notes { Notes
+        (sink_in_call (N.contents notices.old) (N.contents notices.new) (N.faults notices.old) (N.faults notices.new))
+        (notice_text hint.now (record { status = status; text = text.now })) }
+    ensures later { N.faults notices.old ≤ N.faults notices.new }
+{
+    if is_answer(status) {
+        return;
+    }
+    match send(notices, text) {
+        Ok(()) => send_hint(notices, hint),
+        Err(_) => {}
+    }
+}
+
+fn send_hint<N: Sink>(notices: &mut N, hint: &[u8])
+    ensures notes { Notes
+        (sink_in_call (N.contents notices.old) (N.contents notices.new) (N.faults notices.old) (N.faults notices.new))
+        hint.now }
+    ensures later { N.faults notices.old ≤ N.faults notices.new }
+{
+    match send(notices, hint) {
+        Ok(()) => {}
+        Err(_) => {}
+    }
+}
+
+fn is_answer(status: Status) -> bool
+    ensures answer { result ≡ is_answer status }
+{
+    match status {
+        Status::Yes | Status::No => true,
+        Status::Refused | Status::CannotRead | Status::CannotWrite | Status::DestinationFailed =>
+            false,
+    }
+}
+
+// What is shown beside the refusal of words that form no command.
+fn hint(alloc: Global, words: &[Argument]) -> Result<Vec<u8>, OutOfMemory>
+    ensures hint { IfOk result (λ text. text.items ≡ hint_of words.now) }
+{
+    match parse(words) {
+        None => nearest_commands(alloc, words),
+        Some(_) => Ok(Vec::new(alloc)),
     }
 }
 

@@ -1,29 +1,29 @@
 -- SQL scripts over a table of the user's: for `sql check` and `sql migrate`.
-use Rattle.std.specs.Prelude.{◌≡◌, ◌↔◌, ℕ, Bool, false, IsTrue, List, []}
-use Rattle.std.specs.List.{list_any}
+use Rattle.std.specs.Prelude.{◌≡◌, ◌↔◌, ℕ, IsTrue, List, [], ◌++◌, codes, Some, None, length}
 use Rattle.attr_sets.specs.Attributes.{Attributes}
 use Rattle.attr_sets.specs.declared.set.AttrSet.{AttrSet}
 use Rattle.dep_model.specs.Plans.{schemes_of}
 use Rattle.dep_model.specs.Schemas.{width_of, LegalFor}
 use Rattle.dep_model.specs.Tuples.{Relation, IsOver}
 use Rattle.dep_model.specs.declared.schema.Schema.{Schema}
-use Rattle.table_names.specs.TableNames.{GivenNames, is_given}
+use Rattle.table_names.specs.TableNames.{GivenNames}
 use Rattle.ddl_text.specs.declared.table.TableDesign.{TableDesign}
 use Rattle.normal_forms.specs.declared.forms.Form.{Form}
 use Rattle.sql_evaluation.specs.Cells.{Cell}
 use Rattle.sql_evaluation.specs.Evaluation.{Engine}
 use Rattle.sql_evaluation.specs.Running.{State, Cast, Fails, engine_at, ended, stopped, outcome}
 use Rattle.migrate_queries.specs.Script.{migration}
-use Rattle.migrate_laws.specs.Moved.{HasMoved}
+use Rattle.migrate_laws.specs.Moved.{HasMoved, LeavesOthers}
 use Rattle.ending_laws.specs.Ending.{IsSoundRun}
 use Rattle.check_laws.specs.Holding.{Holds, CastsIntegers}
 use Rattle.check_laws.specs.Telling.{NoBreachShown, RulesHold, NothingShown}
 use Rattle.table_scripts.specs.Checking.{check_text, NothingBreaks}
 use Rattle.table_scripts.specs.Migrating.{migrate_text, FillsTables, ViewIsTable}
-use Rattle.table_scripts.specs.Naming.{dotted_parts, is_table_name, last_of, quoted_table}
+use Rattle.table_scripts.specs.Naming.{is_table_name, met_name, quoted_table}
 use Rattle.desk_responses.specs.declared.status.Status.TheVariants.{Yes, Refused}
 use Rattle.desk_responses.specs.Lines.{bad_table_text}
 use Rattle.desk_responses.specs.ResponseValues.{Allowed, Says, Unless}
+use Rattle.desk_texts.specs.Texts.{line}
 use Rattle.desk_designs.specs.Decompositions.{WithPlanInForm}
 use Rattle.desk_designs.specs.Designs.{IsSoundDesign, WithoutMissing}
 use Rattle.desk_designs.specs.Joins.{WithoutLoss}
@@ -37,16 +37,20 @@ TableNameStops name response = (IsTrue (is_table_name name) → ⊥) × Says Ref
 abbrev pub WithTableName : List ℕ → Allowed → Allowed
 WithTableName name = Unless (TableNameStops name) (IsTrue (is_table_name name))
 
+-- the refusal of a word whose last part is the name of a table that is made
+abbrev pub met_table_text : List ℕ → List ℕ
+met_table_text met = line (codes "refused: bad table name " ++ met)
+
 -- how it ends a command that makes tables with names: where its last part is one of these, the case of letters aside
 abbrev pub MetNameStops : GivenNames → List ℕ → Allowed
 MetNameStops names name response =
-    IsTrue (list_any (is_given (last_of (dotted_parts name))) names) × Says Refused bad_table_text response
+    (met : List ℕ) × (met_name names name ≡ Some met) × Says Refused (met_table_text met) response
 
 -- a word names a table other than those with these names, and then the rest follows
 abbrev pub WithOtherName : GivenNames → List ℕ → Allowed → Allowed
 WithOtherName names name rest =
     WithTableName name
-    (Unless (MetNameStops names name) (list_any (is_given (last_of (dotted_parts name))) names ≡ false) rest)
+    (Unless (MetNameStops names name) (met_name names name ≡ None) rest)
 
 -- ---- checking
 -- what the queries of a script for a table show: over a relation, the terms for the dependencies of a
@@ -70,9 +74,10 @@ ScriptsCheck schema name = WithTableName name (AsksTable schema name)
 
 -- ---- migrating
 -- what a script that makes tables does. In an engine that holds a relation as this table, whatever it refuses,
--- a run without an error has moved the relation into the tables, and any other run has changed nothing. Over a
--- legal relation what fills each table is its ordered projection, and where the plan loses nothing the join of
--- the tables is the relation; and then a run ends without an error where the engine refuses only what breaks a rule
+-- a run without an error has moved the relation into the tables, its table has no other columns, and all else is as
+-- it was; any other run has changed nothing. Over a legal relation what fills each table is its ordered projection,
+-- and where the plan loses nothing the join of the tables is the relation; and then a run ends without an error where
+-- the engine refuses only what breaks a rule
 pub record IsSoundScript (schema : Schema) (table : List ℕ) (tables : List TableDesign) : Type 0 where
   pub fills : FillsTables schema tables
   pub view : ViewIsTable schema tables
@@ -80,6 +85,13 @@ pub record IsSoundScript (schema : Schema) (table : List ℕ) (tables : List Tab
       → Holds (engine_at cast start) table schema cell r
       → outcome fails cast (migration schema table tables) start ≡ ended last
       → HasMoved schema cast cell r tables last
+  pub whole : (fails : Fails) (cast : Cast) (cell : ℕ → List ℕ → Cell) (r : Relation) (start last : State)
+      (holds : Holds (engine_at cast start) table schema cell r)
+      → outcome fails cast (migration schema table tables) start ≡ ended last
+      → length holds.given.names ≡ width_of schema
+  pub leaves : (fails : Fails) (cast : Cast) (cell : ℕ → List ℕ → Cell) (r : Relation) (start last : State)
+      → Holds (engine_at cast start) table schema cell r
+      → outcome fails cast (migration schema table tables) start ≡ ended last → LeavesOthers tables start last
   pub undoes : (fails : Fails) (cast : Cast) (start kept : State)
       → outcome fails cast (migration schema table tables) start ≡ stopped kept → kept ≡ start
   pub ends : (fails : Fails) (cast : Cast) (cell : ℕ → List ℕ → Cell) (r : Relation) (start : State)

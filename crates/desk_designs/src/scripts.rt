@@ -1,12 +1,11 @@
-ghost use Rattle.std.specs.Prelude.{◌≡◌, ◌≤◌, false, length, IsTrue, IfOk, IfErr};
-ghost use Rattle.std.specs.List.{list_any};
+ghost use Rattle.std.specs.Prelude.{◌≡◌, ◌≤◌, None, length, IsTrue, IfOk, IfErr};
 ghost use Rattle.dep_model.specs.Projections.{Covers};
 ghost use Rattle.dep_model.specs.Schemas.{width_of};
 ghost use Rattle.plans.specs.Plans.{IsPlanOver, plan_of, scheme_sets};
-ghost use Rattle.table_names.specs.TableNames.{is_given};
-ghost use Rattle.table_scripts.specs.Naming.{dotted_parts, is_table_name, last_of};
+ghost use Rattle.table_scripts.specs.Naming.{is_table_name, met_name};
+ghost use Rattle.desk_responses.specs.ResponseValues.{Says};
 ghost use Rattle.desk_responses.specs.Responses.{response_value, RespondsAs, ExitsAs};
-ghost use Rattle.desk_designs.specs.Scripts.{AsksTable, MakesDesign, MetNameStops, TableNameStops, ScriptsCheck, ScriptsMigration, ScriptsMigrationByPlan};
+ghost use Rattle.desk_designs.specs.Scripts.{AsksTable, MakesDesign, MetNameStops, TableNameStops, met_table_text, ScriptsCheck, ScriptsMigration, ScriptsMigrationByPlan};
 
 use crate::decomposition::plan_in_form;
 use crate::join::test_loss;
@@ -15,12 +14,12 @@ use ddl_text::DesignList;
 use dep_model::{Name, OutOfMemory, Schema};
 use desk_outside::Argument;
 use desk_responses::{EarlyExit, Response, Status, bad_table_exit};
+use desk_texts::line_of;
 use normal_forms::Form;
 use plan_reader::MOST_SCHEMES;
 use plans::Plan;
 use std::alloc::Global;
-use table_names::is_given;
-use table_scripts::{check_script, is_table_name, last_part, migrate_script};
+use table_scripts::{check_script, is_table_name, met_name, migrate_script};
 
 /// The queries for what breaks each rule in a table.
 pub fn script_check(alloc: Global, schema: &Schema, name: &Argument) -> Result<Response, EarlyExit>
@@ -102,13 +101,26 @@ fn test_name(alloc: Global, name: &Argument) -> Result<(), EarlyExit>
 
 // Whether the last part of a word is none of these names.
 fn test_other_name(alloc: Global, names: &[Option<Name>], name: &Argument) -> Result<(), EarlyExit>
-    ensures ok { IfOk result (λ _. list_any (is_given (last_of (dotted_parts name.now))) names.now ≡ false) }
+    ensures ok { IfOk result (λ _. met_name names.now name.now ≡ None) }
     ensures exit { IfErr result (ExitsAs (MetNameStops names.now name.now)) }
 {
-    if is_given(names, last_part(name.bytes())) {
-        return Err(bad_table_exit(alloc));
+    match met_name(names, name.bytes()) {
+        Some(met) => Err(met_table_exit(alloc, &met)),
+        None => Ok(()),
     }
-    Ok(())
+}
+
+// The last part of a word is the name of a table that is made.
+fn met_table_exit(alloc: Global, met: &Name) -> EarlyExit
+    ensures says { ExitsAs (Says Status.Refused (met_table_text met.now)) result }
+{
+    EarlyExit::with_text(Status::Refused, met_table_line(alloc, met))
+}
+
+fn met_table_line(alloc: Global, met: &Name) -> Result<Vec<u8>, OutOfMemory>
+    ensures line { IfOk result (λ text. text.items ≡ met_table_text met.now) }
+{
+    line_of(alloc, b"refused: bad table name ", met.bytes(), b"")
 }
 
 // The queries for what breaks each rule.

@@ -38,7 +38,7 @@ pub fn discover_keys(
     ensures response { RespondsAs (FindsRowKeys file.now headed) result }
 {
     let Headed { names, rows } = headed;
-    match row_keys(alloc, hashing, names.len() as u8, &rows) {
+    match row_keys(alloc, hashing, names.len() as u8, rows) {
         Ok(keys) => Ok(keys_response(alloc, names, &keys)?),
         Err(Failure::Refused(_)) => Err(too_many_keys_exit(alloc, file)),
         Err(Failure::OutOfMemory) => Err(EarlyExit::OutOfMemory),

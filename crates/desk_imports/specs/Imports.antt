@@ -30,6 +30,7 @@ reason_number reason.ExpectedKey = 6
 reason_number reason.TooManyAttributes = 7
 reason_number reason.TooManyDependencies = 8
 reason_number reason.UnknownName = 9
+reason_number reason.TableAltered = 10
 
 -- what it says
 abbrev pub reason_text : Reason → List ℕ
@@ -47,6 +48,7 @@ reason_text reason.ExpectedKey = codes "expected KEY"
 reason_text reason.TooManyAttributes = codes "too many attributes"
 reason_text reason.TooManyDependencies = codes "too many dependencies"
 reason_text reason.UnknownName = codes "unknown name"
+reason_text reason.TableAltered = codes "the table is altered"
 
 -- the line and the column of a place
 abbrev pub line_and_column : List ℕ → ℕ → List ℕ

@@ -72,5 +72,5 @@ fn imported_text(
     ensures err { IfErr result (λ failure. Fails failure (imported_text dialect wanted.now text.now)) }
 {
     let definition = read_definition(alloc, dialect, wanted, text)?;
-    print_table(alloc, dialect, &definition)
+    print_table(alloc, &definition)
 }

@@ -113,6 +113,7 @@ fn reason_number(reason: Reason) -> u32
         Reason::TooManyAttributes => 7,
         Reason::TooManyDependencies => 8,
         Reason::UnknownName => 9,
+        Reason::TableAltered => 10,
     }
 }
 
@@ -134,5 +135,6 @@ fn reason_text(reason: Reason) -> &'static [u8]
         Reason::TooManyAttributes => b"too many attributes",
         Reason::TooManyDependencies => b"too many dependencies",
         Reason::UnknownName => b"unknown name",
+        Reason::TableAltered => b"the table is altered",
     }
 }

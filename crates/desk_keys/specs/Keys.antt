@@ -69,13 +69,17 @@ pub record HasKeys (schema : Schema) (keyed : KeyedScheme) : Type 0 where
 abbrev pub IsListed : Schema → Attributes → Type 0
 IsListed schema scheme = (keys : List AttrSet) × HasKeys schema (record { scheme = scheme; keys = keys })
 
+-- the refusal of a scheme that has more keys than are listed
+abbrev pub too_many_scheme_keys_text : List (List ℕ) → Attributes → List ℕ
+too_many_scheme_keys_text names scheme = line (codes "refused: too many keys: scheme " ++ set_text names scheme)
+
 -- a scheme ends the command: it is too wide, or narrow with more keys than are listed
 abbrev pub EndsKeys : Schema → Attributes → Allowed
 EndsKeys schema scheme response =
     (IsWide (theory_of schema) scheme × Says Refused (too_wide_text (printed_names_of schema) scheme) response)
     ⊎ ((IsWide (theory_of schema) scheme → ⊥)
     × ((found : List AttrSet) × AreManyKeys (width_of schema) (theory_of schema) scheme found
-    × Says Refused too_many_keys_text response))
+    × Says Refused (too_many_scheme_keys_text (printed_names_of schema) scheme) response))
 
 -- yes, with the keys of each scheme in order; refused at the first scheme that ends the command
 abbrev pub ListsKeysOfPlan : Schema → List Attributes → Allowed

@@ -66,8 +66,8 @@ pub fn set_lines(alloc: Global, schema: &Schema, sets: &[AttrSet]) -> Result<Vec
     Ok(text)
 }
 
-/// There are more keys than are listed.
-pub fn too_many_keys_exit(alloc: Global) -> EarlyExit
+// There are more keys than are listed.
+fn too_many_keys_exit(alloc: Global) -> EarlyExit
     ensures says { ExitsAs (Says Status.Refused too_many_keys_text) result }
 {
     EarlyExit::with_text(Status::Refused, too_many_keys_line(alloc))

@@ -6,16 +6,18 @@ ghost use Rattle.dep_model.specs.Plans.{schemes_of};
 ghost use Rattle.dep_model.specs.Schemas.{universe_of};
 ghost use Rattle.schema_printer.specs.Spelling.{printed_names_of};
 ghost use Rattle.plans.specs.Plans.{IsPlanOver, plan_of};
-ghost use Rattle.desk_keys.specs.Keys.{EndsKeys, HasKeys, ListsKeysOfPlan, keyed_text, keys_text};
+ghost use Rattle.desk_keys.specs.Keys.{EndsKeys, HasKeys, ListsKeysOfPlan, keyed_text, keys_text, too_many_scheme_keys_text};
 ghost use Rattle.desk_keys.specs.KeyedLines.{AddsKeys, StandIn};
+ghost use Rattle.desk_responses.specs.ResponseValues.{Says};
 ghost use Rattle.desk_responses.specs.Responses.{RespondsAs, ExitsAs};
 
-use crate::keys::too_many_keys_exit;
 use attr_sets::AttrSet;
 use dep_model::{Failure, OutOfMemory, Schema};
 use desk_responses::{EarlyExit, Response, Status, put_set_line, too_wide_exit};
+use desk_texts::line_of;
 use key_listing::{SchemeKeyRefusal, keys_of_scheme};
 use plans::Plan;
+use schema_printer::print_set;
 use std::alloc::Global;
 
 /// The keys of the schemes of a plan.
@@ -128,13 +130,42 @@ fn keys_or_stop(alloc: Global, schema: &Schema, scheme: AttrSet) -> Result<Vec<A
     match keys_of_scheme(alloc, schema, scheme) {
         Ok(keys) => Ok(keys),
         Err(Failure::Refused(SchemeKeyRefusal::TooManyKeys { .. })) => {
-            Err(too_many_keys_exit(alloc))
+            Err(too_many_scheme_keys_exit(alloc, schema, scheme))
         }
         Err(Failure::Refused(SchemeKeyRefusal::TooWide)) => {
             Err(too_wide_exit(alloc, schema, scheme))
         }
         Err(Failure::OutOfMemory) => Err(EarlyExit::OutOfMemory),
     }
+}
+
+// A scheme has more keys than are listed.
+fn too_many_scheme_keys_exit(alloc: Global, schema: &Schema, scheme: AttrSet) -> EarlyExit
+    requires within { IsSubset (attributes scheme) (universe_of schema.now) }
+    ensures says { ExitsAs (Says Status.Refused
+        (too_many_scheme_keys_text (printed_names_of schema.now) (attributes scheme))) result }
+{
+    EarlyExit::with_text(
+        Status::Refused,
+        too_many_scheme_keys_line(alloc, schema, scheme),
+    )
+}
+
+fn too_many_scheme_keys_line(
+    alloc: Global,
+    schema: &Schema,
+    scheme: AttrSet,
+) -> Result<Vec<u8>, OutOfMemory>
+    requires within { IsSubset (attributes scheme) (universe_of schema.now) }
+    ensures line { IfOk result (λ text. text.items
+        ≡ too_many_scheme_keys_text (printed_names_of schema.now) (attributes scheme)) }
+{
+    line_of(
+        alloc,
+        b"refused: too many keys: scheme ",
+        &print_set(alloc, schema, scheme)?,
+        b"",
+    )
 }
 
 // A scheme and its keys, each on a line at the end of a text.

@@ -66,11 +66,11 @@ use Rattle.desk_laws.proofs.StopLemmas.{one_content, file_goes, schema_goes, pro
 use Rattle.desk_tables.specs.OwnFolders.{Looks}
 
 -- ---- the call
-pub calls_end : (words : List (List ℕ)) (looks : Looks) (files : Files) (source : FileSourceInCall) (sink : SinkInCall)
+pub calls_end : (words : List (List ℕ)) (looks : Looks) (files : Files) (source : FileSourceInCall) (sink notices : SinkInCall)
     (destinations : DestinationsInCall) (own : OwnInCall) (result : Result Status OutOfMemory)
-    → Desk words looks source sink destinations own result → FailsNowhere files source sink destinations own
+    → Desk words looks source sink notices destinations own result → FailsNowhere files source sink destinations own
     → IsAnsweredBy looks files words → (status : Status) → result ≡ Ok status → IsYesOrNo status
-calls_end words looks files source sink destinations own result desk nowhere answered status is =
+calls_end words looks files source sink notices destinations own result desk nowhere answered status is =
     let delivers = desk.complete files nowhere.holds nowhere.reads nowhere.writes nowhere.writes_tables nowhere.writes_folder status is in
     subst IsYesOrNo (sym delivers.2) (answered delivers.0 delivers.1)
 

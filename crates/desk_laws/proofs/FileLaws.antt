@@ -1,5 +1,5 @@
 -- Where the files of `discover`, `import csv` and `rejoin` have their meaning, these commands answer yes or no.
-use Rattle.std.proofs.Common.{◌≡◌, ◌≤◌, ◌<◌, ℕ, true, false, zero, suc, Some, None, Result, Ok, Err, List, [], ◌∷◌, length, inl, inr, refl, sym, ap, subst, ◌∙◌, arith}
+use Rattle.std.proofs.Common.{◌≡◌, ◌≤◌, ◌<◌, ◌⊎◌, ℕ, true, false, zero, suc, Some, None, Result, Ok, Err, List, [], ◌∷◌, length, inl, inr, refl, sym, ap, subst, ◌∙◌, arith}
 use Rattle.std.specs.Prelude.{codes, slice_get}
 use Rattle.attr_sets.specs.Attributes.{Attributes}
 use Rattle.attr_sets.specs.Sets.{attributes}
@@ -23,7 +23,7 @@ use Rattle.lexer.specs.Bytes.{number_of}
 use Rattle.near_rules.specs.NearRules.{IsFirstExceeded, IsTriedWhole}
 use Rattle.row_keys.specs.Keys.{HasTooManyKeys}
 use Rattle.fd_discovery.specs.declared.headed_rows.Limits.{Limits}
-use Rattle.table_join.specs.Answers.{IsWithinLimit}
+use Rattle.table_join.specs.Answers.{IsBeyondLimit, IsWithinLimit, tables_from_last}
 use Rattle.table_join.specs.declared.refusal.JoinRefusal.TheVariants.{NotCovered, TooManyRows}
 use Rattle.table_join.specs.Tables.{PartialRelation, table_of_part, tables_of, plan_of_tables}
 use Rattle.desk_outside.specs.Files.{Files}
@@ -305,18 +305,29 @@ after_parts files s r names ps rest response same are go (inr (qs, also, more)) 
     go qs (tables_alike files s r names ps qs same are also) more
 
 -- ---- the join
+-- in their own order or from the last the joins of the first tables keep within the limit
+abbrev KeepsInEither : ℕ → List PartialRelation → Type 0
+KeepsInEither n tables = IsWithinLimit n MOST_JOINED_ROWS tables ⊎ IsWithinLimit n MOST_JOINED_ROWS (tables_from_last tables)
+
+within_goes : (n : ℕ) (tables : List PartialRelation) → IsWithinLimit n MOST_JOINED_ROWS tables → IsBeyondLimit n MOST_JOINED_ROWS tables → ⊥
+within_goes n tables within beyond = over_and_under _ MOST_JOINED_ROWS (within beyond.0 beyond.1.positive beyond.1.among) beyond.1.beyond
+  where
+    over_and_under : (m most : ℕ) → m ≤ most → most < m → ⊥
+    over_and_under m most small many = omega (arith, small, many)
+
+either_goes : (n : ℕ) (tables : List PartialRelation) → KeepsInEither n tables → IsBeyondLimit n MOST_JOINED_ROWS tables
+    → IsBeyondLimit n MOST_JOINED_ROWS (tables_from_last tables) → ⊥
+either_goes n tables (inl own) first second = within_goes n tables own first
+either_goes n tables (inr last) first second = within_goes n (tables_from_last tables) last second
+
 joins_tables : (n : ℕ) (r : Schema) (tables : List PartialRelation) (response : ResponseValue) → width_of r ≡ n
-    → Covers n (plan_of_tables tables) → IsWithinLimit n MOST_JOINED_ROWS tables → JoinsTables r tables response
+    → Covers n (plan_of_tables tables) → KeepsInEither n tables → JoinsTables r tables response
     → IsYesOrNo response.status
 joins_tables n r tables response width covers small (inl (rows, is, says)) = inl (ap (λ (a : ResponseValue). a.status) says)
 joins_tables n r tables response width covers small (inr (NotCovered a, first, says)) =
     absurd (first.uncovered (covers a (omega (arith, width, first.within))))
 joins_tables n r tables response width covers small (inr (TooManyRows k, large, says)) =
-    let within_limit = subst (λ (m : ℕ). IsWithinLimit m MOST_JOINED_ROWS tables) (sym width) small in
-    absurd (over_and_under _ MOST_JOINED_ROWS (within_limit k large.1.positive large.1.among) large.1.beyond)
-  where
-    over_and_under : (m most : ℕ) → m ≤ most → most < m → ⊥
-    over_and_under m most within_limit many = omega (arith, within_limit, many)
+    absurd (either_goes (width_of r) tables (subst (λ (m : ℕ). KeepsInEither m tables) (sym width) small) (k, large.1) large.2)
 
 rejoin_asks : (files : Files) (name : List ℕ) (names : List (List ℕ)) (looks : Looks) (response : ResponseValue) → are_one_to_64 names ≡ true
     → Answers looks (known_files files) (codes "rejoin" ∷ name ∷ names) response
@@ -327,7 +338,7 @@ rejoin_asks files name names looks response within_limit answered = (rw within_l
 pub rejoin_answered : (files : Files) (name : List ℕ) (names : List (List ℕ)) (schema : Schema) (parts : List PartialRows)
     → IsFile schema_file (known_files files) name schema → are_one_to_64 names ≡ true → ArePartFiles (known_files files) schema names parts
     → Covers (width_of schema) (plan_of_tables (tables_of parts))
-    → IsWithinLimit (width_of schema) MOST_JOINED_ROWS (tables_of parts)
+    → KeepsInEither (width_of schema) (tables_of parts)
     → IsAnswered files (codes "rejoin" ∷ name ∷ names)
 rejoin_answered files name names schema parts file within_limit are covers small looks response answered =
     after_schema files name schema (λ r. WithParts (known_files files) r names (λ parts. JoinsTables r (tables_of parts))) response file
@@ -335,5 +346,5 @@ rejoin_answered files name names schema parts file within_limit are covers small
     (λ qs is found. joins_tables (width_of schema) r (tables_of qs) response
     (ap (λ (ns : List (List ℕ)). length ns) (sym (names_same schema r same)))
     (subst (λ (ts : List PartialRelation). Covers (width_of schema) (plan_of_tables ts)) is covers)
-    (subst (λ (ts : List PartialRelation). IsWithinLimit (width_of schema) MOST_JOINED_ROWS ts) is small) found) more)
+    (subst (KeepsInEither (width_of schema)) is small) found) more)
     (rejoin_asks files name names looks response within_limit answered)

@@ -22,10 +22,10 @@ use Rattle.desk_laws.specs.Completeness.{FailsNowhere, IsAnsweredYes}
 use Rattle.desk_laws.proofs.CompleteLaws.{on_plan, on_schema}
 
 pub yes_calls_end : (words : List (List ℕ)) (looks : Looks) (files : Files) (source : FileSourceInCall)
-    (sink : SinkInCall) (destinations : DestinationsInCall) (own : OwnInCall) (result : Result Status OutOfMemory)
-    → Desk words looks source sink destinations own result → FailsNowhere files source sink destinations own
+    (sink notices : SinkInCall) (destinations : DestinationsInCall) (own : OwnInCall) (result : Result Status OutOfMemory)
+    → Desk words looks source sink notices destinations own result → FailsNowhere files source sink destinations own
     → IsAnsweredYes files words → (status : Status) → result ≡ Ok status → status ≡ Yes
-yes_calls_end words looks files source sink destinations own result desk nowhere answered status is =
+yes_calls_end words looks files source sink notices destinations own result desk nowhere answered status is =
     let delivers = desk.complete files nowhere.holds nowhere.reads nowhere.writes nowhere.writes_tables nowhere.writes_folder
     status is in
     delivers.2 ∙ answered looks delivers.0 delivers.1

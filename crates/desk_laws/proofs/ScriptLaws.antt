@@ -1,17 +1,15 @@
 -- Where the inputs of the commands that print scripts and pictures have their meaning, they answer yes or no.
-use Rattle.std.proofs.Common.{ℕ, List, [], ◌∷◌, inl, inr, ap, ◌≡◌, false, sym, subst, ◌∙◌}
+use Rattle.std.proofs.Common.{ℕ, List, [], ◌∷◌, inl, inr, ap, ◌≡◌, None, Some, sym, subst, ◌∙◌}
 use Rattle.std.specs.Prelude.{codes, IsTrue}
 use Rattle.attr_sets.specs.declared.set.AttrSet.{AttrSet}
 use Rattle.dep_model.specs.Plans.{schemes_of}
 use Rattle.dep_model.specs.declared.schema.Schema.{Schema}
 use Rattle.normal_forms.specs.declared.forms.Form.{Form}
 use Rattle.normal_forms.specs.declared.forms.Form.TheVariants.{Third, Bcnf, Fourth}
-use Rattle.std.specs.List.{list_any}
-use Rattle.std.proofs.lemmas.Bool.{true≢false}
-use Rattle.table_names.specs.TableNames.{GivenNames, is_given}
+use Rattle.table_names.specs.TableNames.{GivenNames}
 use Rattle.named_plans.specs.NamedPlans.{NamedSchemes}
 use Rattle.desk_outside.specs.Files.{Files}
-use Rattle.table_scripts.specs.Naming.{dotted_parts, is_table_name, last_of}
+use Rattle.table_scripts.specs.Naming.{is_table_name, met_name}
 use Rattle.desk_responses.specs.ResponseValues.{Unless, ResponseValue, Allowed}
 use Rattle.desk_designs.specs.Decompositions.{WithPlanInForm}
 use Rattle.desk_designs.specs.Drawings.{DrawsTables, DrawsSchemes}
@@ -37,10 +35,10 @@ after_name table rest response is go (inl exit) = absurd (exit.0 is)
 after_name table rest response is go (inr (named, more)) = go more
 
 after_other : (names : GivenNames) (table : List ℕ) (rest : Allowed) (response : ResponseValue)
-    → list_any (is_given (last_of (dotted_parts table))) names ≡ false → (rest response → IsYesOrNo response.status)
-    → Unless (MetNameStops names table) (list_any (is_given (last_of (dotted_parts table))) names ≡ false) rest response
+    → met_name names table ≡ None → (rest response → IsYesOrNo response.status)
+    → Unless (MetNameStops names table) (met_name names table ≡ None) rest response
     → IsYesOrNo response.status
-after_other names table rest response other go (inl stops) = absurd (true≢false (sym stops.0 ∙ other))
+after_other names table rest response other go (inl (met, is, says)) = let never : Some met ≡ None = sym is ∙ other in cc
 after_other names table rest response other go (inr (free, more)) = go more
 
 MakesTables-yes_or_no : (r : Schema) (names : GivenNames) (table : List ℕ) (plan : List AttrSet) (response : ResponseValue) → MakesTables r names table plan response → IsYesOrNo response.status
@@ -97,7 +95,7 @@ sql_plan_asks files name file table looks response answered = answered
 
 pub sql_plan_answered : (files : Files) (name file table : List ℕ) (schema : Schema) (plan : NamedSchemes)
     → IsFile schema_file (known_files files) name schema → IsFile (plan_file schema) (known_files files) file plan → IsTrue (is_table_name table)
-    → list_any (is_given (last_of (dotted_parts table))) plan.names ≡ false
+    → met_name plan.names table ≡ None
     → RequiresAll schema → (IsTooLarge schema plan.schemes → ⊥)
     → IsAnswered files (codes "sql" ∷ codes "migrate" ∷ codes "plan" ∷ name ∷ file ∷ table ∷ [])
 sql_plan_answered files name file table schema plan held_schema held_plan is_name other none small looks response answered =
@@ -106,10 +104,10 @@ sql_plan_answered files name file table schema plan held_schema held_plan is_nam
     (λ r same more. after_plan files schema r file plan
     (λ p. ScriptsMigrationByPlan r p.names p.schemes table) response same held_plan
     (λ p is found. after_name table
-    (Unless (MetNameStops p.names table) (list_any (is_given (last_of (dotted_parts table))) p.names ≡ false)
+    (Unless (MetNameStops p.names table) (met_name p.names table ≡ None)
     (WithoutMissing r p.names p.schemes (WithoutLoss r p.schemes (MakesSchemes r p.names table p.schemes)))) response is_name
     (λ named. after_other p.names table (WithoutMissing r p.names p.schemes (WithoutLoss r p.schemes (MakesSchemes r p.names table p.schemes))) response
-    (subst (λ (q : NamedSchemes). list_any (is_given (last_of (dotted_parts table))) q.names ≡ false) (sym is) other)
+    (subst (λ (q : NamedSchemes). met_name q.names table ≡ None) (sym is) other)
     (λ stands. after_missing schema r p.names p.schemes (WithoutLoss r p.schemes (MakesSchemes r p.names table p.schemes)) response same none
     (λ kept. after_loss schema r p.schemes plan.schemes (MakesSchemes r p.names table p.schemes) response same (ap (λ (q : NamedSchemes). q.schemes) is) small
     (λ makes. MakesTables-yes_or_no r p.names table makes.0 response makes.2) kept) stands) named) found) more)

@@ -1,12 +1,10 @@
 -- When words are answered, as the laws of `complete_scripts` say it: scripts and pictures. `Desk` does not cite it.
-use Rattle.std.specs.Prelude.{◌≡◌, false, ℕ, List, [], ◌∷◌, IsTrue, codes}
-use Rattle.std.specs.List.{list_any}
+use Rattle.std.specs.Prelude.{◌≡◌, None, ℕ, List, [], ◌∷◌, IsTrue, codes}
 use Rattle.dep_model.specs.declared.schema.Schema.{Schema}
 use Rattle.normal_forms.specs.declared.forms.Form.{Form}
 use Rattle.named_plans.specs.NamedPlans.{NamedSchemes}
-use Rattle.table_names.specs.TableNames.{is_given}
 use Rattle.desk_outside.specs.Files.{Files}
-use Rattle.table_scripts.specs.Naming.{dotted_parts, is_table_name, last_of}
+use Rattle.table_scripts.specs.Naming.{is_table_name, met_name}
 use Rattle.desk_inputs.specs.FileKinds.{IsFile}
 use Rattle.desk_inputs.specs.Inputs.{schema_file}
 use Rattle.desk_designs.specs.Joins.{IsTooLarge}
@@ -40,7 +38,7 @@ abbrev pub SqlMigrateIsAnsweredPlan : Type 0
 SqlMigrateIsAnsweredPlan =
     (files : Files) (name file table : List ℕ) (schema : Schema) (plan : NamedSchemes)
     → IsFile schema_file (known_files files) name schema → IsFile (plan_file schema) (known_files files) file plan
-    → IsTrue (is_table_name table) → list_any (is_given (last_of (dotted_parts table))) plan.names ≡ false
+    → IsTrue (is_table_name table) → met_name plan.names table ≡ None
     → RequiresAll schema → (IsTooLarge schema plan.schemes → ⊥)
     → IsAnswered files (codes "sql" ∷ codes "migrate" ∷ codes "plan" ∷ name ∷ file ∷ table ∷ [])
 

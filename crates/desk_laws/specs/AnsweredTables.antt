@@ -1,6 +1,6 @@
 -- When words are answered, as the laws of `complete_tables` say it: normal forms, plans and tables. `Desk` does
 -- not cite it.
-use Rattle.std.specs.Prelude.{◌≡◌, ◌≤◌, ℕ, true, List, [], ◌∷◌, Ok, Some, codes, All, length}
+use Rattle.std.specs.Prelude.{◌≡◌, ◌⊎◌, ◌≤◌, ℕ, true, List, [], ◌∷◌, Ok, Some, codes, All, length}
 use Rattle.armstrong_rel.specs.Refusals.{IsFirstMvd, HasTooManyRows, IsTooWideToExhibit}
 use Rattle.candidate_search.specs.declared.side.TooManyLeftSides.{TooManyLeftSides}
 use Rattle.csv_rows.specs.declared.part.PartialRows.{PartialRows}
@@ -16,7 +16,7 @@ use Rattle.lexer.specs.Lines.{without_mark}
 use Rattle.row_keys.specs.Keys.{HasTooManyKeys}
 use Rattle.normal_forms.specs.declared.forms.Form.{Form}
 use Rattle.normal_forms.specs.declared.forms.Form.TheVariants as forms
-use Rattle.table_join.specs.Answers.{IsWithinLimit}
+use Rattle.table_join.specs.Answers.{IsWithinLimit, tables_from_last}
 use Rattle.table_join.specs.Tables.{tables_of, plan_of_tables}
 use Rattle.named_plans.specs.NamedPlans.{NamedSchemes}
 use Rattle.desk_outside.specs.Files.{Files}
@@ -218,7 +218,8 @@ ImportSqlIsAnsweredPostgres =
     → IsAnswered files (codes "import" ∷ codes "postgres" ∷ file ∷ table ∷ [])
 
 -- `rejoin` is answered where the schema file means a schema, from one to 64 files are tables, each attribute has
--- a column in one of them, and the joins of the first tables keep within their limit
+-- a column in one of them, and in their own order or from the last the joins of the first tables keep within their
+-- limit
 abbrev pub RejoinIsAnswered : Type 0
 RejoinIsAnswered =
     (files : Files) (name : List ℕ) (names : List (List ℕ)) (schema : Schema)
@@ -227,4 +228,5 @@ RejoinIsAnswered =
     → ArePartFiles (known_files files) schema names parts
     → Covers (width_of schema) (plan_of_tables (tables_of parts))
     → IsWithinLimit (width_of schema) MOST_JOINED_ROWS (tables_of parts)
+    ⊎ IsWithinLimit (width_of schema) MOST_JOINED_ROWS (tables_from_last (tables_of parts))
     → IsAnswered files (codes "rejoin" ∷ name ∷ names)

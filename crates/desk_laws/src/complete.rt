@@ -20,12 +20,13 @@ use own_folder::FolderMaker;
 /// Where nothing fails, a call whose words are answered over the files ends with yes or no, or runs
 /// out of memory.
 pub fn answered_calls_end<F: FileSource, T: Destination, M: FolderMaker, G: Folder>()
-    ensures law { (words : List (List ℕ)) (looks : Looks) (files : Files) (source after : F) (sink : SinkInCall)
+    ensures law { (words : List (List ℕ)) (looks : Looks) (files : Files) (source after : F)
+        (sink notices : SinkInCall)
         (old new : List T) (place made : M) (folder filled : G) (result : Result Status OutOfMemory)
         → Desk words looks
         (source_in_call (F.files source) (F.files after) (F.faults source) (F.faults after) (F.taken after)
         (F.begun source) (F.begun after))
-        sink (destinations_in_call T.is_known T.finished T.begun T.width T.faults old new)
+        sink notices (destinations_in_call T.is_known T.finished T.begun T.width T.faults old new)
         (own_in_call (place_in_call M.made M.faults place made)
         (folder_in_call G.contents G.begun G.faults folder filled)) result
         → FailsNowhere files

@@ -87,7 +87,8 @@ pub fn import_sql_is_answered()
 {}
 
 /// `rejoin` is answered where the schema file means a schema, from one to 64 files are tables, each
-/// attribute has a column in one of them, and the joins of the first tables keep within their limit.
+/// attribute has a column in one of them, and in their own order or from the last the joins of the first
+/// tables keep within their limit.
 pub fn rejoin_is_answered()
     ensures law { RejoinIsAnswered }
 {}

@@ -1,8 +1,11 @@
-//! What a process gives to the desk and takes from it: the words of its arguments, and the number that it ends with.
+//! What a process gives to the desk and takes from it: the words of its arguments, where notices go, and the number
+//! that it ends with.
 #![tactic(auto)]
 
 mod ending;
+mod notices;
 mod words;
 
 pub use ending::exit_code;
+pub use notices::NoticeSink;
 pub use words::words_given;

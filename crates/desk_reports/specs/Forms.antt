@@ -5,6 +5,7 @@ use Rattle.dep_model.specs.Dependencies.{Dependency, fd}
 use Rattle.dep_model.specs.Schemas.{theory_of, universe_of, width_of}
 use Rattle.dep_model.specs.declared.schema.Schema.{Schema}
 use Rattle.fd_closure.specs.LeftSides.{IsWide}
+use Rattle.html_pages.specs.Commands.{shell_word}
 use Rattle.html_pages.specs.Pages.{title_with_words}
 use Rattle.normal_forms.specs.Chosen.{IsChosenViolation, IsInForm}
 use Rattle.normal_forms.specs.declared.forms.Form.{Form}
@@ -25,11 +26,15 @@ form_title Fourth = codes "Fourth normal form"
 abbrev pub goal_text : Schema → Dependency → List ℕ
 goal_text s d = dependency_text (printed_names_of s) d
 
+-- the words that ask whether a goal is implied
+abbrev pub goal_words : List ℕ → List ℕ → List ℕ
+goal_words file goal = codes "implies " ++ shell_word file ++ codes " " ++ shell_word goal
+
 -- whether the dependency that violates the form is implied
 abbrev pub ShowsWhy : List ℕ → Schema → Form → Attributes → Attributes → Shown
 ShowsWhy file s form x y = Folds
     (title_with_words (codes "Why")
-    (codes "implies " ++ file ++ codes " \"" ++ goal_text s (violation_of form x y) ++ codes "\""))
+    (goal_words file (goal_text s (violation_of form x y))))
     (DecidesGoal s (goal_text s (violation_of form x y)))
 
 -- whether its left side determines all attributes

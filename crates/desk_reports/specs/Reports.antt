@@ -2,6 +2,7 @@
 use Rattle.std.specs.Prelude.{ℕ, List, ◌++◌, codes}
 use Rattle.dep_model.specs.declared.schema.Schema.{Schema}
 use Rattle.named_plans.specs.NamedPlans.{NamedSchemes}
+use Rattle.html_pages.specs.Commands.{shell_word}
 use Rattle.html_pages.specs.Pages.{page_text, title_with_words}
 use Rattle.normal_forms.specs.declared.forms.Form.TheVariants.{Third, Bcnf, Fourth}
 use Rattle.desk_covers.specs.Covering.{GivesCover}
@@ -18,17 +19,17 @@ use Rattle.desk_reports.specs.Tables.{PlanSection, TablesSection}
 -- what the rules come to
 abbrev pub CoverSection : List ℕ → Schema → Shown
 CoverSection file s = Section (codes "Cover")
-    (Opens (title_with_words (codes "What the rules come to") (codes "cover " ++ file)) (GivesCover s))
+    (Opens (title_with_words (codes "What the rules come to") (codes "cover " ++ shell_word file)) (GivesCover s))
 
 -- what identifies a row
 abbrev pub KeysSection : List ℕ → Schema → Shown
 KeysSection file s = Section (codes "Keys")
-    (Opens (title_with_words (codes "What identifies a row") (codes "keys " ++ file)) (ListsKeys s))
+    (Opens (title_with_words (codes "What identifies a row") (codes "keys " ++ shell_word file)) (ListsKeys s))
 
 -- rows that obey just what follows
 abbrev pub ExampleSection : List ℕ → Schema → Shown
 ExampleSection file s = Section (codes "Example rows")
-    (Opens (title_with_words (codes "Rows that obey just what follows") (codes "exhibit " ++ file)) (Exhibits s))
+    (Opens (title_with_words (codes "Rows that obey just what follows") (codes "exhibit " ++ shell_word file)) (Exhibits s))
 
 -- the sections before those of tables
 abbrev pub FrontSections : List ℕ → Schema → Shown

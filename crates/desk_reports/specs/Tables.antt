@@ -8,6 +8,7 @@ use Rattle.table_names.specs.TableNames.{GivenNames}
 use Rattle.named_plans.specs.NamedPlans.{NamedSchemes}
 use Rattle.ddl_text.specs.declared.table.TableDesign.{TableDesign}
 use Rattle.design_picture.specs.Picture.{picture_text}
+use Rattle.html_pages.specs.Commands.{shell_word}
 use Rattle.html_pages.specs.Pages.{title_with_words}
 use Rattle.normal_forms.specs.declared.forms.Form.{Form}
 use Rattle.normal_forms.specs.declared.forms.Form.TheVariants.{Third, Bcnf, Fourth}
@@ -37,7 +38,7 @@ GivesPlan s Fourth = Splits s Fourth
 -- the plan of a normal form
 abbrev pub ShowsPlan : List ℕ → Schema → Form → Shown
 ShowsPlan file s form =
-    Opens (title_with_words (codes "The tables") (plan_words form ++ file)) (GivesPlan s form)
+    Opens (title_with_words (codes "The tables") (plan_words form ++ shell_word file)) (GivesPlan s form)
 
 -- the words that ask for the SQL tables of a normal form
 abbrev pub ddl_words : Form → List ℕ
@@ -45,7 +46,7 @@ ddl_words form = codes "ddl " ++ form_word form ++ codes " "
 
 -- the SQL tables of a normal form
 abbrev pub ShowsSql : List ℕ → Schema → Form → Shown
-ShowsSql file s form = Folds (title_with_words (codes "SQL") (ddl_words form ++ file)) (WritesForm s form)
+ShowsSql file s form = Folds (title_with_words (codes "SQL") (ddl_words form ++ shell_word file)) (WritesForm s form)
 
 -- the picture of a plan's tables, with the names that are given in the order of its design
 abbrev pub ShowsPicture : Schema → GivenNames → List AttrSet → Shown
@@ -76,7 +77,7 @@ TablesSection file s form = Section (tables_heading form)
 -- ---- a plan of one's own
 -- the words of a command on a schema and a plan
 abbrev pub two_files : List ℕ → List ℕ → List ℕ → List ℕ
-two_files words file plan_file = words ++ file ++ codes " " ++ plan_file
+two_files words file plan_file = words ++ shell_word file ++ codes " " ++ shell_word plan_file
 
 -- the picture of a plan's tables, of its schemes as sets of attributes
 abbrev pub ShowsPictureOf : Schema → NamedSchemes → Shown

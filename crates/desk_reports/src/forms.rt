@@ -1,6 +1,6 @@
 //! The section on the normal forms of the universe.
 
-ghost use Rattle.std.specs.Prelude.{◌≡◌, ◌++◌, ◌∷◌, [], codes, IfOk};
+ghost use Rattle.std.specs.Prelude.{◌≡◌, ◌∷◌, [], codes, IfOk};
 ghost use Rattle.attr_sets.specs.Sets.{attributes};
 ghost use Rattle.attr_sets.specs.Attributes.{IsSubset};
 ghost use Rattle.dep_model.specs.Deps.{dependency_of};
@@ -10,7 +10,7 @@ ghost use Rattle.html_pages.specs.Pages.{title_with_words};
 ghost use Rattle.normal_forms.specs.declared.forms.Form.TheVariants as forms;
 ghost use Rattle.plans.specs.Plans.{IsPlanOver, plan_of};
 ghost use Rattle.desk_designs.specs.NormalForms.{JudgesForm, violation_of};
-ghost use Rattle.desk_reports.specs.Forms.{FormsSection, ShowsForm, ShowsTwice, ShowsViolation, ShowsWhy, form_title, goal_text};
+ghost use Rattle.desk_reports.specs.Forms.{FormsSection, ShowsForm, ShowsTwice, ShowsViolation, ShowsWhy, form_title, goal_text, goal_words};
 ghost use Rattle.desk_reports.specs.Pieces.{Opens, Then};
 
 use crate::pieces::{both, folded, opened};
@@ -19,7 +19,7 @@ use dep_model::{Dep, OutOfMemory, Schema};
 use desk_designs::{check_form, violation_dependency};
 use desk_implication::implies;
 use desk_outside::Argument;
-use html_pages::{section, titled};
+use html_pages::{add_shell_word, section, titled};
 use normal_forms::{Breach, Form, violation};
 use plans::Plan;
 use schema_printer::{add, add_dep};
@@ -145,15 +145,14 @@ fn shown_why(
 
 // The title beside the words that ask for a goal.
 fn why_title(alloc: Global, file: &Argument, goal: &Argument) -> Result<Vec<u8>, OutOfMemory>
-    ensures title { IfOk result (λ text. text.items ≡ title_with_words (codes "Why")
-        (codes "implies " ++ file.now ++ codes " \"" ++ goal.now ++ codes "\"")) }
+    ensures title { IfOk result
+        (λ text. text.items ≡ title_with_words (codes "Why") (goal_words file.now goal.now)) }
 {
     let mut words = Vec::new(alloc);
     add(&mut words, b"implies ")?;
-    add(&mut words, file.bytes())?;
-    add(&mut words, b" \"")?;
-    add(&mut words, goal.bytes())?;
-    add(&mut words, b"\"")?;
+    add_shell_word(&mut words, file.bytes())?;
+    add(&mut words, b" ")?;
+    add_shell_word(&mut words, goal.bytes())?;
     titled(alloc, b"Why", &words)
 }
 

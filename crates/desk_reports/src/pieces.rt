@@ -1,6 +1,7 @@
 //! Pieces of a page: what a command prints, below a title.
 
 ghost use Rattle.std.specs.Prelude.{◌≡◌, ◌++◌, codes, IfOk};
+ghost use Rattle.html_pages.specs.Commands.{shell_word};
 ghost use Rattle.html_pages.specs.Pages.{title_with_words};
 ghost use Rattle.desk_reports.specs.Answers.{FoldsText, IsTextOf, OpensText};
 ghost use Rattle.desk_reports.specs.Tables.{two_files};
@@ -8,7 +9,7 @@ ghost use Rattle.desk_reports.specs.Tables.{two_files};
 use dep_model::OutOfMemory;
 use desk_outside::Argument;
 use desk_responses::{EarlyExit, Response};
-use html_pages::{folded_piece, open_piece, titled};
+use html_pages::{add_shell_word, folded_piece, open_piece, titled};
 use schema_printer::add;
 use std::alloc::Global;
 
@@ -70,11 +71,11 @@ pub fn title_of(
     file: &Argument,
 ) -> Result<Vec<u8>, OutOfMemory>
     ensures text { IfOk result
-        (λ text. text.items ≡ title_with_words title.now (words.now ++ file.now)) }
+        (λ text. text.items ≡ title_with_words title.now (words.now ++ shell_word file.now)) }
 {
     let mut whole = Vec::new(alloc);
     add(&mut whole, words)?;
-    add(&mut whole, file.bytes())?;
+    add_shell_word(&mut whole, file.bytes())?;
     titled(alloc, title, &whole)
 }
 
@@ -91,9 +92,9 @@ pub fn title_of_two(
 {
     let mut whole = Vec::new(alloc);
     add(&mut whole, words)?;
-    add(&mut whole, file.bytes())?;
+    add_shell_word(&mut whole, file.bytes())?;
     add(&mut whole, b" ")?;
-    add(&mut whole, plan_file.bytes())?;
+    add_shell_word(&mut whole, plan_file.bytes())?;
     titled(alloc, title, &whole)
 }
 

@@ -1,5 +1,5 @@
 -- The natural join of the tables of files: for `rejoin`.
-use Rattle.std.specs.Prelude.{◌≡◌, ◌⊎◌, ℕ, List, ◌++◌, codes}
+use Rattle.std.specs.Prelude.{◌⊎◌, ℕ, List, ◌++◌, codes}
 use Rattle.std.specs.Fmt.{decimal}
 use Rattle.csv_text.specs.Rows.{rows_text}
 use Rattle.dep_model.specs.Projections.{Covers}
@@ -7,8 +7,7 @@ use Rattle.dep_model.specs.Schemas.{names_of, width_of, theory_of}
 use Rattle.dep_model.specs.Tuples.{Relation}
 use Rattle.dep_model.specs.declared.schema.Schema.{Schema}
 use Rattle.table_join.specs.declared.refusal.JoinRefusal.{JoinRefusal}
-use Rattle.table_join.specs.Answers.{IsNaturalJoin, GivesBack, IsWithinLimit, RefusesJoin}
-use Rattle.table_join.specs.Joins.{join_of}
+use Rattle.table_join.specs.Answers.{IsNaturalJoin, GivesBack, IsOrderedJoin, RefusesJoin}
 use Rattle.table_join.specs.RefusalTexts.{join_reason_text, join_refusal_number}
 use Rattle.table_join.specs.Tables.{PartialRelation, plan_of_tables}
 use Rattle.desk_tables.specs.declared.rejoining.TheConstants.{MOST_JOINED_ROWS}
@@ -25,16 +24,16 @@ join_refusal_text names why =
     ++ join_reason_text names MOST_JOINED_ROWS why)
 
 -- ---- answers
--- the join of tables, which is their natural join, each tuple once; of the ordered projections of a legal
--- relation on the schemes of a lossless plan it is that relation
+-- the join of tables, in their own order where it keeps within the limit, else from the last; it is their natural join,
+-- each tuple once; of the ordered projections of a legal relation on the schemes of a lossless plan it is that relation
 pub record IsJoinOf (schema : Schema) (tables : List PartialRelation) (rows : Relation) : Type 0 where
-  pub join : rows ≡ (join_of (width_of schema) tables).rows
+  pub join : IsOrderedJoin (width_of schema) MOST_JOINED_ROWS tables rows
   pub natural : IsNaturalJoin (width_of schema) tables rows
   pub gives_back : GivesBack (width_of schema) (theory_of schema) tables rows
   pub covered : Covers (width_of schema) (plan_of_tables tables)
-  pub within_limit : IsWithinLimit (width_of schema) MOST_JOINED_ROWS tables
 
--- yes, with the join; refused where an attribute is in no table, or the join of the first tables is too large
+-- yes, with the join; refused where an attribute is in no table, or in either order the join of the first tables is too
+-- large
 abbrev pub JoinsTables : Schema → List PartialRelation → Allowed
 JoinsTables schema tables response =
     ((rows : Relation) × IsJoinOf schema tables rows × Says Yes (rows_text (names_of schema) rows) response)

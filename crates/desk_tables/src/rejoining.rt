@@ -27,11 +27,11 @@ pub fn rejoin(
     alloc: Global,
     hashing: Hashing,
     schema: &Schema,
-    parts: &[PartialRows],
+    parts: Vec<PartialRows>,
 ) -> Result<Response, EarlyExit>
-    requires fits_u32 { length parts.now < 2 ^ 32 }
-    requires tables { All (IsTable (width_of schema.now)) (tables_of parts.now) }
-    ensures response { RespondsAs (JoinsTables schema.now (tables_of parts.now)) result }
+    requires fits_u32 { length parts.items < 2 ^ 32 }
+    requires tables { All (IsTable (width_of schema.now)) (tables_of parts.items) }
+    ensures response { RespondsAs (JoinsTables schema.now (tables_of parts.items)) result }
 {
     match join(alloc, hashing, schema, parts, MOST_JOINED_ROWS) {
         Ok(rows) => Ok(response_of(alloc, schema, &rows)?),

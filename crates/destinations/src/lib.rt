@@ -22,3 +22,4 @@ pub use destination::Destination;
 pub use file_destination::FileDestination;
 pub use format::{TableFormat, add_line, front_of, opening_of};
 pub use memory::MemoryDestination;
+pub use sql_line::is_sql_text;

@@ -100,7 +100,7 @@ fn add_cell(
 fn add_value(alloc: Global, text: &mut Vec<u8>, value: &[u8]) -> Result<(), OutOfMemory>
     ensures text { OnOk result (text.new.items ≡ text.old.items ++ sql_value value.now) }
 {
-    if is_text(value) {
+    if is_sql_text(value) {
         return quote(text, value);
     }
     let digits = hex::encode_upper(alloc, value)?;
@@ -109,8 +109,8 @@ fn add_value(alloc: Global, text: &mut Vec<u8>, value: &[u8]) -> Result<(), OutO
     add(text, b"'")
 }
 
-// Whether a value can be a text of SQL.
-fn is_text(value: &[u8]) -> bool
+/// Whether a value can be a text of SQL: it is UTF-8, and has no zero byte.
+pub fn is_sql_text(value: &[u8]) -> bool
     ensures text { result ≡ is_sql_text value.now }
 {
     is_valid(value) && !value.contains(&0)

@@ -21,7 +21,7 @@ use Rattle.check_laws.specs.Holding.{compared_cell, AreApart, CastsIntegers}
 use Rattle.check_laws.specs.Telling.{NoneMissing, IsIntegerCell, AreIntegers}
 use Rattle.check_laws.proofs.ColumnLemmas.{bytes_same, bytes_self}
 use Rattle.check_laws.proofs.RowLemmas.{none_is_not_some, some_is}
-use Rattle.migrate_laws.specs.Moved.{entered_cell}
+use Rattle.migrate_laws.specs.Moved.{copied_cell, entered_cell}
 use Rattle.ending_laws.specs.Ending.{AreComparable}
 
 abbrev pub Cells : Type 0
@@ -41,6 +41,11 @@ pub equal-self : (a : Cell) → is_none a ≡ false → equal a a ≡ Some true
 equal-self missing e = absurd (true≢false e)
 equal-self (text a) e = ap (λ (b : Bool). Some b) (bytes_self a)
 equal-self (number n) e = ap (λ (b : Bool). Some b) ((Decides-int_eq n n).1 refl)
+
+twice_text : (x : Cell) → text_of (text_of x) ≡ text_of x
+twice_text missing = refl
+twice_text (text t) = refl
+twice_text (number n) = refl
 
 none_text : (x : Cell) → is_none (text_of x) ≡ is_none x
 none_text missing = refl
@@ -96,23 +101,25 @@ pub entered : Schema → Cast → Cells → ℕ → List ℕ → Cell
 entered s cast cell k v = or_missing (entered_cell s cast cell k v)
 
 module _ (cast : Cast) (s : Schema) (cell : Cells) (r : Relation) (casts : CastsIntegers cast)
-    (integers : (k : ℕ) → k < width_of s → type_at s k ≡ Integer → AreIntegers (compared_cell s cell) r k) where
+    (integers : (k : ℕ) → k < width_of s → type_at s k ≡ Integer → AreIntegers (compared_cell cell) r k) where
   -- a value of an integer column
-  pub cast_at : (k : ℕ) (t : Tuple) → k < width_of s → Contains r t → is_integer (type_at s k) ≡ true → IsCast cast (compared_cell s cell k (value_at t k))
-  cast_at k t low h of_integer =
-      let is = integer_type (type_at s k) of_integer in
-      let plain : compared_cell s cell k (value_at t k) ≡ text_of (cell k (value_at t k)) =
-      ap (λ (column : ColumnType). if is_plain_type column then text_of (cell k (value_at t k)) else cell k (value_at t k)) is in
-      subst (IsCast cast) (sym plain)
-      (text_cast cast (cell k (value_at t k)) casts (subst IsIntegerCell plain (integers k low is t h)))
+  integer_copied : (k : ℕ) (t : Tuple) → is_integer (type_at s k) ≡ true → copied_cell s cell k (value_at t k) ≡ compared_cell cell k (value_at t k)
+  integer_copied k t of_integer =
+      ap (λ (column : ColumnType). if is_plain_type column then compared_cell cell k (value_at t k) else cell k (value_at t k))
+      (integer_type (type_at s k) of_integer)
 
-  -- in an integer column the integer, else the value as it is compared
+  pub cast_at : (k : ℕ) (t : Tuple) → k < width_of s → Contains r t → is_integer (type_at s k) ≡ true → IsCast cast (copied_cell s cell k (value_at t k))
+  cast_at k t low h of_integer =
+      subst (IsCast cast) (sym (integer_copied k t of_integer))
+      (text_cast cast (cell k (value_at t k)) casts (integers k low (integer_type (type_at s k) of_integer) t h))
+
+  -- in an integer column the integer, else the value as it is copied
   pub entered-integer : (k : ℕ) (t : Tuple) (low : k < width_of s) (h : Contains r t) (e : is_integer (type_at s k) ≡ true)
       → entered_cell s cast cell k (value_at t k) ≡ Some (cast_at k t low h e).to
   entered-integer k t low h e = rw e (cast_at k t low h e).is
 
   entered-plain : (k : ℕ) (t : Tuple) → is_integer (type_at s k) ≡ false
-      → entered_cell s cast cell k (value_at t k) ≡ Some (compared_cell s cell k (value_at t k))
+      → entered_cell s cast cell k (value_at t k) ≡ Some (copied_cell s cell k (value_at t k))
   entered-plain k t e = rw e refl
 
   pub entered-known : (k : ℕ) (t : Tuple) → k < width_of s → Contains r t
@@ -128,42 +135,40 @@ module _ (cast : Cast) (s : Schema) (cell : Cells) (r : Relation) (casts : Casts
   unfolding entered or_missing
   integer_is k t low h e = ap or_missing (entered-integer k t low h e)
 
-  plain_is : (k : ℕ) (t : Tuple) → is_integer (type_at s k) ≡ false → entered s cast cell k (value_at t k) ≡ compared_cell s cell k (value_at t k)
+  plain_is : (k : ℕ) (t : Tuple) → is_integer (type_at s k) ≡ false → entered s cast cell k (value_at t k) ≡ copied_cell s cell k (value_at t k)
   unfolding entered or_missing
   plain_is k t e = ap or_missing (entered-plain k t e)
 
-  -- as it is compared again
+  -- its text is that of the value
   pub returned-known : (k : ℕ) (t : Tuple) → k < width_of s → Contains r t
-      → (if is_integer (type_at s k) then text_of (entered s cast cell k (value_at t k)) else entered s cast cell k (value_at t k))
-      ≡ compared_cell s cell k (value_at t k)
+      → text_of (entered s cast cell k (value_at t k)) ≡ compared_cell cell k (value_at t k)
   returned-known k t low h = elim (cases_Bool (is_integer (type_at s k))) [
-    | inl whole ↦
-        ap (λ (b : Bool). if b then text_of (entered s cast cell k (value_at t k)) else entered s cast cell k (value_at t k)) whole
-        ∙ ap text_of (integer_is k t low h whole) ∙ (cast_at k t low h whole).back
-    | inr other ↦
-        ap (λ (b : Bool). if b then text_of (entered s cast cell k (value_at t k)) else entered s cast cell k (value_at t k)) other
-        ∙ plain_is k t other
+    | inl whole ↦ ap text_of (integer_is k t low h whole) ∙ (cast_at k t low h whole).back ∙ integer_copied k t whole
+    | inr other ↦ ap text_of (plain_is k t other) ∙ by_type (is_plain_type (type_at s k))
   ]
+    where
+      by_type : (plain : Bool) → text_of (if plain then compared_cell cell k (value_at t k) else cell k (value_at t k)) ≡ compared_cell cell k (value_at t k)
+      by_type true = twice_text (cell k (value_at t k))
+      by_type false = refl
 
   -- values that differ are told apart
   pub entered-apart : AreApart s cell r → (k : ℕ) (t u : Tuple) → k < width_of s → Contains r t → Contains r u
       → entered s cast cell k (value_at t k) ≡ entered s cast cell k (value_at u k) → value_at t k ≡ value_at u k
   entered-apart apart k t u low ht hu same =
       apart k low t u ht hu
-      (sym (returned-known k t low ht)
-      ∙ ap (λ (c : Cell). if is_integer (type_at s k) then text_of c else c) same ∙ returned-known k u low hu)
+      (sym (returned-known k t low ht) ∙ ap text_of same ∙ returned-known k u low hu)
 
   -- no value is missing that may not be
   pub entered-there : NoneMissing s cell r → (k : ℕ) (t : Tuple) → k < width_of s → nullable_of s k ≡ false → Contains r t
       → is_none (entered s cast cell k (value_at t k)) ≡ false
   entered-there none k t low required h =
       let there : is_none (cell k (value_at t k)) ≡ false = none k (grind (arith, nat_tests, low, required)) t h in
-      let compared_there : is_none (compared_cell s cell k (value_at t k)) ≡ false = by_type (is_plain_type (type_at s k)) there in
+      let copied_there : is_none (copied_cell s cell k (value_at t k)) ≡ false = by_type (is_plain_type (type_at s k)) there in
       elim (cases_Bool (is_integer (type_at s k))) [
         | inl whole ↦
             ap is_none (integer_is k t low h whole) ∙ sym (none_text (cast_at k t low h whole).to)
-            ∙ ap is_none (cast_at k t low h whole).back ∙ compared_there
-        | inr other ↦ ap is_none (plain_is k t other) ∙ compared_there
+            ∙ ap is_none (cast_at k t low h whole).back ∙ copied_there
+        | inr other ↦ ap is_none (plain_is k t other) ∙ copied_there
       ]
     where
       by_type : (b : Bool) → is_none (cell k (value_at t k)) ≡ false
@@ -185,6 +190,6 @@ module _ (cast : Cast) (s : Schema) (cell : Cells) (r : Relation) (casts : Casts
         let same = comparable k low t u ht hu in (
           same.0,
           ap (λ (c : Cell). equal c (entered s cast cell k (value_at u k))) (plain_is k t other)
-              ∙ ap (equal (compared_cell s cell k (value_at t k))) (plain_is k u other) ∙ same.1,
+              ∙ ap (equal (copied_cell s cell k (value_at t k))) (plain_is k u other) ∙ same.1,
         )
   ]

@@ -72,7 +72,7 @@ once_apart xs i j a b before at_i at_j same =
     (get_or_from_slice_get all i a a at_i ∙ same ∙ sym (get_or_from_slice_get all j b a at_j))
 
 module _ (cast : Cast) (s : Schema) (cell : Cells) (r : Relation) (casts : CastsIntegers cast)
-    (integers : (k : ℕ) → k < width_of s → type_at s k ≡ Integer → AreIntegers (compared_cell s cell) r k)
+    (integers : (k : ℕ) → k < width_of s → type_at s k ≡ Integer → AreIntegers (compared_cell cell) r k)
     (apart : AreApart s cell r) (none : NoneMissing s cell r) (comparable : AreComparable s cell r) where
   abbrev members : Attributes → List ℕ
   members x = members_below (width_of s) x

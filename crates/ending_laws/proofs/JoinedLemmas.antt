@@ -78,7 +78,7 @@ pub record IsJoinOf (s : Schema) (cast : Cast) (cell : Cells) (r : Relation) (do
 
 -- ---- one table more
 module _ (cast : Cast) (s : Schema) (cell : Cells) (r : Relation) (casts : CastsIntegers cast)
-    (integers : (k : ℕ) → k < width_of s → type_at s k ≡ Integer → AreIntegers (compared_cell s cell) r k)
+    (integers : (k : ℕ) → k < width_of s → type_at s k ≡ Integer → AreIntegers (compared_cell cell) r k)
     (apart : AreApart s cell r) (none : NoneMissing s cell r) (comparable : AreComparable s cell r) where
   pub row-projected : (x : Attributes) (o : List Cell) → Contains (projected s cast cell r x).rows o
       → (t : Tuple) × Contains r t × (row_at s cast cell (members_below (width_of s) x) (value_at t) ≡ o)
@@ -93,7 +93,7 @@ module _ (cast : Cast) (s : Schema) (cell : Cells) (r : Relation) (casts : Casts
       (Contains-map (λ (t : Tuple). row_at s cast cell (members_below (width_of s) x) (value_at t)) r t h)
 
 module _ (cast : Cast) (s : Schema) (cell : Cells) (r : Relation) (casts : CastsIntegers cast)
-    (integers : (k : ℕ) → k < width_of s → type_at s k ≡ Integer → AreIntegers (compared_cell s cell) r k)
+    (integers : (k : ℕ) → k < width_of s → type_at s k ≡ Integer → AreIntegers (compared_cell cell) r k)
     (apart : AreApart s cell r) (none : NoneMissing s cell r) (comparable : AreComparable s cell r)
     (done : List JoinedTable) (seen : Attributes) (a : Rows) (x : JoinedTable) (j : IsJoinOf s cast cell r done seen a)
     (required : (y : JoinedTable) → Contains done y → (k : ℕ) → attributes y.scheme k ≡ true → attributes x.scheme k ≡ true

@@ -85,8 +85,8 @@ Created = List ℕ × List Element
 not_created : {A : Type 0} (p : Created) → None ≡ Some p → A
 not_created p e = absurd (none_is_not_some p e)
 
-creates_end : (s : Schema) (designs : List TableDesign) → Each (CreatesDesigned s designs) (create_view view_name (view_query s designs) ∷ testing s)
-creates_end s designs = (
+creates_end : (s : Schema) (name : List ℕ) (designs : List TableDesign) → Each (CreatesDesigned s designs) (create_view view_name (view_query s designs) ∷ testing s name)
+creates_end s name designs = (
   λ n es e. not_created (n, es) e,
   (
     λ n es e. not_created (n, es) e,
@@ -98,7 +98,7 @@ creates_end s designs = (
           λ n es e. not_created (n, es) e,
           (
             λ n es e. not_created (n, es) e,
-            (λ n es e. not_created (n, es) e, tt),
+            (λ n es e. not_created (n, es) e, (λ n es e. not_created (n, es) e, (λ n es e. not_created (n, es) e, tt))),
           ),
         ),
       ),
@@ -108,8 +108,8 @@ creates_end s designs = (
 
 creates_all : (s : Schema) (name : List ℕ) (designs : List TableDesign) → Each (CreatesDesigned s designs) (migration s name designs)
 creates_all s name designs =
-    let fills = each_after (CreatesDesigned s designs) (map (fill s) designs) (create_view view_name (view_query s designs) ∷ testing s)
-    (creates_fills s designs designs) (creates_end s designs) in
+    let fills = each_after (CreatesDesigned s designs) (map (fill s) designs) (create_view view_name (view_query s designs) ∷ testing s name)
+    (creates_fills s designs designs) (creates_end s name designs) in
     let tables = each_after (CreatesDesigned s designs) (tables_made s designs designs) _ (creates_tables s designs designs (λ t h. h)) fills in (
       λ n es e. not_created (n, es) e,
       (

@@ -23,7 +23,7 @@ use Rattle.ddl_text.specs.Ddl.{is_empty}
 use Rattle.sql_names.specs.Names.{quoted_name}
 use Rattle.sql_syntax.specs.Syntax.{each_row}
 use Rattle.check_queries.specs.Columns.{name_at, type_at}
-use Rattle.sql_evaluation.specs.Cells.{Cell, text_of}
+use Rattle.sql_evaluation.specs.Cells.{Cell, text_of, followed_by}
 use Rattle.sql_evaluation.specs.Values.{each, bytes_of, Look, look_at, named_cell, View}
 use Rattle.sql_evaluation.specs.Evaluation.{Rows, Engine, row_view, item_name, item_value, with_items, selected, joined_by, columns_of, linked, all_linked, evaluate}
 use Rattle.sql_evaluation.specs.Running.{Cast}
@@ -33,7 +33,7 @@ use Rattle.check_laws.proofs.CellLemmas.{names_apart, names_on_apart, member_of,
 use Rattle.check_laws.proofs.ColumnLemmas.{named_cell-member}
 use Rattle.check_laws.proofs.EachLemmas.{each-known, each-map, map-known}
 use Rattle.check_laws.proofs.RowLemmas.{each-some, some_is}
-use Rattle.check_laws.proofs.ValuesLemmas.{cells_on, names_on}
+use Rattle.check_laws.proofs.ValuesLemmas.{cells_on, names_on, followed_by_none}
 use Rattle.migrate_queries.specs.declared.joining.JoinedTable.{JoinedTable}
 use Rattle.migrate_queries.specs.declared.moving.Move.TheVariants.{Returning}
 use Rattle.migrate_queries.specs.Moving.{attribute_names, moved, moved_at, moved_on}
@@ -148,7 +148,7 @@ in_universe : (s : Schema) (k : ℕ) → k < width_of s → universe_of s k ≡ 
 in_universe s k low = grind (arith, nat_tests, low)
 
 module _ (cast : Cast) (s : Schema) (cell : Cells) (r : Relation) (casts : CastsIntegers cast)
-    (integers : (k : ℕ) → k < width_of s → type_at s k ≡ Integer → AreIntegers (compared_cell s cell) r k)
+    (integers : (k : ℕ) → k < width_of s → type_at s k ≡ Integer → AreIntegers (compared_cell cell) r k)
     (apart : AreApart s cell r) (there : NoneMissing s cell r) (comparable : AreComparable s cell r) where
   all-linked : (e : Engine) (ts done : List JoinedTable) (seen : Attributes) (a : Rows) → IsJoinOf s cast cell r done seen a
       → HasTables e s cast cell r ts → AllPairs (SharesRequired s) ts
@@ -315,31 +315,26 @@ module _ (cast : Cast) (s : Schema) (cell : Cells) (r : Relation) (casts : Casts
         λ k low. sym (tuple_value (width_of s) k w low),
       )
 
-  -- a row of the view as it is compared
-  abbrev returned : ℕ → Cell → Cell
-  returned k c = if is_integer (type_at s k) then text_of c else c
-
+  -- a row of the view by its texts
   abbrev row_of_view : (ℕ → List ℕ) → View
   row_of_view w = row_view (look_at (codes "j") (names_on s (universe_of s)) (row_at s cast cell all_of w))
 
   item-returned : (w : ℕ → List ℕ) (k : ℕ) → Contains all_of k
-      → item_value cast (row_of_view w) (moved_at s Returning k) ≡ Some (returned k (entered s cast cell k (w k)))
-  item-returned w k h = by_type (is_integer (type_at s k)) (named_cell-member (name_at s) (λ (i : ℕ). entered s cast cell i (w i)) all_of k (names_on_apart s (universe_of s)) h)
-    where
-      by_type : (b : Bool) → named_cell (names_on s (universe_of s)) (row_at s cast cell all_of w) (name_at s k) ≡ Some (entered s cast cell k (w k))
-          → item_value cast (row_of_view w) (moved Returning (name_at s k) b) ≡ Some (if b then text_of (entered s cast cell k (w k)) else entered s cast cell k (w k))
-      by_type true known = ap (option_map text_of) known
-      by_type false known = known
+      → item_value cast (row_of_view w) (moved_at s Returning k) ≡ Some (text_of (entered s cast cell k (w k)))
+  item-returned w k h =
+      ap (λ (found : Option Cell). option_map (followed_by []) (option_map text_of found))
+      (named_cell-member (name_at s) (λ (i : ℕ). entered s cast cell i (w i)) all_of k (names_on_apart s (universe_of s)) h)
+      ∙ ap (λ (c : Cell). Some c) (followed_by_none (entered s cast cell k (w k)))
 
   row-returned : (w : ℕ → List ℕ) (t : Tuple) → Contains r t → ((k : ℕ) → k < width_of s → w k ≡ value_at t k)
       → each (item_value cast (row_of_view w)) (moved_on s Returning (universe_of s)) ≡ Some (cells_on s cell (universe_of s) t)
   row-returned w t h same =
       each-map (item_value cast (row_of_view w)) (moved_at s Returning) all_of
-      ∙ each-known (λ (k : ℕ). item_value cast (row_of_view w) (moved_at s Returning k)) (λ (k : ℕ). returned k (entered s cast cell k (w k))) all_of (λ k m. item-returned w k m)
+      ∙ each-known (λ (k : ℕ). item_value cast (row_of_view w) (moved_at s Returning k)) (λ (k : ℕ). text_of (entered s cast cell k (w k))) all_of (λ k m. item-returned w k m)
       ∙ ap (λ (cells : List Cell). Some cells)
-      (map-known (λ (k : ℕ). returned k (entered s cast cell k (w k))) (λ (k : ℕ). compared_cell s cell k (value_at t k)) all_of (λ k m.
+      (map-known (λ (k : ℕ). text_of (entered s cast cell k (w k))) (λ (k : ℕ). compared_cell cell k (value_at t k)) all_of (λ k m.
       let low = (member_of (width_of s) (universe_of s) k m).0 in
-      ap (λ (v : List ℕ). returned k (entered s cast cell k v)) (same k low) ∙ returned-known cast s cell r casts integers k t low h))
+      ap (λ (v : List ℕ). text_of (entered s cast cell k v)) (same k low) ∙ returned-known cast s cell r casts integers k t low h))
 
   pub viewed-known : (e : Engine) (designs : List TableDesign) → LegalFor s r → HasTables e s cast cell r (joined_tables designs) → AllPairs (ShareRequired s) designs
       → IsLossless (width_of s) (theory_of s) (map (λ design. attributes design.scheme) designs)

@@ -1,6 +1,6 @@
 -- When a run of the script of `sql migrate` ends without an error: for the law of such runs, and for the script
 -- itself (`table_scripts`).
-use Rattle.std.specs.Prelude.{◌≡◌, ◌<◌, ℕ, Bool, true, false, Some, None, List, map, AllPairs, Contains, slice_get}
+use Rattle.std.specs.Prelude.{◌≡◌, ◌<◌, ℕ, Bool, true, false, Some, None, List, length, map, AllPairs, Contains, slice_get}
 use Rattle.attr_sets.specs.Attributes.{Attributes, IsSubset}
 use Rattle.attr_sets.specs.Sets.{attributes}
 use Rattle.dep_model.specs.declared.column_type.ColumnType.TheVariants.{Integer}
@@ -19,6 +19,7 @@ use Rattle.sql_evaluation.specs.Cells.{Cell, equal}
 use Rattle.sql_evaluation.specs.Running.{State, Cast, Fails, engine_at}
 use Rattle.sql_evaluation.specs.Rules.{RefusesBroken}
 use Rattle.migrate_queries.specs.Script.{copy_name, view_name, test_name, migration}
+use Rattle.migrate_laws.specs.Moved.{copied_cell}
 
 -- ---- a design
 -- no attribute of a scheme of two tables may be missing
@@ -59,21 +60,22 @@ pub record AreFree (start : State) (designs : List TableDesign) : Type 0 where
   pub differ : AllPairs NamesDiffer designs
 
 -- ---- values
--- any two values of a column can be compared
+-- any two values of a column of the copy can be compared
 abbrev pub AreComparable : Schema → (ℕ → List ℕ → Cell) → Relation → Type 0
 AreComparable s cell r =
     (k : ℕ) → k < width_of s → (t u : Tuple) → Contains r t → Contains r u
-    → (b : Bool) × (equal (compared_cell s cell k (value_at t k)) (compared_cell s cell k (value_at u k)) ≡ Some b)
+    → (b : Bool) × (equal (copied_cell s cell k (value_at t k)) (copied_cell s cell k (value_at u k)) ≡ Some b)
 
 -- ---- a run
--- an engine holds a legal relation as a table, in which no value is missing that may not be and the integers are
+-- an engine holds a legal relation as a table without other columns, in which no value is missing that may not be and the integers are
 -- integers; it casts these, and refuses nothing but what breaks a rule of a table; a design without loss fits
 pub record IsSoundRun (fails : Fails) (cast : Cast) (s : Schema) (name : List ℕ) (cell : ℕ → List ℕ → Cell)
     (r : Relation) (designs : List TableDesign) (start : State) : Type 0 where
   pub holds : Holds (engine_at cast start) name s cell r
+  pub whole : length holds.given.names ≡ width_of s
   pub legal : LegalFor s r
   pub none_missing : NoneMissing s cell r
-  pub integers : (k : ℕ) → k < width_of s → type_at s k ≡ Integer → AreIntegers (compared_cell s cell) r k
+  pub integers : (k : ℕ) → k < width_of s → type_at s k ≡ Integer → AreIntegers (compared_cell cell) r k
   pub comparable : AreComparable s cell r
   pub casts : CastsIntegers cast
   pub refuses : RefusesBroken cast (migration s name designs) fails

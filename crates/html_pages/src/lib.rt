@@ -1,13 +1,17 @@
 //! Pages of HTML that a browser shows without anything else: no script, no link out, light and dark.
 //!
 //! A page is its frame around sections, a section a heading above pieces, and a piece a text that was printed,
-//! below its title, open or folded. Each text stands in it escaped.
+//! below its title, open or folded. Each text stands in it escaped; the words of a command that stand beside a title are
+//! those that a shell takes.
 #![tactic(auto)]
 
+mod commands;
+pub mod laws;
 mod page;
 mod pieces;
 mod style;
 
+pub use commands::add_shell_word;
 pub use page::{close_page, open_page, section};
 pub use pieces::{folded_piece, open_piece, titled};
 pub use style::page_style;

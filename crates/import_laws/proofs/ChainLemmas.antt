@@ -1,17 +1,18 @@
 -- The elements of a table are read one after the other, with a comma between two, up to the bracket that closes it.
 use Rattle.std.proofs.Common.{◌≡◌, ◌<◌, ◌+◌, ◌==◌, ℕ, suc, true, false, List, [], ◌∷◌, ◌++◌, length, take, drop, refl, sym, ap, subst, ◌∙◌, arith, Ok, append_assoc}
-use Rattle.std.specs.List.{list_any}
 use Rattle.std.proofs.Math.Seq.{drop-append_seam, take-append_seam}
 use Rattle.std.proofs.lemmas.Bool.Decides.{nat_tests}
 use Rattle.sql_lexemes.specs.declared.dialect.Dialect.{Dialect}
 use Rattle.sql_lexemes.specs.Lexemes.{Lexed}
 use Rattle.sql_definitions.specs.Elements.{element}
-use Rattle.sql_definitions.specs.Facts.{Facts, Outcome, StatedColumn, then_read, with_binding}
+use Rattle.sql_definitions.specs.Facts.{Facts, Outcome, StatedColumn, then_read}
 use Rattle.sql_definitions.specs.Tables.{after_element, closed_table, elements, ends_element, place_of}
 use Rattle.ddl_pieces.proofs.Cutting.{depth_past}
 use Rattle.ddl_pieces.specs.Pieces.{TextPiece, gap, lexemes_from, lines_after, mark}
+use Rattle.import_laws.specs.StatedTypes.{stay_within}
 use Rattle.import_laws.proofs.ElementLemmas.{IsElement, Known, Reads, States}
-use Rattle.import_laws.proofs.PieceLemmas.{first_at, lexemes_append, place_after}
+use Rattle.import_laws.proofs.PieceLemmas.{lexemes_append, place_after}
+use Rattle.import_laws.proofs.WithinLemmas.{within_end}
 
 -- elements lead from what is known to more, one after the other
 abbrev pub Leads : Dialect → Known → Known → List (List TextPiece) → Type 0
@@ -34,13 +35,13 @@ passed d end (l ∷ ls) x rest f = passed d end ls x rest f
 
 -- an element, up to the lexeme that ends it
 one_read : (d : Dialect) (end : ℕ) (l : Lexed) (ls : List Lexed) (x : Lexed) (rest : List Lexed) (f g : Facts)
-    → list_any ends_element (l ∷ ls) ≡ false → ends_element x ≡ true → element d x.place (l ∷ ls) f ≡ Ok g
+    → stay_within 0 (l ∷ ls) ≡ true → ends_element 0 x ≡ true → element d x.place (l ∷ ls) f ≡ Ok g
     → elements d end 0 (l ∷ (ls ++ x ∷ rest)) f
     ≡ after_element end (x ∷ rest) (elements d end (length (l ∷ ls)) (ls ++ x ∷ rest)) g
 unfolding elements
-one_read d end l ls x rest f g none ends read =
+one_read d end l ls x rest f g within ends read =
     ap (λ (n : ℕ). then_read (element d (place_of end (drop n all)) (take n all) f)
-    (after_element end (drop n all) (elements d end n later))) (first_at ends_element own x rest none ends)
+    (after_element end (drop n all) (elements d end n later))) (within_end own x rest within ends)
     ∙ ap (λ (t : List Lexed). then_read (element d (place_of end (drop (length own) all)) t f)
     (after_element end (drop (length own) all) (elements d end (length own) later))) (take-append_seam own (x ∷ rest))
     ∙ ap (λ (t : List Lexed). then_read (element d (place_of end t) own f)
@@ -70,13 +71,13 @@ cut_off place e rest back =
 
 -- the facts of a table, once it is closed
 closed : (known : Known) (place : ℕ) (f : Facts) → 0 < length known.columns → States known f
-    → Reads (closed_table place [] f) known
+    → Reads (closed_table place f) known
 closed known place f some states =
     let same : length f.columns ≡ length known.columns = ap (λ (cs : List StatedColumn). length cs) states.columns in
     let any : (length f.columns == 0) ≡ false = grind (arith, nat_tests, same, some) in (
-      with_binding f false,
+      f,
       rw any refl,
-      record { found = states.found; columns = states.columns; keys = states.keys; binds = refl },
+      states,
     )
 
 pub elements_read : (d : Dialect) (place end : ℕ) (before after : Known) (e : List TextPiece)
@@ -91,13 +92,13 @@ elements_read d place end before after e [] leads some f states =
     let bracket = place_after place e + 1 in
     let (g, read, now) = is.reads place bracket f states in
     let (h, last, known) = closed between bracket g after_all now in
-    let none : list_any ends_element (l ∷ ls) ≡ false =
-    subst (λ (t : List Lexed). list_any ends_element t ≡ false) own (is.inside place) in
+    let within : stay_within 0 (l ∷ ls) ≡ true =
+    subst (λ (t : List Lexed). stay_within 0 t ≡ true) own (is.inside place) in
     let whole = cut_off place e closing is.back
     ∙ ap (λ (t : List Lexed). t ++ lexemes_from (place_after place e) 1 closing) own in (
       h,
       ap (λ (t : List Lexed). elements d end 0 t f) whole
-          ∙ one_read d end l ls _ [] f g none refl
+          ∙ one_read d end l ls _ [] f g within refl
           (ap (λ (t : List Lexed). element d bracket t f) (sym own) ∙ read) ∙ last,
       subst (λ (k : Known). States k h) same known,
     )
@@ -107,15 +108,15 @@ elements_read d place end before after e (next ∷ es) leads some f states =
     let comma = place_after place e in
     let (g, read, now) = is.reads place comma f states in
     let (h, later, known) = elements_read d ((comma + 1) + 3) end between after next es rest some g now in
-    let none : list_any ends_element (l ∷ ls) ≡ false =
-    subst (λ (t : List Lexed). list_any ends_element t ≡ false) own (is.inside place) in
+    let within : stay_within 0 (l ∷ ls) ≡ true =
+    subst (λ (t : List Lexed). stay_within 0 t ≡ true) own (is.inside place) in
     let tail = lines_after (next ∷ es) ++ closing in
     let whole = cut_off place e tail is.back ∙ ap (λ (t : List Lexed). t ++ lexemes_from comma 1 tail) own in
     let regrouped = ap (lexemes_from ((comma + 1) + 3) 1) (append_assoc next (lines_after es) closing) in
     let after_comma = lexemes_from ((comma + 1) + 3) 1 ((next ++ lines_after es) ++ closing) in (
       h,
       ap (λ (t : List Lexed). elements d end 0 t f) whole
-          ∙ one_read d end l ls _ after_comma f g none refl
+          ∙ one_read d end l ls _ after_comma f g within refl
           (ap (λ (t : List Lexed). element d comma t f) (sym own) ∙ read)
           ∙ passed d end ls _ after_comma g
           ∙ ap (λ (t : List Lexed). elements d end 0 t g) regrouped ∙ later,

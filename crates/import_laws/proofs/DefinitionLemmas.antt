@@ -40,5 +40,5 @@ table_defined d s tables k table is apart here readable some =
     let any : (length f.columns == 0) ≡ false = grind (arith, nat_tests, same, some) in (
       f,
       ap (λ (o : Outcome). then_read o is_there) read ∙ rw any refl,
-      record { found = states.found; columns = states.columns; keys = states.keys; binds = states.binds },
+      record { found = states.found; columns = states.columns; keys = states.keys },
     )

@@ -1,10 +1,10 @@
 -- Each table of a design can be read: its scheme has attributes, its keys lie within it and differ, and its
 -- references name tables.
-use Rattle.std.proofs.Common.{◌≡◌, ◌<◌, ◌≤◌, ◌+◌, ℕ, zero, suc, inl, inr, ⊎_elim, Bool, true, false, cond, not, All, AllPairs, List, [], ◌∷◌, ◌++◌, map, length, get_or, take, refl, sym, ap, subst, ◌∙◌, arith, Option, Some, None, length-take, take_all, Vec, Global}
+use Rattle.std.proofs.Common.{◌≡◌, ◌<◌, ◌≤◌, ℕ, inl, inr, ⊎_elim, Bool, true, false, cond, not, All, AllPairs, List, [], ◌∷◌, map, length, get_or, take, refl, sym, ap, subst, ◌∙◌, arith, Option, Some, None, length-take, Vec, Global}
 use Rattle.std.specs.Prelude.{Contains, IsSomeAnd, filter, slice_get}
 use Rattle.std.proofs.lemmas.Bool.{cases_Bool, cases_eq, true≢false}
 use Rattle.std.proofs.lemmas.Bool.Decides.{nat_tests}
-use Rattle.std.proofs.lemmas.List.{length-map, map-append}
+use Rattle.std.proofs.lemmas.List.{length-map}
 use Rattle.std.proofs.lemmas.List.Elements.{All-contains_itself, All-filter, All-map, All-nil, All-weaker, filter_passes}
 use Rattle.std.proofs.lemmas.List.Kept.{AllPairs-filter}
 use Rattle.std.proofs.lemmas.Option.{get_or_from_slice_get, slice_get_cases, slice_get_within}
@@ -12,7 +12,7 @@ use Rattle.attr_sets.proofs.AttributesLemmas.{count_below-pos, is_subset-from}
 use Rattle.attr_sets.specs.Attributes.{Attributes, IsBefore, IsEmpty, IsSubset, below, count_below, none}
 use Rattle.attr_sets.specs.Sets.{attributes, is_same}
 use Rattle.attr_sets.specs.declared.set.AttrSet.{AttrSet}
-use Rattle.dep_model.proofs.SchemeLemmas.{length-members_below, members_below-member, members_below-none, members_below-outside}
+use Rattle.dep_model.proofs.SchemeLemmas.{length-members_below}
 use Rattle.dep_model.specs.Keys.{IsKey}
 use Rattle.dep_model.specs.Plans.{schemes_of}
 use Rattle.dep_model.specs.Projections.{members_below}

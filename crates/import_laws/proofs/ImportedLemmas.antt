@@ -1,5 +1,5 @@
 -- The schema that is imported of a table of a design: what its text declares.
-use Rattle.std.proofs.Common.{◌≡◌, ◌<◌, ◌≤◌, ◌&&◌, ◌++◌, ℕ, Bool, true, false, cond, not, All, AllPairs, List, [], ◌∷◌, map, length, get_or, refl, sym, ap, subst, ◌∙◌, arith, Option, Some, None, Result, Ok}
+use Rattle.std.proofs.Common.{◌≡◌, ◌<◌, ◌≤◌, ◌&&◌, ◌||◌, ◌++◌, ℕ, Bool, true, false, cond, not, All, AllPairs, List, [], ◌∷◌, map, length, get_or, refl, sym, ap, subst, ◌∙◌, arith, Option, Some, None, Result, Ok}
 use Rattle.std.specs.Prelude.{IsSomeAnd, filter, option_map, slice_get, slice_index_or}
 use Rattle.std.proofs.lemmas.Bool.{false_from_ne_true, true≢false}
 use Rattle.std.proofs.lemmas.Bool.Decides.{nat_tests}
@@ -23,15 +23,16 @@ use Rattle.ddl_text.specs.Ddl.{is_empty, is_never_missing}
 use Rattle.ddl_text.specs.Designs.{known_keys}
 use Rattle.ddl_text.specs.declared.table.TableDesign.{TableDesign}
 use Rattle.sql_lexemes.specs.declared.dialect.Dialect.{Dialect}
+use Rattle.sql_definitions.specs.declared.definition.KeyKind.TheVariants.{Primary, Unique}
 use Rattle.sql_definitions.specs.Definitions.{definition_of}
 use Rattle.sql_definitions.specs.Facts.{Facts, Outcome, StatedColumn}
 use Rattle.sql_definitions.specs.Wanted.{TableName}
 use Rattle.sql_definitions.specs.declared.refusal.Refusal.{Refusal}
 use Rattle.sql_schemas.proofs.LawLemmas.{text_means}
 use Rattle.sql_schemas.proofs.ReadLemmas.{definition_reads}
-use Rattle.sql_schemas.specs.Keys.{KeyColumns, and_then, key_dependency, new_keys}
+use Rattle.sql_schemas.specs.Keys.{KeyColumns, and_then, compares_missing, is_dependency, is_primary, key_dependency, new_keys}
 use Rattle.sql_schemas.specs.Meaning.{declared_table, whole_keys}
-use Rattle.sql_schemas.specs.Texts.{column_names, column_types, columns_missing, imported_text, is_bound, is_whole, says_nothing, table_text, text_of_facts}
+use Rattle.sql_schemas.specs.Texts.{column_names, column_types, columns_missing, imported_text, is_bound, says_nothing, table_text, text_of_facts}
 use Rattle.import_laws.specs.ImportedTables.{columns_of, determines_others, has, imported_keys, imported_table, places_in, stated_keys}
 use Rattle.import_laws.specs.ReadTables.{NamedKey, StatesTable, key_named, named_key, read_column, read_columns, read_keys, read_nullable}
 use Rattle.import_laws.specs.StatedTypes.{read_type}
@@ -39,6 +40,10 @@ use Rattle.import_laws.proofs.FitLemmas.{IsFit}
 use Rattle.import_laws.proofs.KeyLemmas.{Apart, dependencies_same, has_others, keys_read, new_are, part_names, set_names}
 use Rattle.import_laws.proofs.PairLemmas.{all_back, keep_all, pairs_back, pairs_cons, pairs_map}
 use Rattle.import_laws.proofs.PlaceLemmas.{places_apart, places_disjoint}
+
+or_true : (a : Bool) {b : Bool} → b ≡ true → (a || b) ≡ true
+or_true true is = refl
+or_true false is = is
 
 module _ (s : Schema) (tables : List TableDesign) (k : ℕ) (table : TableDesign) (fit : IsFit s tables table)
     (never : NeverMissing (nullable_of s) tables) (here : slice_get tables k ≡ Some table) where
@@ -86,14 +91,14 @@ module _ (s : Schema) (tables : List TableDesign) (k : ℕ) (table : TableDesign
   stated_names = by_key (is_empty (attributes table.key))
     where
       rest : map (λ (key : NamedKey). key.names)
-          (map (key_named s false) (filter (is_never_missing s) (known_keys table.other_keys)))
+          (map (key_named s Unique) (filter (is_never_missing s) (known_keys table.other_keys)))
           ≡ map (set_names s) (filter (is_never_missing s) (known_keys table.other_keys))
-      rest = map-map (λ (key : NamedKey). key.names) (key_named s false)
+      rest = map-map (λ (key : NamedKey). key.names) (key_named s Unique)
           (filter (is_never_missing s) (known_keys table.other_keys))
 
       by_key : (b : Bool)
-          → map (λ (key : NamedKey). key.names) (cond b [] (key_named s true (attributes table.key) ∷ [])
-          ++ map (key_named s false) (filter (is_never_missing s) (known_keys table.other_keys)))
+          → map (λ (key : NamedKey). key.names) (cond b [] (key_named s Primary (attributes table.key) ∷ [])
+          ++ map (key_named s Unique) (filter (is_never_missing s) (known_keys table.other_keys)))
           ≡ map (set_names s) (cond b [] (attributes table.key ∷ []) ++ filter (is_never_missing s)
           (known_keys table.other_keys))
       by_key true = rest
@@ -172,9 +177,9 @@ module _ (s : Schema) (tables : List TableDesign) (k : ℕ) (table : TableDesign
         unbound : (b : ℕ) → slice_get (columns_of s table) j ≡ Some b → read_nullable d s b ≡ true
             → is_bound keys j ≡ false
         unbound b at nullable =
-            list_any_none (λ (key : KeyColumns). key.binds && key.columns j) keys (λ i e low.
+            list_any_none (λ (key : KeyColumns). is_primary key.kind && key.columns j) keys (λ i e low.
             let key = get_or keys i e in
-            either key.binds (key.columns j) (false_from_ne_true (key.columns j) (λ member.
+            either (is_primary key.kind) (key.columns j) (false_from_ne_true (key.columns j) (λ member.
             true≢false (sym nullable ∙ sym (ap (has (read_nullable d s)) at) ∙ keys_never i e low j member))))
           where
             either : (b c : Bool) → c ≡ false → (b && c) ≡ false
@@ -207,17 +212,20 @@ module _ (s : Schema) (tables : List TableDesign) (k : ℕ) (table : TableDesign
         ap (λ (cs : List StatedColumn). columns_missing cs keys) columns ∙ missing_are in
         let m = length (columns_of s table) in
         ap (λ (n : ℕ). map (key_dependency n)
-        (filter (is_whole (columns_missing f.columns keys)) (new_keys n [] keys))) size
-        ∙ ap (λ (x : Attributes). map (key_dependency m) (filter (is_whole x) (new_keys m [] keys))) none_missing
+        (filter (is_dependency (columns_missing f.columns keys))
+        (new_keys n (columns_missing f.columns keys) [] keys))) size
+        ∙ ap (λ (x : Attributes). map (key_dependency m) (filter (is_dependency x) (new_keys m x [] keys)))
+        none_missing
         ∙ ap (λ (ks : List KeyColumns). map (key_dependency m)
-        (filter (is_whole (places_in (columns_of s table) (read_nullable d s))) ks))
-        (new_are m [] keys keys_apart (λ i e low. refl))
-        ∙ ap (map (key_dependency m)) (keep_all (is_whole (places_in (columns_of s table) (read_nullable d s)))
+        (filter (is_dependency (places_in (columns_of s table) (read_nullable d s))) ks))
+        (new_are m (places_in (columns_of s table) (read_nullable d s)) [] keys keys_apart (λ i e low. refl))
+        ∙ ap (map (key_dependency m)) (keep_all (is_dependency (places_in (columns_of s table) (read_nullable d s)))
         (filter (has_others m) keys)
-        (All-filter (has_others m) (λ (key : KeyColumns). is_whole
+        (All-filter (has_others m) (λ (key : KeyColumns). is_dependency
         (places_in (columns_of s table) (read_nullable d s)) key ≡ true) keys
-        (λ i e low. is_disjoint-from (get_or keys i e).columns (places_in (columns_of s table) (read_nullable d s))
-        (keys_never i e low))))
+        (λ i e low. or_true (compares_missing (get_or keys i e).kind)
+        (is_disjoint-from (get_or keys i e).columns (places_in (columns_of s table) (read_nullable d s))
+        (keys_never i e low)))))
         ∙ dependencies_same (width_of s) (attributes table.scheme) few fit.within keys (stated_keys s table) are
 
   -- ---- the text that is imported
@@ -234,10 +242,10 @@ module _ (s : Schema) (tables : List TableDesign) (k : ℕ) (table : TableDesign
       (stated_keys s table)
       (λ i e low. (stated_are i e low).within) named in
       let is = definition_reads d wanted text f defined in
-      let (lines, means) = text_means d f keys is.fine.columns is.some is.fine.keys read in (
+      let (lines, means) = text_means f keys is.fine.columns is.some is.fine.keys read in (
         table_text f.columns keys,
         lines,
-        ap (λ (o : Outcome). and_then o (text_of_facts d)) defined
+        ap (λ (o : Outcome). and_then o text_of_facts) defined
             ∙ ap (λ (o : Result (List KeyColumns) Refusal). and_then o (λ ks. Ok (table_text f.columns ks))) read,
         declared f states keys are lines means,
       )

@@ -1,5 +1,5 @@
 -- The keys that facts of a table state, by the places of their attributes, and which of them a schema declares.
-use Rattle.std.proofs.Common.{◌≡◌, ◌≤◌, ◌==◌, ◌||◌, ℕ, suc, Bool, true, false, cond, not, All, AllPairs, List, [], ◌∷◌, ◌++◌, map, length, get_or, refl, sym, ap, ◌∙◌, arith, Option, Some, Ok, append-nil, append_assoc}
+use Rattle.std.proofs.Common.{◌≡◌, ◌≤◌, ◌==◌, ◌&&◌, ◌||◌, ℕ, suc, Bool, true, false, cond, not, All, AllPairs, List, [], ◌∷◌, ◌++◌, map, length, get_or, refl, sym, ap, ◌∙◌, arith, Option, Some, Ok, append-nil, append_assoc}
 use Rattle.std.specs.Prelude.{filter, option_and_then, slice_index_or}
 use Rattle.std.specs.List.{list_any}
 use Rattle.std.proofs.lemmas.List.Elements.{All-head, All-tail}
@@ -15,7 +15,7 @@ use Rattle.dep_model.specs.declared.schema.Schema.{Schema}
 use Rattle.schema_printer.specs.Printing.{members_from}
 use Rattle.sql_lexemes.specs.declared.dialect.Dialect.{Dialect}
 use Rattle.sql_definitions.specs.Facts.{Facts, StatedColumn, StatedKey, StatedPart}
-use Rattle.sql_schemas.specs.Keys.{KeyColumns, and_then, binds_key, column_named, columns_of_parts, is_new, key_dependency, keys_after, new_keys, with_part}
+use Rattle.sql_schemas.specs.Keys.{KeyColumns, and_then, column_named, columns_of_parts, is_dependency, is_new, key_dependency, keys_after, new_keys, says_so, with_part}
 use Rattle.import_laws.specs.ImportedTables.{determines_others, places_in}
 use Rattle.import_laws.specs.ReadTables.{read_columns}
 use Rattle.sql_names.proofs.NameLemmas.{members_named}
@@ -92,16 +92,16 @@ set_read d s scheme x limit within parts same =
     equal = λ i j. one j i
 
 -- ---- the keys
-abbrev pub ReadsKeys : Dialect → Facts → List KeyColumns → List StatedKey → List Attributes → Type 0
-ReadsKeys d f before stated sets =
-    (keys : List KeyColumns) × (keys_after d f before stated ≡ Ok (before ++ keys)) ×
+abbrev pub ReadsKeys : Facts → List KeyColumns → List StatedKey → List Attributes → Type 0
+ReadsKeys f before stated sets =
+    (keys : List KeyColumns) × (keys_after f.columns before stated ≡ Ok (before ++ keys)) ×
     (map (λ key. key.columns) keys ≡ sets)
 
 pub keys_read : (d : Dialect) (s : Schema) (scheme : Attributes) (f : Facts) → IsSubset scheme (below (width_of s))
     → f.columns ≡ read_columns d s scheme
     → (before : List KeyColumns) (stated : List StatedKey) (sets : List Attributes)
     → All (λ x. IsSubset x scheme) sets → map part_names stated ≡ map (set_names s) sets
-    → ReadsKeys d f before stated (map (places_in (members_below (width_of s) scheme)) sets)
+    → ReadsKeys f before stated (map (places_in (members_below (width_of s) scheme)) sets)
 unfolding keys_after
 keys_read d s scheme f limit columns before [] [] within same = ([], ap Ok (sym (append-nil before)), refl)
 keys_read d s scheme f limit columns before [] (x ∷ sets) within same = cc
@@ -110,7 +110,7 @@ keys_read d s scheme f limit columns before (key ∷ stated) (x ∷ sets) within
     let named : part_names key ≡ set_names s x = cc in
     let rest : map part_names stated ≡ map (set_names s) sets = cc in
     let places = places_in (members_below (width_of s) scheme) x in
-    let made : KeyColumns = record { primary = key.primary; binds = binds_key d f key; columns = places } in
+    let made : KeyColumns = record { kind = key.kind; columns = places } in
     let read : columns_of_parts f.columns none key.parts ≡ Ok places =
     ap (λ (cs : List StatedColumn). columns_of_parts cs none key.parts) columns
     ∙ set_read d s scheme x limit (All-head (λ (y : Attributes). IsSubset y scheme) x sets within) key.parts named in
@@ -118,8 +118,8 @@ keys_read d s scheme f limit columns before (key ∷ stated) (x ∷ sets) within
     (All-tail (λ (y : Attributes). IsSubset y scheme) x sets within) rest in (
       made ∷ keys,
       ap (λ r. and_then (and_then r (λ z. Ok
-          (record { primary = key.primary; binds = binds_key d f key; columns = z })))
-          (λ k. keys_after d f (before ++ k ∷ []) stated)) read
+          (record { kind = key.kind; columns = z })))
+          (λ k. keys_after f.columns (before ++ k ∷ []) stated)) read
           ∙ later ∙ ap Ok (append_assoc before (made ∷ []) keys),
       ap (λ (cs : List Attributes). places ∷ cs) are,
     )
@@ -132,41 +132,35 @@ Apart one other = is_same one.columns other.columns ≡ false
 abbrev pub has_others : ℕ → KeyColumns → Bool
 has_others n key = not (is_subset (below n) key.columns)
 
-pub new_are : (n : ℕ) (before keys : List KeyColumns) → AllPairs Apart keys
-    → All (λ (key : KeyColumns). list_any (λ (other : KeyColumns). is_same other.columns key.columns) before
-    ≡ false) keys
-    → new_keys n before keys ≡ before ++ filter (has_others n) keys
+pub new_are : (n : ℕ) (missing : Attributes) (before keys : List KeyColumns) → AllPairs Apart keys
+    → All (λ (key : KeyColumns). list_any (says_so missing key) before ≡ false) keys
+    → new_keys n missing before keys ≡ before ++ filter (has_others n) keys
 unfolding new_keys
-new_are n before [] apart far = sym (append-nil before)
-new_are n before (key ∷ keys) apart far =
-    by_test (is_subset (below n) key.columns) refl (λ front free. new_are n front keys later free)
+new_are n missing before [] apart far = sym (append-nil before)
+new_are n missing before (key ∷ keys) apart far =
+    by_test (is_subset (below n) key.columns) refl (λ front free. new_are n missing front keys later free)
   where
     later : AllPairs Apart keys
     later i j d less low = apart (suc i) (suc j) d (omega (arith, less)) (omega (arith, low))
 
-    here : list_any (λ (other : KeyColumns). is_same other.columns key.columns) before ≡ false
-    here = All-head (λ (k : KeyColumns). list_any
-        (λ (other : KeyColumns). is_same other.columns k.columns) before ≡ false) key keys far
+    here : list_any (says_so missing key) before ≡ false
+    here = All-head (λ (k : KeyColumns). list_any (says_so missing k) before ≡ false) key keys far
 
-    rest : All (λ (k : KeyColumns). list_any (λ (other : KeyColumns). is_same other.columns k.columns) before
-        ≡ false) keys
-    rest = All-tail (λ (k : KeyColumns). list_any
-        (λ (other : KeyColumns). is_same other.columns k.columns) before ≡ false) key keys far
+    rest : All (λ (k : KeyColumns). list_any (says_so missing k) before ≡ false) keys
+    rest = All-tail (λ (k : KeyColumns). list_any (says_so missing k) before ≡ false) key keys far
 
-    more : All (λ (k : KeyColumns). list_any (λ (other : KeyColumns). is_same other.columns k.columns)
-        (before ++ key ∷ []) ≡ false) keys
+    more : All (λ (k : KeyColumns). list_any (says_so missing k) (before ++ key ∷ []) ≡ false) keys
     more i d low =
         let k = get_or keys i d in
-        list_any-append (λ (other : KeyColumns). is_same other.columns k.columns) before (key ∷ [])
-        ∙ ap (λ (b : Bool). b || (is_same key.columns k.columns || false)) (rest i d low)
-        ∙ ap (λ (b : Bool). b || false) (apart 0 (suc i) d (omega arith) (omega (arith, low)))
+        list_any-append (says_so missing k) before (key ∷ [])
+        ∙ ap (λ (b : Bool). b || (says_so missing k key || false)) (rest i d low)
+        ∙ ap (λ (b : Bool). (b && (is_dependency missing key || not (is_dependency missing k))) || false) (apart 0 (suc i) d (omega arith) (omega (arith, low)))
 
     by_test : (b : Bool) → is_subset (below n) key.columns ≡ b
         → ((front : List KeyColumns)
-        → All (λ (k : KeyColumns). list_any (λ (other : KeyColumns). is_same other.columns k.columns) front
-        ≡ false) keys
-        → new_keys n front keys ≡ front ++ filter (has_others n) keys)
-        → new_keys n (cond (is_new n before key) (before ++ key ∷ []) before) keys
+        → All (λ (k : KeyColumns). list_any (says_so missing k) front ≡ false) keys
+        → new_keys n missing front keys ≡ front ++ filter (has_others n) keys)
+        → new_keys n missing (cond (is_new n missing before key) (before ++ key ∷ []) before) keys
         ≡ before ++ cond (has_others n key) (key ∷ filter (has_others n) keys) (filter (has_others n) keys)
     by_test true all next = rw all (next before rest)
     by_test false all next =

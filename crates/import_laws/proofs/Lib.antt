@@ -4,6 +4,7 @@ pub mod PairLemmas
 pub mod NameLemmas
 pub mod ListLemmas
 pub mod UnplacedLemmas
+pub mod WithinLemmas
 pub mod TypeLemmas
 pub mod AgainLemmas
 pub mod FormLemmas

@@ -1,18 +1,18 @@
 -- Lists of names in brackets are read back, and none of their lexemes ends an element of a table.
-use Rattle.std.proofs.Common.{◌≡◌, ◌+◌, ℕ, false, All, List, [], ◌∷◌, ◌++◌, map, length, refl, sym, ap, ◌∙◌, Option, Some, Result, Ok, append-nil, append_assoc}
-use Rattle.std.specs.List.{list_any}
+use Rattle.std.proofs.Common.{◌≡◌, ◌+◌, ◌&&◌, ℕ, true, false, All, List, [], ◌∷◌, ◌++◌, map, take, length, refl, sym, ap, ◌∙◌, Option, Some, Result, Ok, append-nil, append_assoc}
 use Rattle.std.proofs.lemmas.List.{map-append}
 use Rattle.std.proofs.lemmas.List.Elements.{All-head, All-tail}
 use Rattle.dep_model.specs.Names.{IsName}
 use Rattle.sql_names.specs.Names.{quoted_name}
 use Rattle.sql_lexemes.specs.declared.dialect.Dialect.{Dialect}
 use Rattle.sql_lexemes.specs.declared.lexeme.LexemeKind.TheVariants as kind
+use Rattle.sql_lexemes.specs.Lexemes.{Lexed}
 use Rattle.sql_definitions.specs.declared.refusal.Refusal.{Refusal}
 use Rattle.sql_definitions.specs.Facts.{StatedPart}
-use Rattle.sql_definitions.specs.Lists.{list_parts, part_of, read_list}
-use Rattle.sql_definitions.specs.Tables.{ends_element}
+use Rattle.sql_definitions.specs.Lists.{are_columns, ends_column, list_parts, lists_columns, part_length, part_of, read_list}
 use Rattle.ddl_pieces.proofs.Cutting.{depth_past}
 use Rattle.ddl_pieces.specs.Pieces.{TextPiece, lexeme_at, lexemes_from, mark, name_pieces, names_after}
+use Rattle.import_laws.specs.StatedTypes.{stay_within}
 use Rattle.import_laws.proofs.NameLemmas.{name_known}
 
 -- names in brackets
@@ -53,16 +53,40 @@ list_read d end place name names all =
     (All-tail IsName name names all) in
     (parts, read, same ∙ ap (λ (x : Option (List ℕ)). x ∷ map Some names) is)
 
+-- ---- the parts of a list are columns
+columns_after : (place : ℕ) (names : List (List ℕ))
+    → (take (part_length 1 (lexemes_from place 2 (names_after names ++ mark 41 ∷ [])))
+    (lexemes_from place 2 (names_after names ++ mark 41 ∷ [])) ≡ [])
+    × (are_columns 1 false (lexemes_from place 2 (names_after names ++ mark 41 ∷ [])) ≡ true)
+unfolding lexemes_from are_columns
+columns_after place [] = (refl, refl)
+columns_after place (name ∷ names) =
+    let at = ((place + 1) + 1) + length (quoted_name name) in
+    let (nothing, more) = columns_after at names in
+    let rest = lexemes_from at 2 (names_after names ++ mark 41 ∷ []) in (
+      refl,
+      ap (λ (ls : List Lexed). ends_column ls && are_columns 1 false rest) nothing ∙ more,
+    )
+
+pub list_columns : (place : ℕ) (name : List ℕ) (names : List (List ℕ))
+    → lists_columns (lexemes_from place 1 (bracketed (name ∷ names))) ≡ true
+unfolding lexemes_from are_columns
+list_columns place name names =
+    let at = (place + 1) + length (quoted_name name) in
+    let (nothing, more) = columns_after at names in
+    let rest = lexemes_from at 2 (names_after names ++ mark 41 ∷ []) in
+    ap (λ (ls : List Lexed). ends_column ls && are_columns 1 false rest) nothing ∙ more
+
 -- ---- lists within an element
 names_inside : (place : ℕ) (names : List (List ℕ))
-    → list_any ends_element (lexemes_from place 2 (names_after names ++ mark 41 ∷ [])) ≡ false
-unfolding lexemes_from
+    → stay_within 1 (lexemes_from place 2 (names_after names ++ mark 41 ∷ [])) ≡ true
+unfolding lexemes_from stay_within
 names_inside place [] = refl
 names_inside place (name ∷ names) = names_inside (((place + 1) + 1) + length (quoted_name name)) names
 
 pub list_inside : (place : ℕ) (names : List (List ℕ))
-    → list_any ends_element (lexemes_from place 1 (bracketed names)) ≡ false
-unfolding lexemes_from
+    → stay_within 0 (lexemes_from place 1 (bracketed names)) ≡ true
+unfolding lexemes_from stay_within
 list_inside place [] = refl
 list_inside place (name ∷ names) = names_inside ((place + 1) + length (quoted_name name)) names
 

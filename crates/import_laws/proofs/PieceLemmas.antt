@@ -1,7 +1,6 @@
 -- The lexemes of pieces that are joined, and the first of them that passes a test.
-use Rattle.std.proofs.Common.{◌≡◌, ◌+◌, ℕ, Bool, true, false, ◌||◌, List, [], ◌∷◌, ◌++◌, length, refl, ap, ◌∙◌, arith, Option, Some, None}
+use Rattle.std.proofs.Common.{◌≡◌, ◌+◌, ℕ, Bool, true, false, ◌||◌, List, [], ◌∷◌, ◌++◌, length, refl, ap, arith, Option, Some, None}
 use Rattle.std.specs.List.{list_any, position_or_len}
-use Rattle.std.proofs.lemmas.List.Folds.{list_any-append}
 use Rattle.sql_lexemes.specs.declared.lexeme.LexemeKind.{LexemeKind}
 use Rattle.sql_lexemes.specs.Lexemes.{Lexed}
 use Rattle.sql_lexemes.specs.Statements.{depth_after}
@@ -56,16 +55,3 @@ none_at p (y ∷ ys) none = by_first (p y) refl none (none_at p ys)
         → position_or_len p (y ∷ ys) ≡ length (y ∷ ys)
     by_first true is later before = cc
     by_first false is later before = rw is (let same = before later in rw same (omega arith))
-
--- no lexeme of joined pieces passes a test that none of either passes
-pub none_append : (test : Lexed → Bool) (place depth after : ℕ) (xs ys : List TextPiece) → depth_past depth xs ≡ after
-    → ((at : ℕ) → list_any test (lexemes_from at depth xs) ≡ false)
-    → ((at : ℕ) → list_any test (lexemes_from at after ys) ≡ false)
-    → list_any test (lexemes_from place depth (xs ++ ys)) ≡ false
-none_append test place depth after xs ys ends first second =
-    ap (list_any test) (lexemes_append place depth xs ys)
-    ∙ list_any-append test (lexemes_from place depth xs) (lexemes_from (place_after place xs) (depth_past depth xs) ys)
-    ∙ ap (λ (b : Bool). b || list_any test (lexemes_from (place_after place xs) (depth_past depth xs) ys))
-    (first place)
-    ∙ ap (λ (n : ℕ). list_any test (lexemes_from (place_after place xs) n ys)) ends
-    ∙ second (place_after place xs)

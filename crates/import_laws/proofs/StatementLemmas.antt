@@ -77,7 +77,7 @@ lines_read d place end after [] leads some =
     ap (λ (k : Known). length k.columns) leads in absurd (omega (arith, none, some))
 lines_read d place end after (e ∷ es) leads some =
     let (f, read, states) = elements_read d (place + 2) end nothing after e es leads some (as_found no_facts)
-    (record { found = refl; columns = refl; keys = refl; binds = refl }) in (
+    (record { found = refl; columns = refl; keys = refl }) in (
       f,
       ap (λ (ps : List TextPiece). elements d end 0 (lexemes_from (place + 2) 1 ps) (as_found no_facts))
           (append_assoc e (lines_after es) closing) ∙ read,

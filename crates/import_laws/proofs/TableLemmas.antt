@@ -23,6 +23,7 @@ use Rattle.ddl_text.specs.declared.table.TableDesign.{TableDesign}
 use Rattle.sql_lexemes.specs.declared.dialect.Dialect.{Dialect}
 use Rattle.sql_definitions.specs.Elements.{is_taken}
 use Rattle.sql_definitions.specs.Facts.{StatedColumn}
+use Rattle.sql_definitions.specs.declared.definition.KeyKind.TheVariants.{Primary, Unique}
 use Rattle.ddl_pieces.specs.Pieces.{TextPiece, column_pieces, elements_pieces, key_pieces, keys_pieces, referred, unique_pieces}
 use Rattle.import_laws.specs.ReadTables.{NamedKey, key_named, read_column, read_columns, read_keys}
 use Rattle.import_laws.specs.StatedTypes.{states_a_type}
@@ -152,11 +153,11 @@ key_names s all x k = chosen (names_of s) k all
 others_lead : (d : Dialect) (s : Schema) → IsPrinted d s
     → (columns : List StatedColumn) (before : List NamedKey) (keys : List Attributes)
     → All (HasColumn s) keys → length before + length keys ≤ MOST_DEPENDENCIES
-    → Leads d (known_by columns before) (known_by columns (before ++ map (key_named s false) keys))
+    → Leads d (known_by columns before) (known_by columns (before ++ map (key_named s Unique) keys))
     (map (unique_pieces s) keys)
 others_lead d s is columns before [] have limit = ap (known_by columns) (sym (append-nil before))
 others_lead d s is columns before (key ∷ keys) have limit =
-    let more = key_named s false key in
+    let more = key_named s Unique key in
     let size : length (before ++ more ∷ []) ≡ length before + 1 = length-append before (more ∷ []) in
     let rest = others_lead d s is columns (before ++ more ∷ []) keys (All-tail (HasColumn s) key keys have)
     (omega (arith, size, limit)) in (
@@ -166,7 +167,7 @@ others_lead d s is columns before (key ∷ keys) have limit =
           (key_names s is.names key 0) (omega (arith, limit)),
       subst (λ (ks : List NamedKey). Leads d (known_by columns (before ++ more ∷ [])) (known_by columns ks)
           (map (unique_pieces s) keys))
-          (append_assoc before (more ∷ []) (map (key_named s false) keys)) rest,
+          (append_assoc before (more ∷ []) (map (key_named s Unique) keys)) rest,
     )
 
 keys_lead : (d : Dialect) (s : Schema) (tables : List TableDesign) (table : TableDesign) → IsPrinted d s
@@ -183,15 +184,15 @@ keys_lead d s tables table is readable columns = by_key (is_empty (attributes ta
 
     by_key : (b : Bool) → is_empty (attributes table.key) ≡ b
         → Leads d (known_by columns [])
-        (known_by columns (cond b [] (key_named s true (attributes table.key) ∷ []) ++ map
-        (key_named s false) others))
+        (known_by columns (cond b [] (key_named s Primary (attributes table.key) ∷ []) ++ map
+        (key_named s Unique) others))
         (cond b [] (key_pieces s (attributes table.key) ∷ []) ++ map (unique_pieces s) others)
     by_key true empty = others_lead d s is columns [] others readable.others (omega (arith, limit))
     by_key false some = (
-      known_by columns (key_named s true (attributes table.key) ∷ []),
+      known_by columns (key_named s Primary (attributes table.key) ∷ []),
       primary_element d (known_by columns []) (members_from (attributes table.key) 0 (names_of s)) (readable.key some)
           (key_names s is.names (attributes table.key) 0) (omega arith),
-      others_lead d s is columns (key_named s true (attributes table.key) ∷ []) others readable.others limit,
+      others_lead d s is columns (key_named s Primary (attributes table.key) ∷ []) others readable.others limit,
     )
 
 -- ---- references

@@ -1,11 +1,10 @@
 -- The types of columns are read back: with what follows them they state a column, no key, and end no element.
 use Rattle.std.proofs.Common.{◌≡◌, ◌≤◌, ◌+◌, ℕ, Bool, true, false, not, ◌&&◌, ◌||◌, cond, IsTrue, List, [], ◌∷◌, ◌++◌, take, drop, length, refl, sym, ap, ◌∙◌, zero, suc, subst, arith, Ok, append-nil}
-use Rattle.std.specs.Prelude.{bytes_eq, codes}
+use Rattle.std.specs.Prelude.{codes}
 use Rattle.std.specs.List.{list_any}
 use Rattle.std.proofs.lemmas.Bool.{and_from, and_parts, not-true, true≢false}
 use Rattle.std.proofs.lemmas.Bool.Decides.{nat_tests}
 use Rattle.std.proofs.lemmas.Fmt.{decimal_digit}
-use Rattle.std.proofs.lemmas.List.Folds.{list_any-append}
 use Rattle.std.proofs.Math.Seq.{drop-append_seam, take-append_seam}
 use Rattle.dep_model.specs.Columns.{is_column_type}
 use Rattle.dep_model.specs.declared.column_type.ColumnType.{ColumnType}
@@ -16,14 +15,14 @@ use Rattle.sql_lexemes.specs.Lexemes.{Lexed}
 use Rattle.sql_definitions.specs.Elements.{column_keys, column_of, ends_type, says_not_null, type_length}
 use Rattle.sql_definitions.specs.Names.{lower_text}
 use Rattle.sql_definitions.specs.Facts.{Facts, StatedColumn, StatedPart}
-use Rattle.sql_definitions.specs.Tables.{ends_element}
 use Rattle.sql_definitions.specs.Types.{column_type, is_serial, type_text, written}
 use Rattle.ddl_pieces.proofs.Cutting.{depth_append, depth_past}
 use Rattle.ddl_pieces.proofs.Types.{own_sound, type_depth}
 use Rattle.ddl_pieces.specs.Pieces.{TextPiece, blank, is_own_type, is_sound_type, lexemes_from, mark, not_null, number, type_pieces, word}
-use Rattle.import_laws.specs.StatedTypes.{ends_column_type, is_integer_type, is_serial_type, read_type, states_a_type, type_lexemes}
+use Rattle.import_laws.specs.StatedTypes.{is_serial_type, read_type, states_a_type, stay_within, type_lexemes}
 use Rattle.import_laws.proofs.PieceLemmas.{first_at, lexemes_append, none_at, place_after}
 use Rattle.import_laws.proofs.UnplacedLemmas.{any_moved, lexemes_same, text_moved, type_moved}
+use Rattle.import_laws.proofs.WithinLemmas.{within_append, within_moved}
 
 -- what follows the type of a column, and what follows its name
 abbrev null_pieces : Bool → List TextPiece
@@ -44,15 +43,14 @@ column_typed d name nullable column = record {
   name = name;
   kind = read_type d column;
   never_missing = not (nullable && not (is_serial_type d column));
-  is_integer = is_integer_type column;
 }
 
--- after a name they state no key, and a column of this type; and they end no element
+-- after a name they state no key, and a column of this type; and they stay within an element
 abbrev pub ReadsLexemes : Dialect → Bool → ColumnType → List Lexed → Type 0
 ReadsLexemes d nullable column lexemes =
     ((part : StatedPart) (f : Facts) → column_keys part (drop (type_length lexemes) lexemes) f ≡ Ok f)
     × ((name : List ℕ) → column_by d name lexemes ≡ column_typed d name nullable column)
-    × (list_any ends_element lexemes ≡ false)
+    × (stay_within 0 lexemes ≡ true)
 
 -- ---- types alone
 -- a decimal type, by the text of its scale
@@ -118,9 +116,11 @@ type_read d (type.Decimal scale) is = decimal_reads d scale (grind (arith, nat_t
 type_read d (type.Other text) is = refl
 
 -- no lexeme of a type that a schema states by a word of its own ends it
-own_goes_on : (column : ColumnType) → IsTrue (is_own_type column)
-    → not (list_any ends_column_type (type_lexemes column)) ≡ true
-unfolding lexemes_from
+abbrev goes_on : ColumnType → Bool
+goes_on column = not (list_any ends_type (type_lexemes column)) && stay_within 0 (type_lexemes column)
+
+own_goes_on : (column : ColumnType) → IsTrue (is_own_type column) → goes_on column ≡ true
+unfolding lexemes_from stay_within
 own_goes_on type.Text own = refl
 own_goes_on type.Integer own = refl
 own_goes_on type.Date own = refl
@@ -129,37 +129,34 @@ own_goes_on (type.Decimal scale) own = refl
 own_goes_on type.Uuid own = refl
 own_goes_on (type.Other text) own = absurd (true≢false (sym own))
 
--- its words are neither those of a serial type nor `integer`
-own_words : (d : Dialect) (column : ColumnType) → IsTrue (is_own_type column)
-    → (is_serial_type d column ≡ false) × (is_integer_type column ≡ false)
+-- its words are not those of a serial type
+own_words : (d : Dialect) (column : ColumnType) → IsTrue (is_own_type column) → is_serial_type d column ≡ false
 unfolding lexemes_from type_text
-own_words dialect.Postgres type.Text own = (refl, refl)
-own_words dialect.Postgres type.Integer own = (refl, refl)
-own_words dialect.Postgres type.Date own = (refl, refl)
-own_words dialect.Postgres type.Timestamp own = (refl, refl)
-own_words dialect.Postgres (type.Decimal scale) own = (refl, refl)
-own_words dialect.Postgres type.Uuid own = (refl, refl)
-own_words dialect.Sqlite type.Text own = (refl, refl)
-own_words dialect.Sqlite type.Integer own = (refl, refl)
-own_words dialect.Sqlite type.Date own = (refl, refl)
-own_words dialect.Sqlite type.Timestamp own = (refl, refl)
-own_words dialect.Sqlite (type.Decimal scale) own = (refl, refl)
-own_words dialect.Sqlite type.Uuid own = (refl, refl)
+own_words dialect.Postgres type.Text own = refl
+own_words dialect.Postgres type.Integer own = refl
+own_words dialect.Postgres type.Date own = refl
+own_words dialect.Postgres type.Timestamp own = refl
+own_words dialect.Postgres (type.Decimal scale) own = refl
+own_words dialect.Postgres type.Uuid own = refl
+own_words dialect.Sqlite type.Text own = refl
+own_words dialect.Sqlite type.Integer own = refl
+own_words dialect.Sqlite type.Date own = refl
+own_words dialect.Sqlite type.Timestamp own = refl
+own_words dialect.Sqlite (type.Decimal scale) own = refl
+own_words dialect.Sqlite type.Uuid own = refl
 own_words d (type.Other text) own = absurd (true≢false (sym own))
 
 pub own_stated : (d : Dialect) (column : ColumnType) → IsTrue (is_own_type column)
-    → IsTrue (states_a_type d column) × (is_serial_type d column ≡ false) × (is_integer_type column ≡ false)
+    → IsTrue (states_a_type d column) × (is_serial_type d column ≡ false)
 own_stated d column own =
-    let whole = and_from (is_sound_type d column) (not (list_any ends_column_type (type_lexemes column)))
-    (own_sound d column own) (own_goes_on column own) in
-    let (serial, integer) = own_words d column own in
-    (whole, serial, integer)
+    let whole = and_from (is_sound_type d column) (goes_on column) (own_sound d column own) (own_goes_on column own) in
+    (whole, own_words d column own)
 
 -- a type that is stated is sound
 pub stated_sound : (d : Dialect) (column : ColumnType) → IsTrue (states_a_type d column)
     → IsTrue (is_sound_type d column)
 stated_sound d column stated =
-    (and_parts (is_sound_type d column) (not (list_any ends_column_type (type_lexemes column))) stated).0
+    (and_parts (is_sound_type d column) (goes_on column) stated).0
 
 -- ---- what follows a type
 keys_after_type : (nullable : Bool) (place : ℕ) (part : StatedPart) (f : Facts)
@@ -175,8 +172,8 @@ null_said true place = refl
 null_said false place = refl
 
 null_inside : (nullable : Bool) (place : ℕ)
-    → list_any ends_element (lexemes_from place 1 (null_pieces nullable)) ≡ false
-unfolding lexemes_from
+    → stay_within 0 (lexemes_from place 1 (null_pieces nullable)) ≡ true
+unfolding lexemes_from stay_within
 null_inside true place = refl
 null_inside false place = refl
 
@@ -191,19 +188,6 @@ length_read true place ls none = ap type_length (append-nil ls) ∙ none_at ends
 length_read false place ls none = first_at ends_type ls _ _ none refl
 
 -- ---- a type and what follows it
--- no lexeme passes one of two tests, so none passes either
-neither_any : (one other : Lexed → Bool) (ls : List Lexed) → list_any (λ l. one l || other l) ls ≡ false
-    → (list_any one ls ≡ false) × (list_any other ls ≡ false)
-neither_any one other [] none = (refl, refl)
-neither_any one other (l ∷ ls) none = by_first (one l) (other l) none (neither_any one other ls)
-  where
-    by_first : (a b : Bool) → ((a || b) || list_any (λ m. one m || other m) ls) ≡ false
-        → (list_any (λ m. one m || other m) ls ≡ false → (list_any one ls ≡ false) × (list_any other ls ≡ false))
-        → ((a || list_any one ls) ≡ false) × ((b || list_any other ls) ≡ false)
-    by_first true b wrong rest = absurd (true≢false wrong)
-    by_first false true wrong rest = absurd (true≢false wrong)
-    by_first false false none rest = rest none
-
 missing_or : (serial nullable : Bool) → (serial || not nullable) ≡ not (nullable && not serial)
 missing_or true true = refl
 missing_or true false = refl
@@ -212,16 +196,16 @@ missing_or false false = refl
 
 module _ (d : Dialect) (nullable : Bool) (column : ColumnType) (stated : IsTrue (states_a_type d column))
     (is : IsTrue (is_column_type column)) where
-  both : IsTrue (is_sound_type d column) × IsTrue (not (list_any ends_column_type (type_lexemes column)))
-  both = and_parts (is_sound_type d column) (not (list_any ends_column_type (type_lexemes column))) stated
+  both : IsTrue (is_sound_type d column) × IsTrue (goes_on column)
+  both = and_parts (is_sound_type d column) (goes_on column) stated
 
-  none : (list_any ends_type (type_lexemes column) ≡ false) × (list_any ends_element (type_lexemes column) ≡ false)
-  none = neither_any ends_type ends_element (type_lexemes column) (not-true _ both.1)
+  on : IsTrue (not (list_any ends_type (type_lexemes column))) × IsTrue (stay_within 0 (type_lexemes column))
+  on = and_parts (not (list_any ends_type (type_lexemes column))) (stay_within 0 (type_lexemes column)) both.1
 
   parts_read : (ls after : List Lexed) → type_length (ls ++ after) ≡ length ls
       → ((part : StatedPart) (f : Facts) → column_keys part after f ≡ Ok f)
       → ((name : List ℕ) → column_of d name ls after ≡ column_typed d name nullable column)
-      → list_any ends_element ls ≡ false → list_any ends_element after ≡ false
+      → stay_within 0 ls ≡ true → stay_within 0 after ≡ true
       → ReadsLexemes d nullable column (ls ++ after)
   parts_read ls after size keys states inside outside = (
     λ part f. ap (λ (n : ℕ). column_keys part (drop n (ls ++ after)) f) size
@@ -229,7 +213,7 @@ module _ (d : Dialect) (nullable : Bool) (column : ColumnType) (stated : IsTrue 
     λ name. ap (λ (n : ℕ). column_of d name (take n (ls ++ after)) (drop n (ls ++ after))) size
         ∙ ap (λ (t : List Lexed). column_of d name t (drop (length ls) (ls ++ after))) (take-append_seam ls after)
         ∙ ap (λ (t : List Lexed). column_of d name ls t) (drop-append_seam ls after) ∙ states name,
-    list_any-append ends_element ls after ∙ ap (λ (b : Bool). b || list_any ends_element after) inside ∙ outside,
+    within_append 0 ls after inside ∙ outside,
   )
 
   column_stated : (place later : ℕ) (name : List ℕ)
@@ -251,7 +235,6 @@ module _ (d : Dialect) (nullable : Bool) (column : ColumnType) (stated : IsTrue 
         name = name;
         kind = kind i;
         never_missing = missing i;
-        is_integer = bytes_eq (text i) (codes "integer");
       }
 
   pub type_reads : (place : ℕ) → ReadsLexemes d nullable column (column_lexemes place nullable (type_pieces column))
@@ -267,9 +250,9 @@ module _ (d : Dialect) (nullable : Bool) (column : ColumnType) (stated : IsTrue 
       ∙ ap (λ (n : ℕ). ls ++ lexemes_from later n (null_pieces nullable)) (type_depth d column 1 both.0) in
       subst (ReadsLexemes d nullable column) (sym whole)
       (parts_read ls (lexemes_from later 1 (null_pieces nullable))
-      (length_read nullable later ls (any_moved ls (type_lexemes column) same ends_type (λ l. refl) ∙ none.0))
+      (length_read nullable later ls (any_moved ls (type_lexemes column) same ends_type (λ l. refl) ∙ not-true _ on.0))
       (keys_after_type nullable later) (column_stated at later)
-      (any_moved ls (type_lexemes column) same ends_element (λ l. refl) ∙ none.1) (null_inside nullable later))
+      (within_moved ls (type_lexemes column) same ∙ on.1) (null_inside nullable later))
 
   pub type_end : depth_past 1 (after_name nullable (type_pieces column)) ≡ 1
   type_end =

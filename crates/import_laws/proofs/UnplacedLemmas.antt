@@ -1,7 +1,8 @@
 -- The type that lexemes state is the same wherever they stand in a text.
-use Rattle.std.proofs.Common.{◌≡◌, ◌+◌, ℕ, Bool, true, false, not, ◌&&◌, ◌||◌, cond, List, [], ◌∷◌, ◌++◌, map, length, refl, sym, ap, ◌∙◌, Option, Some, None}
+use Rattle.std.proofs.Common.{◌≡◌, ◌+◌, ◌==◌, ℕ, Bool, true, false, not, ◌&&◌, ◌||◌, cond, List, [], ◌∷◌, ◌++◌, map, length, refl, sym, ap, ◌∙◌, Option, Some, None}
 use Rattle.std.specs.Prelude.{codes, bytes_eq, unwrap_or, if◌then◌else◌}
 use Rattle.std.specs.List.{list_all, list_any}
+use Rattle.std.proofs.lemmas.List.{length-map}
 use Rattle.std.proofs.lemmas.List.Folds.{list_all-map}
 use Rattle.dep_model.specs.Names.{is_type_text}
 use Rattle.dep_model.specs.declared.column_type.ColumnType.{ColumnType}
@@ -11,7 +12,7 @@ use Rattle.sql_lexemes.specs.declared.lexeme.LexemeKind.{LexemeKind}
 use Rattle.sql_lexemes.specs.Lexemes.{Lexed}
 use Rattle.sql_lexemes.specs.Pieces.{is_postgres}
 use Rattle.sql_lexemes.specs.Statements.{depth_after, is_a_word}
-use Rattle.sql_definitions.specs.Types.{column_type, decimal_type, has_quotes, integer_words, is_outside, is_word_or_within, joins, other_type, serial_words, type_text, type_word, written, written_lexeme}
+use Rattle.sql_definitions.specs.Types.{column_type, decimal_type, has_quotes, integer_words, is_outside, is_word_or_within, joins, no_type, other_type, serial_words, stated_type, type_text, type_word, written, written_lexeme}
 use Rattle.ddl_pieces.specs.Pieces.{TextPiece, led_by_kind, lexeme_at, lexemes_from}
 
 -- a lexeme at the start of a text
@@ -95,8 +96,8 @@ type_by d plain text exact other =
     else other)
     else other
 
-type_same : (d : Dialect) (ls : List Lexed) → column_type d (map unplaced ls) ≡ column_type d ls
-type_same d ls =
+stated_same : (d : Dialect) (ls : List Lexed) → stated_type d (map unplaced ls) ≡ stated_type d ls
+stated_same d ls =
     ap (λ (b : Bool). type_by d b (type_text true (map unplaced ls)) (decimal_type (map unplaced ls))
     (other_type (map unplaced ls))) (list_all-map is_word_or_within unplaced ls)
     ∙ ap (λ (t : List ℕ). type_by d (list_all is_word_or_within ls) t (decimal_type (map unplaced ls))
@@ -105,6 +106,11 @@ type_same d ls =
     (other_type (map unplaced ls))) (decimal_same ls)
     ∙ ap (λ (c : ColumnType). type_by d (list_all is_word_or_within ls) (type_text true ls) (decimal_type ls) c)
     (other_same ls)
+
+type_same : (d : Dialect) (ls : List Lexed) → column_type d (map unplaced ls) ≡ column_type d ls
+type_same d ls =
+    ap (λ (n : ℕ). cond (n == 0) (no_type d) (stated_type d (map unplaced ls))) (length-map ls unplaced)
+    ∙ ap (λ (c : ColumnType). cond (length ls == 0) (no_type d) c) (stated_same d ls)
 
 -- ---- lexemes that differ in their places alone
 module _ (ls ms : List Lexed) (same : map unplaced ls ≡ map unplaced ms) where

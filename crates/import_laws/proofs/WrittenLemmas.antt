@@ -1,23 +1,26 @@
 -- A type in the form in which `import` writes types is read back as it is, and each type that is read has this form.
-use Rattle.std.proofs.Common.{◌≡◌, ◌+◌, ℕ, zero, suc, Bool, true, false, not, ◌&&◌, ◌||◌, cond, IsTrue, List, [], ◌∷◌, length, take, refl, sym, ap, ◌∙◌, Option, Some, None, subst}
+use Rattle.std.proofs.Common.{◌≡◌, ◌<◌, ◌+◌, ℕ, zero, suc, Bool, true, false, not, ◌&&◌, ◌||◌, cond, IsTrue, List, [], ◌∷◌, length, take, refl, sym, ap, ◌∙◌, Option, Some, None, subst, arith}
 use Rattle.std.specs.Prelude.{◌==◌, bytes_eq, codes, nat_le, unwrap_or}
 use Rattle.std.specs.Char.{is_ascii_digit}
 use Rattle.std.specs.List.{list_all, list_any}
 use Rattle.std.proofs.lemmas.Bool.{and_parts, true≢false}
+use Rattle.std.proofs.lemmas.Bool.Decides.{nat_tests}
 use Rattle.dep_model.specs.Columns.{is_column_type}
 use Rattle.dep_model.specs.Names.{is_type_text}
 use Rattle.dep_model.specs.declared.column_type.ColumnType.{ColumnType}
 use Rattle.dep_model.specs.declared.column_type.ColumnType.TheVariants as type
 use Rattle.sql_lexemes.specs.Bytes.{begins_word}
 use Rattle.sql_lexemes.specs.declared.dialect.Dialect.{Dialect}
+use Rattle.sql_lexemes.specs.declared.dialect.Dialect.TheVariants as dialect
 use Rattle.sql_lexemes.specs.declared.lexeme.LexemeKind.{LexemeKind}
 use Rattle.sql_lexemes.specs.declared.lexeme.LexemeKind.TheVariants as kind
 use Rattle.sql_lexemes.specs.Lexemes.{Lexed}
 use Rattle.sql_lexemes.specs.Pieces.{is_postgres}
 use Rattle.sql_lexemes.specs.Statements.{is_mark}
-use Rattle.sql_definitions.specs.Types.{column_type, decimal_type, has_quotes, integer_words, is_up_to, is_word_or_within, number_in, other_type, postgres_type, scaled, serial_words, type_text, written}
+use Rattle.sql_definitions.specs.Types.{column_type, decimal_type, has_quotes, integer_words, is_up_to, is_word_or_within, no_type, number_in, other_type, postgres_type, scaled, serial_words, stated_type, type_text, written}
 use Rattle.ddl_pieces.specs.Pieces.{is_own_type, kind_in_type, led_by_kind, lexemes_from, more_in_type, pieces_in_type}
 use Rattle.import_laws.specs.StatedTypes.{IsWrittenType, read_type, type_lexemes}
+use Rattle.import_laws.proofs.AgainLemmas.{AreWhole}
 use Rattle.import_laws.proofs.FormLemmas.{written_again}
 use Rattle.import_laws.proofs.TypeLemmas.{type_read}
 use Rattle.import_laws.proofs.WholeLemmas.{type_whole}
@@ -109,7 +112,7 @@ postgres_or text ls =
     (either other (bytes_eq text (codes "numeric") || bytes_eq text (codes "decimal"))
     (unwrap_or (decimal_type ls) other) other (decimal_or other ls) (λ not_so. refl)))))
 
-type_or : (d : Dialect) (ls : List Lexed) → OwnOr (other_type ls) (column_type d ls)
+type_or : (d : Dialect) (ls : List Lexed) → OwnOr (other_type ls) (stated_type d ls)
 type_or d ls =
     let other = other_type ls in
     let text = type_text true ls in
@@ -119,12 +122,28 @@ type_or d ls =
     (either other (is_postgres d) (postgres_type text ls) other (postgres_or text ls) (λ not_so. refl))))
     (λ not_so. refl)
 
+-- where lexemes stand for a type, they state it
+with_lexemes : (d : Dialect) (l : Lexed) (ls : List Lexed) → column_type d (l ∷ ls) ≡ stated_type d (l ∷ ls)
+with_lexemes d l ls =
+    let more : 0 < length (l ∷ ls) = omega arith in
+    let some : (length (l ∷ ls) == 0) ≡ false = grind (arith, nat_tests, more) in
+    ap (λ (b : Bool). cond b (no_type d) (stated_type d (l ∷ ls))) some
+
+-- a type that is written of lexemes has some
+type_stated : (d : Dialect) (ls : List Lexed) (text : List ℕ) → written true ls ≡ text
+    → IsTrue (is_column_type (type.Other text)) → column_type d ls ≡ stated_type d ls
+unfolding written
+type_stated d [] text same is =
+    absurd (true≢false (sym (subst (λ (t : List ℕ). IsTrue (is_type_text t)) (sym same) is)))
+type_stated d (l ∷ ls) text same is = with_lexemes d l ls
+
 pub written_read : (d : Dialect) (text : List ℕ) → IsTrue (is_column_type (type.Other text))
     → IsWrittenType text → is_own_type (read_type d (type.Other text)) ≡ false
     → read_type d (type.Other text) ≡ type.Other text
 written_read d text is same not_own =
     let ls = type_lexemes (type.Other text) in
-    type_or d ls not_own
+    let stated = type_stated d ls text same is in
+    stated ∙ type_or d ls (ap is_own_type (sym stated) ∙ not_own)
     ∙ ap (λ (t : List ℕ). cond (not (list_any has_quotes ls) && is_type_text t) (type.Other t) type.Text) same
     ∙ ap (λ (b : Bool). cond (not b && is_type_text text) (type.Other text) type.Text) (unquoted 0 1 0 text)
     ∙ ap (λ (b : Bool). cond b (type.Other text) type.Text) is
@@ -149,15 +168,25 @@ other_written ls text is =
         (text_same, subst (λ (t : List ℕ). IsTrue (is_type_text t)) text_same whole.1)
     by_test false passes same = absurd (true≢false (ap is_own_type same))
 
+-- a column that states no type is read as one of a type that is written so
+blob_written : IsWrittenType (codes "blob") × IsTrue (is_column_type (type.Other (codes "blob")))
+unfolding lexemes_from pieces_in_type written
+blob_written = (refl, refl)
+
+lexemes_written : (d : Dialect) (ls : List Lexed) (text : List ℕ) → AreWhole ls → column_type d ls ≡ type.Other text
+    → IsWrittenType text × IsTrue (is_column_type (type.Other text))
+lexemes_written dialect.Postgres [] text whole stated = absurd (true≢false (ap is_own_type stated))
+lexemes_written dialect.Sqlite [] text whole stated =
+    subst (λ (t : List ℕ). IsWrittenType t × IsTrue (is_column_type (type.Other t))) (ap type_text_of stated)
+    blob_written
+lexemes_written d (l ∷ ls) text whole stated =
+    let known : stated_type d (l ∷ ls) ≡ type.Other text = sym (with_lexemes d l ls) ∙ stated in
+    let other : other_type (l ∷ ls) ≡ type.Other text = sym (type_or d (l ∷ ls) (ap is_own_type known)) ∙ known in
+    let (same, fits) = other_written (l ∷ ls) text other in
+    (subst IsWrittenType same (written_again (l ∷ ls) whole 0 1), fits)
+
 pub read_again : (d : Dialect) (column : ColumnType) (text : List ℕ) → IsTrue (is_column_type column)
     → read_type d column ≡ type.Other text
     → IsWrittenType text × IsTrue (is_column_type (type.Other text))
 read_again d column text is read =
-    let ls = type_lexemes column in
-    let stated : column_type d ls ≡ type.Other text = type_read d column is ∙ read in
-    let other : other_type ls ≡ type.Other text = sym (type_or d ls (ap is_own_type stated)) ∙ stated in
-    let (same, fits) = other_written ls text other in (
-      subst IsWrittenType same
-          (written_again ls (type_whole column is) 0 1),
-      fits,
-    )
+    lexemes_written d (type_lexemes column) text (type_whole column is) (type_read d column is ∙ read)

@@ -24,13 +24,13 @@ ghost use Rattle.import_laws.specs.ImportedTables.{imported_table};
 ghost use Rattle.import_laws.specs.PrintedDesigns.{IsPrintedDesign};
 ghost use Rattle.import_laws.specs.ReadTables.{StatesTable, named};
 ghost use Rattle.import_laws.specs.StatedTypes.{IsWrittenType, read_type, states_a_type};
-ghost use Rattle.import_laws.specs.StatedTypes.{is_integer_type, is_serial_type};
+ghost use Rattle.import_laws.specs.StatedTypes.{is_serial_type};
 
 /// A type of columns that a schema states by a word of its own is stated by its text, as the laws of designs ask; it is
-/// not serial, and not `integer`.
+/// not serial.
 pub fn own_types_are_stated()
     ensures law { (d : Dialect) (column : ColumnType) → IsTrue (is_own_type column)
-        → IsTrue (states_a_type d column) × (is_serial_type d column ≡ false) × (is_integer_type column ≡ false) }
+        → IsTrue (states_a_type d column) × (is_serial_type d column ≡ false) }
 {}
 
 /// A type with a text of its own that has the form in which `import` writes types is read back as it is, or as one that

@@ -138,7 +138,7 @@ pub no_commit_work : (s : Schema) (name : List ℕ) (tables : List TableDesign) 
 no_commit_work s name tables = (
   refl,
   no_commit_after (tables_made s tables tables) _ (no_commit_tables s tables tables)
-      (no_commit_after (map (fill s) tables) _ (no_commit_fills s tables) (refl, (refl, (refl, (refl, (refl, (refl, (refl, tt)))))))),
+      (no_commit_after (map (fill s) tables) _ (no_commit_fills s tables) (refl, (refl, (refl, (refl, (refl, (refl, (refl, (refl, (refl, tt)))))))))),
 )
 
 -- ---- runs of the script

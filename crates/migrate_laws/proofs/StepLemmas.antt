@@ -100,6 +100,7 @@ pub record AreCreated (state next : State) (made : List TableDesign) : Type 0 wh
   pub new : (t : TableDesign) → Contains made t → IsNew next t
   pub free : (t : TableDesign) → Contains made t → state (quoted_name t.name) ≡ None
   pub apart : Apart made
+  pub others : (name : List ℕ) → ((t : TableDesign) → Contains made t → name ≡ quoted_name t.name → ⊥) → next name ≡ state name
 
 remarks_pass : (fails : Fails) (cast : Cast) (words : List (List ℕ)) (state next : State)
     → steps fails cast (map remark words) state ≡ Some next → state ≡ next
@@ -130,6 +131,7 @@ tables_created fails cast s tables [] state next e = record {
   new = λ t h. absurd (omega (arith, h.1));
   free = λ t h. absurd (omega (arith, h.1));
   apart = tt;
+  others = λ name free. ap (λ (z : State). z name) (sym (some_is state next e));
 }
 tables_created fails cast s tables (t ∷ made) state next e =
     let parts = steps_after fails cast (table_made s tables t) (tables_made s tables made) state next e in
@@ -150,6 +152,7 @@ tables_created fails cast s tables (t ∷ made) state next e =
           (λ (same : u ≡ t). ap (λ (d : TableDesign). state (quoted_name d.name)) same ∙ first.0)
           (λ later. sym (before (quoted_name u.name) (other u later)) ∙ rest.free u later) (Contains-cases t made u h);
       apart = (other, rest.apart);
+      others = λ name free. rest.others name (λ u h. free u (Contains-later t made u h)) ∙ before name (free t (Contains-head t made));
     }
 
 -- ---- tables that are filled

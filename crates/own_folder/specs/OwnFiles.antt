@@ -1,10 +1,11 @@
 -- The files that a migration has in a folder of its own: for the writer of such folders, and for what the
 -- whole call ends with.
-use Rattle.std.specs.Prelude.{ℕ, List, [], ◌∷◌, ◌++◌, map, codes}
-use Rattle.std.specs.List.{flat_map}
+use Rattle.std.specs.Prelude.{ℕ, Bool, not, if◌then◌else◌, List, [], ◌∷◌, ◌++◌, map, codes}
+use Rattle.std.specs.List.{flat_map, list_any}
 use Rattle.desk_outside.specs.Files.{StoredFile}
 use Rattle.named_tables.specs.Tables.{TableValue}
 use Rattle.destinations.specs.Formats.{ending, table_text}
+use Rattle.destinations.specs.Sql.{is_sql_text}
 use Rattle.destinations.specs.declared.format.TableFormat.TheVariants.{Csv, Sql}
 
 -- a name below a folder
@@ -16,10 +17,29 @@ abbrev pub csv_file : List ℕ → TableValue → StoredFile
 csv_file folder table =
     record { name = path_in folder (table.name ++ ending Csv); bytes = table_text Csv table }
 
+-- whether a value can be no text of SQL, so that its bytes are written in hexadecimal digits
+abbrev pub is_bytes : List ℕ → Bool
+is_bytes value = not (is_sql_text value)
+
+-- whether a table has such a value
+abbrev pub has_bytes : TableValue → Bool
+has_bytes table = list_any (list_any is_bytes) table.rows
+
+-- a statement that SQLite takes, and at which another database stops, since it has no such function: it would take
+-- these digits for a number, or for a text
+abbrev pub sqlite_alone : List ℕ
+sqlite_alone =
+    codes "-- values that are no text: for SQLite alone, another database stops here\n"
+    ++ codes "SELECT typeof(X'') WHERE 1 = 0;\n"
+
+-- how a script of one transaction begins that loads these tables
+unfoldable pub load_front : List TableValue → List ℕ
+load_front tables = codes "BEGIN;\n" ++ (if list_any has_bytes tables then sqlite_alone else [])
+
 -- a script of one transaction: the statements that make the tables, and then their rows
 abbrev pub load_text : List ℕ → List TableValue → List ℕ
 load_text script tables =
-    (codes "BEGIN;" ++ 10 ∷ []) ++ script ++ flat_map (table_text Sql) tables ++ (codes "COMMIT;" ++ 10 ∷ [])
+    load_front tables ++ script ++ flat_map (table_text Sql) tables ++ (codes "COMMIT;" ++ 10 ∷ [])
 
 abbrev pub load_file : List ℕ → List ℕ → List TableValue → StoredFile
 load_file folder script tables = record { name = path_in folder (codes "load.sql"); bytes = load_text script tables }

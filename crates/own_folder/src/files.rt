@@ -11,6 +11,7 @@ ghost use Rattle.named_tables.specs.Tables.{chosen_value, chosen_values};
 ghost use Rattle.own_folder.specs.OwnFiles.{csv_file, csv_files, load_file};
 ghost use Rattle.own_folder.specs.OwnWriting.{AllWritten, StoppedAtFile, WritesFile, finished_in, shown};
 
+use crate::bytes::load_front;
 use crate::paths::{csv_path, load_path};
 use crate::rows::{LineMaker, put_rows};
 use desk_outside::{Folder, OutsideFault, write_all};
@@ -88,8 +89,9 @@ pub fn put_load_file<F: Folder>(
     ensures cause { HasOutsideCause (F.faults folder.old) (F.faults folder.new) result }
 {
     let path = load_path(lines.alloc, name)?;
+    let front = load_front(&mut lines.values, rows, tables)?;
     folder.begin(&path)?;
-    write_all(folder, b"BEGIN;\n")?;
+    write_all(folder, front)?;
     write_all(folder, script)?;
     put_insert_lines(folder, lines, rows, tables)?;
     write_all(folder, b"COMMIT;\n")?;

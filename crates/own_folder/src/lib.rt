@@ -6,6 +6,7 @@
 //! - [`OwnFolderWriter`] makes a folder, and writes the files of one migration to it.
 #![tactic(auto)]
 
+mod bytes;
 mod files;
 mod maker;
 mod memory;

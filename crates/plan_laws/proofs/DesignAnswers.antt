@@ -1,22 +1,20 @@
 -- `ddl`, `draw` and `sql` have one answer each.
-use Rattle.std.proofs.Common.{◌≡◌, ℕ, IsTrue, false, List, [], sym, ◌∙◌}
-use Rattle.std.specs.List.{list_any}
-use Rattle.std.proofs.lemmas.Bool.{true≢false}
+use Rattle.std.proofs.Common.{◌≡◌, ℕ, IsTrue, None, Some, List, [], ap, sym, ◌∙◌}
 use Rattle.attr_sets.specs.Attributes.{Attributes}
 use Rattle.attr_sets.specs.declared.set.AttrSet.{AttrSet}
 use Rattle.dep_model.specs.Plans.{schemes_of}
 use Rattle.dep_model.specs.declared.schema.Schema.{Schema}
 use Rattle.normal_forms.specs.declared.forms.Form.{Form}
-use Rattle.table_scripts.specs.Naming.{dotted_parts, is_table_name, last_of, quoted_table}
-use Rattle.table_names.specs.TableNames.{GivenNames, is_given}
+use Rattle.table_scripts.specs.Naming.{is_table_name, met_name, quoted_table}
+use Rattle.table_names.specs.TableNames.{GivenNames}
 use Rattle.implication_laws.specs.OneAnswer.{AllowsOne}
 use Rattle.implication_laws.proofs.StepLaws.{same_says, Unless-one}
-use Rattle.desk_responses.specs.ResponseValues.{ResponseValue, Allowed, Unless}
-use Rattle.desk_responses.specs.declared.status.Status.TheVariants.{Yes}
+use Rattle.desk_responses.specs.ResponseValues.{ResponseValue, Allowed, Unless, text_only}
+use Rattle.desk_responses.specs.declared.status.Status.TheVariants.{Yes, Refused}
 use Rattle.desk_designs.specs.Designs.{WithoutMissing, WritesTables, WritesForm, WritesSchemes, WritesPlan}
 use Rattle.desk_designs.specs.Drawings.{DrawsTables, DrawsForm, DrawsSchemes}
 use Rattle.desk_designs.specs.Joins.{IsShownLossless, LossStops, WithoutLoss}
-use Rattle.desk_designs.specs.Scripts.{AsksTable, MetNameStops, MakesSchemes, MakesTables, ScriptsCheck, ScriptsMigration, ScriptsMigrationByPlan, TableNameStops, WithTableName}
+use Rattle.desk_designs.specs.Scripts.{AsksTable, MetNameStops, MakesSchemes, MakesTables, ScriptsCheck, ScriptsMigration, ScriptsMigrationByPlan, TableNameStops, WithTableName, met_table_text}
 use Rattle.desk_designs.specs.Decompositions.{WithPlanInForm}
 use Rattle.plan_laws.proofs.DesignTexts.{ddl_same, drawing_same}
 use Rattle.plan_laws.proofs.MissingAnswers.{one_without_missing, same_without_missing}
@@ -96,15 +94,22 @@ one_schemes_made : (s : Schema) (names : GivenNames) (name : List ℕ) (schemes 
 one_schemes_made s names name schemes one other (plan, is, made) (others, also, again) =
     one_made s names name plan others one other (is ∙ sym also) made again
 
+-- a word has one name of a table that it is refused for
+one_met : (names : GivenNames) (name : List ℕ) (one other : ResponseValue) → MetNameStops names name one → MetNameStops names name other
+    → one ≡ other
+one_met names name one other (met, is, says) (again, also, said) =
+    let same : met ≡ again = let both : Some met ≡ Some again = sym is ∙ also in cc in
+    says ∙ ap (λ (n : List ℕ). text_only Refused (met_table_text n)) same ∙ sym said
+
 pub one_plan_scripted : (s : Schema) (names : GivenNames) (schemes : List Attributes) (name : List ℕ)
     → AllowsOne (ScriptsMigrationByPlan s names schemes name)
 one_plan_scripted s names schemes name =
     one_after_name name
-    (Unless (MetNameStops names name) (list_any (is_given (last_of (dotted_parts name))) names ≡ false)
+    (Unless (MetNameStops names name) (met_name names name ≡ None)
     (WithoutMissing s names schemes (WithoutLoss s schemes (MakesSchemes s names name schemes))))
-    (Unless-one (MetNameStops names name) (list_any (is_given (last_of (dotted_parts name))) names ≡ false)
+    (Unless-one (MetNameStops names name) (met_name names name ≡ None)
     (WithoutMissing s names schemes (WithoutLoss s schemes (MakesSchemes s names name schemes)))
-    (λ one other stops also. stops.1 ∙ sym also.1)
-    (λ response free stops. true≢false (sym stops.0 ∙ free))
+    (λ one other stops also. one_met names name one other stops also)
+    (λ response free stops. let never : Some stops.0 ≡ None = sym stops.1 ∙ free in cc)
     (λ free. one_without_missing s names schemes (WithoutLoss s schemes (MakesSchemes s names name schemes))
     (one_without_loss s schemes (MakesSchemes s names name schemes) (one_schemes_made s names name schemes))))

@@ -3,6 +3,7 @@ pub mod FormPlans
 pub mod PlanLengths
 mod DesignedLaws
 mod RejoinedLaws
+mod ViewOrderLaws
 pub mod UniqueLaws
 pub mod FormTables
 pub mod NameLaws

@@ -12,7 +12,8 @@ use Rattle.dep_model.specs.declared.schema.Schema.{Schema}
 use Rattle.design_order.proofs.OrderLemmas.{one_order}
 use Rattle.legality.proofs.OffenceLaws.{one_list}
 use Rattle.named_tables.specs.Tables.{TableValue}
-use Rattle.table_join.specs.Answers.{IsFirstBeyond, IsFirstUncovered, RefusesJoin}
+use Rattle.table_join.specs.Answers.{AreJoinedIn, IsBeyondLimit, IsFirstBeyond, IsFirstUncovered, IsOrderedJoin, IsWithinLimit, RefusesJoin, tables_from_last}
+use Rattle.table_join.specs.Joins.{join_of}
 use Rattle.table_join.specs.Tables.{PartialRelation, plan_of_tables}
 use Rattle.table_join.specs.declared.refusal.JoinRefusal.{JoinRefusal}
 use Rattle.table_join.specs.declared.refusal.JoinRefusal.TheVariants.{NotCovered, TooManyRows}
@@ -108,18 +109,45 @@ one_join_refusal n limit tables (TooManyRows j) (NotCovered b) first second =
 one_join_refusal n limit tables (TooManyRows j) (TooManyRows k) first second =
     ap (λ (m : ℕ). TooManyRows m) (one_beyond n limit tables j k first.1 second.1)
 
-join_goes : (s : Schema) (tables : List PartialRelation) (rows : Relation) (why : JoinRefusal)
-    → IsJoinOf s tables rows → RefusesJoin (width_of s) MOST_JOINED_ROWS tables why → ⊥
-join_goes s tables rows (NotCovered a) is refused = refused.uncovered (is.covered a refused.within)
-join_goes s tables rows (TooManyRows k) is refused =
-    let first = refused.1 in
-    let small = is.within_limit k first.positive first.among in
+-- a limit is kept or not
+within_or_beyond : (n limit : ℕ) (tables : List PartialRelation) → IsWithinLimit n limit tables → IsBeyondLimit n limit tables → ⊥
+within_or_beyond n limit tables within beyond =
+    let first = beyond.1 in
+    let small = within beyond.0 first.positive first.among in
     let large = first.beyond in
     omega (arith, small, large)
 
+-- tables are joined in one order
+one_join_order : (n limit : ℕ) (tables one other : List PartialRelation) → AreJoinedIn n limit one tables
+    → AreJoinedIn n limit other tables → one ≡ other
+one_join_order n limit tables one other (inl own) (inl also) = own.0 ∙ sym also.0
+one_join_order n limit tables one other (inl own) (inr last) =
+    absurd (within_or_beyond n limit tables (subst (IsWithinLimit n limit) own.0 own.1) last.2)
+one_join_order n limit tables one other (inr last) (inl own) =
+    absurd (within_or_beyond n limit tables (subst (IsWithinLimit n limit) own.0 own.1) last.2)
+one_join_order n limit tables one other (inr last) (inr also) = last.0 ∙ sym also.0
+
+one_join : (n limit : ℕ) (tables : List PartialRelation) (one other : Relation) → IsOrderedJoin n limit tables one
+    → IsOrderedJoin n limit tables other → one ≡ other
+one_join n limit tables one other first second =
+    first.join
+    ∙ ap (λ (order : List PartialRelation). (join_of n order).rows) (one_join_order n limit tables first.order second.order first.joined_in second.joined_in)
+    ∙ sym second.join
+
+join_goes : (s : Schema) (tables : List PartialRelation) (rows : Relation) (why : JoinRefusal)
+    → IsJoinOf s tables rows → RefusesJoin (width_of s) MOST_JOINED_ROWS tables why → ⊥
+join_goes s tables rows (NotCovered a) is refused = refused.uncovered (is.covered a refused.within)
+join_goes s tables rows (TooManyRows k) is refused = by is.join.joined_in
+  where
+    by : AreJoinedIn (width_of s) MOST_JOINED_ROWS is.join.order tables → ⊥
+    by (inl own) = within_or_beyond (width_of s) MOST_JOINED_ROWS tables (subst (IsWithinLimit (width_of s) MOST_JOINED_ROWS) own.0 own.1) (k, refused.1)
+    by (inr last) = within_or_beyond (width_of s) MOST_JOINED_ROWS (tables_from_last tables)
+        (subst (IsWithinLimit (width_of s) MOST_JOINED_ROWS) last.0 last.1) refused.2
+
 pub one_rejoined : (s : Schema) (tables : List PartialRelation) → AllowsOne (JoinsTables s tables)
 one_rejoined s tables one other (inl (rows, is, says)) (inl (others, also, said)) =
-    same_says Yes _ _ one other says said (ap (rows_text (names_of s)) (is.join ∙ sym also.join))
+    same_says Yes _ _ one other says said
+    (ap (rows_text (names_of s)) (one_join (width_of s) MOST_JOINED_ROWS tables rows others is.join also.join))
 one_rejoined s tables one other (inl (rows, is, says)) (inr (why, refused, said)) =
     absurd (join_goes s tables rows why is refused)
 one_rejoined s tables one other (inr (why, refused, says)) (inl (rows, is, said)) =

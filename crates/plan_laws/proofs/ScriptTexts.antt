@@ -209,4 +209,4 @@ script_same s table one other same =
     whole : List Statement → List Statement → Query → List ℕ
     whole made fills q =
         script_text (remark (codes "all of it or nothing, where the first error ends it: psql -v ON_ERROR_STOP=1, sqlite3 -bail")
-        ∷ begin ∷ ((create_from copy_name (copy_query s table) ∷ (made ++ (fills ++ (create_view view_name q ∷ testing s)))) ++ commit ∷ []))
+        ∷ begin ∷ ((create_from copy_name (copy_query s table) ∷ (made ++ (fills ++ (create_view view_name q ∷ testing s table)))) ++ commit ∷ []))

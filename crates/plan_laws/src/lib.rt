@@ -22,7 +22,9 @@ pub use passing::{
     functional_plans_are_small, plans_in_form_pass, split_plans_are_narrow, synthesized_plans_keep,
     wide_splits_pass,
 };
-pub use rejoined::{migrated_tables_are_rejoined, tables_are_rejoined_in_any_order};
+pub use rejoined::{
+    migrated_tables_are_rejoined, tables_are_rejoined_in_any_order, view_joins_from_the_last,
+};
 pub use unique::{
     one_answer_of_check_form, one_answer_of_check_join, one_answer_of_check_keeps,
     one_answer_of_synthesize, one_design_of_a_plan, one_plan_in_form, one_split_plan,

@@ -1,11 +1,15 @@
 //! The tables that `migrate` makes of rows, `rejoin` joins to the rows, in whatever order.
 
-ghost use Rattle.std.specs.Prelude.{List};
+ghost use Rattle.std.specs.Prelude.{◌≡◌, List};
 ghost use Rattle.attr_sets.specs.Attributes.{Attributes};
+ghost use Rattle.attr_sets.specs.Sets.{attributes};
 ghost use Rattle.dep_model.specs.Schemas.{LegalFor};
 ghost use Rattle.dep_model.specs.Tuples.{Relation};
 ghost use Rattle.dep_model.specs.declared.schema.Schema.{Schema};
+ghost use Rattle.migrate_queries.specs.ViewOrder.{view_order};
+ghost use Rattle.migrate_queries.specs.declared.joining.JoinedTable.{JoinedTable};
 ghost use Rattle.named_tables.specs.Tables.{TableValue};
+ghost use Rattle.table_join.specs.Orders.{from_last};
 ghost use Rattle.table_join.specs.Tables.{PartialRelation};
 ghost use Rattle.table_names.specs.TableNames.{GivenNames};
 ghost use Rattle.desk_designs.specs.Joins.{LosesNothing};
@@ -27,4 +31,9 @@ pub fn tables_are_rejoined_in_any_order()
         (tables : List TableValue) (parts : List PartialRelation) → LosesNothing schema plan → LegalFor schema rows
         → AreTablesOf schema names plan rows tables → HaveRowsInAnyOrder schema plan tables parts
         → GivesTheRows schema parts rows }
+{}
+
+/// The order in which `rejoin` joins tables from the last is the one in which the view of `sql migrate` joins them.
+pub fn view_joins_from_the_last()
+    ensures law { (tables : List JoinedTable) → view_order tables ≡ from_last (λ t. attributes t.scheme) tables }
 {}

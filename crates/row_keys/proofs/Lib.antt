@@ -1,2 +1,2 @@
-mod WholeLemmas
+pub mod NameLemmas
 pub mod KeyLemmas

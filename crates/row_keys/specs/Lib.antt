@@ -1,3 +1,3 @@
--- The definitions of row_keys, in reading order: keys of rows, and rows with themselves as one value more.
+-- The definitions of row_keys, in reading order: keys of rows, and rows with a number as one value more.
 pub mod Keys
-pub mod Whole
+pub mod Numbered

@@ -1,13 +1,13 @@
 //! The minimal keys of rows: the sets of columns on which no two different rows agree.
 //!
-//! `row_keys` finds them by candidates and evidence. For that each row gets one value more, which is the whole
-//! row: the keys are the left sides of the minimal dependencies on that column. A law says that a key is what
-//! the theory calls so: all columns follow from it.
+//! `row_keys` finds them by candidates and evidence. For that each row gets one value more, a number that only
+//! equal rows share: the keys are the left sides of the minimal dependencies on that column. A law says that a
+//! key is what the theory calls so: all columns follow from it.
 #![tactic(auto)]
 
 mod laws;
+mod numbered;
 mod searching;
-mod whole;
 
 pub use laws::keys_determine_all;
 pub use searching::{TooManyKeys, row_keys};

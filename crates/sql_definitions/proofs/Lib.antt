@@ -2,4 +2,3 @@
 mod NameLemmas
 pub mod ColumnLemmas
 mod ReadingLemmas
-mod WantedLemmas

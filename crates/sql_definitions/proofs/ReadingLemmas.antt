@@ -13,7 +13,6 @@ use Rattle.sql_definitions.specs.declared.refusal.Refusal.{Refusal}
 use Rattle.sql_definitions.specs.Definitions.{definition_of, is_there, read_statement, read_statements}
 use Rattle.sql_definitions.specs.Elements.{element}
 use Rattle.sql_definitions.specs.Facts.{Facts, StatedColumn, Outcome, Fails, no_facts, refused, then_read}
-use Rattle.sql_definitions.specs.Lists.{closes_list}
 use Rattle.sql_definitions.specs.Tables.{elements, element_length, after_element, closed_table, closes_table, place_of}
 use Rattle.sql_definitions.specs.Wanted.{TableName}
 
@@ -71,20 +70,15 @@ first_refused d end ls own after n f (Refused refusal) h n_is own_is after_is re
 first_refused d end ls own after n f OutOfMemory h n_is own_is after_is read = tt
 
 -- the table is closed after an element, or it is not
-pub table_closed : (end : ℕ) (after stop left : List Lexed) (more : Facts → Outcome) (g : Facts) → stop ≡ take 1 after → left ≡ drop 1 after → closes_table stop ≡ true
-    → after_element end after more g ≡ closed_table (place_of end stop) left g
-table_closed end [] stop left more g stop_is left_is closes = absurd (none_closes (sym closes ∙ ap closes_table stop_is))
-  where
-    none_closes : true ≡ false → ⊥
-    none_closes e = cc
-table_closed end (l ∷ ls) stop left more g stop_is left_is closes =
-    let here : closes_list 0 l ≡ true = sym (ap closes_table stop_is) ∙ closes in rw (stop_is, left_is, here) refl
+pub table_closed : (end : ℕ) (after : List Lexed) (more : Facts → Outcome) (g : Facts) → closes_table after ≡ true
+    → after_element end after more g ≡ closed_table (place_of end after) g
+table_closed end [] more g closes = cc
+table_closed end (l ∷ ls) more g closes = rw closes refl
 
-pub table_goes_on : (end : ℕ) (after stop : List Lexed) (more : Facts → Outcome) (g : Facts) → 1 ≤ length after → stop ≡ take 1 after → closes_table stop ≡ false
+pub table_goes_on : (end : ℕ) (after : List Lexed) (more : Facts → Outcome) (g : Facts) → 1 ≤ length after → closes_table after ≡ false
     → after_element end after more g ≡ more g
-table_goes_on end [] stop more g h stop_is other = absurd (omega arith)
-table_goes_on end (l ∷ ls) stop more g h stop_is other =
-    let here : closes_list 0 l ≡ false = sym (ap closes_table stop_is) ∙ other in rw here refl
+table_goes_on end [] more g h other = absurd (omega arith)
+table_goes_on end (l ∷ ls) more g h other = rw other refl
 
 pub table_open : (end : ℕ) (after : List Lexed) (more : Facts → Outcome) (g : Facts) → length after ≡ 0 → after_element end after more g ≡ refused reason.ExpectedCommaOrBracket end
 table_open end [] more g e = refl

@@ -7,54 +7,49 @@ use Rattle.dep_model.specs.declared.schema.TheConstants.{MOST_DEPENDENCIES}
 use Rattle.dep_model.specs.Columns.{is_column_type}
 use Rattle.dep_model.specs.Names.{IsName, same_name}
 use Rattle.dep_model.specs.declared.column_type.ColumnType.{ColumnType}
+use Rattle.sql_definitions.specs.declared.definition.KeyKind.{KeyKind}
 use Rattle.sql_definitions.specs.declared.refusal.Reason.{Reason}
 use Rattle.sql_definitions.specs.declared.refusal.Reason.TheVariants as reason
 use Rattle.sql_definitions.specs.declared.refusal.Refusal.{Refusal}
 
--- a column: its name and type; it says itself that no value is missing; the text of its type is `integer`
+-- a column: its name and type; it says itself that no value is missing
 pub record StatedColumn : Type 0 where
   pub name : List ℕ
   pub kind : ColumnType
   pub never_missing : Bool
-  pub is_integer : Bool
 
 -- a column of a key: its place, and its name, where it is one of a schema
 pub record StatedPart : Type 0 where
   pub place : ℕ
   pub name : Option (List ℕ)
 
--- a key that is stated, by PRIMARY KEY or not, with its columns
+-- what states a key: PRIMARY KEY, UNIQUE, or UNIQUE with NULLS NOT DISTINCT, for which missing values are compared
+-- (`KeyKind`); and the columns of a key that is stated
 pub record StatedKey : Type 0 where
-  pub primary : Bool
+  pub kind : KeyKind
   pub parts : List StatedPart
 
--- a statement creates the table; its columns; the keys that are stated; and the words after its columns bind each
--- PRIMARY KEY
+-- a statement creates the table; its columns; and the keys that are stated
 pub record Facts : Type 0 where
   pub found : Bool
   pub columns : List StatedColumn
   pub keys : List StatedKey
-  pub binds : Bool
 
 abbrev pub no_facts : Facts
-no_facts = record { found = false; columns = []; keys = []; binds = false }
+no_facts = record { found = false; columns = []; keys = [] }
 
 abbrev pub with_column : Facts → StatedColumn → Facts
-with_column f column = record { found = f.found; columns = f.columns ++ column ∷ []; keys = f.keys; binds = f.binds }
+with_column f column = record { found = f.found; columns = f.columns ++ column ∷ []; keys = f.keys }
 
-abbrev pub with_key : Facts → Bool → List StatedPart → Facts
-with_key f primary parts = record {
+abbrev pub with_key : Facts → KeyKind → List StatedPart → Facts
+with_key f kind parts = record {
   found = f.found;
   columns = f.columns;
-  keys = f.keys ++ record { primary = primary; parts = parts } ∷ [];
-  binds = f.binds;
+  keys = f.keys ++ record { kind = kind; parts = parts } ∷ [];
 }
 
 abbrev pub as_found : Facts → Facts
-as_found f = record { found = true; columns = f.columns; keys = f.keys; binds = f.binds }
-
-abbrev pub with_binding : Facts → Bool → Facts
-with_binding f binds = record { found = f.found; columns = f.columns; keys = f.keys; binds = binds }
+as_found f = record { found = true; columns = f.columns; keys = f.keys }
 
 -- the columns can be those of a schema: not too many, with names, which differ, and types of columns
 pub record AreColumns (columns : List StatedColumn) : Type 0 where
@@ -75,9 +70,9 @@ then_read (Err refusal) next = Err refusal
 then_read (Ok value) next = next value
 
 -- a key is stated, where there are not too many, by the word at a place
-abbrev pub state_key : Bool → ℕ → List StatedPart → Facts → Outcome
-state_key primary place parts f =
-    if nat_lt (length f.keys) MOST_DEPENDENCIES then Ok (with_key f primary parts)
+abbrev pub state_key : KeyKind → ℕ → List StatedPart → Facts → Outcome
+state_key kind place parts f =
+    if nat_lt (length f.keys) MOST_DEPENDENCIES then Ok (with_key f kind parts)
     else refused reason.TooManyDependencies place
 
 -- a call answers with what a definition says, or memory ran out

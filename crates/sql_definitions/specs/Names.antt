@@ -6,6 +6,7 @@ use Rattle.sql_lexemes.specs.declared.lexeme.LexemeKind.{LexemeKind}
 use Rattle.sql_lexemes.specs.declared.lexeme.LexemeKind.TheVariants as kind
 use Rattle.sql_lexemes.specs.Lexemes.{Lexed}
 use Rattle.sql_lexemes.specs.Pieces.{is_postgres}
+use Rattle.sql_lexemes.specs.Statements.{is_mark}
 
 -- a letter of ASCII in lower case
 abbrev pub lower : ℕ → ℕ
@@ -46,3 +47,12 @@ is_named other = false
 -- a lexeme that may be a name
 abbrev pub is_name : Lexed → Bool
 is_name l = is_named l.kind
+
+-- a dot and a name stand at the front
+abbrev pub goes_on : List Lexed → Bool
+goes_on (dot ∷ l ∷ ls) = is_mark 46 dot && is_name l
+goes_on lexemes = false
+
+-- how many lexemes a name of several parts has at the front: one to three words or quoted names with a dot between two
+abbrev pub name_length : List Lexed → ℕ
+name_length lexemes = if goes_on (drop 1 lexemes) then (if goes_on (drop 3 lexemes) then 5 else 3) else 1

@@ -1,17 +1,17 @@
 -- The statements that create a table, add a key to it or make a unique index over it: for the definition of a table.
-use Rattle.std.specs.Prelude.{ℕ, ◌+◌, ◌-◌, ◌==◌, zero, suc, nat_le, Bool, true, false, not, ◌&&◌, ◌||◌, Option, Some, None, option_and_then, option_map, Result, Ok, Err, List, [], ◌∷◌, length, take, drop, codes, slice_get, if◌then◌else◌}
+use Rattle.std.specs.Prelude.{ℕ, ◌+◌, ◌-◌, ◌==◌, zero, suc, nat_le, Bool, true, false, not, ◌&&◌, ◌||◌, Option, Some, None, option_and_then, option_map, Ok, List, [], ◌∷◌, length, take, drop, codes, slice_get, if◌then◌else◌}
 use Rattle.std.specs.List.{list_any, position_or_len}
 use Rattle.dep_model.specs.Names.{same_name}
 use Rattle.sql_lexemes.specs.declared.dialect.Dialect.{Dialect}
 use Rattle.sql_lexemes.specs.Lexemes.{Lexed}
 use Rattle.sql_lexemes.specs.Statements.{is_word, is_mark, is_a_word}
-use Rattle.sql_definitions.specs.declared.refusal.Reason.{Reason}
+use Rattle.sql_definitions.specs.declared.definition.KeyKind.{KeyKind}
+use Rattle.sql_definitions.specs.declared.definition.KeyKind.TheVariants as key
 use Rattle.sql_definitions.specs.declared.refusal.Reason.TheVariants as reason
-use Rattle.sql_definitions.specs.declared.refusal.Refusal.{Refusal}
-use Rattle.sql_definitions.specs.Elements.{element, key_constraint, after_constraint, is_one_of}
-use Rattle.sql_definitions.specs.Facts.{Facts, StatedPart, Outcome, refused, then_read, state_key, as_found, with_binding}
-use Rattle.sql_definitions.specs.Lists.{list_parts, closes_list}
-use Rattle.sql_definitions.specs.Names.{name_text, is_name}
+use Rattle.sql_definitions.specs.Elements.{element, key_constraint, after_constraint, begins_constraint, begins_not_distinct}
+use Rattle.sql_definitions.specs.Facts.{Facts, Outcome, refused, then_read, state_key, as_found}
+use Rattle.sql_definitions.specs.Lists.{are_columns, list_parts, closes_list, is_one_of}
+use Rattle.sql_definitions.specs.Names.{name_text, is_name, name_length}
 use Rattle.sql_definitions.specs.Wanted.{TableName}
 
 -- what follows a word, where the lexemes begin with it
@@ -61,15 +61,6 @@ after_alter lexemes =
     option_map (λ rest. past_word (codes "only") (past_if_exists rest))
     (option_and_then (after_word (codes "table")) (after_word (codes "alter") lexemes))
 
--- a dot and a name stand at the front
-abbrev pub goes_on : List Lexed → Bool
-goes_on (dot ∷ l ∷ ls) = is_mark 46 dot && is_name l
-goes_on lexemes = false
-
--- how many lexemes the name of a table has at the front: one to three words or quoted names with a dot between two
-abbrev pub name_length : List Lexed → ℕ
-name_length lexemes = if goes_on (drop 1 lexemes) then (if goes_on (drop 3 lexemes) then 5 else 3) else 1
-
 abbrev pub is_named_so : Dialect → List ℕ → Option Lexed → Bool
 is_named_so d wanted None = false
 is_named_so d wanted (Some l) = is_name l && same_name (name_text d l) wanted
@@ -98,34 +89,42 @@ abbrev pub place_of : ℕ → List Lexed → ℕ
 place_of end [] = end
 place_of end (l ∷ ls) = l.place
 
--- the end of an element: a comma in the brackets of the table, or the bracket that closes them
-abbrev pub ends_element : Lexed → Bool
-ends_element l = (is_mark 44 l && (l.depth == 1)) || closes_list 0 l
+-- brackets within an element, round or square
+abbrev pub is_opening : Lexed → Bool
+is_opening l = is_mark 40 l || is_mark 91 l
+
+abbrev pub is_closing : Lexed → Bool
+is_closing l = is_mark 41 l || is_mark 93 l
+
+-- how many brackets of an element are open after a lexeme, where so many were: one that closes none counts as nothing
+abbrev pub open_after : ℕ → Lexed → ℕ
+open_after depth l = if is_opening l then depth + 1 else if is_closing l then depth - 1 else depth
+
+-- an element, of which so many brackets are open, ends before a lexeme: a comma, or the bracket that closes the table
+abbrev pub ends_element : ℕ → Lexed → Bool
+ends_element depth l = (depth == 0) && (is_mark 44 l || is_mark 41 l)
+
+-- how many lexemes stand before the end of an element, of which so many brackets are open
+unfoldable pub length_left : ℕ → List Lexed → ℕ
+length_left depth [] = 0
+length_left depth (l ∷ ls) = if ends_element depth l then 0 else suc (length_left (open_after depth l) ls)
 
 abbrev pub element_length : List Lexed → ℕ
-element_length lexemes = position_or_len ends_element lexemes
-
--- the words after the columns of a table that bind each PRIMARY KEY
-abbrev pub binding_words : List (List ℕ)
-binding_words = codes "rowid" ∷ codes "strict" ∷ []
-
-abbrev pub binds_keys : List Lexed → Bool
-binds_keys lexemes = list_any (is_one_of binding_words) lexemes
+element_length lexemes = length_left 0 lexemes
 
 -- the bracket that closes the table stands at the front
 abbrev pub closes_table : List Lexed → Bool
 closes_table [] = false
-closes_table (l ∷ ls) = closes_list 0 l
+closes_table (l ∷ ls) = is_mark 41 l
 
--- a table is closed at a place, with these lexemes after it: a table without a column is none
-abbrev pub closed_table : ℕ → List Lexed → Facts → Outcome
-closed_table place tail f =
-    if length f.columns == 0 then refused reason.ExpectedName place else Ok (with_binding f (binds_keys tail))
+-- a table is closed at a place: a table without a column is none
+abbrev pub closed_table : ℕ → Facts → Outcome
+closed_table place f = if length f.columns == 0 then refused reason.ExpectedName place else Ok f
 
 -- what follows an element: the end of the statement, the bracket that closes the table, or a comma and more elements
 abbrev pub after_element : ℕ → List Lexed → (Facts → Outcome) → Facts → Outcome
 after_element end [] more f = refused reason.ExpectedCommaOrBracket end
-after_element end (l ∷ ls) more f = if closes_list 0 l then closed_table l.place ls f else more f
+after_element end (l ∷ ls) more f = if is_mark 41 l then closed_table l.place f else more f
 
 -- the elements of a table after some lexemes that belong to what was before; the statement ends at a place
 unfoldable pub elements : Dialect → ℕ → ℕ → List Lexed → Facts → Outcome
@@ -155,13 +154,26 @@ add_key d end (l ∷ ls) f =
     if is_word (codes "constraint") l then after_constraint end ls (λ rest. key_constraint d end rest f)
     else key_constraint d end (l ∷ ls) f
 
--- what follows the name of a table that is altered: one with the word USING is passed over
-abbrev pub alter_by : Dialect → ℕ → Option (List Lexed) → Facts → Outcome
-alter_by d end None f = Ok f
-alter_by d end (Some rest) f = if list_any (is_word (codes "using")) rest then Ok f else add_key d end rest f
+-- what follows the word ADD, which stands at a place: what is no constraint alters the table, and one with the word
+-- USING is passed over
+abbrev pub add_to_table : Dialect → ℕ → ℕ → List Lexed → Facts → Outcome
+add_to_table d end place [] f = Ok f
+add_to_table d end place (l ∷ ls) f =
+    if not (is_word (codes "constraint") l || begins_constraint l ls) then refused reason.TableAltered place
+    else if list_any (is_word (codes "using")) (l ∷ ls) then Ok f
+    else add_key d end (l ∷ ls) f
 
+-- the words that alter the columns or the keys of a table
+abbrev pub altering_words : List (List ℕ)
+altering_words = codes "drop" ∷ codes "rename" ∷ []
+
+-- what follows the name of a table that is altered
 abbrev pub alter_table : Dialect → ℕ → List Lexed → Facts → Outcome
-alter_table d end lexemes f = alter_by d end (after_word (codes "add") lexemes) f
+alter_table d end [] f = Ok f
+alter_table d end (l ∷ ls) f =
+    if is_word (codes "add") l then add_to_table d end l.place ls f
+    else if is_one_of altering_words l then refused reason.TableAltered l.place
+    else Ok f
 
 -- a word outside all brackets
 abbrev pub is_on : Lexed → Bool
@@ -170,25 +182,27 @@ is_on l = (l.depth == 0) && is_word (codes "on") l
 abbrev pub is_where : Lexed → Bool
 is_where l = (l.depth == 0) && is_word (codes "where") l
 
-abbrev pub is_name_wanted : Reason → Bool
-is_name_wanted reason.ExpectedName = true
-is_name_wanted other = false
+-- NULLS NOT DISTINCT stands outside all brackets
+unfoldable pub says_not_distinct : List Lexed → Bool
+says_not_distinct [] = false
+says_not_distinct (l ∷ ls) =
+    ((l.depth == 0) && begins_not_distinct (l ∷ ls)) || says_not_distinct ls
 
--- the key of a unique index, by its list: one in which a part begins with no name is passed over
-abbrev pub index_key : ℕ → Result (List StatedPart) Refusal → Facts → Outcome
-index_key place (Ok parts) f = state_key false place parts f
-index_key place (Err refusal) f = if is_name_wanted refusal.reason then Ok f else Err refusal
+-- what stands after the bracket that closes a list
+abbrev pub after_list : List Lexed → List Lexed
+after_list lexemes = drop (position_or_len (closes_list 0) lexemes) lexemes
 
--- how many lexemes a list has after its bracket, up to the one that closes it
-abbrev pub list_length : List Lexed → ℕ
-list_length lexemes = position_or_len (closes_list 0) lexemes
+-- what a unique index states, by the lexemes after the bracket of its list
+abbrev pub index_kind : List Lexed → KeyKind
+index_kind lexemes = if says_not_distinct (after_list lexemes) then key.UniqueMissing else key.Unique
 
--- the list of a unique index: one with a bracket in it is passed over
+-- the list of a unique index: one in which an expression stands is passed over
 abbrev pub index_list : Dialect → ℕ → ℕ → List Lexed → Facts → Outcome
 index_list d end place [] f = Ok f
 index_list d end place (l ∷ ls) f =
-    if not (is_mark 40 l) || list_any (is_mark 40) (take (list_length ls) ls) then Ok f
-    else index_key place (list_parts d end 0 true [] ls) f
+    if is_mark 40 l && are_columns 0 true ls
+    then then_read (list_parts d end 0 true [] ls) (λ parts. state_key (index_kind ls) place parts f)
+    else Ok f
 
 -- how many lexemes stand before ON
 abbrev pub before_on : List Lexed → ℕ

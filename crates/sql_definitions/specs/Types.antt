@@ -1,5 +1,5 @@
 -- The types of columns: for the columns of a table.
-use Rattle.std.specs.Prelude.{ℕ, ◌+◌, ◌*◌, ◌-◌, ◌==◌, Bool, true, false, not, ◌&&◌, ◌||◌, nat_le, Option, Some, None, List, [], ◌∷◌, ◌++◌, codes, bytes_eq, unwrap_or, if◌then◌else◌}
+use Rattle.std.specs.Prelude.{ℕ, ◌+◌, ◌*◌, ◌-◌, ◌==◌, Bool, true, false, not, ◌&&◌, ◌||◌, nat_le, Option, Some, None, List, [], ◌∷◌, ◌++◌, codes, bytes_eq, length, unwrap_or, if◌then◌else◌}
 use Rattle.std.specs.Char.{is_ascii_digit}
 use Rattle.std.specs.List.{list_all, list_any}
 use Rattle.dep_model.specs.declared.column_type.ColumnType.{ColumnType}
@@ -127,8 +127,16 @@ type_by_text d text lexemes =
     else if is_postgres d then postgres_type text lexemes
     else other_type lexemes
 
--- the type that these lexemes state
-abbrev pub column_type : Dialect → List Lexed → ColumnType
-column_type d lexemes =
+-- the type of a column that states none: SQLite keeps its values as they are written
+abbrev pub no_type : Dialect → ColumnType
+no_type d = if is_postgres d then type.Text else type.Other (codes "blob")
+
+-- the type that some lexemes state
+abbrev pub stated_type : Dialect → List Lexed → ColumnType
+stated_type d lexemes =
     if list_all is_word_or_within lexemes then type_by_text d (type_text true lexemes) lexemes
     else other_type lexemes
+
+-- the type of a column, by the lexemes that state it, if any do
+abbrev pub column_type : Dialect → List Lexed → ColumnType
+column_type d lexemes = if length lexemes == 0 then no_type d else stated_type d lexemes

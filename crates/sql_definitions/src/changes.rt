@@ -2,13 +2,14 @@
 
 ghost use Rattle.std.specs.Prelude.{◌≡◌, ◌≤◌, ◌&&◌, length, option_map, codes, IfErr, Ok, OnOk};
 ghost use Rattle.std.specs.List.{list_any, position_or_len};
-ghost use Rattle.sql_lexemes.specs.Statements.{is_a_word, is_mark, is_word};
+ghost use Rattle.sql_lexemes.specs.Statements.{is_a_word, is_word};
 ghost use Rattle.sql_definitions.specs.Facts.{Fails};
-ghost use Rattle.sql_definitions.specs.Tables.{add_key, after_alter, alter_table, before_on, index_list, index_statement, is_name_wanted, is_on, is_where, list_length, past_if_exists, past_using, past_word, unique_index};
+ghost use Rattle.sql_definitions.specs.Lists.{closes_list, is_one_of};
+ghost use Rattle.sql_definitions.specs.Tables.{add_key, add_to_table, after_alter, after_list, alter_table, altering_words, before_on, index_kind, index_list, index_statement, is_on, is_where, past_if_exists, past_using, past_word, says_not_distinct, unique_index};
 
-use crate::definition::Definition;
-use crate::elements::key_constraint;
-use crate::lists::{closes_list, list_parts, refused};
+use crate::definition::{Definition, KeyKind};
+use crate::elements::{begins_constraint, begins_not_distinct, key_constraint};
+use crate::lists::{are_columns, closes_list, list_parts, refused};
 use crate::names::is_name;
 use crate::refusal::{Reason, Refusal};
 use crate::tables::after_word;
@@ -84,13 +85,46 @@ pub fn alter_table(
     ensures ok { OnOk result (alter_table dialect end lexemes.now definition.old ≡ Ok definition.new) }
     ensures err { IfErr result (λ failure. Fails failure (alter_table dialect end lexemes.now definition.old)) }
 {
-    let Some(rest) = after_word(lexemes, b"add") else {
+    let [first, rest @ ..] = lexemes else {
         return Ok(());
     };
-    if uses(rest) {
+    if is_word(first, b"add") {
+        add_to_table(alloc, dialect, end, first.place(), rest, definition)
+    } else if is_altering_word(first) {
+        Err(refused(Reason::TableAltered, first.place()))
+    } else {
+        Ok(())
+    }
+}
+
+fn is_altering_word(lexeme: &Lexeme<'_>) -> bool
+    ensures exact { result ≡ is_one_of altering_words lexeme.now }
+{
+    is_word(lexeme, b"drop") || is_word(lexeme, b"rename")
+}
+
+// Reads what follows the word ADD, which stands at this place.
+fn add_to_table(
+    alloc: Global,
+    dialect: Dialect,
+    end: usize,
+    place: usize,
+    lexemes: &[Lexeme<'_>],
+    definition: &mut Definition,
+) -> Result<(), Failure<Refusal>>
+    ensures ok { OnOk result (add_to_table dialect end place lexemes.now definition.old ≡ Ok definition.new) }
+    ensures err { IfErr result (λ failure. Fails failure (add_to_table dialect end place lexemes.now definition.old)) }
+{
+    let [first, rest @ ..] = lexemes else {
+        return Ok(());
+    };
+    if !is_word(first, b"constraint") && !begins_constraint(first, rest) {
+        return Err(refused(Reason::TableAltered, place));
+    }
+    if uses(lexemes) {
         return Ok(());
     }
-    add_key(alloc, dialect, end, rest, definition)
+    add_key(alloc, dialect, end, lexemes, definition)
 }
 
 fn uses(lexemes: &[Lexeme<'_>]) -> bool
@@ -226,44 +260,56 @@ fn index_list(
     let [open, rest @ ..] = lexemes else {
         return Ok(());
     };
-    if !is_mark(open, b'(') || has_bracket(rest.split_at(list_length(rest)).0) {
+    if !is_mark(open, b'(') || !are_columns(0, rest) {
         return Ok(());
     }
-    match list_parts(alloc, dialect, end, 0, rest) {
-        Ok(parts) => definition.state_key(false, place, parts),
-        Err(Failure::Refused(refusal)) => {
-            if is_name_wanted(refusal.reason) {
-                Ok(())
-            } else {
-                Err(Failure::Refused(refusal))
-            }
-        }
-        Err(Failure::OutOfMemory) => Err(Failure::OutOfMemory),
+    let parts = match list_parts(alloc, dialect, end, 0, rest) {
+        Ok(parts) => parts,
+        Err(failure) => return Err(failure),
+    };
+    definition.state_key(index_kind(rest), place, parts)
+}
+
+// What a unique index states, by the lexemes after the bracket of its list.
+fn index_kind(lexemes: &[Lexeme<'_>]) -> KeyKind
+    ensures exact { result ≡ index_kind lexemes.now }
+{
+    if says_not_distinct(after_list(lexemes)) {
+        KeyKind::UniqueMissing
+    } else {
+        KeyKind::Unique
     }
 }
 
-fn is_name_wanted(reason: Reason) -> bool
-    ensures exact { result ≡ is_name_wanted reason }
+// What stands after the bracket that closes a list.
+fn after_list<'s, 'a>(lexemes: &'s [Lexeme<'a>]) -> &'s [Lexeme<'a>]
+    ensures rest { result.now ≡ after_list lexemes.now }
 {
-    match reason {
-        Reason::ExpectedName => true,
-        _ => false,
-    }
-}
-
-fn has_bracket(lexemes: &[Lexeme<'_>]) -> bool
-    ensures exact { result ≡ list_any (is_mark 40) lexemes.now }
-{
-    lexemes.iter().any(|lexeme| is_mark(lexeme, b'('))
+    lexemes.split_at(list_length(lexemes)).1
 }
 
 // How many lexemes a list has after its bracket, up to the one that closes it.
 fn list_length(lexemes: &[Lexeme<'_>]) -> usize
-    ensures length { result ≡ list_length lexemes.now }
+    ensures length { result ≡ position_or_len (closes_list 0) lexemes.now }
     ensures within { result ≤ length lexemes.now }
 {
     lexemes
         .iter()
         .take_while(|lexeme| !closes_list(0, *lexeme))
         .count()
+}
+
+// Whether NULLS NOT DISTINCT stands outside all brackets.
+#[tactic(auto, unfolding(crate::specs::Tables::says_not_distinct))]
+fn says_not_distinct(lexemes: &[Lexeme<'_>]) -> bool
+    ensures exact { result ≡ says_not_distinct lexemes.now }
+{
+    let mut rest = lexemes;
+    while let [lexeme, after @ ..] = rest {
+        if lexeme.depth() == 0 && begins_not_distinct(rest) {
+            return true;
+        }
+        rest = after;
+    }
+    false
 }

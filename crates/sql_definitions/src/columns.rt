@@ -5,9 +5,11 @@ ghost use Rattle.dep_model.specs.Columns.{is_column_type};
 ghost use Rattle.dep_model.specs.Names.{IsName};
 ghost use Rattle.std.specs.List.{list_any};
 ghost use Rattle.sql_definitions.specs.Facts.{Fails};
-ghost use Rattle.sql_definitions.specs.Elements.{column, column_keys, column_of, ending_words, ends_type, is_one_of, is_taken, key_at, named_column, says_not_null, type_length};
+ghost use Rattle.sql_definitions.specs.Elements.{column, column_keys, column_of, ending_words, ends_type, is_taken, key_at, named_column, says_not_null, type_length};
+ghost use Rattle.sql_definitions.specs.Lists.{is_one_of};
 
-use crate::definition::{Column, Definition, Part};
+use crate::definition::{Column, Definition, KeyKind, Part};
+use crate::elements::unique_kind;
 use crate::lists::{name_of, refused};
 use crate::names::{is_name, name_text};
 use crate::refusal::{Reason, Refusal};
@@ -119,8 +121,7 @@ fn column_of(
     let text = type_text(alloc, own)?;
     let kind = column_type(alloc, dialect, own, &text)?;
     let never_missing = is_serial(dialect, &text) || says_not_null(after);
-    let is_integer = text.as_slice() == b"integer".as_slice();
-    Ok(Column::new(name, kind, never_missing, is_integer))
+    Ok(Column::new(name, kind, never_missing))
 }
 
 // Whether NOT and NULL stand next to each other outside brackets.
@@ -178,10 +179,10 @@ fn key_at(
         Ok(())
     } else if is_word(lexeme, b"unique") {
         let parts = single(alloc, place, name)?;
-        definition.state_key(false, lexeme.place(), parts)
+        definition.state_key(unique_kind(after), lexeme.place(), parts)
     } else if is_word(lexeme, b"primary") && begins_with(after, b"key") {
         let parts = single(alloc, place, name)?;
-        definition.state_key(true, lexeme.place(), parts)
+        definition.state_key(KeyKind::Primary, lexeme.place(), parts)
     } else {
         Ok(())
     }

@@ -3,7 +3,7 @@ ghost use Rattle.attr_sets.specs.declared.set.TheConstants.{MOST_ATTRIBUTES};
 ghost use Rattle.dep_model.specs.Columns.{is_column_type};
 ghost use Rattle.dep_model.specs.Failures.{RefusesAs};
 ghost use Rattle.dep_model.specs.Names.{IsName, same_name};
-ghost use Rattle.sql_definitions.specs.Facts.{AreColumns, Fails, as_found, no_facts, state_key, with_binding, with_column, with_key};
+ghost use Rattle.sql_definitions.specs.Facts.{AreColumns, Fails, as_found, no_facts, state_key, with_column, with_key};
 
 use crate::refusal::{Reason, Refusal};
 use dep_model::{ColumnType, Failure, MOST_DEPENDENCIES, Name, OutOfMemory};
@@ -16,7 +16,6 @@ pub struct Column {
     name: Name,
     kind: ColumnType,
     never_missing: bool,
-    is_integer: bool,
 }
 
 impl Model for Column {
@@ -28,22 +27,18 @@ impl Model for Column {
       name = c.name;
       kind = c.kind;
       never_missing = c.never_missing;
-      is_integer = c.is_integer;
     } };
 }
 
 impl Column {
-    /// A column of this name and type, that says itself whether no value is missing, and whether the text
-    /// of its type is `integer`.
-    pub fn new(name: Name, kind: ColumnType, never_missing: bool, is_integer: bool) -> Column
-        ensures column { result
-            ≡ record { name = name; kind = kind; never_missing = never_missing; is_integer = is_integer } }
+    /// A column of this name and type, that says itself whether no value is missing.
+    pub fn new(name: Name, kind: ColumnType, never_missing: bool) -> Column
+        ensures column { result ≡ record { name = name; kind = kind; never_missing = never_missing } }
     {
         Column {
             name,
             kind,
             never_missing,
-            is_integer,
         }
     }
 
@@ -66,13 +61,6 @@ impl Column {
         ensures never_missing { result ≡ self.now.never_missing }
     {
         self.never_missing
-    }
-
-    /// Whether the text of its type is `integer`.
-    pub fn is_integer(&self) -> bool
-        ensures integer { result ≡ self.now.is_integer }
-    {
-        self.is_integer
     }
 }
 
@@ -114,10 +102,21 @@ impl Part {
     }
 }
 
-/// A key that is stated, by PRIMARY KEY or not.
+/// What states a key.
+#[derive(Clone, Copy, Debug, PartialEq, Eq)]
+pub enum KeyKind {
+    /// PRIMARY KEY.
+    Primary,
+    /// UNIQUE: missing values are not compared.
+    Unique,
+    /// UNIQUE with NULLS NOT DISTINCT: missing values are compared as others are.
+    UniqueMissing,
+}
+
+/// A key that is stated.
 #[derive(Drop)]
 pub struct Key {
-    primary: bool,
+    kind: KeyKind,
     parts: Vec<Part>,
 }
 
@@ -126,15 +125,15 @@ impl Model for Key {
 
     ghost Value = { StatedKey };
 
-    ghost view = { λ k. record { primary = k.primary; parts = k.parts.items } };
+    ghost view = { λ k. record { kind = k.kind; parts = k.parts.items } };
 }
 
 impl Key {
-    /// Whether it is stated by PRIMARY KEY.
-    pub fn is_primary(&self) -> bool
-        ensures primary { result ≡ self.now.primary }
+    /// What states it.
+    pub fn kind(&self) -> KeyKind
+        ensures kind { result ≡ self.now.kind }
     {
-        self.primary
+        self.kind
     }
 
     /// Its columns.
@@ -145,14 +144,13 @@ impl Key {
     }
 }
 
-/// What is known of a table: whether a statement creates it, its columns, its keys in the order of the
-/// text, and whether the words after its columns bind each PRIMARY KEY.
+/// What is known of a table: whether a statement creates it, its columns, and its keys in the order of the
+/// text.
 #[derive(Drop)]
 pub struct Definition {
     found: bool,
     columns: Vec<Column>,
     keys: Vec<Key>,
-    binds: bool,
 }
 
 impl Model for Definition {
@@ -160,7 +158,7 @@ impl Model for Definition {
 
     ghost Value = { Facts };
 
-    ghost view = { λ d. record { found = d.found; columns = d.columns.items; keys = d.keys.items; binds = d.binds } };
+    ghost view = { λ d. record { found = d.found; columns = d.columns.items; keys = d.keys.items } };
 
     ghost invariant = { λ d. AreColumns d.columns.items };
 }
@@ -174,7 +172,6 @@ impl Definition {
             found: false,
             columns: Vec::new(alloc),
             keys: Vec::new(alloc),
-            binds: false,
         }
     }
 
@@ -200,25 +197,11 @@ impl Definition {
         &self.keys
     }
 
-    /// Whether the words after its columns bind each PRIMARY KEY.
-    pub fn binds(&self) -> bool
-        ensures binds { result ≡ self.now.binds }
-    {
-        self.binds
-    }
-
     /// A statement creates it.
     pub fn set_found(&mut self)
         ensures found { self.new ≡ as_found self.old }
     {
         self.found = true;
-    }
-
-    /// The words after its columns bind each PRIMARY KEY, or do not.
-    pub fn set_binds(&mut self, binds: bool)
-        ensures binds { self.new ≡ with_binding self.old binds }
-    {
-        self.binds = binds;
     }
 
     /// One column more.
@@ -236,12 +219,12 @@ impl Definition {
     /// One key more, unless there are too many; the word that states it stands at this place.
     pub fn state_key(
         &mut self,
-        primary: bool,
+        kind: KeyKind,
         place: usize,
         parts: Vec<Part>,
     ) -> Result<(), Failure<Refusal>>
-        ensures ok { OnOk result (state_key primary place parts.items self.old ≡ Ok self.new) }
-        ensures err { IfErr result (λ failure. Fails failure (state_key primary place parts.items self.old)) }
+        ensures ok { OnOk result (state_key kind place parts.items self.old ≡ Ok self.new) }
+        ensures err { IfErr result (λ failure. Fails failure (state_key kind place parts.items self.old)) }
     {
         if self.keys.len() >= MOST_DEPENDENCIES {
             return Err(Failure::Refused(Refusal {
@@ -249,7 +232,7 @@ impl Definition {
                 place,
             }));
         }
-        self.keys.push(Key { primary, parts })?;
+        self.keys.push(Key { kind, parts })?;
         Ok(())
     }
 }

@@ -18,7 +18,7 @@ mod tables;
 mod types;
 mod wanted;
 
-pub use definition::{Column, Definition, Key, Part};
+pub use definition::{Column, Definition, Key, KeyKind, Part};
 pub use reading::read_definition;
 pub use refusal::{Reason, Refusal};
 pub use wanted::{Wanted, wanted_table};

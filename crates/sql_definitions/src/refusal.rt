@@ -29,6 +29,8 @@ pub enum Reason {
     TooManyDependencies,
     /// A key has a column that the table lacks.
     UnknownName,
+    /// A statement adds something else than a constraint to the table, drops something of it or renames it.
+    TableAltered,
 }
 
 /// A refusal: why, and how many bytes of the text stand before its place.

@@ -1,14 +1,13 @@
 //! The statement that creates the table.
 
-ghost use Rattle.std.specs.Prelude.{◌≡◌, ◌≤◌, length, option_map, IfErr, Ok, OnOk};
-ghost use Rattle.std.specs.List.{list_any};
-ghost use Rattle.sql_definitions.specs.Elements.{is_one_of};
+ghost use Rattle.std.specs.Prelude.{◌≡◌, ◌≤◌, ◌<◌, ◌+◌, ◌^◌, length, option_map, IfErr, Ok, OnOk};
 ghost use Rattle.sql_definitions.specs.Facts.{Fails};
-ghost use Rattle.sql_definitions.specs.Tables.{after_create, binding_words, after_word, binds_keys, closed_table, closes_table, create_table, element_length, elements, ends_element, open_table, past_if_not_exists, past_temporary, place_of, temporary_words};
+ghost use Rattle.sql_definitions.specs.Lists.{is_one_of};
+ghost use Rattle.sql_definitions.specs.Tables.{after_create, after_word, closed_table, closes_table, create_table, element_length, elements, ends_element, open_after, open_table, past_if_not_exists, past_temporary, place_of, temporary_words};
 
 use crate::definition::Definition;
 use crate::elements::element;
-use crate::lists::{closes_list, refused};
+use crate::lists::refused;
 use crate::refusal::{Reason, Refusal};
 use crate::wanted::{from, name_length};
 use dep_model::Failure;
@@ -144,9 +143,8 @@ fn elements(
         if after.is_empty() {
             return Err(refused(Reason::ExpectedCommaOrBracket, end));
         }
-        let (stop, left) = after.split_at(1);
-        if closes_table(stop) {
-            return close_table(place_of(end, stop), left, definition);
+        if closes_table(after) {
+            return close_table(place_of(end, after), definition);
         }
         at += length + 1;
     }
@@ -159,52 +157,58 @@ fn closes_table(lexemes: &[Lexeme<'_>]) -> bool
 {
     match lexemes {
         [] => false,
-        [first, ..] => closes_list(0, first),
+        [first, ..] => is_mark(first, b')'),
     }
 }
 
-// A table is closed at this place, and these are the lexemes after it: a table without a column is none.
-fn close_table(
-    place: usize,
-    tail: &[Lexeme<'_>],
-    definition: &mut Definition,
-) -> Result<(), Failure<Refusal>>
-    ensures ok { OnOk result (closed_table place tail.now definition.old ≡ Ok definition.new) }
-    ensures err { IfErr result (λ failure. Fails failure (closed_table place tail.now definition.old)) }
+// A table is closed at this place: a table without a column is none.
+fn close_table(place: usize, definition: &mut Definition) -> Result<(), Failure<Refusal>>
+    ensures ok { OnOk result (closed_table place definition.old ≡ Ok definition.new) }
+    ensures err { IfErr result (λ failure. Fails failure (closed_table place definition.old)) }
 {
     if definition.columns().is_empty() {
         return Err(refused(Reason::ExpectedName, place));
     }
-    definition.set_binds(binds_keys(tail));
     Ok(())
 }
 
 // How many lexemes the first element has.
+#[tactic(auto, unfolding(crate::specs::Tables::length_left))]
 fn element_length(lexemes: &[Lexeme<'_>]) -> usize
     ensures length { result ≡ element_length lexemes.now }
     ensures within { result ≤ length lexemes.now }
 {
-    lexemes
-        .iter()
-        .take_while(|lexeme| !ends_element(*lexeme))
-        .count()
+    let mut depth = 0;
+    let mut passed = 0;
+    let mut rest = lexemes;
+    while let [lexeme, after @ ..] = rest {
+        if ends_element(depth, lexeme) {
+            return passed;
+        }
+        depth = open_after(depth, lexeme);
+        passed += 1;
+        rest = after;
+    }
+    passed
 }
 
-fn ends_element(lexeme: &Lexeme<'_>) -> bool
-    ensures exact { result ≡ ends_element lexeme.now }
+fn ends_element(depth: usize, lexeme: &Lexeme<'_>) -> bool
+    ensures exact { result ≡ ends_element depth lexeme.now }
 {
-    (is_mark(lexeme, b',') && lexeme.depth() == 1) || closes_list(0, lexeme)
+    depth == 0 && (is_mark(lexeme, b',') || is_mark(lexeme, b')'))
 }
 
-// Whether the words after the columns bind each PRIMARY KEY.
-fn binds_keys(lexemes: &[Lexeme<'_>]) -> bool
-    ensures exact { result ≡ binds_keys lexemes.now }
+// How many brackets of an element are open after a lexeme.
+fn open_after(depth: usize, lexeme: &Lexeme<'_>) -> usize
+    requires { depth < 2 ^ 63 }
+    ensures exact { result ≡ open_after depth lexeme.now }
+    ensures one_more { result ≤ depth + 1 }
 {
-    lexemes.iter().any(|lexeme| is_binding(lexeme))
-}
-
-fn is_binding(lexeme: &Lexeme<'_>) -> bool
-    ensures exact { result ≡ is_one_of binding_words lexeme.now }
-{
-    is_word(lexeme, b"rowid") || is_word(lexeme, b"strict")
+    if is_mark(lexeme, b'(') || is_mark(lexeme, b'[') {
+        depth + 1
+    } else if is_mark(lexeme, b')') || is_mark(lexeme, b']') {
+        depth.saturating_sub(1)
+    } else {
+        depth
+    }
 }

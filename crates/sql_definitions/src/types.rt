@@ -23,10 +23,26 @@ pub fn column_type(
     ensures exact { IfOk result (λ kind. kind ≡ types.column_type dialect lexemes.now) }
     ensures valid { IfOk result (λ kind. IsTrue (is_column_type kind)) }
 {
-    if are_words_or_within(lexemes) {
+    if lexemes.is_empty() {
+        Ok(no_type(dialect))
+    } else if are_words_or_within(lexemes) {
         type_by_text(alloc, dialect, text, lexemes)
     } else {
         other_type(alloc, lexemes)
+    }
+}
+
+// The type of a column that states none.
+fn no_type(dialect: Dialect) -> ColumnType
+    ensures exact { result ≡ types.no_type dialect }
+    ensures valid { IsTrue (is_column_type result) }
+{
+    if is_postgres(dialect) {
+        return ColumnType::Text;
+    }
+    match TypeName::new(b"blob") {
+        Some(name) => ColumnType::Other(name),
+        None => ColumnType::Text,
     }
 }
 

@@ -1,95 +1,63 @@
 //! The table that is wanted.
 
-ghost use Rattle.std.specs.Prelude.{◌≡◌, ◌≤◌, drop, length, option_map, IfOk};
-ghost use Rattle.std.specs.List.{position_or_len};
-ghost use Rattle.sql_definitions.specs.Tables.{goes_on, is_meant, is_meant_by, is_named_so, is_wanted_part, name_length, part_from_end};
-ghost use Rattle.sql_definitions.specs.Wanted.{is_dot, is_empty_part, named_by, wanted_table};
+ghost use Rattle.std.specs.Prelude.{◌≡◌, drop, option_map, IfOk};
+ghost use Rattle.lexer.specs.Tokens.{bytes_in};
+ghost use Rattle.sql_definitions.specs.Names.{goes_on, name_length};
+ghost use Rattle.sql_definitions.specs.Tables.{is_meant, is_meant_by, is_named_so, is_wanted_part, part_from_end};
+ghost use Rattle.sql_definitions.specs.Wanted.{wanted_table};
 
 use crate::names::{is_name, name_text};
 use dep_model::OutOfMemory;
+use lexer::WordBytes;
 use sql_lexemes::{Dialect, Lexeme, is_mark};
 use std::alloc::Global;
 use std::marker::Model;
+use table_words::{TableParts, table_parts};
 
 /// The parts of a table's name that are wanted, from the last on.
 #[derive(Drop)]
 pub struct Wanted<'a> {
-    last: &'a [u8],
-    middle: Option<&'a [u8]>,
-    outer: Option<&'a [u8]>,
+    last: WordBytes<'a>,
+    middle: Option<WordBytes<'a>>,
+    outer: Option<WordBytes<'a>>,
 }
 
 impl<'a> Model for Wanted<'a> {
     ghost use Rattle.std.specs.Prelude.{option_map};
+    ghost use Rattle.lexer.specs.Tokens.{bytes_in};
     ghost use Rattle.sql_definitions.specs.Wanted.{TableName};
 
     ghost Value = { TableName };
 
     ghost view = { λ w. record {
-      last = w.last.now;
-      middle = option_map (λ part. part.now) w.middle;
-      outer = option_map (λ part. part.now) w.outer;
+      last = bytes_in w.last;
+      middle = option_map bytes_in w.middle;
+      outer = option_map bytes_in w.outer;
     } };
 }
 
-/// The table that a word wants: one to three parts with a dot between two, none empty.
+/// The table that a word wants, by its parts.
 pub fn wanted_table(bytes: &[u8]) -> Option<Wanted<'_>>
     ensures wanted { result ≡ wanted_table bytes.now }
 {
-    let end = part_length(bytes);
-    if end == bytes.len() {
-        return named_by(bytes, None, None);
-    }
-    let (first, rest) = bytes.split_at(end);
-    let rest = rest.split_at(1).1;
-    let end = part_length(rest);
-    if end == rest.len() {
-        return named_by(rest, Some(first), None);
-    }
-    let (second, rest) = rest.split_at(end);
-    let third = rest.split_at(1).1;
-    if part_length(third) == third.len() {
-        named_by(third, Some(second), Some(first))
-    } else {
-        None
-    }
-}
-
-// A table's name of these parts, of which none may be empty.
-fn named_by<'a>(
-    last: &'a [u8],
-    middle: Option<&'a [u8]>,
-    outer: Option<&'a [u8]>,
-) -> Option<Wanted<'a>>
-    ensures wanted { result ≡ named_by last.now (option_map (λ part. part.now) middle.entry)
-        (option_map (λ part. part.now) outer.entry) }
-{
-    if last.is_empty() || is_empty_part(middle) || is_empty_part(outer) {
-        None
-    } else {
-        Some(Wanted {
+    match table_parts(bytes) {
+        None => None,
+        Some(TableParts::One(last)) => Some(Wanted {
             last,
-            middle,
-            outer,
-        })
+            middle: None,
+            outer: None,
+        }),
+        Some(TableParts::Two(middle, last)) => Some(Wanted {
+            last,
+            middle: Some(middle),
+            outer: None,
+        }),
+        Some(TableParts::Three(outer, middle, last)) => Some(Wanted {
+            last,
+            middle: Some(middle),
+            outer: Some(outer),
+        }),
     }
-}
-
-fn is_empty_part(part: Option<&[u8]>) -> bool
-    ensures exact { result ≡ is_empty_part (option_map (λ part. part.now) part.entry) }
-{
-    match part {
-        Some(bytes) => bytes.is_empty(),
-        None => false,
-    }
-}
-
-// How many bytes stand before the first dot.
-fn part_length(bytes: &[u8]) -> usize
-    ensures length { result ≡ position_or_len is_dot bytes.now }
-    ensures within { result ≤ length bytes.now }
-{
-    bytes.iter().take_while(|byte| **byte != b'.').count()
 }
 
 // Whether a dot and a name stand at the front.
@@ -139,19 +107,19 @@ pub fn is_meant(
     let last = is_named_so(
         alloc,
         dialect,
-        wanted.last,
+        wanted.last.as_slice(),
         part_from_end(lexemes, count, 1),
     )?;
     let middle = is_wanted_part(
         alloc,
         dialect,
-        wanted.middle,
+        &wanted.middle,
         part_from_end(lexemes, count, 3),
     )?;
     let outer = is_wanted_part(
         alloc,
         dialect,
-        wanted.outer,
+        &wanted.outer,
         part_from_end(lexemes, count, 5),
     )?;
     Ok(last && middle && outer)
@@ -176,15 +144,15 @@ fn part_from_end<'s, 'a>(
 fn is_wanted_part(
     alloc: Global,
     dialect: Dialect,
-    wanted: Option<&[u8]>,
+    wanted: &Option<WordBytes<'_>>,
     lexeme: Option<&Lexeme<'_>>,
 ) -> Result<bool, OutOfMemory>
     ensures exact { IfOk result (λ is. is ≡ is_wanted_part dialect
-        (option_map (λ part. part.now) wanted.entry) (option_map (λ l. l.now) lexeme.entry)) }
+        (option_map bytes_in wanted.now) (option_map (λ l. l.now) lexeme.entry)) }
 {
     match wanted {
         None => Ok(true),
-        Some(wanted) => is_named_so(alloc, dialect, wanted, lexeme),
+        Some(wanted) => is_named_so(alloc, dialect, wanted.as_slice(), lexeme),
     }
 }
 

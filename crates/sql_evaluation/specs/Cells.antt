@@ -1,5 +1,5 @@
 -- What stands in a column of a row, and what an engine makes of it: for values and queries.
-use Rattle.std.specs.Prelude.{ℕ, ℤ, pos, negsuc, ◌+ℤ◌, ◌-ℤ◌, ◌*ℤ◌, suc, Bool, true, false, not, Option, Some, None, List, [], ◌∷◌, option_map, option_and_then}
+use Rattle.std.specs.Prelude.{ℕ, ℤ, pos, negsuc, ◌+ℤ◌, ◌-ℤ◌, ◌*ℤ◌, suc, Bool, true, false, not, Option, Some, None, List, [], ◌∷◌, ◌++◌, option_map, option_and_then}
 use Rattle.std.specs.Fmt.{decimal}
 use Rattle.std.specs.Cmp.Lexicographic.{pointwise}
 use Rattle.std.specs.Ordering.{int_eq}
@@ -31,6 +31,12 @@ abbrev pub text_of : Cell → Cell
 text_of missing = missing
 text_of (text t) = text t
 text_of (number n) = text (integer_text n)
+
+-- a text after that of a value
+abbrev pub followed_by : List ℕ → Cell → Cell
+followed_by more missing = missing
+followed_by more (text t) = text (t ++ more)
+followed_by more (number n) = text (integer_text n ++ more)
 
 -- what an engine makes of a text that is to be an integer: an error, or an integer
 abbrev pub integer_of : (List ℕ → Option ℤ) → Cell → Option Cell

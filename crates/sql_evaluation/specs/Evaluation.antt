@@ -3,7 +3,7 @@ use Rattle.std.specs.Prelude.{ℕ, ℤ, Bool, false, not, ◌&&◌, ◌==◌, if
 use Rattle.std.specs.List.{list_any}
 use Rattle.std.specs.Set.{unique_keys}
 use Rattle.std.specs.Str.{bytes_eq}
-use Rattle.sql_syntax.specs.Syntax.{Column, column, Condition, Item, own, named, unnamed, Clause, each_row, rows_where, groups_by, Link, by_columns, crosswise, Query, stored, select, union_all, except, joined}
+use Rattle.sql_syntax.specs.Syntax.{Column, Scalar, column, Condition, Item, own, named, unnamed, Clause, each_row, rows_where, groups_by, Link, by_columns, crosswise, Query, stored, select, union_all, except, joined, all_columns, one_row}
 use Rattle.sql_evaluation.specs.Cells.{Cell, same_row}
 use Rattle.sql_evaluation.specs.Values.{each, bytes_of, named_cell, Look, look_at, View, value, holds}
 use Rattle.sql_evaluation.specs.Joins.{is_name_of, rows_joined}
@@ -91,6 +91,14 @@ selected cast distinct items alias clause given =
     (views_of cast clause (map (look_at alias given.names) given.rows)))
 
 -- ---- queries
+-- a row of values, which have no names and rest on no column
+abbrev pub no_view : View
+no_view = record { own = λ c. None; rows = None }
+
+abbrev pub row_of_values : (List ℕ → Option ℤ) → List Scalar → Option Rows
+row_of_values cast values =
+    option_map (λ row. record { names = map (λ x. []) values; rows = row ∷ [] }) (each (value cast no_view) values)
+
 -- one after the other, under the names of the first, where they have as many columns
 abbrev pub appended : Rows → Rows → Option Rows
 appended a b =
@@ -136,3 +144,5 @@ evaluate e (union_all p q) = option_and_then (λ a. option_and_then (appended a)
 evaluate e (except p q) = option_and_then (λ a. option_and_then (excepted a) (evaluate e q)) (evaluate e p)
 evaluate e (joined names first links) =
     option_and_then (columns_of (map bytes_of names)) (option_and_then (all_linked e links) (e.tables first))
+evaluate e (all_columns source alias) = evaluate e source
+evaluate e (one_row values) = row_of_values e.cast values

@@ -1,8 +1,8 @@
 -- The values and tests of a row or a group: for queries.
 use Rattle.std.specs.Prelude.{ℕ, ℤ, pos, Bool, ◌||◌, if◌then◌else◌, Option, Some, None, List, [], ◌∷◌, length, option_map, option_and_then}
 use Rattle.std.specs.Str.{bytes_eq}
-use Rattle.sql_syntax.specs.Syntax.{ColumnName, attribute, helper, Column, Scalar, column, as_text, as_integer, number_zero, number_one, count, sum, sum_product, less_sum, Condition, is_missing, differs, exceeds, either}
-use Rattle.sql_evaluation.specs.Cells.{Cell, number, text_of, integer_of, total, multiplied, subtracted, differ, exceed, is_none}
+use Rattle.sql_syntax.specs.Syntax.{ColumnName, attribute, helper, Column, Scalar, column, as_text, as_integer, with_empty_text, number_zero, number_one, written_number, missing_value, count, sum, sum_product, less_sum, Condition, is_missing, differs, equals, exceeds, either}
+use Rattle.sql_evaluation.specs.Cells.{Cell, missing, number, text_of, followed_by, integer_of, total, multiplied, subtracted, differ, equal, exceed, is_none}
 
 -- ---- errors
 -- a function of each member; an error where it is one at some
@@ -46,8 +46,11 @@ abbrev pub value : (List ℕ → Option ℤ) → View → Scalar → Option Cell
 value cast v (column c) = v.own c
 value cast v (as_text x) = option_map text_of (value cast v x)
 value cast v (as_integer x) = option_and_then (integer_of cast) (value cast v x)
+value cast v (with_empty_text x) = option_map (followed_by []) (value cast v x)
 value cast v number_zero = Some (number (pos 0))
 value cast v number_one = Some (number (pos 1))
+value cast v (written_number n) = Some (number (pos n))
+value cast v missing_value = Some missing
 value cast v count = option_map (λ rows. number (pos (length rows))) v.rows
 value cast v (sum c) = sum_of v c
 value cast v (sum_product c d) = of_both multiplied (sum_of v c) (sum_of v d)
@@ -57,5 +60,6 @@ value cast v (less_sum x c) = of_both subtracted (value cast v x) (sum_of v c)
 abbrev pub holds : (List ℕ → Option ℤ) → View → Condition → Option Bool
 holds cast v (is_missing x) = option_map is_none (value cast v x)
 holds cast v (differs x y) = of_both differ (value cast v x) (value cast v y)
+holds cast v (equals x y) = of_both equal (value cast v x) (value cast v y)
 holds cast v (exceeds x y) = of_both exceed (value cast v x) (value cast v y)
 holds cast v (either p q) = of_both (λ a b. Some (a || b)) (holds cast v p) (holds cast v q)

@@ -1,16 +1,36 @@
 -- Where comments, strings and quoted names end: for the pieces of a text.
-use Rattle.std.specs.Prelude.{ℕ, ◌+◌, ◌==◌, Bool, true, false, not, ◌&&◌, Option, Some, None, List, [], ◌∷◌, length, drop, take, nat_eq, if◌then◌else◌}
+use Rattle.std.specs.Prelude.{ℕ, ◌+◌, ◌-◌, ◌==◌, Bool, true, false, not, ◌&&◌, ◌||◌, Option, Some, None, List, [], ◌∷◌, length, drop, take, nat_eq, if◌then◌else◌}
 use Rattle.std.specs.List.{starts_with, prefix_len}
 use Rattle.sql_lexemes.specs.declared.scan.Within.{Within}
 use Rattle.sql_lexemes.specs.declared.scan.Within.TheVariants.{Inside, Escaped, AfterQuote}
 use Rattle.sql_lexemes.specs.Bytes.{begins_word, is_tag_byte}
 
--- how many bytes there are up to the first `*/` and with it, where so many are passed, of which the last was a
--- star or not
-unfoldable pub comment_end : Bool → ℕ → List ℕ → Option ℕ
-comment_end star passed [] = None
-comment_end star passed (b ∷ bs) =
-    if star && (b == 47) then Some (passed + 1) else comment_end (b == 42) (passed + 1) bs
+-- `*/` closes a comment
+abbrev pub closes_comment : ℕ → ℕ → Bool
+closes_comment last b = (last == 42) && (b == 47)
+
+-- `/*` opens a comment within another one, where comments nest
+abbrev pub opens_comment : Bool → ℕ → ℕ → Bool
+opens_comment nests last b = nests && ((last == 47) && (b == 42))
+
+-- how many comments are open around this one's rest, after one byte more
+abbrev pub around_after : Bool → ℕ → ℕ → ℕ → ℕ
+around_after nests around last b =
+    if closes_comment last b then around - 1
+    else if opens_comment nests last b then around + 1
+    else around
+
+-- the byte that may be the first of the next two: a byte belongs to one mark alone
+abbrev pub last_after : Bool → ℕ → ℕ → ℕ
+last_after nests last b = if closes_comment last b || opens_comment nests last b then 0 else b
+
+-- how many bytes there are up to the `*/` that closes a comment and with it, where so many comments are open around
+-- what follows, this was the last byte, and so many are passed
+unfoldable pub comment_end : Bool → ℕ → ℕ → ℕ → List ℕ → Option ℕ
+comment_end nests around last passed [] = None
+comment_end nests around last passed (b ∷ bs) =
+    if closes_comment last b && (around == 0) then Some (passed + 1)
+    else comment_end nests (around_after nests around last b) (last_after nests last b) (passed + 1) bs
 
 -- a byte shows that the quote before it closes: it is no second one
 abbrev pub closes : ℕ → Within → ℕ → Bool

@@ -65,9 +65,15 @@ abbrev pub closed_comment : Option ℕ → Piece
 closed_comment None = piece.Flaw flaw.OpenComment
 closed_comment (Some end) = piece.Gap (end + 1)
 
-abbrev pub comment_piece : List ℕ → Piece
-comment_piece [] = piece.Flaw flaw.OpenComment
-comment_piece (star ∷ inner) = closed_comment (comment_end false 0 inner)
+-- those of PostgreSQL nest
+abbrev pub comment_piece : Dialect → List ℕ → Piece
+comment_piece d [] = piece.Flaw flaw.OpenComment
+comment_piece d (star ∷ inner) = closed_comment (comment_end (is_postgres d) 0 0 0 inner)
+
+-- what stands between single quotes: for SQLite it may also be a name, where one is wanted
+abbrev pub single_kind : Dialect → LexemeKind
+single_kind Postgres = kind.Text
+single_kind Sqlite = kind.Quoted
 
 -- a quoted name, a word, a number or a mark, after its first byte
 abbrev pub plain_piece : Dialect → ℕ → List ℕ → Piece
@@ -87,8 +93,8 @@ front_piece d before (b ∷ bs) =
     if is_blank b then piece.Gap 0
     else if ((b == 92) && is_postgres d) && is_line_start before then piece.Gap (position_or_len is_line_feed bs)
     else if (b == 45) && starts_with nat_eq bs (45 ∷ []) then piece.Gap (position_or_len is_line_feed bs)
-    else if (b == 47) && starts_with nat_eq bs (42 ∷ []) then comment_piece bs
-    else if b == 39 then quoted_piece kind.Text 39 (is_postgres d && is_after_e before) bs
+    else if (b == 47) && starts_with nat_eq bs (42 ∷ []) then comment_piece d bs
+    else if b == 39 then quoted_piece (single_kind d) 39 (is_postgres d && is_after_e before) bs
     else if (b == 36) && is_postgres d then dollar_piece bs
     else plain_piece d b bs
 

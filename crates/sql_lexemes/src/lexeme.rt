@@ -7,9 +7,9 @@ use std::marker::Model;
 pub enum LexemeKind {
     /// A letter, `_` or a byte above 127, then these, digits and `$`.
     Word,
-    /// A name between quotes.
+    /// A name between quotes; for SQLite also what stands between single ones, a string or a name.
     Quoted,
-    /// A string.
+    /// A string that is no name.
     Text,
     /// A digit, then letters, digits, `_` and `.`.
     Number,

@@ -1,7 +1,7 @@
 ghost use Rattle.std.specs.Prelude.{◌≡◌, ◌≤◌, ◌&&◌, ◌||◌, ◌==◌, ◌∷◌, [], drop, length, nat_eq};
 ghost use Rattle.std.specs.List.{starts_with};
 ghost use Rattle.sql_lexemes.specs.Bytes.{is_blank, is_strange};
-ghost use Rattle.sql_lexemes.specs.Pieces.{is_postgres, is_sqlite, is_line_start, is_after_e, front_piece, comment_piece, quoted_piece, bracketed_piece, dollar_piece, plain_piece, FitsPiece};
+ghost use Rattle.sql_lexemes.specs.Pieces.{is_postgres, is_sqlite, is_line_start, is_after_e, front_piece, comment_piece, quoted_piece, bracketed_piece, dollar_piece, plain_piece, single_kind, FitsPiece};
 
 use crate::dialect::Dialect;
 use crate::lexeme::LexemeKind;
@@ -101,10 +101,10 @@ pub fn front_piece(dialect: Dialect, before: Before, text: &[u8]) -> Piece
     } else if *first == b'-' && rest.starts_with(b"-") {
         Piece::Gap(line_length(rest))
     } else if *first == b'/' && rest.starts_with(b"*") {
-        comment_piece(rest)
+        comment_piece(dialect, rest)
     } else if *first == b'\'' {
         let escapes = is_postgres(dialect) && is_after_e(before);
-        quoted_piece(LexemeKind::Text, b'\'', escapes, rest)
+        quoted_piece(single_kind(dialect), b'\'', escapes, rest)
     } else if *first == b'$' && is_postgres(dialect) {
         dollar_piece(rest)
     } else {
@@ -113,16 +113,26 @@ pub fn front_piece(dialect: Dialect, before: Before, text: &[u8]) -> Piece
 }
 
 // A comment, after its slash.
-fn comment_piece(rest: &[u8]) -> Piece
-    ensures exact { result ≡ comment_piece rest.now }
+fn comment_piece(dialect: Dialect, rest: &[u8]) -> Piece
+    ensures exact { result ≡ comment_piece dialect rest.now }
     ensures fits { FitsPiece (length rest.now) result }
 {
     let [_, inner @ ..] = rest else {
         return Piece::Flaw(Flaw::OpenComment);
     };
-    match comment_end(inner) {
+    match comment_end(is_postgres(dialect), inner) {
         Some(end) => Piece::Gap(end + 1),
         None => Piece::Flaw(Flaw::OpenComment),
+    }
+}
+
+// What stands between single quotes: for SQLite it may also be a name.
+fn single_kind(dialect: Dialect) -> LexemeKind
+    ensures exact { result ≡ single_kind dialect }
+{
+    match dialect {
+        Dialect::Postgres => LexemeKind::Text,
+        Dialect::Sqlite => LexemeKind::Quoted,
     }
 }
 

@@ -1,9 +1,9 @@
 //! How far a piece of a text reaches.
 
-ghost use Rattle.std.specs.Prelude.{◌≡◌, ◌≤◌, ◌<◌, ◌==◌, false, length, position, IfSome};
+ghost use Rattle.std.specs.Prelude.{◌≡◌, ◌≤◌, ◌<◌, ◌+◌, ◌^◌, ◌==◌, length, position, IfSome};
 ghost use Rattle.std.specs.List.{prefix_len, position_or_len};
 ghost use Rattle.sql_lexemes.specs.Bytes.{is_word_byte, is_tag_byte, is_number_byte, begins_word, is_line_feed};
-ghost use Rattle.sql_lexemes.specs.Ends.{closes, comment_end, quote_end, within_after, tag_end, tag_length, may_be_tag};
+ghost use Rattle.sql_lexemes.specs.Ends.{around_after, closes, closes_comment, comment_end, last_after, opens_comment, quote_end, within_after, tag_end, tag_length, may_be_tag};
 
 /// A letter, `_` or a byte above 127.
 pub fn begins_word(byte: u8) -> bool
@@ -56,24 +56,66 @@ pub fn line_length(text: &[u8]) -> usize
     text.iter().take_while(|byte| **byte != b'\n').count()
 }
 
-/// How many bytes a text has up to the first `*/` and with it.
+/// How many bytes a text has up to the `*/` that closes a comment and with it; comments within it count
+/// where they nest.
 #[tactic(auto, unfolding(crate::specs::Ends::comment_end))]
-pub fn comment_end(text: &[u8]) -> Option<usize>
-    ensures end { result ≡ comment_end false 0 text.now }
+pub fn comment_end(nests: bool, text: &[u8]) -> Option<usize>
+    ensures end { result ≡ comment_end nests 0 0 0 text.now }
     ensures within { IfSome result (λ end. end ≤ length text.now) }
 {
-    let mut star = false;
+    let mut around = 0;
+    let mut last = 0;
     let mut passed = 0;
     let mut rest = text;
     while let [byte, after @ ..] = rest {
-        if star && *byte == b'/' {
+        if closes_comment(last, *byte) && around == 0 {
             return Some(passed + 1);
         }
-        star = *byte == b'*';
+        around = around_after(nests, around, last, *byte);
+        last = last_after(nests, last, *byte);
         passed += 1;
         rest = after;
     }
     None
+}
+
+fn closes_comment(last: u8, byte: u8) -> bool
+    ensures exact { result ≡ closes_comment last byte }
+{
+    last == b'*' && byte == b'/'
+}
+
+// Whether a comment opens within another one.
+fn opens_comment(nests: bool, last: u8, byte: u8) -> bool
+    ensures exact { result ≡ opens_comment nests last byte }
+{
+    nests && last == b'/' && byte == b'*'
+}
+
+// How many comments are open around a comment's rest, after one byte more.
+fn around_after(nests: bool, around: usize, last: u8, byte: u8) -> usize
+    requires { around < 2 ^ 63 }
+    ensures exact { result ≡ around_after nests around last byte }
+    ensures one_more { result ≤ around + 1 }
+{
+    if closes_comment(last, byte) {
+        around.saturating_sub(1)
+    } else if opens_comment(nests, last, byte) {
+        around + 1
+    } else {
+        around
+    }
+}
+
+// The byte that may be the first of the next two.
+fn last_after(nests: bool, last: u8, byte: u8) -> u8
+    ensures exact { result ≡ last_after nests last byte }
+{
+    if closes_comment(last, byte) || opens_comment(nests, last, byte) {
+        0
+    } else {
+        byte
+    }
 }
 
 /// Where a quoted text stands that is read byte by byte.

@@ -1,6 +1,6 @@
 -- The laws of the text of a table's schema.
-use Rattle.std.proofs.Common.{◌≡◌, ◌<◌, ◌≤◌, ℕ, Bool, true, false, cond, IsTrue, All, Result, Ok, Err, List, [], ◌∷◌, length, refl, sym, ap, subst, ◌∙◌, arith}
-use Rattle.std.specs.Prelude.{filter}
+use Rattle.std.proofs.Common.{◌≡◌, ◌<◌, ◌≤◌, ◌||◌, inl, inr, ℕ, Bool, true, false, cond, IsTrue, All, Result, Ok, Err, List, [], ◌∷◌, length, get_or, refl, sym, ap, subst, ◌∙◌, arith}
+use Rattle.std.specs.Prelude.{◌⊎◌, filter}
 use Rattle.std.proofs.lemmas.Bool.Decides.{nat_tests}
 use Rattle.std.proofs.lemmas.List.Elements.{All-cons, All-filter, All-map, All-nil}
 use Rattle.attr_sets.specs.Attributes.{Attributes, Disjoint, IsSubset, below}
@@ -15,12 +15,14 @@ use Rattle.schema_grammar.specs.Schemas.{MeansSchema}
 use Rattle.sql_lexemes.specs.declared.dialect.Dialect.{Dialect}
 use Rattle.sql_definitions.specs.Facts.{AreColumns, Facts, StatedColumn}
 use Rattle.sql_definitions.specs.declared.refusal.Refusal.{Refusal}
+use Rattle.sql_definitions.specs.declared.definition.KeyKind.{KeyKind}
+use Rattle.sql_definitions.specs.declared.definition.KeyKind.TheVariants.{Primary, Unique, UniqueMissing}
 use Rattle.sql_definitions.specs.Definitions.{definition_of}
 use Rattle.sql_definitions.specs.Wanted.{TableName}
 use Rattle.sql_schemas.proofs.ReadLemmas.{definition_reads}
-use Rattle.sql_schemas.specs.Keys.{and_then, KeyColumns, keys_of, new_keys}
+use Rattle.sql_schemas.specs.Keys.{and_then, KeyColumns, compares_missing, is_dependency, keys_of, new_keys}
 use Rattle.sql_schemas.specs.Meaning.{IsStatedKey, declared_table, whole_keys}
-use Rattle.sql_schemas.specs.Texts.{column_names, column_types, columns_missing, imported_text, is_whole, table_text, text_of_facts}
+use Rattle.sql_schemas.specs.Texts.{column_names, column_types, columns_missing, imported_text, table_text, text_of_facts}
 use Rattle.sql_schemas.proofs.LineLemmas.{stated}
 use Rattle.sql_schemas.proofs.MeaningLemmas.{IsTable, table_means, whole_of}
 use Rattle.sql_schemas.proofs.StatedLemmas.{keys_as_many, keys_stated, keys_within, new_all, new_count}
@@ -29,14 +31,14 @@ use Rattle.sql_schemas.proofs.TableLemmas.{missing_within, names_apart, names_co
 -- ---- what the text means
 table_is : (columns : List StatedColumn) (keys : List KeyColumns) → AreColumns columns → 0 < length columns
     → length keys ≤ MOST_DEPENDENCIES → All (λ key. IsSubset key.columns (below (length columns))) keys
-    → IsTable (column_names columns) (column_types columns) (columns_missing columns keys) (new_keys (length columns) [] keys)
+    → IsTable (column_names columns) (column_types columns) (columns_missing columns keys) (new_keys (length columns) (columns_missing columns keys) [] keys)
 table_is columns keys are some room within =
     let names = names_count columns in
     let types = types_count columns in
     let limit = are.within_limit in
-    let count = new_count (length columns) [] keys in
-    let each : All (λ (key : KeyColumns). IsSubset key.columns (below (length columns))) (new_keys (length columns) [] keys) =
-    new_all (λ (key : KeyColumns). IsSubset key.columns (below (length columns))) (length columns) [] keys
+    let count = new_count (length columns) (columns_missing columns keys) [] keys in
+    let each : All (λ (key : KeyColumns). IsSubset key.columns (below (length columns))) (new_keys (length columns) (columns_missing columns keys) [] keys) =
+    new_all (λ (key : KeyColumns). IsSubset key.columns (below (length columns))) (length columns) (columns_missing columns keys) [] keys
     (All-nil (λ (key : KeyColumns). IsSubset key.columns (below (length columns)))) within in
     record {
       some = omega (arith, names, some);
@@ -45,13 +47,13 @@ table_is columns keys are some room within =
       one_each = types ∙ sym names;
       types = All-map (λ column. IsTrue (is_column_type column)) (λ c. c.kind) columns are.types;
       missing_within = missing_within columns keys (length (column_names columns)) (omega (arith, names));
-      keys_within = subst (λ (n : ℕ). All (λ (key : KeyColumns). IsSubset key.columns (below n)) (new_keys (length columns) [] keys)) (sym names) each;
+      keys_within = subst (λ (n : ℕ). All (λ (key : KeyColumns). IsSubset key.columns (below n)) (new_keys (length columns) (columns_missing columns keys) [] keys)) (sym names) each;
       keys_within_limit = omega (arith, count, room);
     }
 
 -- what is declared, by how many names there are
 same_declared : (columns : List StatedColumn) (keys : List KeyColumns) (lines : List ℕ)
-    → whole_of (column_names columns) (column_types columns) (columns_missing columns keys) (new_keys (length columns) [] keys) lines
+    → whole_of (column_names columns) (column_types columns) (columns_missing columns keys) (new_keys (length columns) (columns_missing columns keys) [] keys) lines
     ≡ declared_table columns keys lines
 same_declared columns keys lines =
     ap (λ (n : ℕ). with_deps n) (names_count columns)
@@ -60,31 +62,31 @@ same_declared columns keys lines =
     with_deps n = record {
       names = column_names columns;
       columns = column_types columns;
-      deps = stated n (columns_missing columns keys) (new_keys (length columns) [] keys);
+      deps = stated n (columns_missing columns keys) (new_keys (length columns) (columns_missing columns keys) [] keys);
       lines = lines;
       naming = Any;
       nullable = columns_missing columns keys;
     }
 
-pub text_means : (d : Dialect) (f : Facts) (keys : List KeyColumns) → AreColumns f.columns → 0 < length f.columns
-    → length f.keys ≤ MOST_DEPENDENCIES → keys_of d f ≡ Ok keys
+pub text_means : (f : Facts) (keys : List KeyColumns) → AreColumns f.columns → 0 < length f.columns
+    → length f.keys ≤ MOST_DEPENDENCIES → keys_of f ≡ Ok keys
     → (lines : List ℕ) × MeansSchema (table_text f.columns keys) (declared_table f.columns keys lines)
 unfolding table_text
-text_means d f keys are some room read =
-    let many = keys_as_many d f keys read in
-    let is = table_is f.columns keys are some (omega (arith, many, room)) (keys_within d f keys read) in
+text_means f keys are some room read =
+    let many = keys_as_many f keys read in
+    let is = table_is f.columns keys are some (omega (arith, many, room)) (keys_within f keys read) in
     let (lines, means) = table_means (column_names f.columns) (column_types f.columns) (columns_missing f.columns keys)
-    (new_keys (length f.columns) [] keys) is in (
+    (new_keys (length f.columns) (columns_missing f.columns keys) [] keys) is in (
       lines,
       subst (MeansSchema (table_text f.columns keys)) (same_declared f.columns keys lines) means,
     )
 
 -- ---- the keys whose dependencies are printed
-pub whole_stated : (d : Dialect) (f : Facts) (keys : List KeyColumns) → keys_of d f ≡ Ok keys
-    → All (IsStatedKey d f) (whole_keys f.columns keys)
-whole_stated d f keys read =
-    All-filter (is_whole (columns_missing f.columns keys)) (IsStatedKey d f) (new_keys (length f.columns) [] keys)
-    (new_all (IsStatedKey d f) (length f.columns) [] keys (All-nil (IsStatedKey d f)) (keys_stated d f keys read))
+pub whole_stated : (f : Facts) (keys : List KeyColumns) → keys_of f ≡ Ok keys
+    → All (IsStatedKey f) (whole_keys f.columns keys)
+whole_stated f keys read =
+    All-filter (is_dependency (columns_missing f.columns keys)) (IsStatedKey f) (new_keys (length f.columns) (columns_missing f.columns keys) [] keys)
+    (new_all (IsStatedKey f) (length f.columns) (columns_missing f.columns keys) [] keys (All-nil (IsStatedKey f)) (keys_stated f keys read))
 
 -- those of a filter pass it
 filter_passes : (test : KeyColumns → Bool) (keys : List KeyColumns) → All (λ key. test key ≡ true) (filter test keys)
@@ -96,23 +98,32 @@ filter_passes test (key ∷ keys) = by_test (test key) refl (filter_passes test 
     by_test true passes rest = All-cons (λ k. test k ≡ true) key (filter test keys) passes rest
     by_test false fails rest = rest
 
-pub whole_never_missing : (d : Dialect) (f : Facts) (keys : List KeyColumns) → length f.columns ≤ MOST_ATTRIBUTES
-    → keys_of d f ≡ Ok keys
-    → All (λ key. Disjoint key.columns (columns_missing f.columns keys)) (whole_keys f.columns keys)
-whole_never_missing d f keys limit read i default low =
-    is_disjoint-true _ _ (λ k member. beyond k (inside i default low k member)) (filter_passes (is_whole missing) kept i default low)
+pub whole_never_missing : (f : Facts) (keys : List KeyColumns) → length f.columns ≤ MOST_ATTRIBUTES
+    → keys_of f ≡ Ok keys
+    → All (λ key. (key.kind ≡ UniqueMissing) ⊎ Disjoint key.columns (columns_missing f.columns keys))
+    (whole_keys f.columns keys)
+whole_never_missing f keys limit read i default low =
+    by_kind (get_or (whole_keys f.columns keys) i default).kind _
+    (filter_passes (is_dependency missing) kept i default low)
+    (is_disjoint-true _ _ (λ k member. beyond k (inside i default low k member)))
   where
+    by_kind : (kind : KeyKind) (disjoint : Bool) {T : Type 0} → (compares_missing kind || disjoint) ≡ true
+        → (disjoint ≡ true → T) → (kind ≡ UniqueMissing) ⊎ T
+    by_kind UniqueMissing disjoint is pass = inl refl
+    by_kind Primary disjoint is pass = inr (pass is)
+    by_kind Unique disjoint is pass = inr (pass is)
+
     missing : Attributes
     missing = columns_missing f.columns keys
 
     kept : List KeyColumns
-    kept = new_keys (length f.columns) [] keys
+    kept = new_keys (length f.columns) missing [] keys
 
     inside : All (λ (key : KeyColumns). IsSubset key.columns (below (length f.columns))) (whole_keys f.columns keys)
     inside =
-        All-filter (is_whole missing) (λ (key : KeyColumns). IsSubset key.columns (below (length f.columns))) kept
-        (new_all (λ (key : KeyColumns). IsSubset key.columns (below (length f.columns))) (length f.columns) [] keys
-        (All-nil (λ (key : KeyColumns). IsSubset key.columns (below (length f.columns)))) (keys_within d f keys read))
+        All-filter (is_dependency missing) (λ (key : KeyColumns). IsSubset key.columns (below (length f.columns))) kept
+        (new_all (λ (key : KeyColumns). IsSubset key.columns (below (length f.columns))) (length f.columns) missing [] keys
+        (All-nil (λ (key : KeyColumns). IsSubset key.columns (below (length f.columns)))) (keys_within f keys read))
 
     beyond : (k : ℕ) → below (length f.columns) k ≡ true → below MOST_ATTRIBUTES k ≡ true
     beyond k here = grind (arith, nat_tests, here, limit)
@@ -120,30 +131,31 @@ whole_never_missing d f keys limit read i default low =
 -- ---- of the SQL of a text
 -- the facts and keys of a text, and what the text that is printed of them means
 pub import_means : (d : Dialect) (wanted : TableName) (text printed : List ℕ) → imported_text d wanted text ≡ Ok printed
-    → (f : Facts) × (keys : List KeyColumns) × (lines : List ℕ) × (definition_of d wanted text ≡ Ok f) × (keys_of d f ≡ Ok keys)
+    → (f : Facts) × (keys : List KeyColumns) × (lines : List ℕ) × (definition_of d wanted text ≡ Ok f) × (keys_of f ≡ Ok keys)
     × MeansSchema printed (declared_table f.columns keys lines)
 import_means d wanted text printed says = by_facts (definition_of d wanted text) refl says
   where
-    by_keys : (f : Facts) → definition_of d wanted text ≡ Ok f → (known : Result (List KeyColumns) Refusal) → keys_of d f ≡ known
+    by_keys : (f : Facts) → definition_of d wanted text ≡ Ok f → (known : Result (List KeyColumns) Refusal) → keys_of f ≡ known
         → and_then known (λ keys. Ok (table_text f.columns keys)) ≡ Ok printed
-        → (f : Facts) × (keys : List KeyColumns) × (lines : List ℕ) × (definition_of d wanted text ≡ Ok f) × (keys_of d f ≡ Ok keys)
+        → (f : Facts) × (keys : List KeyColumns) × (lines : List ℕ) × (definition_of d wanted text ≡ Ok f) × (keys_of f ≡ Ok keys)
         × MeansSchema printed (declared_table f.columns keys lines)
     by_keys f read (Ok keys) known goes =
         let is = definition_reads d wanted text f read in
         let same : table_text f.columns keys ≡ printed = cc in
-        let (lines, means) = text_means d f keys is.fine.columns is.some is.fine.keys known in
+        let (lines, means) = text_means f keys is.fine.columns is.some is.fine.keys known in
         (f, keys, lines, read, known, subst (λ (t : List ℕ). MeansSchema t (declared_table f.columns keys lines)) same means)
     by_keys f read (Err refusal) known goes = cc
 
-    by_facts : (read : Result Facts Refusal) → definition_of d wanted text ≡ read → and_then read (text_of_facts d) ≡ Ok printed
-        → (f : Facts) × (keys : List KeyColumns) × (lines : List ℕ) × (definition_of d wanted text ≡ Ok f) × (keys_of d f ≡ Ok keys)
+    by_facts : (read : Result Facts Refusal) → definition_of d wanted text ≡ read → and_then read text_of_facts ≡ Ok printed
+        → (f : Facts) × (keys : List KeyColumns) × (lines : List ℕ) × (definition_of d wanted text ≡ Ok f) × (keys_of f ≡ Ok keys)
         × MeansSchema printed (declared_table f.columns keys lines)
-    by_facts (Ok f) read goes = by_keys f read (keys_of d f) refl goes
+    by_facts (Ok f) read goes = by_keys f read (keys_of f) refl goes
     by_facts (Err refusal) read goes = cc
 
 pub read_never_missing : (d : Dialect) (wanted : TableName) (text : List ℕ) (f : Facts) (keys : List KeyColumns)
-    → definition_of d wanted text ≡ Ok f → keys_of d f ≡ Ok keys
-    → All (λ key. Disjoint key.columns (columns_missing f.columns keys)) (whole_keys f.columns keys)
+    → definition_of d wanted text ≡ Ok f → keys_of f ≡ Ok keys
+    → All (λ key. (key.kind ≡ UniqueMissing) ⊎ Disjoint key.columns (columns_missing f.columns keys))
+    (whole_keys f.columns keys)
 read_never_missing d wanted text f keys read known =
     let is = definition_reads d wanted text f read in
-    whole_never_missing d f keys is.fine.columns.within_limit known
+    whole_never_missing f keys is.fine.columns.within_limit known

@@ -6,3 +6,4 @@ pub mod MeaningLemmas
 pub mod StatedLemmas
 pub mod LawLemmas
 pub mod ReadLemmas
+pub mod AboutLemmas

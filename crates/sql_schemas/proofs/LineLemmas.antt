@@ -24,8 +24,8 @@ use Rattle.schema_grammar.proofs.PrintedDependencies.{each_dependency, printed_l
 use Rattle.schema_grammar.proofs.PrintedTexts.{Bytes, EachBytes, bytes_both}
 use Rattle.schema_grammar.proofs.SpelledSides.{printed_names}
 use Rattle.schema_grammar.proofs.SpelledWords.{members_spelled, nothing_left, side_bytes}
-use Rattle.sql_schemas.specs.Keys.{KeyColumns, key_dependency}
-use Rattle.sql_schemas.specs.Texts.{comment_front, comment_text, is_whole, key_line}
+use Rattle.sql_schemas.specs.Keys.{KeyColumns, is_dependency, is_primary, key_dependency}
+use Rattle.sql_schemas.specs.Texts.{comment_front, comment_text, key_line}
 
 -- ---- comments
 comment_blank : (text : List ℕ) → HasTokens (lex_line format.Full (35 ∷ text)) []
@@ -47,17 +47,17 @@ set_bytes names x are =
 comment_bytes : (names : List (List ℕ)) (key : KeyColumns) → AreReadBack format.Full Any names
     → Bytes (comment_text (map (spelling Any) names) key)
 comment_bytes names key are =
-    let front = comment_front key.primary in
+    let front = comment_front (is_primary key.kind) in
     let set = set_text (map (spelling Any) names) key.columns in
     bytes_both (front ++ set) (codes ": missing values are not compared")
-    (bytes_both front set (front_bytes key.primary) (set_bytes names key.columns are)) refl
+    (bytes_both front set (front_bytes (is_primary key.kind)) (set_bytes names key.columns are)) refl
 
--- ---- the line of a key, by whether a column of it may be missing
+-- ---- the line of a key, by whether it states a dependency
 -- how many names are printed
 spelled_count : (names : List (List ℕ)) → length (map (spelling Any) names) ≡ length names
 spelled_count names = length-map names (spelling Any)
 
-whole_line : (names : List (List ℕ)) (missing : Attributes) (key : KeyColumns) → is_whole missing key ≡ true
+whole_line : (names : List (List ℕ)) (missing : Attributes) (key : KeyColumns) → is_dependency missing key ≡ true
     → key_line (map (spelling Any) names) missing key
     ≡ dependency_text (map (spelling Any) names) (key_dependency (length names) key)
 unfolding key_line
@@ -65,7 +65,7 @@ whole_line names missing key whole =
     (rw whole refl)
     ∙ ap (λ (n : ℕ). dependency_text (map (spelling Any) names) (key_dependency n key)) (spelled_count names)
 
-left_line : (names : List (List ℕ)) (missing : Attributes) (key : KeyColumns) → is_whole missing key ≡ false
+left_line : (names : List (List ℕ)) (missing : Attributes) (key : KeyColumns) → is_dependency missing key ≡ false
     → key_line (map (spelling Any) names) missing key ≡ comment_text (map (spelling Any) names) key
 unfolding key_line
 left_line names missing key left = rw left refl
@@ -73,9 +73,9 @@ left_line names missing key left = rw left refl
 pub each_key : (names : List (List ℕ)) (missing : Attributes) (keys : List KeyColumns) → AreReadBack format.Full Any names
     → EachBytes (map (key_line (map (spelling Any) names) missing) keys)
 each_key names missing [] are = tt
-each_key names missing (key ∷ keys) are = (by_cases (is_whole missing key) refl, each_key names missing keys are)
+each_key names missing (key ∷ keys) are = (by_cases (is_dependency missing key) refl, each_key names missing keys are)
   where
-    by_cases : (b : Bool) → is_whole missing key ≡ b → Bytes (key_line (map (spelling Any) names) missing key)
+    by_cases : (b : Bool) → is_dependency missing key ≡ b → Bytes (key_line (map (spelling Any) names) missing key)
     by_cases true whole =
         subst Bytes (sym (whole_line names missing key whole))
         (each_dependency format.Full Any names (key_dependency (length names) key ∷ []) are).0
@@ -86,10 +86,10 @@ each_key names missing (key ∷ keys) are = (by_cases (is_whole missing key) ref
 abbrev pub key_numbers : Attributes → ℕ → List KeyColumns → List ℕ
 key_numbers missing number [] = []
 key_numbers missing number (key ∷ keys) =
-    cond (is_whole missing key) (number ∷ key_numbers missing (number + 1) keys) (key_numbers missing (number + 1) keys)
+    cond (is_dependency missing key) (number ∷ key_numbers missing (number + 1) keys) (key_numbers missing (number + 1) keys)
 
 abbrev pub stated : ℕ → Attributes → List KeyColumns → List Dependency
-stated n missing keys = map (key_dependency n) (filter (is_whole missing) keys)
+stated n missing keys = map (key_dependency n) (filter (is_dependency missing) keys)
 
 -- the columns of a key lie within n
 abbrev pub IsKeyWithin : ℕ → KeyColumns → Type 0
@@ -110,9 +110,9 @@ key_means : (number : ℕ) (d : Declarations) (missing : Attributes) (key : KeyC
     (with_dependencies (add_dependency d (key_dependency (length d.names) key) number) (stated (length d.names) missing keys) (key_numbers missing (number + 1) keys))
     → MeansLines format.Full (number + 1) d (map (key_line (map (spelling Any) d.names) missing) keys ++ [] ∷ [])
     (with_dependencies d (stated (length d.names) missing keys) (key_numbers missing (number + 1) keys))
-    → (b : Bool) → is_whole missing key ≡ b
+    → (b : Bool) → is_dependency missing key ≡ b
     → MeansLines format.Full number d (key_line (map (spelling Any) d.names) missing key ∷ (map (key_line (map (spelling Any) d.names) missing) keys ++ [] ∷ []))
-    (with_dependencies d (map (key_dependency (length d.names)) (cond b (key ∷ filter (is_whole missing) keys) (filter (is_whole missing) keys)))
+    (with_dependencies d (map (key_dependency (length d.names)) (cond b (key ∷ filter (is_dependency missing) keys) (filter (is_dependency missing) keys)))
     (cond b (number ∷ key_numbers missing (number + 1) keys) (key_numbers missing (number + 1) keys)))
 key_means number d missing key keys are within room more later true whole =
     let n = length d.names in
@@ -134,8 +134,8 @@ key_means number d missing key keys are within room more later false left =
     let rest = set_text printed key.columns ++ codes ": missing values are not compared" in
     let tokens : HasTokens (lex_line format.Full (comment_text printed key)) [] =
     subst (λ (l : List ℕ). HasTokens (lex_line format.Full l) [])
-    (sym (append_assoc (comment_front key.primary) (set_text printed key.columns) (codes ": missing values are not compared")))
-    (comment_line key.primary rest) in
+    (sym (append_assoc (comment_front (is_primary key.kind)) (set_text printed key.columns) (codes ": missing values are not compared")))
+    (comment_line (is_primary key.kind) rest) in
     let here : MeansTextLine format.Full number d (comment_text printed key) d =
     inl (inl (record { tokens = tokens; same = refl })) in (
       d,
@@ -162,4 +162,4 @@ keys_mean number d missing (key ∷ keys) are within room =
     let whole = key_means number d missing key keys are (All-head (IsKeyWithin n) key keys within) (omega arith)
     (keys_mean (number + 1) (add_dependency d dep number) missing keys are later (omega arith))
     (keys_mean (number + 1) d missing keys are later (omega arith)) in
-    whole (is_whole missing key) refl
+    whole (is_dependency missing key) refl

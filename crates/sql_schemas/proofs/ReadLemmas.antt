@@ -17,14 +17,16 @@ use Rattle.sql_lexemes.specs.declared.piece.Flaw.{Flaw}
 use Rattle.sql_lexemes.specs.Lexemes.{Lexed}
 use Rattle.sql_lexemes.specs.Pieces.{is_postgres}
 use Rattle.sql_lexemes.specs.Statements.{Stated, begins_with, is_mark, is_word, statements_of}
+use Rattle.sql_definitions.specs.declared.definition.KeyKind.{KeyKind}
+use Rattle.sql_definitions.specs.declared.definition.KeyKind.TheVariants as key
 use Rattle.sql_definitions.specs.declared.refusal.Reason.TheVariants as reason
 use Rattle.sql_definitions.specs.declared.refusal.Refusal.{Refusal}
 use Rattle.sql_definitions.specs.Definitions.{definition_of, ended, flawed, is_there, read_statement, read_statements, reason_of}
-use Rattle.sql_definitions.specs.Elements.{after_constraint, column, column_keys, column_of, constraint, constraint_words, element, is_one_of, is_taken, key_at, key_by_list, key_constraint, named_column, past_nulls, primary_key, type_length}
-use Rattle.sql_definitions.specs.Facts.{AreColumns, Facts, Outcome, StatedColumn, StatedPart, as_found, no_facts, refused, state_key, then_read, with_binding, with_column, with_key}
-use Rattle.sql_definitions.specs.Lists.{closes_list, read_list, list_parts}
-use Rattle.sql_definitions.specs.Names.{is_name, name_text}
-use Rattle.sql_definitions.specs.Tables.{add_key, after_alter, after_create, after_element, after_word, alter_by, before_on, binds_keys, closed_table, create_table, element_length, elements, index_key, index_list, index_over, index_statement, is_meant, is_name_wanted, is_where, list_length, name_length, open_table, other_statement, past_using, past_word, read_lexemes, statement_by, unique_index}
+use Rattle.sql_definitions.specs.Elements.{after_constraint, begins_constraint, column, column_keys, column_of, constraint, element, is_like, is_taken, key_at, key_by_list, key_constraint, key_of_parts, named_column, past_nulls, primary_key, type_length, unique_kind}
+use Rattle.sql_definitions.specs.Facts.{AreColumns, Facts, Outcome, StatedColumn, StatedPart, as_found, no_facts, refused, state_key, then_read, with_column, with_key}
+use Rattle.sql_definitions.specs.Lists.{are_columns, is_one_of, list_parts, lists_columns, read_list}
+use Rattle.sql_definitions.specs.Names.{is_name, name_length, name_text}
+use Rattle.sql_definitions.specs.Tables.{add_key, add_to_table, after_alter, after_create, after_element, alter_table, altering_words, before_on, closed_table, create_table, element_length, elements, index_kind, index_list, index_over, index_statement, is_meant, is_where, open_table, other_statement, past_using, past_word, read_lexemes, statement_by, unique_index}
 use Rattle.sql_definitions.specs.Types.{column_type, decimal_type, has_quotes, integer_words, is_outside, is_up_to, is_word_or_within, number_in, other_type, postgres_type, scaled, serial_words, type_by_text, type_text, written}
 use Rattle.sql_definitions.specs.Wanted.{TableName}
 use Rattle.sql_definitions.proofs.ColumnLemmas.{columns_with}
@@ -55,34 +57,35 @@ then_fine (Err refusal) next holds each = tt
 then_fine (Ok f) next holds each = each f holds
 
 -- ---- keys
-state_holds : (primary : Bool) (place : ℕ) (parts : List StatedPart) (f : Facts) → IsFine f → Holds (state_key primary place parts f)
-state_holds primary place parts f fine =
-    holds_known (nat_lt (length f.keys) MOST_DEPENDENCIES) (Ok (with_key f primary parts)) (refused reason.TooManyDependencies place)
+state_holds : (kind : KeyKind) (place : ℕ) (parts : List StatedPart) (f : Facts) → IsFine f → Holds (state_key kind place parts f)
+state_holds kind place parts f fine =
+    holds_known (nat_lt (length f.keys) MOST_DEPENDENCIES) (Ok (with_key f kind parts)) (refused reason.TooManyDependencies place)
     (λ room. record { columns = fine.columns; keys = one_more room }) (λ full. tt)
   where
-    one_more : nat_lt (length f.keys) MOST_DEPENDENCIES ≡ true → length (with_key f primary parts).keys ≤ MOST_DEPENDENCIES
+    one_more : nat_lt (length f.keys) MOST_DEPENDENCIES ≡ true → length (with_key f kind parts).keys ≤ MOST_DEPENDENCIES
     one_more room =
-        let size : length (with_key f primary parts).keys ≡ length f.keys + 1 = length-append f.keys _ in
+        let size : length (with_key f kind parts).keys ≡ length f.keys + 1 = length-append f.keys _ in
         grind (arith, nat_tests, room, size)
 
-list_holds : (d : Dialect) (end : ℕ) (primary : Bool) (place : ℕ) (ls : List Lexed) (f : Facts) → IsFine f
-    → Holds (key_by_list d end primary place ls f)
-list_holds d end primary place ls f fine =
-    then_any (read_list d end ls) (λ parts. state_key primary place parts f) (λ parts. state_holds primary place parts f fine)
+list_holds : (d : Dialect) (end : ℕ) (kind : KeyKind) (place : ℕ) (ls : List Lexed) (f : Facts) → IsFine f
+    → Holds (key_by_list d end kind place ls f)
+list_holds d end kind place ls f fine =
+    then_any (read_list d end ls) (key_of_parts kind place (lists_columns ls) f)
+    (λ parts. holds_if (lists_columns ls) _ _ (state_holds kind place parts f fine) fine)
 
 primary_holds : (d : Dialect) (end place : ℕ) (ls : List Lexed) (f : Facts) → IsFine f → Holds (primary_key d end place ls f)
 primary_holds d end place [] f fine = tt
-primary_holds d end place (l ∷ ls) f fine = holds_if (is_word (codes "key") l) _ _ (list_holds d end true place ls f fine) tt
+primary_holds d end place (l ∷ ls) f fine = holds_if (is_word (codes "key") l) _ _ (list_holds d end key.Primary place ls f fine) tt
 
 key_holds : (d : Dialect) (end : ℕ) (ls : List Lexed) (f : Facts) → IsFine f → Holds (key_constraint d end ls f)
 key_holds d end [] f fine = fine
 key_holds d end (l ∷ ls) f fine =
     holds_if (is_word (codes "primary") l) _ _ (primary_holds d end l.place ls f fine)
-    (holds_if (is_word (codes "unique") l) _ _ (list_holds d end false l.place (past_nulls ls) f fine) fine)
+    (holds_if (is_word (codes "unique") l) _ _ (list_holds d end (unique_kind ls) l.place (past_nulls ls) f fine) fine)
 
 constraint_holds : (d : Dialect) (end : ℕ) (ls : List Lexed) (f : Facts) → IsFine f → Holds (constraint d end ls f)
 constraint_holds d end [] f fine = fine
-constraint_holds d end (l ∷ ls) f fine = holds_if (is_word (codes "like") l) _ _ tt (key_holds d end (l ∷ ls) f fine)
+constraint_holds d end (l ∷ ls) f fine = holds_if (is_like d l) _ _ tt (key_holds d end (l ∷ ls) f fine)
 
 after_holds : (end : ℕ) (ls : List Lexed) (rest : List Lexed → Outcome) → ((ls : List Lexed) → Holds (rest ls))
     → Holds (after_constraint end ls rest)
@@ -93,8 +96,8 @@ after_holds end (l ∷ ls) rest each = holds_if (is_name l) _ _ (each ls) tt
 key_at_holds : (part : StatedPart) (l : Lexed) (after : List Lexed) (f : Facts) → IsFine f → Holds (key_at part l after f)
 key_at_holds part l after f fine =
     holds_if (not (is_outside l)) _ _ fine
-    (holds_if (is_word (codes "unique") l) _ _ (state_holds false l.place (part ∷ []) f fine)
-    (holds_if (is_word (codes "primary") l && begins_with (codes "key") after) _ _ (state_holds true l.place (part ∷ []) f fine) fine))
+    (holds_if (is_word (codes "unique") l) _ _ (state_holds (unique_kind after) l.place (part ∷ []) f fine)
+    (holds_if (is_word (codes "primary") l && begins_with (codes "key") after) _ _ (state_holds key.Primary l.place (part ∷ []) f fine) fine))
 
 column_keys_hold : (part : StatedPart) (ls : List Lexed) (f : Facts) → IsFine f → Holds (column_keys part ls f)
 unfolding column_keys
@@ -168,7 +171,8 @@ text_column d text ls =
 
 type_column : (d : Dialect) (ls : List Lexed) → IsColumn (column_type d ls)
 type_column d ls =
-    type_if (list_all is_word_or_within ls) _ _ (text_column d (type_text true ls) ls) (other_column ls)
+    type_if (length ls == 0) _ _ (type_if (is_postgres d) type.Text (type.Other (codes "blob")) refl refl)
+    (type_if (list_all is_word_or_within ls) _ _ (text_column d (type_text true ls) ls) (other_column ls))
 
 -- a new name is none of those before it
 none_taken : (columns : List StatedColumn) (name : List ℕ) → is_taken columns name ≡ false
@@ -214,17 +218,16 @@ unfolding element
 element_holds d end [] f fine = tt
 element_holds d end (l ∷ ls) f fine =
     holds_if (is_word (codes "constraint") l) _ _ (after_holds end ls (λ rest. constraint d end rest f) (λ rest. constraint_holds d end rest f fine))
-    (holds_if (is_one_of constraint_words l) _ _ (constraint_holds d end (l ∷ ls) f fine) (column_holds d l ls f fine))
+    (holds_if (begins_constraint l ls || is_like d l) _ _ (constraint_holds d end (l ∷ ls) f fine) (column_holds d l ls f fine))
 
 -- ---- tables
-closed_holds : (place : ℕ) (tail : List Lexed) (f : Facts) → IsFine f → Holds (closed_table place tail f)
-closed_holds place tail f fine =
-    holds_if (length f.columns == 0) _ (Ok (with_binding f (binds_keys tail))) tt (record { columns = fine.columns; keys = fine.keys })
+closed_holds : (place : ℕ) (f : Facts) → IsFine f → Holds (closed_table place f)
+closed_holds place f fine = holds_if (length f.columns == 0) _ (Ok f) tt fine
 
 after_element_holds : (end : ℕ) (ls : List Lexed) (more : Facts → Outcome) → ((f : Facts) → IsFine f → Holds (more f)) → (f : Facts) → IsFine f
     → Holds (after_element end ls more f)
 after_element_holds end [] more each f fine = tt
-after_element_holds end (l ∷ ls) more each f fine = holds_if (closes_list 0 l) _ _ (closed_holds l.place ls f fine) (each f fine)
+after_element_holds end (l ∷ ls) more each f fine = holds_if (is_mark 41 l) _ _ (closed_holds l.place f fine) (each f fine)
 
 elements_hold : (d : Dialect) (end skip : ℕ) (ls : List Lexed) (f : Facts) → IsFine f → Holds (elements d end skip ls f)
 unfolding elements
@@ -253,19 +256,24 @@ add_holds d end (l ∷ ls) f fine =
     holds_if (is_word (codes "constraint") l) _ _ (after_holds end ls (λ rest. key_constraint d end rest f) (λ rest. key_holds d end rest f fine))
     (key_holds d end (l ∷ ls) f fine)
 
-alter_by_holds : (d : Dialect) (end : ℕ) (rest : Option (List Lexed)) (f : Facts) → IsFine f → Holds (alter_by d end rest f)
-alter_by_holds d end None f fine = fine
-alter_by_holds d end (Some rest) f fine = holds_if (list_any (is_word (codes "using")) rest) _ _ fine (add_holds d end rest f fine)
+add_to_holds : (d : Dialect) (end place : ℕ) (ls : List Lexed) (f : Facts) → IsFine f → Holds (add_to_table d end place ls f)
+add_to_holds d end place [] f fine = fine
+add_to_holds d end place (l ∷ ls) f fine =
+    holds_if (not (is_word (codes "constraint") l || begins_constraint l ls)) _ _ tt
+    (holds_if (list_any (is_word (codes "using")) (l ∷ ls)) _ _ fine (add_holds d end (l ∷ ls) f fine))
 
-index_key_holds : (place : ℕ) (read : Result (List StatedPart) Refusal) (f : Facts) → IsFine f → Holds (index_key place read f)
-index_key_holds place (Ok parts) f fine = state_holds false place parts f fine
-index_key_holds place (Err refusal) f fine = holds_if (is_name_wanted refusal.reason) (Ok f) (Err refusal) fine tt
+alter_holds : (d : Dialect) (end : ℕ) (ls : List Lexed) (f : Facts) → IsFine f → Holds (alter_table d end ls f)
+alter_holds d end [] f fine = fine
+alter_holds d end (l ∷ ls) f fine =
+    holds_if (is_word (codes "add") l) _ _ (add_to_holds d end l.place ls f fine)
+    (holds_if (is_one_of altering_words l) _ _ tt fine)
 
 index_list_holds : (d : Dialect) (end place : ℕ) (ls : List Lexed) (f : Facts) → IsFine f → Holds (index_list d end place ls f)
 index_list_holds d end place [] f fine = fine
 index_list_holds d end place (l ∷ ls) f fine =
-    holds_if (not (is_mark 40 l) || list_any (is_mark 40) (take (list_length ls) ls)) _ _ fine
-    (index_key_holds place (list_parts d end 0 true [] ls) f fine)
+    holds_if (is_mark 40 l && are_columns 0 true ls) _ _
+    (then_any (list_parts d end 0 true [] ls) (λ parts. state_key (index_kind ls) place parts f)
+    (λ parts. state_holds (index_kind ls) place parts f fine)) fine
 
 index_over_holds : (d : Dialect) (wanted : TableName) (end place : ℕ) (table : List Lexed) (f : Facts) → IsFine f
     → Holds (index_over d wanted end place table f)
@@ -292,7 +300,7 @@ other_holds : (d : Dialect) (wanted : TableName) (end : ℕ) (ls : List Lexed) (
 other_holds d wanted end ls None f fine = index_statement_holds d wanted end ls f fine
 other_holds d wanted end ls (Some rest) f fine =
     holds_if (is_meant d wanted rest) _ _
-    (alter_by_holds d end (after_word (codes "add") (drop (name_length rest) rest)) f fine) fine
+    (alter_holds d end (drop (name_length rest) rest) f fine) fine
 
 statement_holds : (d : Dialect) (wanted : TableName) (end : ℕ) (ls : List Lexed) (rest : Option (List Lexed)) (f : Facts) → IsFine f
     → Holds (statement_by d wanted end ls rest f)

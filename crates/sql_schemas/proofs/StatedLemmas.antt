@@ -6,10 +6,9 @@ use Rattle.std.proofs.lemmas.List.Elements.{All-append, All-head, All-nil, All-t
 use Rattle.std.proofs.lemmas.Option.{slice_get-get_or}
 use Rattle.attr_sets.specs.Attributes.{Attributes, IsSubset, below, none, only, union}
 use Rattle.dep_model.specs.Names.{same_name}
-use Rattle.sql_lexemes.specs.declared.dialect.Dialect.{Dialect}
 use Rattle.sql_definitions.specs.declared.refusal.Refusal.{Refusal}
 use Rattle.sql_definitions.specs.Facts.{Facts, StatedColumn, StatedKey, StatedPart}
-use Rattle.sql_schemas.specs.Keys.{KeyColumns, and_then, binds_key, column_named, column_of_part, columns_of_parts, is_new, key_of, keys_after, keys_of, new_keys, with_part}
+use Rattle.sql_schemas.specs.Keys.{KeyColumns, and_then, column_named, column_of_part, columns_of_parts, is_new, key_of, keys_after, keys_of, new_keys, with_part}
 use Rattle.sql_schemas.specs.Meaning.{IsStatedKey}
 
 one : {X : Type 0} (P : X → Type 0) (x : X) → P x → All P (x ∷ [])
@@ -17,58 +16,58 @@ one P x holds zero d below = holds
 one P x holds (suc k) d below = absurd (omega (arith, below))
 
 -- ---- the keys, one after the other: what each stated key comes to holds of all
-Made : (d : Dialect) (f : Facts) (P : KeyColumns → Type 0) → StatedKey → Type 0
-Made d f P stated = (key : KeyColumns) → key_of d f stated ≡ Ok key → P key
+Made : (f : Facts) (P : KeyColumns → Type 0) → StatedKey → Type 0
+Made f P stated = (key : KeyColumns) → key_of f.columns stated ≡ Ok key → P key
 
-keys_all : (d : Dialect) (f : Facts) (P : KeyColumns → Type 0) (before : List KeyColumns) (stated : List StatedKey) (keys : List KeyColumns)
-    → All P before → All (Made d f P) stated → keys_after d f before stated ≡ Ok keys → All P keys
+keys_all : (f : Facts) (P : KeyColumns → Type 0) (before : List KeyColumns) (stated : List StatedKey) (keys : List KeyColumns)
+    → All P before → All (Made f P) stated → keys_after f.columns before stated ≡ Ok keys → All P keys
 unfolding keys_after Made
-keys_all d f P before [] keys held each read = let same : before ≡ keys = cc in subst (All P) same held
-keys_all d f P before (key ∷ stated) keys held each read =
-    by_case (key_of d f key) refl read
-    (λ k made. keys_all d f P (before ++ k ∷ []) stated keys
-    (All-append P before (k ∷ []) held (one P k (All-head (Made d f P) key stated each k made)))
-    (All-tail (Made d f P) key stated each))
+keys_all f P before [] keys held each read = let same : before ≡ keys = cc in subst (All P) same held
+keys_all f P before (key ∷ stated) keys held each read =
+    by_case (key_of f.columns key) refl read
+    (λ k made. keys_all f P (before ++ k ∷ []) stated keys
+    (All-append P before (k ∷ []) held (one P k (All-head (Made f P) key stated each k made)))
+    (All-tail (Made f P) key stated each))
   where
-    by_case : (r : Result KeyColumns Refusal) → key_of d f key ≡ r
-        → and_then r (λ k. keys_after d f (before ++ k ∷ []) stated) ≡ Ok keys
-        → ((k : KeyColumns) → key_of d f key ≡ Ok k → keys_after d f (before ++ k ∷ []) stated ≡ Ok keys → All P keys) → All P keys
+    by_case : (r : Result KeyColumns Refusal) → key_of f.columns key ≡ r
+        → and_then r (λ k. keys_after f.columns (before ++ k ∷ []) stated) ≡ Ok keys
+        → ((k : KeyColumns) → key_of f.columns key ≡ Ok k → keys_after f.columns (before ++ k ∷ []) stated ≡ Ok keys → All P keys) → All P keys
     by_case (Ok k) made goes later = later k made goes
     by_case (Err refusal) made goes later = cc
 
 -- each key is one that is stated
-members : (d : Dialect) (f : Facts) → All (Made d f (IsStatedKey d f)) f.keys
+members : (f : Facts) → All (Made f (IsStatedKey f)) f.keys
 unfolding Made
-members d f i default low key made = record {
+members f i default low key made = record {
   at = i;
   statement = get_or f.keys i default;
   stated = slice_get-get_or f.keys i default low;
   columns = made;
 }
 
-pub keys_stated : (d : Dialect) (f : Facts) (keys : List KeyColumns) → keys_of d f ≡ Ok keys → All (IsStatedKey d f) keys
-keys_stated d f keys read =
-    keys_all d f (IsStatedKey d f) [] f.keys keys (All-nil (IsStatedKey d f)) (members d f) read
+pub keys_stated : (f : Facts) (keys : List KeyColumns) → keys_of f ≡ Ok keys → All (IsStatedKey f) keys
+keys_stated f keys read =
+    keys_all f (IsStatedKey f) [] f.keys keys (All-nil (IsStatedKey f)) (members f) read
 
 -- as many keys as are stated
-keys_count : (d : Dialect) (f : Facts) (before : List KeyColumns) (stated : List StatedKey) (keys : List KeyColumns)
-    → keys_after d f before stated ≡ Ok keys → length keys ≡ length before + length stated
+keys_count : (f : Facts) (before : List KeyColumns) (stated : List StatedKey) (keys : List KeyColumns)
+    → keys_after f.columns before stated ≡ Ok keys → length keys ≡ length before + length stated
 unfolding keys_after
-keys_count d f before [] keys read = let same : before ≡ keys = cc in subst (λ (ks : List KeyColumns). length ks ≡ length before + 0) same (omega arith)
-keys_count d f before (key ∷ stated) keys read =
-    by_case (key_of d f key) refl read (λ k. keys_count d f (before ++ k ∷ []) stated keys)
+keys_count f before [] keys read = let same : before ≡ keys = cc in subst (λ (ks : List KeyColumns). length ks ≡ length before + 0) same (omega arith)
+keys_count f before (key ∷ stated) keys read =
+    by_case (key_of f.columns key) refl read (λ k. keys_count f (before ++ k ∷ []) stated keys)
   where
-    by_case : (r : Result KeyColumns Refusal) → key_of d f key ≡ r
-        → and_then r (λ k. keys_after d f (before ++ k ∷ []) stated) ≡ Ok keys
-        → ((k : KeyColumns) → keys_after d f (before ++ k ∷ []) stated ≡ Ok keys → length keys ≡ length (before ++ k ∷ []) + length stated)
+    by_case : (r : Result KeyColumns Refusal) → key_of f.columns key ≡ r
+        → and_then r (λ k. keys_after f.columns (before ++ k ∷ []) stated) ≡ Ok keys
+        → ((k : KeyColumns) → keys_after f.columns (before ++ k ∷ []) stated ≡ Ok keys → length keys ≡ length (before ++ k ∷ []) + length stated)
         → length keys ≡ length before + length (key ∷ stated)
     by_case (Ok k) made goes later =
         let size : length (before ++ k ∷ []) ≡ length before + 1 = length-append before (k ∷ []) in
         let count = later k goes in omega (arith, size, count)
     by_case (Err refusal) made goes later = cc
 
-pub keys_as_many : (d : Dialect) (f : Facts) (keys : List KeyColumns) → keys_of d f ≡ Ok keys → length keys ≡ length f.keys
-keys_as_many d f keys read = let count = keys_count d f [] f.keys keys read in omega (arith, count)
+pub keys_as_many : (f : Facts) (keys : List KeyColumns) → keys_of f ≡ Ok keys → length keys ≡ length f.keys
+keys_as_many f keys read = let count = keys_count f [] f.keys keys read in omega (arith, count)
 
 -- ---- their columns
 named_within : (columns : List StatedColumn) (name : List ℕ) (k : ℕ) → column_named columns name ≡ Some k → k < length columns
@@ -109,15 +108,15 @@ parts_within columns x (part ∷ parts) y within read =
 Within : Facts → KeyColumns → Type 0
 Within f key = IsSubset key.columns (below (length f.columns))
 
-key_within : (d : Dialect) (f : Facts) (stated : StatedKey) (key : KeyColumns) → key_of d f stated ≡ Ok key → Within f key
+key_within : (f : Facts) (stated : StatedKey) (key : KeyColumns) → key_of f.columns stated ≡ Ok key → Within f key
 unfolding Within
-key_within d f stated key made = by_case (columns_of_parts f.columns none stated.parts) refl made
+key_within f stated key made = by_case (columns_of_parts f.columns none stated.parts) refl made
   where
     by_case : (r : Result Attributes Refusal) → columns_of_parts f.columns none stated.parts ≡ r
-        → and_then r (λ x. Ok (record { primary = stated.primary; binds = binds_key d f stated; columns = x })) ≡ Ok key
+        → and_then r (λ x. Ok (record { kind = stated.kind; columns = x })) ≡ Ok key
         → IsSubset key.columns (below (length f.columns))
     by_case (Ok x) read goes =
-        let same : record { primary = stated.primary; binds = binds_key d f stated; columns = x } ≡ key = cc in
+        let same : record { kind = stated.kind; columns = x } ≡ key = cc in
         subst (λ (k : KeyColumns). IsSubset k.columns (below (length f.columns))) same
         (parts_within f.columns none stated.parts x (λ k wrong. absurd (never wrong)) read)
       where
@@ -125,29 +124,29 @@ key_within d f stated key made = by_case (columns_of_parts f.columns none stated
         never wrong = cc
     by_case (Err refusal) read goes = cc
 
-pub keys_within : (d : Dialect) (f : Facts) (keys : List KeyColumns) → keys_of d f ≡ Ok keys
+pub keys_within : (f : Facts) (keys : List KeyColumns) → keys_of f ≡ Ok keys
     → All (λ key. IsSubset key.columns (below (length f.columns))) keys
 unfolding Within Made
-keys_within d f keys read =
-    keys_all d f (Within f) [] f.keys keys (All-nil (Within f)) (λ i default low key made. key_within d f (get_or f.keys i default) key made) read
+keys_within f keys read =
+    keys_all f (Within f) [] f.keys keys (All-nil (Within f)) (λ i default low key made. key_within f (get_or f.keys i default) key made) read
 
 -- ---- those that say something
-pub new_all : (P : KeyColumns → Type 0) (n : ℕ) (before keys : List KeyColumns) → All P before → All P keys → All P (new_keys n before keys)
+pub new_all : (P : KeyColumns → Type 0) (n : ℕ) (missing : Attributes) (before keys : List KeyColumns) → All P before → All P keys → All P (new_keys n missing before keys)
 unfolding new_keys
-new_all P n before [] held each = held
-new_all P n before (key ∷ keys) held each =
-    new_all P n (cond (is_new n before key) (before ++ key ∷ []) before) keys (by_test (is_new n before key)) (All-tail P key keys each)
+new_all P n missing before [] held each = held
+new_all P n missing before (key ∷ keys) held each =
+    new_all P n missing (cond (is_new n missing before key) (before ++ key ∷ []) before) keys (by_test (is_new n missing before key)) (All-tail P key keys each)
   where
     by_test : (b : Bool) → All P (cond b (before ++ key ∷ []) before)
     by_test true = All-append P before (key ∷ []) held (one P key (All-head P key keys each))
     by_test false = held
 
-pub new_count : (n : ℕ) (before keys : List KeyColumns) → length (new_keys n before keys) ≤ length before + length keys
+pub new_count : (n : ℕ) (missing : Attributes) (before keys : List KeyColumns) → length (new_keys n missing before keys) ≤ length before + length keys
 unfolding new_keys
-new_count n before [] = omega arith
-new_count n before (key ∷ keys) =
-    let later = new_count n (cond (is_new n before key) (before ++ key ∷ []) before) keys in
-    let here = by_test (is_new n before key) in omega (arith, later, here)
+new_count n missing before [] = omega arith
+new_count n missing before (key ∷ keys) =
+    let later = new_count n missing (cond (is_new n missing before key) (before ++ key ∷ []) before) keys in
+    let here = by_test (is_new n missing before key) in omega (arith, later, here)
   where
     by_test : (b : Bool) → length (cond b (before ++ key ∷ []) before) ≤ length before + 1
     by_test true = let size : length (before ++ key ∷ []) ≡ length before + 1 = length-append before (key ∷ []) in omega (arith, size)

@@ -106,18 +106,20 @@ parts_text s kept =
     ∙ sym (flat_map-append (λ (line : List ℕ). line ++ 10 ∷ []) front last)
 
 whole_text : (columns : List StatedColumn) (keys : List KeyColumns)
-    → text_by Any (column_types columns) (column_names columns) (columns_missing columns keys) (new_keys (length columns) [] keys)
+    → text_by Any (column_types columns) (column_names columns) (columns_missing columns keys) (new_keys (length columns) (columns_missing columns keys) [] keys)
     ≡ table_text columns keys
 unfolding text_by table_text
 whole_text columns keys = refl
 
 pub text_of_table : (columns : List StatedColumn) (keys : List KeyColumns) (s : Schema) (deps : List Dep) (kept : List KeyColumns) (n : ℕ)
-    (text : List ℕ) → IsSchemaOf columns keys s → deps ≡ deps_of s → n ≡ width_of s → kept ≡ new_keys n [] keys
+    (text : List ℕ) → IsSchemaOf columns keys s → deps ≡ deps_of s → n ≡ width_of s → kept ≡ new_keys n (nullable_of s) [] keys
     → text ≡ schema_text s (dependencies_of deps) ++ lines_text (map (key_line (printed_names_of s) (nullable_of s)) kept)
     → text ≡ table_text columns keys
 text_of_table columns keys s deps kept n text is same width new says =
     let count : n ≡ length columns = width ∙ ap length is.names ∙ names_count columns in
-    let all : kept ≡ new_keys (length columns) [] keys = new ∙ ap (λ (k : ℕ). new_keys k [] keys) count in
+    let all : kept ≡ new_keys (length columns) (columns_missing columns keys) [] keys =
+    new ∙ ap (λ (k : ℕ). new_keys k (nullable_of s) [] keys) count
+    ∙ ap (λ (x : Attributes). new_keys (length columns) x [] keys) is.nullable in
     says
     ∙ ap (λ (ds : List Dep). schema_text s (dependencies_of ds) ++ lines_text (map (key_line (printed_names_of s) (nullable_of s)) kept)) (same ∙ is.deps)
     ∙ parts_text s kept

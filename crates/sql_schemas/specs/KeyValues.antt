@@ -4,4 +4,4 @@ use Rattle.sql_schemas.specs.declared.keys.TableKey.{TableKey}
 use Rattle.sql_schemas.specs.Keys.{KeyColumns}
 
 abbrev pub key_columns : TableKey → KeyColumns
-key_columns key = record { primary = key.primary; binds = key.binds; columns = attributes key.columns }
+key_columns key = record { kind = key.kind; columns = attributes key.columns }

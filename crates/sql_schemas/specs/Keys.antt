@@ -1,23 +1,31 @@
 -- The keys of a table as sets of its columns: for the columns that may be missing (`Missing`) and the text of the
 -- table's schema (`Texts`).
-use Rattle.std.specs.Prelude.{ℕ, Bool, false, ◌&&◌, ◌||◌, not, Option, Some, None, option_and_then, Result, Ok, Err, List, [], ◌∷◌, ◌++◌, position, slice_get, if◌then◌else◌}
+use Rattle.std.specs.Prelude.{ℕ, Bool, true, false, ◌&&◌, ◌||◌, not, Option, Some, None, option_and_then, Result, Ok, Err, List, [], ◌∷◌, ◌++◌, position, if◌then◌else◌}
 use Rattle.std.specs.List.{list_any}
 use Rattle.attr_sets.specs.Attributes.{Attributes, below, difference, none, only, union}
-use Rattle.attr_sets.specs.Sets.{is_same, is_subset}
+use Rattle.attr_sets.specs.Sets.{is_disjoint, is_same, is_subset}
 use Rattle.dep_model.specs.Dependencies.{Dependency, fd}
 use Rattle.dep_model.specs.Names.{same_name}
-use Rattle.sql_lexemes.specs.declared.dialect.Dialect.{Dialect}
-use Rattle.sql_lexemes.specs.Pieces.{is_postgres}
+use Rattle.sql_definitions.specs.declared.definition.KeyKind.{KeyKind}
+use Rattle.sql_definitions.specs.declared.definition.KeyKind.TheVariants.{Primary, UniqueMissing}
 use Rattle.sql_definitions.specs.declared.refusal.Reason.TheVariants as reason
 use Rattle.sql_definitions.specs.declared.refusal.Refusal.{Refusal}
 use Rattle.sql_definitions.specs.Facts.{Facts, StatedColumn, StatedKey, StatedPart, refused}
 
--- a key of a table, by its columns: PRIMARY KEY states it or not; it keeps values of its columns from missing or
--- not; its columns
+-- a key of a table: what states it, and its columns
 pub record KeyColumns : Type 0 where
-  pub primary : Bool
-  pub binds : Bool
+  pub kind : KeyKind
   pub columns : Attributes
+
+-- PRIMARY KEY keeps values of its columns from missing
+abbrev pub is_primary : KeyKind → Bool
+is_primary Primary = true
+is_primary other = false
+
+-- with NULLS NOT DISTINCT missing values are compared
+abbrev pub compares_missing : KeyKind → Bool
+compares_missing UniqueMissing = true
+compares_missing other = false
 
 -- what follows, where there is no refusal
 abbrev pub and_then : {A B : Type 0} → Result A Refusal → (A → Result B Refusal) → Result B Refusal
@@ -44,48 +52,41 @@ columns_of_parts columns x [] = Ok x
 columns_of_parts columns x (part ∷ parts) =
     and_then (with_part x part.place (column_of_part columns part)) (λ y. columns_of_parts columns y parts)
 
--- ---- which keys keep values from missing
-abbrev pub is_integer_column : Option StatedColumn → Bool
-is_integer_column None = false
-is_integer_column (Some column) = column.is_integer
-
--- the parts are one column, and the text of its type is `integer`: for SQLite the number of the row
-abbrev pub is_row_number : List StatedColumn → List StatedPart → Bool
-is_row_number columns (part ∷ []) =
-    is_integer_column (option_and_then (slice_get columns) (column_of_part columns part))
-is_row_number columns parts = false
-
--- a PRIMARY KEY does so: for PostgreSQL always; for SQLite where the words after the table's columns bind it, or where
--- it is the number of the row
-abbrev pub binds_key : Dialect → Facts → StatedKey → Bool
-binds_key d f key = key.primary && ((is_postgres d || f.binds) || is_row_number f.columns key.parts)
-
 -- ---- the keys
 -- a key that is stated, with its columns
-abbrev pub key_of : Dialect → Facts → StatedKey → Result KeyColumns Refusal
-key_of d f key =
-    and_then (columns_of_parts f.columns none key.parts)
-    (λ x. Ok (record { primary = key.primary; binds = binds_key d f key; columns = x }))
+abbrev pub key_of : List StatedColumn → StatedKey → Result KeyColumns Refusal
+key_of columns key =
+    and_then (columns_of_parts columns none key.parts) (λ x. Ok (record { kind = key.kind; columns = x }))
 
 -- some keys, and those that are stated
-unfoldable pub keys_after : Dialect → Facts → List KeyColumns → List StatedKey → Result (List KeyColumns) Refusal
-keys_after d f before [] = Ok before
-keys_after d f before (key ∷ keys) = and_then (key_of d f key) (λ k. keys_after d f (before ++ k ∷ []) keys)
+unfoldable pub keys_after : List StatedColumn → List KeyColumns → List StatedKey → Result (List KeyColumns) Refusal
+keys_after columns before [] = Ok before
+keys_after columns before (key ∷ keys) =
+    and_then (key_of columns key) (λ k. keys_after columns (before ++ k ∷ []) keys)
 
 -- the keys of a table, in the order in which they are stated
-abbrev pub keys_of : Dialect → Facts → Result (List KeyColumns) Refusal
-keys_of d f = keys_after d f [] f.keys
+abbrev pub keys_of : Facts → Result (List KeyColumns) Refusal
+keys_of f = keys_after f.columns [] f.keys
 
 -- ---- the keys that say something
--- a key of n columns has one that is not in it, and is none of some keys
-abbrev pub is_new : ℕ → List KeyColumns → KeyColumns → Bool
-is_new n keys key =
-    not (is_subset (below n) key.columns) && not (list_any (λ other. is_same other.columns key.columns) keys)
+-- a key states a dependency: no column of it may be missing, or missing values are compared
+abbrev pub is_dependency : Attributes → KeyColumns → Bool
+is_dependency missing key = compares_missing key.kind || is_disjoint key.columns missing
+
+-- another key says what a key says: it has the same columns, and states a dependency where that does
+abbrev pub says_so : Attributes → KeyColumns → KeyColumns → Bool
+says_so missing key other =
+    is_same other.columns key.columns && (is_dependency missing other || not (is_dependency missing key))
+
+-- a key of n columns has one that is not in it, and none of some keys says what it says
+abbrev pub is_new : ℕ → Attributes → List KeyColumns → KeyColumns → Bool
+is_new n missing keys key = not (is_subset (below n) key.columns) && not (list_any (says_so missing key) keys)
 
 -- some keys, and those of others that are new, each once
-unfoldable pub new_keys : ℕ → List KeyColumns → List KeyColumns → List KeyColumns
-new_keys n before [] = before
-new_keys n before (key ∷ keys) = new_keys n (if is_new n before key then before ++ key ∷ [] else before) keys
+unfoldable pub new_keys : ℕ → Attributes → List KeyColumns → List KeyColumns → List KeyColumns
+new_keys n missing before [] = before
+new_keys n missing before (key ∷ keys) =
+    new_keys n missing (if is_new n missing before key then before ++ key ∷ [] else before) keys
 
 -- a key determines all other columns
 abbrev pub key_dependency : ℕ → KeyColumns → Dependency

@@ -2,7 +2,6 @@
 use Rattle.std.specs.Prelude.{◌≡◌, ℕ, Bool, false, ◌&&◌, not, Option, Some, None, Result, Ok, List, [], ◌++◌, length, map, codes, slice_get, if◌then◌else◌}
 use Rattle.std.specs.List.{list_any}
 use Rattle.attr_sets.specs.Attributes.{Attributes}
-use Rattle.attr_sets.specs.Sets.{is_disjoint}
 use Rattle.dep_model.specs.Schemas.{naming_of, names_of, types_of, nullable_of, deps_of}
 use Rattle.dep_model.specs.declared.column_type.ColumnType.{ColumnType}
 use Rattle.dep_model.specs.declared.schema.Schema.{Schema}
@@ -14,7 +13,7 @@ use Rattle.sql_definitions.specs.declared.refusal.Refusal.{Refusal}
 use Rattle.sql_definitions.specs.Definitions.{definition_of}
 use Rattle.sql_definitions.specs.Facts.{Facts, StatedColumn}
 use Rattle.sql_definitions.specs.Wanted.{TableName}
-use Rattle.sql_schemas.specs.Keys.{KeyColumns, and_then, key_dependency, keys_of, new_keys}
+use Rattle.sql_schemas.specs.Keys.{KeyColumns, and_then, is_dependency, is_primary, key_dependency, keys_of, new_keys}
 
 -- ---- the columns
 abbrev pub column_names : List StatedColumn → List (List ℕ)
@@ -28,32 +27,28 @@ abbrev pub says_nothing : Option StatedColumn → Bool
 says_nothing None = false
 says_nothing (Some column) = not column.never_missing
 
--- a key keeps values of a column from missing
+-- a PRIMARY KEY keeps values of a column from missing
 abbrev pub is_bound : List KeyColumns → ℕ → Bool
-is_bound keys k = list_any (λ key. key.binds && key.columns k) keys
+is_bound keys k = list_any (λ key. is_primary key.kind && key.columns k) keys
 
 -- the columns of which a value may be missing: neither they say otherwise, nor a key
 abbrev pub columns_missing : List StatedColumn → List KeyColumns → Attributes
 columns_missing columns keys k = says_nothing (slice_get columns k) && not (is_bound keys k)
 
 -- ---- the keys
--- no column of a key may be missing
-abbrev pub is_whole : Attributes → KeyColumns → Bool
-is_whole missing key = is_disjoint key.columns missing
-
 -- by what it is stated, in a comment
 abbrev pub comment_front : Bool → List ℕ
 comment_front primary = if primary then codes "# PRIMARY KEY " else codes "# UNIQUE "
 
--- the comment of a key of which a column may be missing
+-- the comment of a key that states no dependency
 abbrev pub comment_text : List (List ℕ) → KeyColumns → List ℕ
 comment_text names key =
-    comment_front key.primary ++ set_text names key.columns ++ codes ": missing values are not compared"
+    comment_front (is_primary key.kind) ++ set_text names key.columns ++ codes ": missing values are not compared"
 
--- the line of a key: a dependency, where no column of it may be missing, else a comment
+-- the line of a key: a dependency, where it states one, else a comment
 unfoldable pub key_line : List (List ℕ) → Attributes → KeyColumns → List ℕ
 key_line names missing key =
-    if is_whole missing key then dependency_text names (key_dependency (length names) key) else comment_text names key
+    if is_dependency missing key then dependency_text names (key_dependency (length names) key) else comment_text names key
 
 -- ---- the schema and its text
 -- a schema has these columns, those among them of which a value may be missing, and no dependencies
@@ -70,16 +65,17 @@ printed_names columns = map (spelling Any) (column_names columns)
 abbrev pub table_lines : List StatedColumn → List KeyColumns → List (List ℕ)
 table_lines columns keys =
     schema_lines Any (column_types columns) (printed_names columns) (columns_missing columns keys)
-    ++ map (key_line (printed_names columns) (columns_missing columns keys)) (new_keys (length columns) [] keys)
+    ++ map (key_line (printed_names columns) (columns_missing columns keys))
+    (new_keys (length columns) (columns_missing columns keys) [] keys)
 
 -- the text of the schema of a table of these columns and keys
 unfoldable pub table_text : List StatedColumn → List KeyColumns → List ℕ
 table_text columns keys = lines_text (table_lines columns keys)
 
 -- the same, of what is known of it
-abbrev pub text_of_facts : Dialect → Facts → Result (List ℕ) Refusal
-text_of_facts d f = and_then (keys_of d f) (λ keys. Ok (table_text f.columns keys))
+abbrev pub text_of_facts : Facts → Result (List ℕ) Refusal
+text_of_facts f = and_then (keys_of f) (λ keys. Ok (table_text f.columns keys))
 
 -- the text of the schema of the table that the SQL of a text defines
 abbrev pub imported_text : Dialect → TableName → List ℕ → Result (List ℕ) Refusal
-imported_text d wanted text = and_then (definition_of d wanted text) (text_of_facts d)
+imported_text d wanted text = and_then (definition_of d wanted text) text_of_facts

@@ -3,61 +3,68 @@
 ghost use Rattle.std.specs.Prelude.{◌≡◌, ◌≤◌, ◌<◌, [], length, map, IfErr, IfOk, IfSome, Ok};
 ghost use Rattle.std.specs.List.{list_any};
 ghost use Rattle.attr_sets.specs.Attributes.{none};
-ghost use Rattle.attr_sets.specs.Sets.{attributes, is_same};
+ghost use Rattle.attr_sets.specs.Sets.{attributes};
 ghost use Rattle.attr_sets.specs.declared.set.TheConstants.{MOST_ATTRIBUTES};
 ghost use Rattle.sql_definitions.specs.Facts.{Fails};
 ghost use Rattle.sql_schemas.specs.KeyValues.{key_columns};
-ghost use Rattle.sql_schemas.specs.Keys.{binds_key, column_named, column_of_part, columns_of_parts, is_new, is_row_number, key_of, keys_of, new_keys};
+ghost use Rattle.sql_schemas.specs.Keys.{column_named, column_of_part, columns_of_parts, compares_missing, is_dependency, is_new, is_primary, key_of, keys_of, new_keys, says_so};
 
 use attr_sets::AttrSet;
 use dep_model::{Failure, Name, OutOfMemory};
-use sql_definitions::{Column, Definition, Key, Part, Reason, Refusal};
-use sql_lexemes::{Dialect, is_postgres};
+use sql_definitions::{Column, Definition, Key, KeyKind, Part, Reason, Refusal};
 use std::alloc::Global;
 
-/// A key of a table: whether PRIMARY KEY states it, whether it keeps values of its columns from missing,
-/// and its columns.
+/// A key of a table: what states it, and its columns.
 #[derive(Clone, Copy, Debug)]
 pub struct TableKey {
-    pub primary: bool,
-    pub binds: bool,
+    pub kind: KeyKind,
     pub columns: AttrSet,
+}
+
+/// Whether PRIMARY KEY states a key: it keeps values of its columns from missing.
+pub fn is_primary(kind: KeyKind) -> bool
+    ensures exact { result ≡ is_primary kind }
+{
+    match kind {
+        KeyKind::Primary => true,
+        _ => false,
+    }
+}
+
+fn compares_missing(kind: KeyKind) -> bool
+    ensures exact { result ≡ compares_missing kind }
+{
+    match kind {
+        KeyKind::UniqueMissing => true,
+        _ => false,
+    }
 }
 
 /// The keys of a table, in the order in which they are stated; or the refusal of the first part of one
 /// that names no column.
 #[tactic(auto, unfolding(crate::specs::Keys::keys_after))]
-pub fn keys_of(
-    alloc: Global,
-    dialect: Dialect,
-    definition: &Definition,
-) -> Result<Vec<TableKey>, Failure<Refusal>>
-    ensures ok { IfOk result (λ keys. keys_of dialect definition.now ≡ Ok (map key_columns keys.items)) }
-    ensures err { IfErr result (λ failure. Fails failure (keys_of dialect definition.now)) }
+pub fn keys_of(alloc: Global, definition: &Definition) -> Result<Vec<TableKey>, Failure<Refusal>>
+    ensures ok { IfOk result (λ keys. keys_of definition.now ≡ Ok (map key_columns keys.items)) }
+    ensures err { IfErr result (λ failure. Fails failure (keys_of definition.now)) }
 {
     let mut keys = Vec::new(alloc);
     let mut rest = definition.keys();
     while let [key, after @ ..] = rest {
-        keys.push(key_of(dialect, definition, key)?)?;
+        keys.push(key_of(definition.columns(), key)?)?;
         rest = after;
     }
     Ok(keys)
 }
 
 // A key that is stated, with its columns.
-fn key_of(
-    dialect: Dialect,
-    definition: &Definition,
-    key: &Key,
-) -> Result<TableKey, Failure<Refusal>>
-    ensures ok { IfOk result (λ k. key_of dialect definition.now key.now ≡ Ok (key_columns k)) }
-    ensures err { IfErr result (λ failure. Fails failure (key_of dialect definition.now key.now)) }
+fn key_of(columns: &[Column], key: &Key) -> Result<TableKey, Failure<Refusal>>
+    requires within_limit { length columns.now ≤ MOST_ATTRIBUTES }
+    ensures ok { IfOk result (λ k. key_of columns.now key.now ≡ Ok (key_columns k)) }
+    ensures err { IfErr result (λ failure. Fails failure (key_of columns.now key.now)) }
 {
-    let columns = columns_of_parts(definition.columns(), key.parts())?;
-    let binds = binds_key(dialect, definition, key);
+    let columns = columns_of_parts(columns, key.parts())?;
     Ok(TableKey {
-        primary: key.is_primary(),
-        binds,
+        kind: key.kind(),
         columns,
     })
 }
@@ -117,40 +124,29 @@ fn position_named(columns: &[Column], name: &Name) -> Option<usize>
         .position(|column| column.name().is_same(name))
 }
 
-// Whether a key keeps values of its columns from missing.
-fn binds_key(dialect: Dialect, definition: &Definition, key: &Key) -> bool
-    ensures exact { result ≡ binds_key dialect definition.now key.now }
+/// Whether a key states a dependency: no column of it may be missing, or missing values are compared.
+pub fn is_dependency(missing: AttrSet, key: &TableKey) -> bool
+    ensures exact { result ≡ is_dependency (attributes missing) (key_columns key.now) }
 {
-    key.is_primary()
-        && (is_postgres(dialect)
-            || definition.binds()
-            || is_row_number(definition.columns(), key.parts()))
+    compares_missing(key.kind) || !key.columns.intersects(missing)
 }
 
-// Whether the parts are one column, and the text of its type is `integer`.
-fn is_row_number(columns: &[Column], parts: &[Part]) -> bool
-    requires within_limit { length columns.now ≤ MOST_ATTRIBUTES }
-    ensures exact { result ≡ is_row_number columns.now parts.now }
-{
-    let [part] = parts else {
-        return false;
-    };
-    match column_of_part(columns, part) {
-        Some(column) => columns[column as usize].is_integer(),
-        None => false,
-    }
-}
-
-/// The keys of n columns that say something, each once.
+/// The keys of n columns that say something, each once, where values of some columns may be missing.
 #[tactic(auto, unfolding(crate::specs::Keys::new_keys))]
-pub fn new_keys(alloc: Global, n: u8, keys: &[TableKey]) -> Result<Vec<TableKey>, OutOfMemory>
+pub fn new_keys(
+    alloc: Global,
+    n: u8,
+    missing: AttrSet,
+    keys: &[TableKey],
+) -> Result<Vec<TableKey>, OutOfMemory>
     requires within_limit { n ≤ MOST_ATTRIBUTES }
-    ensures keys { IfOk result (λ kept. map key_columns kept.items ≡ new_keys n [] (map key_columns keys.now)) }
+    ensures keys { IfOk result (λ kept.
+        map key_columns kept.items ≡ new_keys n (attributes missing) [] (map key_columns keys.now)) }
 {
     let mut kept = Vec::new(alloc);
     let mut rest = keys;
     while let [key, after @ ..] = rest {
-        if is_new(n, &kept, key) {
+        if is_new(n, missing, &kept, key) {
             kept.push(*key)?;
         }
         rest = after;
@@ -158,18 +154,25 @@ pub fn new_keys(alloc: Global, n: u8, keys: &[TableKey]) -> Result<Vec<TableKey>
     Ok(kept)
 }
 
-// Whether a key of n columns has one that is not in it, and is none of these.
-fn is_new(n: u8, keys: &[TableKey], key: &TableKey) -> bool
+// Whether a key of n columns has one that is not in it, and none of these says what it says.
+fn is_new(n: u8, missing: AttrSet, keys: &[TableKey], key: &TableKey) -> bool
     requires within_limit { n ≤ MOST_ATTRIBUTES }
-    ensures exact { result ≡ is_new n (map key_columns keys.now) (key_columns key.now) }
+    ensures exact { result ≡ is_new n (attributes missing) (map key_columns keys.now) (key_columns key.now) }
 {
-    !AttrSet::full(n).is_subset(key.columns) && !is_among(keys, key)
+    !AttrSet::full(n).is_subset(key.columns) && !is_said(missing, keys, key)
 }
 
-// Whether a key has the columns of one of these.
-fn is_among(keys: &[TableKey], key: &TableKey) -> bool
+// Whether one of these keys says what a key says.
+fn is_said(missing: AttrSet, keys: &[TableKey], key: &TableKey) -> bool
     ensures exact { result
-        ≡ list_any (λ other. is_same (attributes other.columns) (attributes key.now.columns)) keys.now }
+        ≡ list_any (λ other. says_so (attributes missing) (key_columns key.now) (key_columns other)) keys.now }
 {
-    keys.iter().any(|other| other.columns == key.columns)
+    keys.iter().any(|other| says_so(missing, key, other))
+}
+
+// Whether another key has the same columns, and states a dependency where a key does.
+fn says_so(missing: AttrSet, key: &TableKey, other: &TableKey) -> bool
+    ensures exact { result ≡ says_so (attributes missing) (key_columns key.now) (key_columns other.now) }
+{
+    other.columns == key.columns && (is_dependency(missing, other) || !is_dependency(missing, key))
 }

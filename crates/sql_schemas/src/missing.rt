@@ -5,9 +5,10 @@ ghost use Rattle.std.specs.List.{list_any};
 ghost use Rattle.attr_sets.specs.Sets.{attributes};
 ghost use Rattle.attr_sets.specs.declared.set.TheConstants.{MOST_ATTRIBUTES};
 ghost use Rattle.sql_schemas.specs.KeyValues.{key_columns};
+ghost use Rattle.sql_schemas.specs.Keys.{is_primary};
 ghost use Rattle.sql_schemas.specs.Texts.{columns_missing, says_nothing};
 
-use crate::keys::TableKey;
+use crate::keys::{TableKey, is_primary};
 use attr_sets::AttrSet;
 use sql_definitions::Column;
 
@@ -43,11 +44,11 @@ fn says_nothing(columns: &[Column], column: u8) -> bool
     }
 }
 
-// Whether a key keeps values of a column from missing.
+// Whether a PRIMARY KEY keeps values of a column from missing.
 fn is_bound(keys: &[TableKey], column: u8) -> bool
     requires within_limit { column < MOST_ATTRIBUTES }
-    ensures exact { result ≡ list_any (λ key. key.binds && attributes key.columns column) keys.now }
+    ensures exact { result ≡ list_any (λ key. is_primary key.kind && attributes key.columns column) keys.now }
 {
     keys.iter()
-        .any(|key| key.binds && key.columns.contains(column))
+        .any(|key| is_primary(key.kind) && key.columns.contains(column))
 }

@@ -12,26 +12,21 @@ ghost use Rattle.sql_schemas.specs.KeyValues.{key_columns};
 ghost use Rattle.sql_schemas.specs.Keys.{key_dependency, new_keys};
 ghost use Rattle.sql_schemas.specs.Texts.{IsSchemaOf, column_names, column_types, comment_front, comment_text, key_line, table_text, text_of_facts};
 
-use crate::keys::{TableKey, keys_of, new_keys};
+use crate::keys::{TableKey, is_dependency, is_primary, keys_of, new_keys};
 use crate::missing::columns_missing;
 use attr_sets::AttrSet;
 use dep_model::{ColumnType, Dep, Failure, Name, Naming, OutOfMemory, Schema};
 use schema_printer::{add, add_dep, add_set, print_deps};
 use sql_definitions::{Column, Definition, Refusal};
-use sql_lexemes::Dialect;
 use std::alloc::Global;
 
 /// The text of the schema of a table; or the refusal of the first part of a key that names no column.
-pub fn print_table(
-    alloc: Global,
-    dialect: Dialect,
-    definition: &Definition,
-) -> Result<Vec<u8>, Failure<Refusal>>
+pub fn print_table(alloc: Global, definition: &Definition) -> Result<Vec<u8>, Failure<Refusal>>
     requires any_column { 0 < length definition.now.columns }
-    ensures ok { IfOk result (λ text. text_of_facts dialect definition.now ≡ Ok text.items) }
-    ensures err { IfErr result (λ failure. Fails failure (text_of_facts dialect definition.now)) }
+    ensures ok { IfOk result (λ text. text_of_facts definition.now ≡ Ok text.items) }
+    ensures err { IfErr result (λ failure. Fails failure (text_of_facts definition.now)) }
 {
-    let keys = keys_of(alloc, dialect, definition)?;
+    let keys = keys_of(alloc, definition)?;
     let text = table_text(alloc, definition.columns(), &keys)?;
     Ok(text)
 }
@@ -45,7 +40,7 @@ fn table_text(alloc: Global, columns: &[Column], keys: &[TableKey]) -> Result<Ve
 {
     let schema = schema_of_table(alloc, columns, keys)?;
     let mut text = print_deps(alloc, &schema, schema.deps())?;
-    let kept = new_keys(alloc, schema.width(), keys)?;
+    let kept = new_keys(alloc, schema.width(), schema.nullable(), keys)?;
     add_key_lines(&mut text, &schema, &kept)?;
     Ok(text)
 }
@@ -106,10 +101,10 @@ fn add_key_line(text: &mut Vec<u8>, schema: &Schema, key: &TableKey) -> Result<(
     ensures added { OnOk result (text.new.items ≡ text.old.items
         ++ key_line (printed_names_of schema.now) (nullable_of schema.now) (key_columns key.now)) }
 {
-    if key.columns.intersects(schema.nullable()) {
-        add_comment(text, schema, key)
-    } else {
+    if is_dependency(schema.nullable(), key) {
         add_dep(text, schema, key_dependency(schema, key))
+    } else {
+        add_comment(text, schema, key)
     }
 }
 
@@ -124,12 +119,12 @@ fn key_dependency(schema: &Schema, key: &TableKey) -> Dep
     }
 }
 
-// The comment of a key of which a column may be missing.
+// The comment of a key that states no dependency.
 fn add_comment(text: &mut Vec<u8>, schema: &Schema, key: &TableKey) -> Result<(), OutOfMemory>
     ensures added { OnOk result (text.new.items ≡ text.old.items
         ++ comment_text (printed_names_of schema.now) (key_columns key.now)) }
 {
-    add(text, comment_front(key.primary))?;
+    add(text, comment_front(is_primary(key.kind)))?;
     add_set(text, schema, key.columns)?;
     add(text, b": missing values are not compared")
 }

@@ -1,8 +1,9 @@
 -- The texts of queries: for all that prints queries.
 use Rattle.std.specs.Prelude.{ℕ, Bool, true, false, if◌then◌else◌, Option, Some, None, List, [], ◌∷◌, ◌++◌, codes}
+use Rattle.std.specs.Fmt.{decimal}
 use Rattle.std.specs.List.{flat_map}
 use Rattle.sql_names.specs.Names.{comma_list, quoted_name}
-use Rattle.sql_syntax.specs.Syntax.{ColumnName, attribute, helper, Column, Scalar, column, as_text, as_integer, number_zero, number_one, count, sum, sum_product, less_sum, Condition, is_missing, differs, exceeds, either, Item, own, named, unnamed, Clause, each_row, rows_where, groups_by, Link, by_columns, crosswise, Query, stored, select, union_all, except, joined}
+use Rattle.sql_syntax.specs.Syntax.{ColumnName, attribute, helper, Column, Scalar, column, as_text, as_integer, with_empty_text, number_zero, number_one, written_number, missing_value, count, sum, sum_product, less_sum, Condition, is_missing, differs, equals, exceeds, either, Item, own, named, unnamed, Clause, each_row, rows_where, groups_by, Link, by_columns, crosswise, Query, stored, select, union_all, except, joined, all_columns, one_row}
 
 -- a user's name stands in quotes
 abbrev pub name_text : ColumnName → List ℕ
@@ -16,8 +17,11 @@ abbrev pub scalar_text : Scalar → List ℕ
 scalar_text (column c) = column_text c
 scalar_text (as_text x) = codes "CAST(" ++ scalar_text x ++ codes " AS TEXT)"
 scalar_text (as_integer x) = codes "CAST(" ++ scalar_text x ++ codes " AS BIGINT)"
+scalar_text (with_empty_text x) = scalar_text x ++ codes " || ''"
 scalar_text number_zero = codes "0"
 scalar_text number_one = codes "1"
+scalar_text (written_number n) = decimal n
+scalar_text missing_value = codes "NULL"
 scalar_text count = codes "COUNT(*)"
 scalar_text (sum c) = codes "SUM(" ++ column_text c ++ codes ")"
 scalar_text (sum_product c d) =
@@ -27,6 +31,7 @@ scalar_text (less_sum x c) = scalar_text x ++ codes " - SUM(" ++ column_text c +
 abbrev pub condition_text : Condition → List ℕ
 condition_text (is_missing x) = scalar_text x ++ codes " IS NULL"
 condition_text (differs x y) = scalar_text x ++ codes " <> " ++ scalar_text y
+condition_text (equals x y) = scalar_text x ++ codes " = " ++ scalar_text y
 condition_text (exceeds x y) = scalar_text x ++ codes " > " ++ scalar_text y
 condition_text (either p q) = condition_text p ++ codes " OR " ++ condition_text q
 
@@ -86,6 +91,9 @@ text_at is_source (except p q) =
     in_brackets is_source (text_at false p ++ codes " EXCEPT " ++ text_at false q)
 text_at is_source (joined names first links) =
     in_brackets is_source (joined_text (names_text names) first (flat_map link_text links))
+text_at is_source (all_columns source alias) =
+    in_brackets is_source (codes "SELECT * FROM " ++ text_at true source ++ codes " AS " ++ alias)
+text_at is_source (one_row values) = in_brackets is_source (codes "SELECT " ++ comma_list scalar_text values)
 
 -- a query, as it stands in a statement, and as the source of another
 abbrev pub query_text : Query → List ℕ

@@ -16,8 +16,13 @@ pub data Scalar : Type 0 where
   column : Column → Scalar
   as_text : Scalar → Scalar
   as_integer : Scalar → Scalar
+  -- a value with the empty text after it: its text, which has no equality of its own
+  with_empty_text : Scalar → Scalar
   number_zero : Scalar
   number_one : Scalar
+  -- a number that is written out, and the missing value
+  written_number : ℕ → Scalar
+  missing_value : Scalar
   -- of a group: how many rows it has, the sum of a column, the product of two sums
   count : Scalar
   sum : Column → Scalar
@@ -29,6 +34,7 @@ pub data Scalar : Type 0 where
 pub data Condition : Type 0 where
   is_missing : Scalar → Condition
   differs : Scalar → Scalar → Condition
+  equals : Scalar → Scalar → Condition
   exceeds : Scalar → Scalar → Condition
   either : Condition → Condition → Condition
 
@@ -53,10 +59,13 @@ pub data Link : Type 0 where
 
 -- a query: a stored table, by its name as SQL has it; what is selected of a source under an alias,
 -- each value once or not; the rows of two queries one after the other; those of the first that the second
--- has not, each once; columns of stored tables that are joined, by their names alone
+-- has not, each once; columns of stored tables that are joined, by their names alone; all columns of a source
+-- under an alias; one row of values
 pub data Query : Type 0 where
   stored : List ℕ → Query
   select : Bool → List Item → Query → List ℕ → Clause → Query
   union_all : Query → Query → Query
   except : Query → Query → Query
   joined : List ColumnName → List ℕ → List Link → Query
+  all_columns : Query → List ℕ → Query
+  one_row : List Scalar → Query

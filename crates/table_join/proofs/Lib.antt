@@ -1,5 +1,6 @@
 pub mod ListLemmas
 pub mod ValueLemmas
+pub mod OrderLemmas
 pub mod JoinLemmas
 pub mod MatchLemmas
 pub mod LentLemmas

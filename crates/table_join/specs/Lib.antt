@@ -1,7 +1,8 @@
--- The definitions of table_join, in reading order: tables, their join in order, what it answers,
--- and how the join is computed.
+-- The definitions of table_join, in reading order: tables, their join in an order, the order from the last, what the
+-- join answers, and how it is computed.
 pub mod Tables
 pub mod Joins
+pub mod Orders
 pub mod Answers
 pub mod Lent
 pub mod Keys

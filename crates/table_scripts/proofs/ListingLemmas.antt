@@ -2,6 +2,7 @@
 use Rattle.std.proofs.Common.{◌≡◌, ◌<◌, ◌+◌, ℕ, zero, suc, Bool, true, false, not, List, [], ◌∷◌, ◌++◌, length, get_or, map, refl, sym, ap, ◌∙◌, inl, inr, append_assoc, append-nil, arith}
 use Rattle.std.proofs.lemmas.Bool.{cases_Bool, true≢false}
 use Rattle.std.proofs.lemmas.Bool.Decides.{nat_tests}
+use Rattle.std.specs.Fmt.{decimal}
 use Rattle.std.specs.Prelude.{◌↔◌, if◌then◌else◌, codes, nat_lt, IsTrue}
 use Rattle.std.specs.List.{flat_map}
 use Rattle.attr_sets.specs.Attributes.{Attributes, below, intersection, count_below, IsEmpty}
@@ -19,7 +20,7 @@ use Rattle.std.proofs.lemmas.List.FromFn.{map-range_with_len_more}
 use Rattle.std.proofs.lemmas.List.{map-id}
 use Rattle.std.specs.List.{range_with_len}
 use Rattle.check_queries.specs.Columns.{named_column, column_at, group_name, items_on, groups_made}
-use Rattle.check_queries.specs.Checks.{has_members, integer_query, missing_query}
+use Rattle.check_queries.specs.Checks.{has_members, line_item, count_column, integer_query, missing_query}
 use Rattle.table_scripts.specs.declared.unpaired.Counted.{Counted}
 use Rattle.table_scripts.specs.declared.unpaired.Counted.TheVariants.{First, Second, Both}
 use Rattle.table_scripts.specs.Listing.{counts_of, missing_tests}
@@ -122,6 +123,18 @@ pub counts_listed : (s : Schema) (x : Attributes) (counted : Counted)
 counts_listed s x First = from_append s x _ _
 counts_listed s x Second = from_append s x _ _
 counts_listed s x Both = from_append s x _ _
+
+-- ---- the line of a dependency
+pub after_line_printed : (line : ℕ) (items : List Item) → is_not_empty items ≡ true
+    → decimal line ++ codes " AS line, " ++ comma_list item_text items ≡ comma_list item_text (line_item line ∷ items)
+after_line_printed line [] not_empty = absurd (true≢false (sym not_empty))
+after_line_printed line (i ∷ is) not_empty = parts (decimal line) (item_text i) (flat_map (λ (j : Item). separator ++ item_text j) is)
+  where
+    parts : (number first rest : List ℕ) → number ++ codes " AS line, " ++ (first ++ rest) ≡ (number ++ codes " AS " ++ codes "line") ++ ((codes ", " ++ first) ++ rest)
+    parts number first rest = simp (append_assoc)
+
+pub count_printed : (line : ℕ) → decimal line ++ codes " AS line, " ++ codes "c.n" ≡ comma_list item_text (line_item line ∷ own count_column ∷ [])
+count_printed line = after_line_printed line (own count_column ∷ []) refl
 
 -- ---- values
 pub range_more : (n : ℕ) → range_with_len 0 (n + 1) ≡ range_with_len 0 n ++ n ∷ []

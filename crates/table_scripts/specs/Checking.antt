@@ -2,12 +2,12 @@
 -- (`desk_designs/Scripts`).
 use Rattle.std.specs.Prelude.{ℕ, if◌then◌else◌, Option, Some, None, List, [], ◌∷◌, ◌++◌, codes, All, MatchOption, ⊤}
 use Rattle.std.specs.Fmt.{decimal}
-use Rattle.std.specs.List.{flat_map, zip, range_with_len}
+use Rattle.std.specs.List.{flat_map, range_with_len}
 use Rattle.dep_model.specs.declared.naming.Naming.{Naming}
 use Rattle.dep_model.specs.declared.schema.Schema.{Schema}
 use Rattle.dep_model.specs.Dependencies.{Dependency}
 use Rattle.dep_model.specs.Projections.{members_below}
-use Rattle.dep_model.specs.Schemas.{width_of, naming_of, lines_of, theory_of}
+use Rattle.dep_model.specs.Schemas.{width_of, naming_of, theory_of}
 use Rattle.dep_model.specs.Tuples.{Relation}
 use Rattle.schema_printer.specs.Printing.{dependency_text, is_integer}
 use Rattle.schema_printer.specs.Spelling.{spelling, printed_names_of}
@@ -16,7 +16,7 @@ use Rattle.sql_syntax.specs.Printing.{query_text}
 use Rattle.table_queries.specs.Queries.{breaches_of}
 use Rattle.table_queries.specs.Meanings.{GivesNone}
 use Rattle.check_queries.specs.Columns.{name_at, type_at, named_column}
-use Rattle.check_queries.specs.Checks.{required_of, missing_query, integer_query, check_query}
+use Rattle.check_queries.specs.Checks.{required_of, missing_query, integer_query, rules_of, check_query}
 
 -- a query as a statement, in a line
 unfoldable pub check_line : Query → List ℕ
@@ -47,12 +47,12 @@ breaches_text (Some q) = codes "\n" ++ check_line q
 unfoldable pub rule_text : Schema → List ℕ → ℕ → Dependency → List ℕ
 rule_text s table line d =
     codes "-- line " ++ decimal line ++ codes ": " ++ dependency_text (printed_names_of s) d
-    ++ breaches_text (check_query s table d)
+    ++ breaches_text (check_query s table line d)
 
 -- each rule, in the order of the file
 abbrev pub rules_text : Schema → List ℕ → List ℕ
 rules_text s table =
-    flat_map (λ rule. rule_text s table rule.0 rule.1) (zip (lines_of s) (theory_of s))
+    flat_map (λ rule. rule_text s table rule.0 rule.1) (rules_of s)
 
 abbrev pub check_text : Schema → List ℕ → List ℕ
 check_text s table =

@@ -1,4 +1,4 @@
--- How an attribute stands in a list of a query: for the queries of `sql check`.
+-- How an attribute stands in a list of a query: for the queries of `sql check` and `sql migrate`.
 use Rattle.std.specs.List.{flat_map}
 use Rattle.std.specs.Prelude.{ℕ, Bool, ◌+◌, List, [], ◌∷◌, ◌++◌, map, codes}
 use Rattle.attr_sets.specs.Attributes.{Attributes, count_below}
@@ -9,15 +9,17 @@ use Rattle.dep_model.specs.Schemas.{width_of}
 use Rattle.sql_syntax.specs.Printing.{condition_text, item_text}
 use Rattle.sql_syntax.specs.Syntax.{is_missing, attribute, column, Item, own, named}
 use Rattle.check_queries.specs.Columns.{name_at, type_at, compared, named_column, column_at, numbered_name, numbered_group}
+use Rattle.migrate_queries.specs.Moving.{copied_column}
 use Rattle.check_queries.specs.Checks.{first_count, second_count, count_of_both}
 use Rattle.table_scripts.specs.declared.listing.Listed.{Listed}
-use Rattle.table_scripts.specs.declared.listing.Listed.TheVariants.{Compared, Read, Distinct, GroupMade, Group, GroupShown}
+use Rattle.table_scripts.specs.declared.listing.Listed.TheVariants.{Compared, Copied, Read, Distinct, GroupMade, Group, GroupShown}
 use Rattle.table_scripts.specs.declared.unpaired.Counted.{Counted}
 use Rattle.table_scripts.specs.declared.unpaired.Counted.TheVariants.{First, Second, Both}
 
 -- an attribute of this name, which comes at this number
 abbrev pub item_with : Listed → ℕ → List ℕ → Bool → Item
-item_with Compared number name plain = compared plain name (named_column (codes "r") name)
+item_with Compared number name plain = compared (codes "r") name
+item_with Copied number name plain = copied_column plain name
 item_with Read number name plain = own (named_column (codes "r") name)
 item_with Distinct number name plain = own (named_column (codes "d") name)
 item_with GroupMade number name plain =

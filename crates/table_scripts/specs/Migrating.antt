@@ -13,7 +13,7 @@ use Rattle.table_queries.specs.Queries.{StoredTable, rows_of, plan_join, table_b
 use Rattle.table_queries.specs.Meanings.{IsGiven, GivesNone}
 use Rattle.migrate_queries.specs.declared.moving.Move.{Move}
 use Rattle.migrate_queries.specs.Moving.{moved_at}
-use Rattle.migrate_queries.specs.Script.{copy_name, view_name, copy_query, fill, copied_rows, viewed_rows, migration}
+use Rattle.migrate_queries.specs.Script.{copy_name, view_name, copy_query, fill, width_query, table_rows, viewed_rows, migration}
 
 -- the text of a column
 abbrev pub moved_text : Schema → Move → ℕ → List ℕ
@@ -30,11 +30,15 @@ opening_text s table =
 abbrev pub fill_text : Schema → TableDesign → List ℕ
 fill_text s table = statement_text (fill s table)
 
--- the statements of the test, from the queries that it counts
-abbrev pub test_opening : List ℕ
-test_opening =
-    codes "-- an error here undoes all: the view would lack a row of the table, or have one more\n"
-    ++ codes "CREATE TEMPORARY TABLE \"t00\" (n BIGINT CHECK (n = 0));\n"
+-- the statements of the test, from the queries of which it takes or counts the rows
+abbrev pub width_text : List ℕ → List ℕ
+width_text query =
+    codes "CREATE TEMPORARY TABLE \"t00\" (n BIGINT CHECK (n = 0));\n"
+    ++ codes "-- an error here: the table has other columns than the schema\n"
+    ++ codes "INSERT INTO \"t00\" " ++ query ++ codes ";\n"
+
+abbrev pub test_words : List ℕ
+test_words = codes "-- an error here undoes all: the view would lack a row of the table, or have one more\n"
 
 abbrev pub count_text : List ℕ → List ℕ
 count_text query = codes "INSERT INTO \"t00\" SELECT COUNT(*) FROM (" ++ query ++ codes ") AS d;\n"
@@ -42,14 +46,16 @@ count_text query = codes "INSERT INTO \"t00\" SELECT COUNT(*) FROM (" ++ query +
 abbrev pub test_end : List ℕ
 test_end = codes "DROP TABLE \"t00\";\nDROP TABLE \"t0\";\nCOMMIT;\n"
 
-abbrev pub lacked_text : Schema → List ℕ
-lacked_text s = query_text (copied_rows s) ++ codes " EXCEPT " ++ query_text (viewed_rows s)
+abbrev pub lacked_text : Schema → List ℕ → List ℕ
+lacked_text s table = query_text (table_rows s table) ++ codes " EXCEPT " ++ query_text (viewed_rows s)
 
-abbrev pub gained_text : Schema → List ℕ
-gained_text s = query_text (viewed_rows s) ++ codes " EXCEPT " ++ query_text (copied_rows s)
+abbrev pub gained_text : Schema → List ℕ → List ℕ
+gained_text s table = query_text (viewed_rows s) ++ codes " EXCEPT " ++ query_text (table_rows s table)
 
-abbrev pub testing_text : Schema → List ℕ
-testing_text s = test_opening ++ count_text (lacked_text s) ++ count_text (gained_text s) ++ test_end
+abbrev pub testing_text : Schema → List ℕ → List ℕ
+testing_text s table =
+    width_text (query_text (width_query s table)) ++ test_words ++ count_text (lacked_text s table)
+    ++ count_text (gained_text s table) ++ test_end
 
 -- the whole script: its statements, as a text
 abbrev pub migrate_text : Schema → List ℕ → List TableDesign → List ℕ

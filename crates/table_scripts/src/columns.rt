@@ -8,7 +8,7 @@ ghost use Rattle.migrate_queries.specs.Moving.{attribute_names, moved, moved_at,
 ghost use Rattle.table_scripts.specs.Migrating.{moved_text};
 
 use crate::integers::is_integer;
-use crate::listing::column_text;
+use crate::listing::{by_text, column_text};
 use attr_sets::AttrSet;
 use dep_model::{Name, OutOfMemory, Schema};
 use migrate_queries::Move;
@@ -94,9 +94,8 @@ fn moved_column(
     ensures text { IfOk result (λ text. text.items ≡ item_text (moved how name.now of_integer)) }
 {
     match how {
-        Move::Unchanged => column_text(alloc, b"o.", name),
         Move::Entering => entering_column(alloc, name, of_integer),
-        Move::Returning => returning_column(alloc, name, of_integer),
+        Move::Returning => by_text(alloc, b"j.", name),
     }
 }
 
@@ -106,32 +105,21 @@ fn entering_column(alloc: Global, name: &Name, of_integer: bool) -> Result<Vec<u
 {
     let column = column_text(alloc, b"o.", name)?;
     if of_integer {
-        cast_text(alloc, &column, b" AS BIGINT)")
+        integer_cast(alloc, &column)
     } else {
         Ok(column)
     }
 }
 
-fn returning_column(alloc: Global, name: &Name, of_integer: bool) -> Result<Vec<u8>, OutOfMemory>
+// A column that is cast to an integer.
+fn integer_cast(alloc: Global, column: &[u8]) -> Result<Vec<u8>, OutOfMemory>
     ensures text { IfOk result
-        (λ text. text.items ≡ item_text (moved Move.Returning name.now of_integer)) }
-{
-    let column = column_text(alloc, b"j.", name)?;
-    if of_integer {
-        cast_text(alloc, &column, b" AS TEXT)")
-    } else {
-        Ok(column)
-    }
-}
-
-// A column that is cast.
-fn cast_text(alloc: Global, column: &[u8], end: &[u8]) -> Result<Vec<u8>, OutOfMemory>
-    ensures text { IfOk result (λ text. text.items ≡ codes "CAST(" ++ column.now ++ end.now) }
+        (λ text. text.items ≡ codes "CAST(" ++ column.now ++ codes " AS BIGINT)") }
 {
     let mut text = Vec::new(alloc);
     add(&mut text, b"CAST(")?;
     add(&mut text, column)?;
-    add(&mut text, end)?;
+    add(&mut text, b" AS BIGINT)")?;
     Ok(text)
 }
 

@@ -24,4 +24,4 @@ mod unpaired;
 
 pub use checking::check_script;
 pub use migrating::migrate_script;
-pub use naming::{MOST_PART_BYTES, MOST_PARTS, is_table_name, last_part};
+pub use naming::{MOST_PART_BYTES, is_table_name, met_name};

@@ -19,8 +19,10 @@ use std::alloc::Global;
 /// How an attribute stands in a list of a query.
 #[derive(Clone, Copy)]
 pub enum Listed {
-    /// Of the user's table, as its values are compared.
+    /// Of the user's table, by its text.
     Compared,
+    /// Of the user's table, as it is copied.
+    Copied,
     /// Of the user's table.
     Read,
     /// Of the values that are grouped.
@@ -95,7 +97,8 @@ fn item_with(
     ensures text { IfOk result (λ text. text.items ≡ item_text (item_with listed number name.now plain)) }
 {
     match listed {
-        Listed::Compared => compared_text(alloc, name, plain),
+        Listed::Compared => compared_text(alloc, name),
+        Listed::Copied => copied_text(alloc, name, plain),
         Listed::Read => column_text(alloc, b"r.", name),
         Listed::Distinct => column_text(alloc, b"d.", name),
         Listed::GroupMade => group_made(alloc, name, number),
@@ -115,31 +118,41 @@ fn is_plain(column: ColumnType) -> bool
     }
 }
 
-// A column of the user's table: a text or an integer is compared as text.
-fn compared_text(alloc: Global, name: &Name, plain: bool) -> Result<Vec<u8>, OutOfMemory>
+// A column of the user's table, as it is copied: a text or an integer by its text.
+fn copied_text(alloc: Global, name: &Name, plain: bool) -> Result<Vec<u8>, OutOfMemory>
     ensures text { IfOk result
-        (λ text. text.items ≡ item_text (item_with Listed.Compared 0 name.now plain)) }
+        (λ text. text.items ≡ item_text (item_with Listed.Copied 0 name.now plain)) }
 {
     if plain {
-        cast_text(alloc, name)
+        compared_text(alloc, name)
     } else {
         column_text(alloc, b"r.", name)
     }
 }
 
-// A column of the user's table as text, under its own name.
-fn cast_text(alloc: Global, name: &Name) -> Result<Vec<u8>, OutOfMemory>
+// A column of the user's table by its text, under its own name.
+fn compared_text(alloc: Global, name: &Name) -> Result<Vec<u8>, OutOfMemory>
     ensures text { IfOk result (λ text. text.items
-        ≡ codes "CAST(" ++ (codes "r." ++ quoted_name name.now) ++ codes " AS TEXT)" ++ codes " AS "
-        ++ quoted_name name.now) }
+        ≡ ((codes "CAST(" ++ (codes "r." ++ quoted_name name.now) ++ codes " AS TEXT)") ++ codes " || ''")
+        ++ codes " AS " ++ quoted_name name.now) }
 {
-    let column = column_text(alloc, b"r.", name)?;
+    let mut text = by_text(alloc, b"r.", name)?;
+    add(&mut text, b" AS ")?;
+    add_quoted(&mut text, name)?;
+    Ok(text)
+}
+
+// A column by its text; the alias has its point.
+pub fn by_text(alloc: Global, alias: &[u8], name: &Name) -> Result<Vec<u8>, OutOfMemory>
+    ensures text { IfOk result (λ text. text.items
+        ≡ (codes "CAST(" ++ (alias.now ++ quoted_name name.now) ++ codes " AS TEXT)") ++ codes " || ''") }
+{
+    let column = column_text(alloc, alias, name)?;
     let mut text = Vec::new(alloc);
     add(&mut text, b"CAST(")?;
     add(&mut text, &column)?;
     add(&mut text, b" AS TEXT)")?;
-    add(&mut text, b" AS ")?;
-    add_quoted(&mut text, name)?;
+    add(&mut text, b" || ''")?;
     Ok(text)
 }
 

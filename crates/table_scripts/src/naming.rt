@@ -1,84 +1,78 @@
-ghost use Rattle.std.specs.Prelude.{◌≡◌, ◌==◌, ◌++◌, ◌&&◌, ◌||◌, not, IfOk, OnOk};
-ghost use Rattle.std.specs.List.{list_all, position_or_len};
+ghost use Rattle.std.specs.Prelude.{◌≡◌, [], ◌∷◌, ◌++◌, ◌||◌, ◌==◌, codes, None, unwrap_or, IfOk, OnOk};
+ghost use Rattle.std.specs.List.{find, list_all};
 ghost use Rattle.std.specs.Char.{is_ascii_alphabetic};
-ghost use Rattle.dep_model.specs.Names.{is_name_byte};
-ghost use Rattle.table_names.specs.TableNames.{is_taken};
-ghost use Rattle.table_scripts.specs.Naming.{dotted_parts, is_part, are_parts, is_table_name, last_of, quoted_table, byte_between_quotes};
+ghost use Rattle.dep_model.specs.Names.{is_name_byte, quoted};
+ghost use Rattle.lexer.specs.Tokens.{bytes_in};
+ghost use Rattle.table_names.specs.TableNames.{is_given};
+ghost use Rattle.table_words.specs.Parts.{part_of, parts_of};
+ghost use Rattle.table_scripts.specs.Naming.{are_parts, dotted_name, is_bare_part, is_part, is_table_name, last_name, last_of, met_name, quoted_table};
 
-use dep_model::OutOfMemory;
-use schema_printer::add;
+use dep_model::{Name, OutOfMemory};
+use lexer::WordBytes;
+use schema_printer::{add, add_quoted};
 use std::alloc::Global;
 use table_names::is_taken;
-
-/// The most parts of the name of a table.
-pub const MOST_PARTS: usize = 3;
+use table_words::{TableParts, table_parts};
 
 /// The most bytes of a part.
 pub const MOST_PART_BYTES: usize = 63;
 
-/// Whether the bytes name a table: from one to `MOST_PARTS` parts with a dot between two, each a
-/// letter or `_` and then letters, digits and `_`. The last part is no name that a script gives:
-/// neither `joined` nor `t` and digits. So a name brings nothing into a script but itself.
+/// Whether the bytes name a table: from one to three parts with a dot between two, each a name between double quotes,
+/// or a letter or `_` and then letters, digits and `_`. The last part is no name that a script gives: neither `joined`
+/// nor `t` and digits. So a name brings nothing into a script but itself.
 #[tactic(auto, unfolding(crate::specs::Naming::is_table_name))]
 pub fn is_table_name(bytes: &[u8]) -> bool
     ensures name { result ≡ is_table_name bytes.now }
 {
-    let end = part_end(bytes);
-    if end == bytes.len() {
-        return is_last_part(bytes);
-    }
-    is_part(&bytes[..end]) && are_two_parts(&bytes[end + 1..])
-}
-
-/// The last part of a name: what stands after the last dot, or all of it.
-pub fn last_part(bytes: &[u8]) -> &[u8]
-    ensures part { result.now ≡ last_of (dotted_parts bytes.now) }
-{
-    let mut rest = bytes;
-    loop {
-        let end = part_end(rest);
-        if end >= rest.len() {
-            return rest;
-        }
-        rest = &rest[end + 1..];
+    match table_parts(bytes) {
+        Some(parts) => are_parts(&parts),
+        None => false,
     }
 }
 
-// Whether the bytes are at most two parts.
-fn are_two_parts(bytes: &[u8]) -> bool
-    ensures parts { result ≡ are_parts 2 (dotted_parts bytes.now) }
+// Whether a script may hold these parts.
+fn are_parts(parts: &TableParts<'_>) -> bool
+    ensures parts { result ≡ are_parts (parts_of parts.now) }
 {
-    let end = part_end(bytes);
-    if end == bytes.len() {
-        return is_last_part(bytes);
+    match parts {
+        TableParts::One(last) => is_last_part(last),
+        TableParts::Two(first, last) => are_two_parts(first, last),
+        TableParts::Three(first, second, last) => are_three_parts(first, second, last),
     }
-    is_part(&bytes[..end]) && is_one_part(&bytes[end + 1..])
 }
 
-// Whether the bytes are one part.
-fn is_one_part(bytes: &[u8]) -> bool
-    ensures parts { result ≡ are_parts 1 (dotted_parts bytes.now) }
+fn are_three_parts(first: &WordBytes<'_>, second: &WordBytes<'_>, last: &WordBytes<'_>) -> bool
+    ensures parts { result ≡ are_parts (part_of first.now ∷ part_of second.now ∷ part_of last.now ∷ []) }
 {
-    part_end(bytes) == bytes.len() && is_last_part(bytes)
+    is_part(first) && are_two_parts(second, last)
 }
 
-// Where the first part ends: before a dot, or with the bytes.
-fn part_end(bytes: &[u8]) -> usize
-    ensures end { result ≡ position_or_len (λ b. b == 46) bytes.now }
+fn are_two_parts(first: &WordBytes<'_>, last: &WordBytes<'_>) -> bool
+    ensures parts { result ≡ are_parts (part_of first.now ∷ part_of last.now ∷ []) }
 {
-    bytes.iter().take_while(|b| **b != b'.').count()
+    is_part(first) && is_last_part(last)
 }
 
-// Whether bytes without a dot can be the last part.
-fn is_last_part(bytes: &[u8]) -> bool
-    ensures part { result ≡ (is_part bytes.now && not (is_taken bytes.now)) }
+// Whether a script may hold this part as the last.
+fn is_last_part(part: &WordBytes<'_>) -> bool
+    ensures parts { result ≡ are_parts (part_of part.now ∷ []) }
 {
-    is_part(bytes) && !is_taken(bytes)
+    is_part(part) && !is_taken(part.as_slice())
 }
 
-// Whether the bytes are a part.
-fn is_part(bytes: &[u8]) -> bool
-    ensures part { result ≡ is_part bytes.now }
+// Whether a script may hold this part.
+fn is_part(part: &WordBytes<'_>) -> bool
+    ensures part { result ≡ is_part (part_of part.now) }
+{
+    match part {
+        WordBytes::Text(bytes) => is_bare_part(bytes),
+        WordBytes::Name(_) => true,
+    }
+}
+
+// Whether the bytes are a part without quotes.
+fn is_bare_part(bytes: &[u8]) -> bool
+    ensures part { result ≡ is_bare_part bytes.now }
 {
     !bytes.is_empty()
         && begins_part(bytes[0])
@@ -100,26 +94,85 @@ fn are_name_bytes(bytes: &[u8]) -> bool
         .all(|b| b.is_ascii_alphanumeric() || *b == b'_')
 }
 
-// The parts of a name in double quotes.
+/// The first of these names that is that of the last part, the case of letters aside.
+pub fn met_name(names: &[Option<Name>], bytes: &[u8]) -> Option<Name>
+    ensures met { result ≡ met_name names.now bytes.now }
+{
+    match table_parts(bytes) {
+        Some(parts) => given_name(names, last_of(&parts).as_slice()),
+        None => given_name(names, b""),
+    }
+}
+
+// The last part.
+fn last_of<'s, 'a>(parts: &'s TableParts<'a>) -> &'s WordBytes<'a>
+    ensures last { bytes_in result.now ≡ last_of (parts_of parts.now) }
+{
+    match parts {
+        TableParts::One(last) => last,
+        TableParts::Two(_, last) => last,
+        TableParts::Three(_, _, last) => last,
+    }
+}
+
+// The first of these names that is this one, the case of letters aside.
+fn given_name(names: &[Option<Name>], bytes: &[u8]) -> Option<Name>
+    ensures met { result ≡ unwrap_or (find (is_given bytes.now) names.now) None }
+{
+    let mut rest = names;
+    while let [name, others @ ..] = rest {
+        if is_given(name, bytes) {
+            return *name;
+        }
+        rest = others;
+    }
+    None
+}
+
+// Whether this name is given, the case of letters aside.
+fn is_given(name: &Option<Name>, bytes: &[u8]) -> bool
+    ensures given { result ≡ is_given bytes.now name.now }
+{
+    match name {
+        Some(name) => bytes.eq_ignore_ascii_case(name.bytes()),
+        None => false,
+    }
+}
+
+/// The parts of a name in double quotes, each double quote in them doubled.
+#[tactic(auto, unfolding(crate::specs::Naming::quoted_table))]
 pub fn quote_table(alloc: Global, bytes: &[u8]) -> Result<Vec<u8>, OutOfMemory>
     ensures text { IfOk result (λ text. text.items ≡ quoted_table bytes.now) }
 {
     let mut text = Vec::new(alloc);
-    add(&mut text, b"\"")?;
-    for byte in bytes {
-        add_unquoted_dot(&mut text, *byte)?;
+    if let Some(parts) = table_parts(bytes) {
+        add_parts(&mut text, &parts)?;
     }
-    add(&mut text, b"\"")?;
     Ok(text)
 }
 
-// Adds a byte between double quotes; a dot is put outside of them.
-fn add_unquoted_dot(text: &mut Vec<u8>, byte: u8) -> Result<(), OutOfMemory>
-    ensures added { OnOk result (text.new.items ≡ text.old.items ++ byte_between_quotes byte) }
+// Adds parts, with a dot between two.
+fn add_parts(text: &mut Vec<u8>, parts: &TableParts<'_>) -> Result<(), OutOfMemory>
+    ensures added { OnOk result (text.new.items ≡ text.old.items ++ dotted_name (parts_of parts.now)) }
 {
-    if byte == b'.' {
-        add(text, b"\".\"")
-    } else {
-        add(text, &[byte])
+    match parts {
+        TableParts::One(last) => add_quoted(text, last.as_slice()),
+        TableParts::Two(first, last) => {
+            add_part(text, first)?;
+            add_quoted(text, last.as_slice())
+        }
+        TableParts::Three(first, second, last) => {
+            add_part(text, first)?;
+            add_part(text, second)?;
+            add_quoted(text, last.as_slice())
+        }
     }
+}
+
+// Adds a part and a dot.
+fn add_part(text: &mut Vec<u8>, part: &WordBytes<'_>) -> Result<(), OutOfMemory>
+    ensures added { OnOk result (text.new.items ≡ text.old.items ++ quoted (bytes_in part.now) ++ codes ".") }
+{
+    add_quoted(text, part.as_slice())?;
+    add(text, b".")
 }

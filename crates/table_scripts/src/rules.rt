@@ -30,7 +30,7 @@ pub fn rule_text(
     add_number(&mut text, alloc, line)?;
     add(&mut text, b": ")?;
     add_dep(&mut text, schema, dep)?;
-    add(&mut text, &breaches_text(alloc, schema, table, dep)?)?;
+    add(&mut text, &breaches_text(alloc, schema, table, line, dep)?)?;
     Ok(text)
 }
 
@@ -39,14 +39,15 @@ fn breaches_text(
     alloc: Global,
     schema: &Schema,
     table: &[u8],
+    line: u32,
     dep: Dep,
 ) -> Result<Vec<u8>, OutOfMemory>
     ensures text { IfOk result (λ text. text.items
-        ≡ breaches_text (check_query schema.now table.now (dependency_of dep))) }
+        ≡ breaches_text (check_query schema.now table.now line (dependency_of dep))) }
 {
     match dep {
-        Dep::Fd { lhs, rhs } => breaches_of_fd(alloc, schema, table, lhs, rhs),
-        Dep::Mvd { lhs, rhs } => breaches_of_mvd(alloc, schema, table, lhs, rhs),
+        Dep::Fd { lhs, rhs } => breaches_of_fd(alloc, schema, table, line, lhs, rhs),
+        Dep::Mvd { lhs, rhs } => breaches_of_mvd(alloc, schema, table, line, lhs, rhs),
     }
 }
 
@@ -54,16 +55,17 @@ fn breaches_of_fd(
     alloc: Global,
     schema: &Schema,
     table: &[u8],
+    line: u32,
     lhs: AttrSet,
     rhs: AttrSet,
 ) -> Result<Vec<u8>, OutOfMemory>
     ensures text { IfOk result (λ text. text.items
-        ≡ breaches_text (check_query schema.now table.now (fd (attributes lhs) (attributes rhs)))) }
+        ≡ breaches_text (check_query schema.now table.now line (fd (attributes lhs) (attributes rhs)))) }
 {
     if rhs.is_subset(lhs) {
         return holds_always(alloc);
     }
-    let query = several_text(alloc, schema, table, lhs, lhs.union(rhs))?;
+    let query = several_text(alloc, schema, table, line, lhs, lhs.union(rhs))?;
     line_of_query(alloc, b"\n", &query)
 }
 
@@ -71,11 +73,12 @@ fn breaches_of_mvd(
     alloc: Global,
     schema: &Schema,
     table: &[u8],
+    line: u32,
     lhs: AttrSet,
     rhs: AttrSet,
 ) -> Result<Vec<u8>, OutOfMemory>
     ensures text { IfOk result (λ text. text.items
-        ≡ breaches_text (check_query schema.now table.now (mvd (attributes lhs) (attributes rhs)))) }
+        ≡ breaches_text (check_query schema.now table.now line (mvd (attributes lhs) (attributes rhs)))) }
 {
     let universe = AttrSet::full(schema.width());
     let both = lhs.union(rhs);
@@ -86,7 +89,8 @@ fn breaches_of_mvd(
         return holds_always(alloc);
     }
     let rest = universe.difference(both);
-    let query = unpaired_text(alloc, schema, table, lhs, rhs.difference(lhs), rest)?;
+    let left = rhs.difference(lhs);
+    let query = unpaired_text(alloc, schema, table, line, lhs, left, rest)?;
     line_of_query(alloc, b"\n", &query)
 }
 

@@ -1,4 +1,5 @@
 ghost use Rattle.std.specs.Prelude.{◌≡◌, ◌++◌, codes, true, false, IfOk, OnOk, []};
+ghost use Rattle.std.specs.Fmt.{decimal};
 ghost use Rattle.attr_sets.specs.Sets.{attributes};
 ghost use Rattle.sql_syntax.specs.Printing.{selected_text, distinct_text, in_brackets, source_text, group_text};
 ghost use Rattle.check_queries.specs.Columns.{columns_on};
@@ -7,7 +8,7 @@ ghost use Rattle.check_queries.specs.Checks.{values_query};
 use crate::listing::{Listed, has_members, items_text};
 use attr_sets::AttrSet;
 use dep_model::{OutOfMemory, Schema};
-use schema_printer::add;
+use schema_printer::{add, add_number};
 use std::alloc::Global;
 
 // What is selected from what.
@@ -96,22 +97,36 @@ pub fn group_clause(alloc: Global, schema: &Schema, set: AttrSet) -> Result<Vec<
     grouped_text(alloc, &columns, b"")
 }
 
-// A number that is counted, where it passes a test; the source has this alias.
+// Items after the line of a dependency.
+pub fn after_line(alloc: Global, line: u32, items: &[u8]) -> Result<Vec<u8>, OutOfMemory>
+    ensures text { IfOk result
+        (λ text. text.items ≡ decimal line ++ codes " AS line, " ++ items.now) }
+{
+    let mut text = Vec::new(alloc);
+    add_number(&mut text, alloc, line)?;
+    add(&mut text, b" AS line, ")?;
+    add(&mut text, items)?;
+    Ok(text)
+}
+
+// After the line of a dependency a number that is counted, where it passes a test; the source has this alias.
 #[tactic(auto, unfolding(sql_syntax::specs::Printing::selected_text))]
 pub fn counted_text(
     alloc: Global,
+    line: u32,
     item: &[u8],
     source: &[u8],
     alias: &[u8],
     test: &[u8],
 ) -> Result<Vec<u8>, OutOfMemory>
     ensures text { IfOk result (λ text. text.items
-        ≡ selected_text false (codes "c.n") (in_brackets true
+        ≡ selected_text false (decimal line ++ codes " AS line, " ++ codes "c.n") (in_brackets true
         (selected_text false item.now source.now alias.now [])) (codes "c") test.now) }
 {
     let query = selected_text(alloc, false, item, source, alias, b"")?;
     let counts = in_brackets(alloc, &query)?;
-    selected_text(alloc, false, b"c.n", &counts, b"c", test)
+    let items = after_line(alloc, line, b"c.n")?;
+    selected_text(alloc, false, &items, &counts, b"c", test)
 }
 
 // A query as a statement, in a line below a comment.

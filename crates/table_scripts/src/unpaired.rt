@@ -1,14 +1,14 @@
-ghost use Rattle.std.specs.Prelude.{◌≡◌, ◌++◌, codes, true, false, IfOk};
+ghost use Rattle.std.specs.Prelude.{◌≡◌, ◌++◌, ◌∷◌, codes, true, false, IfOk};
 ghost use Rattle.attr_sets.specs.Sets.{attributes};
 ghost use Rattle.sql_names.specs.Names.{comma_list};
 ghost use Rattle.sql_syntax.specs.Printing.{selected_text, item_text, query_text, source_text, group_text};
 ghost use Rattle.check_queries.specs.Columns.{groups_on, groups_shown};
-ghost use Rattle.check_queries.specs.Checks.{unpaired_query, counts_query, three_counts, has_members};
+ghost use Rattle.check_queries.specs.Checks.{line_item, unpaired_query, counts_query, three_counts, has_members};
 ghost use Rattle.table_scripts.specs.Listing.{counts_of};
 
 use crate::listing::{Listed, has_members, items_text};
 use crate::selecting::{
-    counted_text, group_clause, grouped_text, in_brackets, selected_text, values_source,
+    after_line, counted_text, group_clause, grouped_text, in_brackets, selected_text, values_source,
 };
 use attr_sets::AttrSet;
 use dep_model::{OutOfMemory, Schema};
@@ -33,20 +33,21 @@ pub fn unpaired_text(
     alloc: Global,
     schema: &Schema,
     table: &[u8],
+    line: u32,
     lhs: AttrSet,
     first: AttrSet,
     second: AttrSet,
 ) -> Result<Vec<u8>, OutOfMemory>
     ensures text { IfOk result (λ text. text.items
-        ≡ query_text (unpaired_query schema.now table.now (attributes lhs) (attributes first)
+        ≡ query_text (unpaired_query schema.now table.now line (attributes lhs) (attributes first)
         (attributes second))) }
 {
     let source = three_counts(alloc, schema, table, lhs, first, second)?;
     if has_members(schema, lhs) {
-        groups_of_unpaired(alloc, schema, lhs, &source)
+        groups_of_unpaired(alloc, schema, line, lhs, &source)
     } else {
         let product = b"SUM(e.y) * SUM(e.z) - SUM(e.n) AS n";
-        counted_text(alloc, product, &source, b"e", b" WHERE c.n <> 0")
+        counted_text(alloc, line, product, &source, b"e", b" WHERE c.n <> 0")
     }
 }
 
@@ -54,16 +55,19 @@ pub fn unpaired_text(
 fn groups_of_unpaired(
     alloc: Global,
     schema: &Schema,
+    line: u32,
     lhs: AttrSet,
     source: &[u8],
 ) -> Result<Vec<u8>, OutOfMemory>
     requires members { has_members schema.now (attributes lhs) ≡ true }
     ensures text { IfOk result (λ text. text.items
-        ≡ selected_text false (comma_list item_text (groups_shown schema.now (attributes lhs)))
+        ≡ selected_text false
+        (comma_list item_text (line_item line ∷ groups_shown schema.now (attributes lhs)))
         source.now (codes "e") (group_text (groups_on schema.now (attributes lhs))
         ++ codes " HAVING SUM(e.y) * SUM(e.z) <> SUM(e.n)")) }
 {
-    let items = items_text(alloc, schema, lhs, Listed::GroupShown)?;
+    let shown = items_text(alloc, schema, lhs, Listed::GroupShown)?;
+    let items = after_line(alloc, line, &shown)?;
     let columns = items_text(alloc, schema, lhs, Listed::Group)?;
     let clause = grouped_text(alloc, &columns, b" HAVING SUM(e.y) * SUM(e.z) <> SUM(e.n)")?;
     selected_text(alloc, false, &items, source, b"e", &clause)

@@ -1,4 +1,4 @@
-use crate::calls::{File, call, failing_destination, slow_sink, slow_source};
+use crate::calls::{File, call, call_noted, failing_destination, slow_sink, slow_source};
 use desk_responses::Status;
 use destinations::Destination;
 use std::alloc::Global;
@@ -86,6 +86,45 @@ fn check_full(rt: &(impl Alloc<A = Global> + Abort), capacity: usize) -> Result<
 fn a_full_sink_holds_a_prefix(rt: HostRuntime) -> Result<(), Fail> {
     for capacity in 0..YES.len() {
         check_full(&rt, capacity)?;
+    }
+    Ok(())
+}
+
+const NOTICE: &[u8] = b"refused: the words form no command
+desk explain COMMAND                  reasons above what COMMAND prints: cover, keys, synthesize, split bcnf or split 4nf
+";
+
+// A full sink of notices holds just the front of a notice, and changes no status.
+fn check_notice(rt: &(impl Alloc<A = Global> + Abort), capacity: usize) -> Result<(), Fail> {
+    let alloc = rt.alloc();
+    let mut source = slow_source(alloc, &FILES, &[])?;
+    let mut sink = slow_sink(alloc, 1000)?;
+    let mut notices = slow_sink(alloc, capacity)?;
+    let mut destinations: Vec<Box<dyn Destination>> = Vec::new(alloc);
+    let ended = call_noted(
+        alloc,
+        &[b"explain"],
+        &mut source,
+        &mut sink,
+        &mut notices,
+        &mut destinations,
+    )?;
+    assert!(rt; ended == Status::Refused);
+    assert_eq!(rt;
+        sink.bytes(),
+        b"refused: the words form no command\n".as_slice()
+    );
+    assert!(rt;
+        NOTICE.get(..capacity) == Some(notices.bytes()),
+        "of {capacity}"
+    );
+    Ok(())
+}
+
+#[test]
+fn a_notice_that_cannot_be_written_changes_no_status(rt: HostRuntime) -> Result<(), Fail> {
+    for capacity in 0..=NOTICE.len() {
+        check_notice(&rt, capacity)?;
     }
     Ok(())
 }

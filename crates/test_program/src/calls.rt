@@ -42,6 +42,19 @@ pub(crate) fn call(
     sink: &mut MemorySink,
     destinations: &mut Vec<Box<dyn Destination>>,
 ) -> Result<Status, OutOfMemory> {
+    let mut notices = slow_sink(alloc, 1000)?;
+    call_noted(alloc, words, source, sink, &mut notices, destinations)
+}
+
+// The same with a sink of notices.
+pub(crate) fn call_noted(
+    alloc: Global,
+    words: &[&[u8]],
+    source: &mut MemoryFiles,
+    sink: &mut MemorySink,
+    notices: &mut MemorySink,
+    destinations: &mut Vec<Box<dyn Destination>>,
+) -> Result<Status, OutOfMemory> {
     let words = words_of(alloc, words)?;
     let mut own = folder_in_memory(alloc, &[], &[])?;
     desk(
@@ -50,6 +63,7 @@ pub(crate) fn call(
         &words,
         source,
         sink,
+        notices,
         destinations,
         &mut own,
     )

@@ -1,9 +1,10 @@
 -- What is left to prove of `statements_response`: its clause `response`, by what `migrate_script` does.
-use Rattle.std.proofs.Common.{◌≡◌, ℕ, List, subst, ap, ◌∙◌}
+use Rattle.std.proofs.Common.{◌≡◌, ℕ, List, length, subst, ap, ◌∙◌}
+use Rattle.dep_model.specs.Schemas.{width_of}
 use Rattle.check_laws.specs.Holding.{Holds}
 use Rattle.sql_evaluation.specs.Running.{State, engine_at, ended, stopped, outcome}
 use Rattle.migrate_queries.specs.Script.{migration}
-use Rattle.migrate_laws.specs.Moved.{HasMoved}
+use Rattle.migrate_laws.specs.Moved.{HasMoved, LeavesOthers}
 use Rattle.ending_laws.specs.Ending.{IsSoundRun}
 use Rattle.table_scripts.specs.Migrating.{migrate_text}
 use Rattle.table_scripts.specs.Naming.{quoted_table}
@@ -27,6 +28,14 @@ returns c =
               subst (λ (t : List ℕ). Holds (engine_at cast start) (quoted_table t) s cell r
               → outcome fails cast (migration s (quoted_table t) tables) start ≡ ended last → HasMoved s cast cell r tables last) same
               (script.moves fails cast cell r start last);
+          whole = λ fails cast cell r start last.
+              subst (λ (t : List ℕ). (holds : Holds (engine_at cast start) (quoted_table t) s cell r)
+              → outcome fails cast (migration s (quoted_table t) tables) start ≡ ended last → length holds.given.names ≡ width_of s) same
+              (script.whole fails cast cell r start last);
+          leaves = λ fails cast cell r start last.
+              subst (λ (t : List ℕ). Holds (engine_at cast start) (quoted_table t) s cell r
+              → outcome fails cast (migration s (quoted_table t) tables) start ≡ ended last → LeavesOthers tables start last) same
+              (script.leaves fails cast cell r start last);
           undoes = λ fails cast start kept.
               subst (λ (t : List ℕ). outcome fails cast (migration s (quoted_table t) tables) start ≡ stopped kept → kept ≡ start) same
               (script.undoes fails cast start kept);

@@ -13,7 +13,7 @@ returns-in-Err-Refused-TooManyKeys-clause-ends c = λ response is.
     let x = attributes c.args.scheme in
     let listed = subst (λ (failure : Failure SchemeKeyRefusal). IsRefusedFor s x failure) c.in-Err-Refused-TooManyKeys.field-0-is c.in-Err-Refused-TooManyKeys.ensures.refused in
     let many = subst (λ (refusal : SchemeKeyRefusal). IsRefusedFor s x (failed.Refused refusal)) c.in-Err-Refused-TooManyKeys.field-0-0-is listed in
-    inr (many.0, (_, many.1, c.too_many_keys_exit.ensures.says response is))
+    inr (many.0, (_, many.1, c.too_many_scheme_keys_exit.ensures.says response is))
 
 pub returns-in-Err-Refused-TooWide-clause-ends : goal.returns-in-Err-Refused-TooWide-clause-ends
 returns-in-Err-Refused-TooWide-clause-ends c = λ response is.

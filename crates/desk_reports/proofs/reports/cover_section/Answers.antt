@@ -1,5 +1,6 @@
 -- What is left to prove of `cover_section`: its clause, by `opens`.
 use Rattle.std.proofs.Common.{◌++◌, ap, ◌∙◌, codes}
+use Rattle.html_pages.specs.Commands.{shell_word}
 use Rattle.html_pages.specs.Pages.{section_text}
 use Rattle.html_pages.specs.Pages.{title_with_words}
 use Rattle.desk_covers.specs.Covering.{GivesCover}
@@ -8,7 +9,7 @@ use Rattle.desk_reports.proofs.reports.cover_section.Goals as goal
 
 pub returns : goal.returns
 returns c =
-    let title = title_with_words (codes "What the rules come to") (codes "cover " ++ c.args.file.now) in
+    let title = title_with_words (codes "What the rules come to") (codes "cover " ++ shell_word c.args.file.now) in
     record {
       section = (
         c.in_ok-pieces.pieces.items,

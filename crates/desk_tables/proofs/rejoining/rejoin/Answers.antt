@@ -12,7 +12,6 @@ returns-in_ok-response_of-in-Ok c = record {
       natural = c.in-Ok.ensures.natural;
       gives_back = c.in-Ok.ensures.gives_back;
       covered = c.in-Ok.ensures.covered;
-      within_limit = c.in-Ok.ensures.within_limit;
     },
     c.in_ok-response_of-in-Ok.ensures.says,
   );

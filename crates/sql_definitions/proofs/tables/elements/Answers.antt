@@ -31,7 +31,7 @@ returns-then-closes_table-clause-ok c =
     let whole = c.elements.invariant.0 ∙ ap (λ ls. elements c.args.dialect c.args.end 0 ls c.elements.definition) (sym c.split_at.ensures.back) in
     let step = first_read _ _ rest _ c.split_at-in-elements.result.1.now c.element_length-length.result _ _ some c.element_length-length.ensures.length
     c.split_at-in-elements.ensures.front c.split_at-in-elements.ensures.back (rw c.place_of.ensures.place at c.in-Ok.ensures.ok) in
-    let closed = table_closed _ _ c.split_at-in-elements-2.result.0.now c.split_at-in-elements-2.result.1.now _ _ c.split_at-in-elements-2.ensures.front c.split_at-in-elements-2.ensures.back (sym c.if-closes_table.ensures.exact) in
+    let closed = table_closed _ c.split_at-in-elements.result.1.now _ _ (sym c.if-closes_table.ensures.exact) in
     rw (whole ∙ step ∙ closed) (rw c.place_of-then-closes_table.ensures.place at c.close_table.ensures.ok)
 
 pub returns-then-closes_table-clause-err : goal.returns-then-closes_table-clause-err
@@ -41,7 +41,7 @@ returns-then-closes_table-clause-err c =
     let whole = c.elements.invariant.0 ∙ ap (λ ls. elements c.args.dialect c.args.end 0 ls c.elements.definition) (sym c.split_at.ensures.back) in
     let step = first_read _ _ rest _ c.split_at-in-elements.result.1.now c.element_length-length.result _ _ some c.element_length-length.ensures.length
     c.split_at-in-elements.ensures.front c.split_at-in-elements.ensures.back (rw c.place_of.ensures.place at c.in-Ok.ensures.ok) in
-    let closed = table_closed _ _ c.split_at-in-elements-2.result.0.now c.split_at-in-elements-2.result.1.now _ _ c.split_at-in-elements-2.ensures.front c.split_at-in-elements-2.ensures.back (sym c.if-closes_table.ensures.exact) in
+    let closed = table_closed _ c.split_at-in-elements.result.1.now _ _ (sym c.if-closes_table.ensures.exact) in
     rw (whole ∙ step ∙ closed) (rw c.place_of-then-closes_table.ensures.place at c.close_table.ensures.err)
 
 pub elements-preserved : goal.elements-preserved
@@ -52,7 +52,7 @@ elements-preserved c =
     let step = first_read _ _ rest _ c.split_at-in-elements.result.1.now c.element_length-length.result _ _ some c.element_length-length.ensures.length
     c.split_at-in-elements.ensures.front c.split_at-in-elements.ensures.back (rw c.place_of.ensures.place at c.in-Ok.ensures.ok) in
     let more = is_some _ c.if-is_empty.ensures in
-    let goes_on = table_goes_on _ c.split_at-in-elements.result.1.now c.split_at-in-elements-2.result.0.now _ _ more c.split_at-in-elements-2.ensures.front (sym c.if-closes_table.ensures.exact) in (
+    let goes_on = table_goes_on _ c.split_at-in-elements.result.1.now _ _ more (sym c.if-closes_table.ensures.exact) in (
       whole ∙ step ∙ goes_on ∙ left_after _ _ c.elements.at c.element_length-length.result c.args.lexemes.now rest _ c.split_at.ensures.back,
       omega (arith, more, c.split_at.ensures.back_len, c.split_at-in-elements.ensures.back_len),
     )

@@ -7,8 +7,8 @@ use Rattle.sql_schemas.proofs.keys.is_new.Goals as goal
 
 pub returns-then-not-is_subset : goal.returns-then-not-is_subset
 returns-then-not-is_subset c = record {
-  exact = new_from c.args.n c.args.keys.now c.args.key.now c.is_among.result
+  exact = new_from c.args.n (attributes c.args.missing) c.args.keys.now c.args.key.now c.is_said.result
       (c.if-not-is_subset.ensures.test
       ∙ ap (λ (x : Attributes). is_subset x (attributes c.args.key.now.columns)) c.full.ensures.members)
-      c.is_among.ensures.exact;
+      c.is_said.ensures.exact;
 }

@@ -6,7 +6,7 @@ use Rattle.sql_schemas.specs.Keys.{keys_after, keys_of}
 use Rattle.sql_schemas.proofs.keys.keys_of.Given as goal
 
 abbrev pub invariant-loop-rest : goal.invariant-loop-rest
-invariant-loop-rest l = keys_of l.dialect l.definition ≡ keys_after l.dialect l.definition (map key_columns l.keys.items) l.rest
+invariant-loop-rest l = keys_of l.definition ≡ keys_after l.definition.columns (map key_columns l.keys.items) l.rest
 
 abbrev pub decreases-loop-rest : goal.decreases-loop-rest
 decreases-loop-rest l = length l.rest

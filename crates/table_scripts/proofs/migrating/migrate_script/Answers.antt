@@ -15,7 +15,15 @@ returns-clause-view c = view_is_table c.args.schema.now c.args.design.now
 
 pub returns-clause-moves : goal.returns-clause-moves
 returns-clause-moves c fails cast cell r start last holds e =
-    all_moved fails cast c.args.schema.now (quoted_table c.args.table.now) cell r c.args.design.now start last holds e
+    (all_moved fails cast c.args.schema.now (quoted_table c.args.table.now) cell r c.args.design.now start last holds e).moved
+
+pub returns-clause-whole : goal.returns-clause-whole
+returns-clause-whole c fails cast cell r start last holds e =
+    (all_moved fails cast c.args.schema.now (quoted_table c.args.table.now) cell r c.args.design.now start last holds e).whole
+
+pub returns-clause-leaves : goal.returns-clause-leaves
+returns-clause-leaves c fails cast cell r start last holds e =
+    (all_moved fails cast c.args.schema.now (quoted_table c.args.table.now) cell r c.args.design.now start last holds e).leaves
 
 pub returns-clause-undoes : goal.returns-clause-undoes
 returns-clause-undoes c fails cast start kept e =

@@ -1,34 +1,16 @@
--- What is left to prove of `are_two_parts`: what it answers, case by case, by `ItemLemmas` and
--- `NamingLemmas`.
-use Rattle.std.proofs.Common.{◌≡◌, ◌+◌, Bool, true, false, ◌&&◌, List, ℕ, take, drop, sym, ap, ◌∙◌}
-use Rattle.table_scripts.specs.Naming.{is_part, are_parts, dotted_parts}
-use Rattle.table_scripts.proofs.ItemLemmas.{rest_slice}
-use Rattle.table_scripts.proofs.NamingLemmas.{end_parts, cut_parts}
+-- What is left to prove of `are_two_parts`: its clause `parts`, by `NamingLemmas`.
+use Rattle.std.proofs.Common.{[], ◌∷◌, sym, ◌∙◌}
+use Rattle.table_words.specs.Parts.{part_of}
+use Rattle.table_scripts.proofs.NamingLemmas.{more_parts, no_parts}
 use Rattle.table_scripts.proofs.naming.are_two_parts.Goals as goal
 
-pub returns-then-end-bytes : goal.returns-then-end-bytes
-returns-then-end-bytes c = record {
-  parts = c.is_last_part.ensures.part ∙ sym (end_parts 1 c.args.bytes.now (sym c.part_end-end.ensures.end ∙ c.if-end-bytes.true));
+pub returns-then-is_part : goal.returns-then-is_part
+returns-then-is_part c = record {
+  parts = c.is_last_part.ensures.parts
+      ∙ sym (more_parts (part_of c.args.first.now) (part_of c.args.last.now) [] (sym c.if-is_part.ensures.part));
 }
 
-pub returns-then-is_part : goal.returns-then-is_part
-returns-then-is_part c =
-    let bytes = c.args.bytes.now in
-    let n = c.part_end-end.result in
-    let front : is_part (take n bytes) ≡ true = sym c.if-is_part.ensures.part in
-    let rest : c.is_one_part.result ≡ are_parts 1 (dotted_parts (drop (n + 1) bytes)) =
-    c.is_one_part.ensures.parts ∙ ap (λ (more : List ℕ). are_parts 1 (dotted_parts more)) (rest_slice bytes (n + 1)) in
-    record {
-      parts = rest ∙ sym (cut_parts 1 bytes n c.part_end-end.ensures.end c.if-end-bytes.false
-          ∙ ap (λ (b : Bool). b && are_parts 1 (dotted_parts (drop (n + 1) bytes))) front);
-    }
-
 pub returns-else-is_part : goal.returns-else-is_part
-returns-else-is_part c =
-    let bytes = c.args.bytes.now in
-    let n = c.part_end-end.result in
-    let front : is_part (take n bytes) ≡ false = sym c.if-is_part.ensures.part in
-    record {
-      parts = c.if-is_part.false ∙ sym (cut_parts 1 bytes n c.part_end-end.ensures.end c.if-end-bytes.false
-          ∙ ap (λ (b : Bool). b && are_parts 1 (dotted_parts (drop (n + 1) bytes))) front);
-    }
+returns-else-is_part c = record {
+  parts = c.if-is_part.false ∙ sym (no_parts (part_of c.args.first.now) (part_of c.args.last.now ∷ []) (sym c.if-is_part.ensures.part));
+}

@@ -10,7 +10,7 @@ use Rattle.table_scripts.proofs.rules.breaches_of_mvd.Goals as goal
 pub returns-then-is_subset : goal.returns-then-is_subset
 returns-then-is_subset c = record {
   text = subst (λ (t : List ℕ). IfOk c.holds_always.result (λ text. text.items ≡ t))
-      (always_mvd c.args.schema.now c.args.table.now (attributes c.args.lhs) (attributes c.args.rhs) (sym c.is_subset.ensures.test ∙ c.if-is_subset.true))
+      (always_mvd c.args.schema.now c.args.table.now c.args.line (attributes c.args.lhs) (attributes c.args.rhs) (sym c.is_subset.ensures.test ∙ c.if-is_subset.true))
       c.holds_always.ensures.text;
 }
 
@@ -19,7 +19,7 @@ returns-then-is_subset-2 c =
     let s = c.args.schema.now in
     record {
       text = subst (λ (t : List ℕ). IfOk c.holds_always-then-is_subset-2.result (λ text. text.items ≡ t))
-          (always_all s c.args.table.now (attributes c.args.lhs) (attributes c.args.rhs) (attributes c.full-universe.result) (attributes c.union-both.result)
+          (always_all s c.args.table.now c.args.line (attributes c.args.lhs) (attributes c.args.rhs) (attributes c.full-universe.result) (attributes c.union-both.result)
           (c.full-universe.ensures.members ∙ ap below c.width.ensures.count) c.union-both.ensures.members
           (sym c.is_subset.ensures.test ∙ c.if-is_subset.false) (sym c.is_subset-2.ensures.test ∙ c.if-is_subset-2.true))
           c.holds_always-then-is_subset-2.ensures.text;
@@ -31,10 +31,10 @@ returns c =
     record {
       text = subst (λ (t : List ℕ). IfOk c.line_of_query.result (λ text. text.items ≡ t))
           (ap (λ (q : List ℕ). codes "\n" ++ (q ++ codes ";\n")) (c.deref.ensures.value ∙ c.in_ok-query.ensures.text)
-          ∙ mvd_rule s c.args.table.now (attributes c.args.lhs) (attributes c.args.rhs) (attributes c.full-universe.result) (attributes c.union-both.result)
-          (attributes c.difference.result) (attributes c.difference-rest.result)
+          ∙ mvd_rule s c.args.table.now c.args.line (attributes c.args.lhs) (attributes c.args.rhs) (attributes c.full-universe.result) (attributes c.union-both.result)
+          (attributes c.difference-left.result) (attributes c.difference-rest.result)
           (c.full-universe.ensures.members ∙ ap below c.width.ensures.count) c.union-both.ensures.members
-          c.difference.ensures.members c.difference-rest.ensures.members
+          c.difference-left.ensures.members c.difference-rest.ensures.members
           (sym c.is_subset.ensures.test ∙ c.if-is_subset.false) (sym c.is_subset-2.ensures.test ∙ c.if-is_subset-2.false))
           c.line_of_query.ensures.text;
     }

@@ -1,0 +1,3 @@
+-- The lemmas of nearest_lines.
+mod WordLemmas
+mod LineLemmas

@@ -1,0 +1,7 @@
+//! The lines of a help that are nearest to words: those that show most of the words that were given.
+#![tactic(auto)]
+
+mod forms;
+mod ranking;
+
+pub use ranking::{MOST_NEAREST, nearest};

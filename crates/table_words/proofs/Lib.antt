@@ -1,0 +1,3 @@
+-- The lemmas of table_words.
+mod FrontLemmas
+pub mod SpellingLemmas
