@@ -1,8 +1,10 @@
-//! Laws that answers rest on what a schema declares alone.
+//! Laws that answers rest on what a schema declares alone. No code.
 //!
-//! A schema of the code has more than it declares: the room in its vectors, and the numbers by which its sets are
-//! kept. What commands answer moves, relation by relation, to a schema that is built again; so two schemas that
-//! declare the same are answered alike (`desk_laws`).
+//! A schema of the code has more than it declares: the room in its vectors, and the numbers by
+//! which its sets are kept. So two schemas that declare the same are answered alike (`desk_laws`).
+//!
+//! Promises: each answer on a schema moves to another that declares the same, built again, relation
+//! by relation.
 #![tactic(auto)]
 
 mod declarations;

@@ -11,7 +11,8 @@ use Rattle.dep_model.proofs.RuleLemmas.{reflexivity_obeyed, transitivity_obeyed,
 use Rattle.fd_closure.proofs.ClosureLemmas.{fd_each-from}
 use Rattle.fd_closure.proofs.ClosedSets.{closure_set}
 use Rattle.armstrong_rel.specs.ClosedSets.{IsClosedSet, IsIrreducible}
-use Rattle.armstrong_rel.specs.Closures.{IsClosureOf, IsIntersectionBeyond}
+use Rattle.fd_closure.specs.Closures.{IsClosureOf}
+use Rattle.armstrong_rel.specs.Closures.{IsIntersectionBeyond}
 
 -- each set of attributes has a closure
 abbrev pub HaveClosures : ℕ → List Dependency → Type 0

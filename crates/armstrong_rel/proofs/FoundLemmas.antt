@@ -6,22 +6,22 @@ use Rattle.std.proofs.lemmas.Bool.Decides.{nat_tests}
 use Rattle.std.proofs.lemmas.List.{get_or-map, length-map, length_push}
 use Rattle.std.proofs.lemmas.List.Elements.{All-nil, All-push, All-weaker, All-map, Contains-push}
 use Rattle.std.proofs.lemmas.List.Quantifiers.{all_pairs_push}
-use Rattle.std.proofs.lemmas.List.Sorted.{All-permutation, length_permutation, IsNonDecreasingBy-from_sort}
+use Rattle.std.proofs.lemmas.List.Sorted.{All-permutation, length_permutation}
 use Rattle.std.specs.List.Sorted.{IsSorted, IsPermutation}
 use Rattle.std.specs.Ordering.{nat_cmp}
 use Rattle.attr_sets.specs.Attributes.{Attributes, below, none, union, intersection, IsSubset, IsBefore, IsNextSubset}
 use Rattle.attr_sets.specs.Sets.{attributes}
 use Rattle.attr_sets.specs.declared.set.AttrSet.{AttrSet}
 use Rattle.attr_sets.specs.declared.set.TheConstants.{MOST_ATTRIBUTES}
-use Rattle.attr_sets.proofs.AttributesLemmas.{attributes-at_number, same_at, same_from_within}
-use Rattle.attr_sets.proofs.OrderLemmas.{before_from_lt, IsBefore-irrefl, IsBefore-trans, tell_before, next_subset-before, none-first, whole-last}
+use Rattle.attr_sets.proofs.AttributesLemmas.{same_at, same_from_within}
+use Rattle.attr_sets.proofs.OrderLemmas.{sorted_ascend, IsBefore-irrefl, IsBefore-trans, tell_before, next_subset-before, none-first, whole-last}
 use Rattle.dep_model.specs.Dependencies.{Dependency, functional_part, IsWithin}
 use Rattle.dep_model.specs.Plans.{schemes_of}
 use Rattle.dep_model.proofs.ListLemmas.{Any-from, Any-left}
 use Rattle.fd_closure.specs.LeftSides.{left_sides}
 use Rattle.armstrong_rel.specs.declared.refusal.TheConstants.{MOST_EXHIBITED_ROWS}
 use Rattle.armstrong_rel.specs.ClosedSets.{IsIrreducible, AreIrreducible}
-use Rattle.armstrong_rel.specs.Closures.{IsClosureOf}
+use Rattle.fd_closure.specs.Closures.{IsClosureOf}
 use Rattle.armstrong_rel.specs.Parts.{IsClosedPart, IsLacking, in_no_left_side, filled_but}
 use Rattle.armstrong_rel.specs.Searching.{AreFound, AreFoundSets, HasPartBefore, HasPartUpTo}
 use Rattle.armstrong_rel.specs.Refusals.{AreTooMany}
@@ -367,18 +367,6 @@ pub parts_left-less : (set : AttrSet) (now next : Option AttrSet) → now ≡ So
 parts_left-less set now next is fits more = subst (λ (o : Option AttrSet). parts_left next < parts_left o) (sym is) (less_from set next fits more)
 
 -- ---- the sets in their order
-sorted_ascend : (found : List AttrSet) → AllPairs (λ s t. attributes s ≡ attributes t → ⊥) found → All (λ (s : AttrSet). s.0 < 2 ^ MOST_ATTRIBUTES) found
-    → IsSorted (λ (s t : AttrSet). nat_cmp s.0 t.0) found → AllPairs (λ s t. IsBefore (attributes s) (attributes t)) found
-sorted_ascend found differ fit sorted i j d before l =
-    let x = get_or found i d in
-    let y = get_or found j d in
-    let rises : x.0 ≤ y.0 = IsNonDecreasingBy-from_sort (λ (s : AttrSet). s.0) found sorted i j d (omega (arith, before)) l in
-    before_from_lt x y (fit j d l)
-    (⊎_elim
-    (λ (same : x.0 ≡ y.0). absurd (differ i j d before l (attributes-at_number x y same)))
-    (λ (other : x.0 ≡ y.0 → ⊥). omega (arith, rises, other))
-    (cases_eq x.0 y.0))
-
 -- all parts were gone through, and what was found is sorted
 pub found_sorted : (n : ℕ) (ds : List Dependency) (next : Option AttrSet) (found sorted : List AttrSet) → next ≡ None → IsWalk n ds next found
     → IsPermutation found sorted → IsSorted (λ (s t : AttrSet). nat_cmp s.0 t.0) sorted → AreFoundSets n ds sorted

@@ -7,7 +7,7 @@ use Rattle.attr_sets.proofs.AttributesLemmas.{same_at}
 use Rattle.dep_model.specs.Dependencies.{Dependency}
 use Rattle.dep_model.specs.Keys.{InClosure}
 use Rattle.fd_closure.specs.LeftSides.{left_sides}
-use Rattle.armstrong_rel.specs.Closures.{IsClosureOf}
+use Rattle.fd_closure.specs.Closures.{IsClosureOf}
 use Rattle.armstrong_rel.specs.Parts.{IsSharedBeyond}
 
 -- the same, as far as the attributes below this one

@@ -2,20 +2,13 @@ ghost use Rattle.std.specs.Prelude.{IfOk, All};
 ghost use Rattle.attr_sets.specs.Attributes.{IsSubset};
 ghost use Rattle.attr_sets.specs.Sets.{attributes};
 ghost use Rattle.dep_model.specs.Schemas.{width_of, universe_of, theory_of};
-ghost use Rattle.armstrong_rel.specs.Closures.{IsClosureOf, IsKnown};
+ghost use Rattle.fd_closure.specs.Closures.{IsClosureOf, IsKnownClosure};
 ghost use Rattle.armstrong_rel.specs.Refusals.{IsFunctional};
 
 use attr_sets::AttrSet;
 use dep_model::{OutOfMemory, Schema};
-use fd_closure::closure;
+use fd_closure::{KnownClosure, functional_closure, known_closure};
 use std::alloc::Global;
-
-/// A set, and its closure.
-#[derive(Clone, Copy, Drop)]
-pub struct KnownClosure {
-    pub of: AttrSet,
-    pub closure: AttrSet,
-}
 
 // The closure of each subset of a set, in their order, so that each is found once.
 pub fn closures(
@@ -25,14 +18,15 @@ pub fn closures(
 ) -> Result<Vec<KnownClosure>, OutOfMemory>
     requires functional { IsFunctional schema.now }
     requires whole { IsSubset (attributes whole) (universe_of schema.now) }
-    ensures known { IfOk result (λ table. All (IsKnown schema.now) table.items) }
+    ensures known { IfOk result (λ table.
+        All (IsKnownClosure (width_of schema.now) (theory_of schema.now)) table.items) }
 {
     let mut table = Vec::new(alloc);
     let mut next = Some(AttrSet::empty());
     while let Some(set) = next {
         table.push(KnownClosure {
             of: set,
-            closure: closure(schema.deps(), set),
+            closed: functional_closure(schema.deps(), set),
         })?;
         next = set.next_subset(whole);
     }
@@ -40,17 +34,15 @@ pub fn closures(
 }
 
 // The closure of a set, by a table where the set stands there at a position. The position is a guess.
-pub fn closure_of(schema: &Schema, table: &[KnownClosure], set: AttrSet, position: usize) -> AttrSet
+pub fn closed_at(schema: &Schema, table: &[KnownClosure], set: AttrSet, position: usize) -> AttrSet
     requires functional { IsFunctional schema.now }
     requires set { IsSubset (attributes set) (universe_of schema.now) }
-    requires table { All (IsKnown schema.now) table.now }
+    requires table { All (IsKnownClosure (width_of schema.now) (theory_of schema.now)) table.now }
     ensures closure { IsClosureOf (width_of schema.now) (theory_of schema.now) (attributes set)
         (attributes result) }
 {
-    if let Some(known) = table.get(position) {
-        if known.of == set {
-            return known.closure;
-        }
+    match known_closure(table, set, position) {
+        Some(closed) => closed,
+        None => functional_closure(schema.deps(), set),
     }
-    closure(schema.deps(), set)
 }

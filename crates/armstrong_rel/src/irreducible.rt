@@ -4,15 +4,16 @@ ghost use Rattle.attr_sets.specs.Sets.{attributes};
 ghost use Rattle.dep_model.specs.Schemas.{width_of, universe_of, theory_of};
 ghost use Rattle.fd_closure.specs.LeftSides.{left_sides};
 ghost use Rattle.armstrong_rel.specs.declared.refusal.TheConstants.{MOST_EXHIBITED_ROWS};
-ghost use Rattle.armstrong_rel.specs.Closures.{IsKnown};
+ghost use Rattle.fd_closure.specs.Closures.{IsKnownClosure};
 ghost use Rattle.armstrong_rel.specs.Parts.{IsClosedPart, IsSharedBeyond, IsLacking};
 ghost use Rattle.armstrong_rel.specs.Refusals.{IsFunctional};
 ghost use Rattle.armstrong_rel.specs.Searching.{AreFound, AreFoundSets, HasPartBefore, HasPartUpTo};
 
-use crate::closures::{KnownClosure, closure_of, closures};
+use crate::closures::{closed_at, closures};
 use crate::refusal::MOST_EXHIBITED_ROWS;
 use attr_sets::AttrSet;
 use dep_model::{OutOfMemory, Schema};
+use fd_closure::KnownClosure;
 use std::alloc::Global;
 
 // The irreducible closed sets, ascending: all of them, or as many as a relation has no rows for. Each is
@@ -51,14 +52,14 @@ fn add_sets_with(
 ) -> Result<(), OutOfMemory>
     requires functional { IsFunctional schema.now }
     requires used { attributes used ≡ left_sides (theory_of schema.now) }
-    requires table { All (IsKnown schema.now) table.now }
+    requires table { All (IsKnownClosure (width_of schema.now) (theory_of schema.now)) table.now }
     requires part { IsSubset (attributes part) (left_sides (theory_of schema.now)) }
     requires found { AreFound (width_of schema.now) (theory_of schema.now)
         (HasPartBefore (theory_of schema.now) (attributes part)) found.old.items }
     ensures found { OnOk result (AreFound (width_of schema.now) (theory_of schema.now)
         (HasPartUpTo (theory_of schema.now) (attributes part)) found.new.items) }
 {
-    let closed = closure_of(schema, table, part, position);
+    let closed = closed_at(schema, table, part, position);
     if closed.intersection(used) != part {
         return Ok(());
     }
@@ -76,7 +77,7 @@ fn shared_beyond(
 ) -> AttrSet
     requires functional { IsFunctional schema.now }
     requires used { attributes used ≡ left_sides (theory_of schema.now) }
-    requires table { All (IsKnown schema.now) table.now }
+    requires table { All (IsKnownClosure (width_of schema.now) (theory_of schema.now)) table.now }
     requires part { IsSubset (attributes part) (left_sides (theory_of schema.now)) }
     ensures shared { IsSharedBeyond (width_of schema.now) (theory_of schema.now) (attributes part)
         (attributes result) }
@@ -86,7 +87,7 @@ fn shared_beyond(
     for attribute in 0..schema.width() {
         if used.difference(part).contains(attribute) {
             let more = part.with(attribute);
-            let closed = closure_of(schema, table, more, position.wrapping_add(step));
+            let closed = closed_at(schema, table, more, position.wrapping_add(step));
             shared = shared.intersection(closed);
         }
         if used.contains(attribute) {

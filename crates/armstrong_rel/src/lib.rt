@@ -1,9 +1,10 @@
 //! Example relations: for a schema of functional dependencies a relation that obeys those that the
 //! schema implies and breaks all others (Armstrong 1974; Beeri, Dowd, Fagin and Statman 1984).
 //!
-//! `exhibit` gives the relation of the irreducible closed sets. For all sets of attributes of the
-//! universe it obeys `X -> Y` exactly where the schema implies it; so it is legal. `laws` has the
-//! theorems.
+//! `exhibit` gives the relation of the irreducible closed sets. `laws` has the theorems.
+//!
+//! Promises: for all sets of attributes of the universe the relation obeys `X -> Y` exactly where
+//! the schema implies it; so it is legal.
 #![tactic(auto)]
 
 mod closures;

@@ -17,6 +17,12 @@ use Rattle.attr_sets.proofs.BitLemmas.{has_bit-below, same_from_has_bit, number_
 pub same_at : {x y : Attributes} → x ≡ y → (k : ℕ) → x k ≡ y k
 same_at same k = ap (λ z. z k) same
 
+-- two tests, each of which passes where the other does
+pub same_truth : (a b : Bool) → (a ≡ true → b ≡ true) → (b ≡ true → a ≡ true) → a ≡ b
+same_truth true b there back = sym (there refl)
+same_truth false true there back = back refl
+same_truth false false there back = refl
+
 -- each within the other
 pub same_from_within : (x y : Attributes) → IsSubset x y → IsSubset y x → x ≡ y
 same_from_within x y there back = fun_ext (λ k. grind (arith, there k, back k))

@@ -1,3 +1,4 @@
 pub mod BitLemmas
 pub mod OrderLemmas
 pub mod AttributesLemmas
+pub mod UpToLemmas

@@ -1,14 +1,16 @@
 -- The order of sets by their numbers is the order by the greatest attribute in which they differ.
-use Rattle.std.proofs.Common.{◌≡◌, ℕ, zero, suc, ◌/◌, ◌^◌, ◌<◌, ◌≤◌, Bool, true, false, pow-suc, refl, sym, ap, ◌∙◌, ◌⊎◌, inl, inr, ⊎_elim, arith}
+use Rattle.std.proofs.Common.{◌≡◌, ℕ, zero, suc, ◌/◌, ◌^◌, ◌<◌, ◌≤◌, Bool, true, false, List, get_or, pow-suc, refl, sym, ap, ◌∙◌, ◌⊎◌, inl, inr, ⊎_elim, arith}
 use mathlib.Core.Path.{fun_ext}
 use Rattle.std.specs.Int.{bit_at}
 use Rattle.std.specs.Ordering.{nat_cmp, MatchOrdering}
 use Rattle.std.specs.Cmp.{ranks}
+use Rattle.std.specs.Prelude.{All, AllPairs, IsSorted}
 use Rattle.std.specs.declared.cmp.Ordering.{Ordering}
 use Rattle.std.specs.declared.cmp.Ordering.TheVariants.{Less, Equal, Greater}
 use Rattle.attr_sets.proofs.AttributesLemmas.{attributes-at_number, same_at}
 use Rattle.std.proofs.lemmas.Bool.{cases_lt, cases_eq, cases_order, true≢false}
 use Rattle.std.proofs.lemmas.Bool.Decides.{nat_tests}
+use Rattle.std.proofs.lemmas.List.Sorted.{IsNonDecreasingBy-from_sort}
 use Rattle.std.proofs.lemmas.Nat.Bits.{bit_at_lowest, bit_at-suc, bit_at-lt, bit_at_above, same_from_bits}
 use Rattle.attr_sets.specs.declared.set.AttrSet.{AttrSet}
 use Rattle.attr_sets.specs.declared.set.TheConstants.{MOST_ATTRIBUTES}
@@ -172,3 +174,16 @@ none-first z before = absurd (true≢false (sym before.2))
 -- and the whole set the last
 pub whole-last : (whole z : Attributes) → IsSubset z whole → IsBefore whole z → ⊥
 whole-last whole z z_in before = true≢false (sym (z_in before.0 before.2) ∙ before.1)
+
+-- different sets ascend once they are sorted by their numbers
+pub sorted_ascend : (sets : List AttrSet) → AllPairs (λ s t. attributes s ≡ attributes t → ⊥) sets → All (λ (s : AttrSet). s.0 < 2 ^ MOST_ATTRIBUTES) sets
+    → IsSorted (λ (s t : AttrSet). nat_cmp s.0 t.0) sets → AllPairs (λ s t. IsBefore (attributes s) (attributes t)) sets
+sorted_ascend sets differ fit sorted i j d before l =
+    let x = get_or sets i d in
+    let y = get_or sets j d in
+    let rises : x.0 ≤ y.0 = IsNonDecreasingBy-from_sort (λ (s : AttrSet). s.0) sets sorted i j d (omega (arith, before)) l in
+    before_from_lt x y (fit j d l)
+    (⊎_elim
+    (λ (same : x.0 ≡ y.0). absurd (differ i j d before l (attributes-at_number x y same)))
+    (λ (other : x.0 ≡ y.0 → ⊥). omega (arith, rises, other))
+    (cases_eq x.0 y.0))

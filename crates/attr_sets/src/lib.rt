@@ -1,9 +1,11 @@
-//! Sets of attributes, as the bits of a number of fixed width.
+//! Sets of attributes, as the bits of a number of fixed width, 128 of them.
 //!
-//! Each operation is the set operation that it is named for. A contract reads an `AttrSet` by one
-//! definition, `attributes`: the attributes below `MOST_ATTRIBUTES` whose bit is set. `==` says
-//! whether two sets have the same members, and `cmp` goes by the greatest attribute in which they
-//! differ.
+//! A contract reads an `AttrSet` by one definition, `attributes`: the attributes below
+//! `MOST_ATTRIBUTES` whose bit is set. `==` says whether two sets have the same members, and `cmp`
+//! goes by the greatest attribute in which they differ.
+//!
+//! Promises: each operation is the set operation that it is named for; the subsets of a set come
+//! one after the other.
 #![tactic(auto)]
 
 mod set;

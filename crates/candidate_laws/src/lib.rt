@@ -1,10 +1,13 @@
-//! Which left sides of functional dependencies rows still allow, by what pairs of them agree on.
+//! Which left sides of functional dependencies rows still allow, by what pairs of them agree on:
+//! the laws on which a search stands that keeps candidates in place of trying every set (Papenbrock
+//! and Naumann 2016). No code.
 //!
-//! The laws on which a search stands that keeps candidates in place of trying every set (Papenbrock
-//! and Naumann 2016): what rows obey stands against their evidence; where all candidates are
-//! obeyed, they are exactly the minimal dependencies; a candidate that is not obeyed gives new
-//! evidence. Each law is a function that does nothing, whose clause is the law; so the gate asks
-//! for its proof.
+//! Each law is a function that does nothing, whose clause is the law; so the gate asks for its
+//! proof.
+//!
+//! Promises: what rows obey stands against their evidence; where all candidates are obeyed they are
+//! exactly the minimal dependencies; what one more piece of evidence makes of them, and that a
+//! candidate that is not obeyed gives such a piece.
 #![tactic(auto)]
 
 ghost use Rattle.std.specs.Prelude.{◌≡◌, ◌≢◌, ℕ, ◌<◌, ◌≤◌, ◌↔◌, true, false, List, [], ◌∷◌, length, All, AllPairs, Contains};

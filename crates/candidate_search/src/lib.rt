@@ -1,7 +1,12 @@
 //! The minimal left sides of functional dependencies that rows obey, by candidates and evidence.
 //!
-//! `minimal_left_sides` tests the candidates of each right side by their sizes, until the rows obey all
-//! of them: then they are the left sides of the minimal dependencies, and no other set is.
+//! `minimal_left_sides` tests the candidates of each right side by their sizes, until the rows obey
+//! all of them: then they are the left sides of the minimal dependencies, and no other set is.
+//!
+//! Promises: for each right side exactly the left sides of its minimal dependencies of at most so
+//! many columns, or a refusal where some evidence has more than 1,000,000 candidates; on which
+//! columns two rows agree; two rows that do not obey a dependency, or none exactly where the rows
+//! obey it.
 #![tactic(auto)]
 
 mod asking;

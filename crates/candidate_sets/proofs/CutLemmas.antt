@@ -1,6 +1,6 @@
 -- The greatest attribute in which two sets differ: as the highest bit of their numbers' difference, and
 -- as the place where an ascending list between them is cut in two.
-use Rattle.std.proofs.Common.{inl, inr, ◌≡◌, ◌+◌, ◌-◌, ◌/◌, ◌^◌, ◌<◌, ◌≤◌, ◌⊎◌, ℕ, zero, suc, Bool, true, false, not, List, length, get_or, bit_xor, refl, sym, ap, subst, ◌∙◌, pow-suc, arith}
+use Rattle.std.proofs.Common.{inl, inr, ◌≡◌, ◌+◌, ◌-◌, ◌/◌, ◌^◌, ◌<◌, ◌≤◌, ℕ, zero, suc, Bool, true, false, not, List, length, get_or, bit_xor, refl, sym, ap, subst, ◌∙◌, pow-suc, arith}
 use Rattle.std.specs.Int.{bit_at}
 use Rattle.std.specs.Int.Count.{count_leading_zeros}
 use Rattle.std.proofs.lemmas.Bool.{cases_Bool, cases_eq, cases_lt, cases_order, ltb-true, true≢false}
@@ -13,6 +13,7 @@ use Rattle.attr_sets.specs.declared.set.AttrSet.{AttrSet}
 use Rattle.attr_sets.specs.declared.set.TheConstants.{MOST_ATTRIBUTES}
 use Rattle.attr_sets.specs.Sets.{attributes, has_bit}
 use Rattle.attr_sets.proofs.AttributesLemmas.{attributes_below}
+use Rattle.attr_sets.proofs.UpToLemmas.{IsUpTo}
 use Rattle.candidate_sets.specs.Cuts.{ArePartedAt, Ascend, IsCut}
 
 -- ---- the highest bit
@@ -98,10 +99,6 @@ module _ (x y : AttrSet) (x_fits : x.0 < 2 ^ MOST_ATTRIBUTES) (y_fits : y.0 < 2 
       (record { lacks = before.1; has = before.2; above = before.3 })
 
 -- ---- ascending lists
--- x is y or comes before it
-abbrev pub IsUpTo : Attributes → Attributes → Type 0
-IsUpTo x y = (x ≡ y) ⊎ IsBefore x y
-
 -- a set between two that agree above an attribute agrees with them
 pub agrees_between : (x y z : Attributes) (k : ℕ) → IsUpTo x y → IsUpTo y z → ((j : ℕ) → k < j → x j ≡ z j)
     → (j : ℕ) → k < j → x j ≡ y j

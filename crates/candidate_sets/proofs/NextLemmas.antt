@@ -2,19 +2,19 @@
 use Rattle.std.proofs.Common.{inl, inr, ◌≡◌, ◌≢◌, ◌+◌, ◌^◌, ◌<◌, ◌≤◌, ◌⊎◌, ◌&&◌, ◌==◌, nat_lt, ℕ, Bool, not, true, false, List, ◌∷◌, ◌++◌, length, filter, get_or, refl, sym, ap, subst, ◌∙◌, length-append, arith}
 use Rattle.std.specs.Ordering.{nat_cmp}
 use Rattle.std.specs.Prelude.{All, AllPairs, Contains, IsPermutation, IsSorted}
-use Rattle.std.proofs.lemmas.Bool.{cases_Bool, cases_eq, eq-eqb, lt-ltb, ltb-true, true≢false}
+use Rattle.std.proofs.lemmas.Bool.{cases_Bool, eq-eqb, lt-ltb, ltb-true, true≢false}
 use Rattle.std.proofs.lemmas.Bool.Decides.{nat_tests}
 use Rattle.std.proofs.lemmas.List.{get_or-map, length-map}
 use Rattle.std.proofs.lemmas.List.Elements.{All-append, All-contains, All-map, All-weaker, Contains-append_cases, Contains-append_left, Contains-append_right, Contains-get_or}
 use Rattle.std.proofs.lemmas.List.Sums.{count_by-le-length, length-filter}
 use Rattle.std.proofs.lemmas.List.Kept.{AllPairs-filter}
-use Rattle.std.proofs.lemmas.List.Sorted.{All-permutation, Contains-permutation, IsNonDecreasingBy-from_sort, IsPermutation-sym}
+use Rattle.std.proofs.lemmas.List.Sorted.{All-permutation, Contains-permutation, IsPermutation-sym}
 use Rattle.attr_sets.specs.Attributes.{Attributes, Disjoint, IsBefore, IsSubset, below, count_below, difference, only, union}
 use Rattle.attr_sets.specs.declared.set.AttrSet.{AttrSet}
 use Rattle.attr_sets.specs.declared.set.TheConstants.{MOST_ATTRIBUTES}
 use Rattle.attr_sets.specs.Sets.{attributes, is_subset}
-use Rattle.attr_sets.proofs.AttributesLemmas.{attributes-at_number, attributes_below, count_below-low, count_below-union_only, is_subset-from, is_subset-not, is_subset-true, same_at}
-use Rattle.attr_sets.proofs.OrderLemmas.{IsBefore-irrefl, before_from_lt}
+use Rattle.attr_sets.proofs.AttributesLemmas.{attributes_below, count_below-low, count_below-union_only, is_subset-from, is_subset-not, is_subset-true, same_at}
+use Rattle.attr_sets.proofs.OrderLemmas.{IsBefore-irrefl, sorted_ascend}
 use Rattle.dep_model.specs.Plans.{schemes_of}
 use Rattle.dep_model.proofs.DistinctLemmas.{filter-keeps, filter-member}
 use Rattle.dep_model.proofs.ListLemmas.{Contains-map, map-member}
@@ -29,22 +29,14 @@ use Rattle.candidate_sets.proofs.GrowLemmas.{Differ, different_append}
 
 -- ---- lists in order
 -- different sets ascend once they are sorted by their numbers
-pub sorted_ascend : (sets sorted : List AttrSet) → AreDifferent sets → IsPermutation sets sorted
+pub rearranged_ascend : (sets sorted : List AttrSet) → AreDifferent sets → IsPermutation sets sorted
     → IsSorted (λ (s t : AttrSet). nat_cmp s.0 t.0) sorted → Ascend sorted
-sorted_ascend sets sorted different moved in_order i j d before l =
-    let x : AttrSet = get_or sorted i d in
-    let y : AttrSet = get_or sorted j d in
-    let rises : x.0 ≤ y.0 =
-    IsNonDecreasingBy-from_sort (λ (s : AttrSet). s.0) sorted in_order i j d (omega (arith, before)) l in
-    let fits : y.0 < 2 ^ MOST_ATTRIBUTES =
-    All-permutation (λ (s : AttrSet). s.0 < 2 ^ MOST_ATTRIBUTES) sets sorted moved different.numbers j d l in
-    let apart : attributes x ≢ attributes y =
-    AllPairs-permutation (λ (s t : AttrSet). attributes s ≢ attributes t) (λ s t other same. other (sym same))
-    sets sorted moved different.differ i j d before l in
-    before_from_lt x y fits (elim (cases_eq x.0 y.0) [
-      | inl same ↦ absurd (apart (attributes-at_number x y same))
-      | inr other ↦ omega (arith, rises, other)
-    ])
+rearranged_ascend sets sorted different moved in_order =
+    sorted_ascend sorted
+    (AllPairs-permutation (λ (s t : AttrSet). attributes s ≢ attributes t) (λ s t other same. other (sym same))
+    sets sorted moved different.differ)
+    (All-permutation (λ (s : AttrSet). s.0 < 2 ^ MOST_ATTRIBUTES) sets sorted moved different.numbers)
+    in_order
 
 pub ascending_schemes : (sets : List AttrSet) → Ascend sets → AllPairs IsBefore (schemes_of sets)
 ascending_schemes sets ascend i j d before l =
@@ -289,7 +281,7 @@ module _ (n most a : ℕ) (e : Attributes) (candidates : List AttrSet) (es : Lis
       kept = kept_sorted;
       new = new_sorted;
       ascending = ascending_schemes sorted
-          (sorted_ascend (kept ++ new) sorted (both_differ new numbers fresh.each fresh.different) moved in_order);
+          (rearranged_ascend (kept ++ new) sorted (both_differ new numbers fresh.each fresh.different) moved in_order);
     }
 
     pub next_are : e a ≡ false → AreCandidates n most (e ∷ es) a (schemes_of sorted)

@@ -1,7 +1,11 @@
-//! The chase of a plan (Aho, Beeri and Ullman 1979; Maier, Mendelzon and Sagiv 1979): tableaux, steps and
-//! rounds, and the laws on which the code of `tableau_chase` stands.
+//! The chase of a plan (Aho, Beeri and Ullman 1979; Maier, Mendelzon and Sagiv 1979): tableaux,
+//! steps and rounds, and the laws on which the code of `tableau_chase` stands. No code.
 //!
-//! Each law is a function that does nothing, whose clause is the law; so the gate asks for its proof.
+//! Each law is a function that does nothing, whose clause is the law; so the gate asks for its
+//! proof.
+//!
+//! Promises: both halves of the chase's answer; what a tableau closes functionally to is unique; a
+//! plan has one closed tableau at most.
 #![tactic(auto)]
 
 ghost use Rattle.std.specs.Prelude.{◌≡◌, ◌<◌, ◌≤◌, ◌^◌, ℕ, List, length, Contains};

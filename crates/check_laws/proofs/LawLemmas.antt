@@ -35,7 +35,7 @@ not_empty-map : {X Y : Type 0} (f : X → Y) (xs : List X) → is_not_empty (map
 not_empty-map f [] = refl
 not_empty-map f (x ∷ xs) = refl
 
-nil_not_empty : {X : Type 0} (xs : List X) → is_not_empty xs ≡ false → xs ≡ []
+pub nil_not_empty : {X : Type 0} (xs : List X) → is_not_empty xs ≡ false → xs ≡ []
 nil_not_empty [] e = refl
 nil_not_empty (x ∷ xs) e = absurd (true≢false e)
 

@@ -1,8 +1,11 @@
-//! What the queries of `sql check` give, by the evaluator of SQL's syntax, over a table that holds a relation:
-//! no row exactly where no value is missing that may not be, where the integers are integers, and where the
-//! relation obeys the dependency.
+//! Laws of what the queries of `sql check` give, by the evaluator of SQL's syntax. No code.
 //!
-//! Each law is a function that does nothing, whose clauses are the law; so the gate asks for its proof.
+//! Each law is a function that does nothing, whose clauses are the law; so the gate asks for its
+//! proof.
+//!
+//! Promises: over a table that holds a relation the query of a dependency ends without an error,
+//! and gives no row exactly where the relation obeys it; the same of missing values and of
+//! integers, and of the whole script; for each relation there is such a table.
 #![tactic(auto)]
 
 ghost use Rattle.std.specs.Prelude.{◌≡◌, ◌↔◌, ◌<◌, ℕ, List, [], true};

@@ -5,7 +5,7 @@ ghost use Rattle.dep_model.specs.Schemas.{width_of, universe_of, theory_of};
 ghost use Rattle.closure_steps.specs.Without.{AreClosuresWithout};
 
 use attr_sets::AttrSet;
-use dep_basis::closure_of;
+use dep_basis::closure;
 use dep_model::{OutOfMemory, Schema};
 use std::alloc::Global;
 
@@ -32,7 +32,7 @@ pub fn closures_without(
     let mut found = Vec::new(alloc);
     for attribute in 0..schema.width() {
         if set.contains(attribute) {
-            let closed = closure_of(schema, set.without(attribute));
+            let closed = closure(schema, set.without(attribute));
             found.push(Without { attribute, closed })?;
         }
     }

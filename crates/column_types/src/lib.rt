@@ -1,9 +1,10 @@
-//! The type of a column of given values.
+//! The first type that all values of a column have, and the columns in which a value is empty.
 //!
-//! `type_of_column` gives the first of the types integer, decimal of one scale, date, timestamp, uuid and
-//! text that all values in a column have which are not empty, and text where all are empty.
-//! `types_of_columns` gives those of all columns of rows, and `columns_with_empty` the columns in which a
-//! value is empty. The laws say that a column has one type, and that its values fit it.
+//! The types are integer, decimal of one scale, date, timestamp, uuid and text, in this order.
+//! Values that are empty do not count, and a column of which all are empty is text.
+//!
+//! Promises: `type_of_column` and `types_of_columns` give exactly that type, `columns_with_empty`
+//! exactly those columns; a column has one type, and its values fit it.
 #![tactic(auto)]
 
 mod columns;

@@ -1,8 +1,10 @@
-//! What the values of each type of column are, and the values that the program makes up.
+//! What the values of each type of column are, the missing value, and the values that the program
+//! makes up.
 //!
-//! `is_value_of` and `fits_column` say exactly whether bytes are a value of a type, and whether they fit
-//! a column of which values may be missing. `add_made_up` writes the value of a type that stands for a
-//! number. Neither of the first two takes memory.
+//! Promises: `is_value_of` and `fits_column` say exactly, and without memory, whether bytes are a
+//! value of a type, and whether they fit a column of which values may be missing; what
+//! `add_made_up` writes for a number is a value of the type, and for other numbers it writes other
+//! values.
 #![tactic(auto)]
 
 mod calendar;

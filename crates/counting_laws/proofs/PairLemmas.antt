@@ -1,6 +1,6 @@
 -- Pairs: all are there exactly where they are as many as the product.
 use Rattle.std.proofs.Common.{◌≡◌, ◌+◌, ◌*◌, ℕ, suc, Bool, true, false, ◌&&◌, ◌⊎◌, List, [], ◌∷◌, ◌++◌, length, map, refl, sym, ap, subst, ◌∙◌, inl, inr, ⊎_elim, arith}
-use Rattle.std.proofs.lemmas.Bool.{cases_Bool, true≢false}
+use Rattle.std.proofs.lemmas.Bool.{cases_Bool, true≢false, and_parts, and_from}
 use Rattle.std.proofs.lemmas.List.{map-id}
 use Rattle.std.specs.Prelude.{◌↔◌, Contains}
 use Rattle.std.specs.Set.{is_member, distinct_count}
@@ -18,24 +18,17 @@ pair b c = record { first = b; second = c }
 abbrev pub pair_eq : {B C : Type 0} → (B → B → Bool) → (C → C → Bool) → Pair B C → Pair B C → Bool
 pair_eq eq eq' p q = eq p.first q.first && eq' p.second q.second
 
-both_true : (a b : Bool) → (a && b) ≡ true → (a ≡ true) × (b ≡ true)
-both_true true b e = (refl, e)
-both_true false b e = absurd (true≢false (sym e))
-
-and_true : (a b : Bool) → a ≡ true → b ≡ true → (a && b) ≡ true
-and_true a b first second = rw (first, second) refl
-
 pub pair_eq-decides : {B C : Type 0} (eq : B → B → Bool) (eq' : C → C → Bool) → DecidesSame eq → DecidesSame eq' → DecidesSame (pair_eq eq eq')
 pair_eq-decides {B} {C} eq eq' same same' p q = (to, from)
   where
     to : (eq p.first q.first && eq' p.second q.second) ≡ true → p ≡ q
     to e =
-        let both = both_true (eq p.first q.first) (eq' p.second q.second) e in
+        let both = and_parts (eq p.first q.first) (eq' p.second q.second) e in
         ap (λ (b : B). pair b p.second) ((same p.first q.first).0 both.0) ∙ ap (λ (c : C). pair q.first c) ((same' p.second q.second).0 both.1)
 
     from : p ≡ q → (eq p.first q.first && eq' p.second q.second) ≡ true
     from e =
-        and_true (eq p.first q.first) (eq' p.second q.second)
+        and_from (eq p.first q.first) (eq' p.second q.second)
         ((same p.first q.first).1 (ap (λ (z : Pair B C). z.first) e)) ((same' p.second q.second).1 (ap (λ (z : Pair B C). z.second) e))
 
 -- ---- all pairs of two lists

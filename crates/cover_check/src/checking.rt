@@ -4,14 +4,14 @@ ghost use Rattle.attr_sets.specs.Attributes.{below};
 ghost use Rattle.attr_sets.specs.declared.set.TheConstants.{MOST_ATTRIBUTES};
 ghost use Rattle.dep_model.specs.Dependencies.{Dependency};
 ghost use Rattle.dep_model.specs.Deps.{dependency_of, dependencies_of, IsDepWithin};
-ghost use Rattle.dep_model.specs.Implication.{Implies};
 ghost use Rattle.dep_model.specs.Schemas.{deps_of, width_of, universe_of, theory_of};
 ghost use Rattle.cover_check.specs.CoverDiagnostics.{AreCoverDiagnostics, FollowsFrom, HasWideRight, IsNotNeeded, NamesAttribute};
 ghost use Rattle.cover_check.specs.Gathering.{AreCoverDiagnosticsBefore};
 
 use crate::diagnostic::CoverDiagnostic;
+use crate::others::dependency_and_others;
 use attr_sets::MOST_ATTRIBUTES;
-use dep_basis::{Decision, decide_by};
+use dep_basis::is_implied_by;
 use dep_model::{Dep, OutOfMemory, Schema};
 use fd_closure::follows;
 use std::alloc::Global;
@@ -128,14 +128,13 @@ fn follows_from_others(alloc: Global, schema: &Schema, k: usize) -> Result<bool,
         → IfOk result (λ follows. IsTrue follows
         ↔ FollowsFrom (width_of schema.now) (remove (theory_of schema.now) k) d) }
 {
-    let mut others = Vec::from_slice(alloc, schema.deps())?;
-    let dep = others.remove(k);
-    Ok(is_implied(&others, schema.width(), dep))
+    let (dep, others) = dependency_and_others(alloc, schema, k)?;
+    Ok(follows_from(&others, schema.width(), dep))
 }
 
 // Whether a functional dependency follows from the functional ones of a list, or a multivalued one from
 // all.
-fn is_implied(deps: &[Dep], width: u8, dep: Dep) -> bool
+fn follows_from(deps: &[Dep], width: u8, dep: Dep) -> bool
     requires width { width ≤ MOST_ATTRIBUTES }
     requires deps { All (IsDepWithin (below width)) deps.now }
     requires within { IsDepWithin (below width) dep }
@@ -143,19 +142,6 @@ fn is_implied(deps: &[Dep], width: u8, dep: Dep) -> bool
 {
     match dep {
         Dep::Fd { lhs, rhs } => follows(deps, lhs, rhs),
-        Dep::Mvd { .. } => is_implied_by_blocks(deps, width, dep),
-    }
-}
-
-// Whether dependencies imply one more, by the blocks of its left side.
-fn is_implied_by_blocks(deps: &[Dep], width: u8, dep: Dep) -> bool
-    requires width { width ≤ MOST_ATTRIBUTES }
-    requires deps { All (IsDepWithin (below width)) deps.now }
-    requires within { IsDepWithin (below width) dep }
-    ensures implied { IsTrue result ↔ Implies width (dependencies_of deps.now) (dependency_of dep) }
-{
-    match decide_by(deps, width, dep) {
-        Decision::Implied => true,
-        Decision::Broken { .. } => false,
+        Dep::Mvd { .. } => is_implied_by(deps, width, dep),
     }
 }

@@ -61,7 +61,7 @@ beside_same left one other i earlier = fun_ext (λ (k : ℕ). elim (cases_lt k i
   | inr after ↦ grind (arith, nat_tests, after)
 ])
 
-shorts_agree : (n : ℕ) (ds : List Dependency) (x y one other : Attributes) → IsLeftReduced n ds x y one → IsLeftReduced n ds x y other
+pub shorts_agree : (n : ℕ) (ds : List Dependency) (x y one other : Attributes) → IsLeftReduced n ds x y one → IsLeftReduced n ds x y other
     → (m i : ℕ) → i < m → one i ≡ other i
 shorts_agree n ds x y one other first second zero i l = absurd (omega (arith, l))
 shorts_agree n ds x y one other first second (suc m) i l = elim (cases_Bool (x i)) [

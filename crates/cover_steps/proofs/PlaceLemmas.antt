@@ -1,19 +1,17 @@
 -- Dependencies with their positions, and the same without them.
-use Rattle.std.proofs.Common.{◌≡◌, ℕ, ◌+◌, ◌<◌, ◌≤◌, List, [], ◌∷◌, ◌++◌, map, length, get_or, take, drop, append-nil, refl, sym, ap, ◌∙◌, subst, true, false, inr, arith}
-use Rattle.std.specs.Prelude.{All, filter}
+use Rattle.std.proofs.Common.{◌≡◌, ℕ, ◌+◌, ◌<◌, ◌≤◌, List, [], ◌∷◌, ◌++◌, map, length, get_or, take, drop, append-nil, refl, sym, ap, ◌∙◌, arith}
+use Rattle.std.specs.Prelude.{filter}
 use Rattle.std.specs.List.{flat_map}
 use Rattle.std.proofs.lemmas.List.{map-append, map_more, length-take, take-append-le, drop-map, drop_at, length-map}
-use Rattle.std.proofs.lemmas.Bool.{not-true}
-use Rattle.std.proofs.lemmas.List.Elements.{All-nil, All-cons, All-head, All-tail, All-map, filter-append, filter_passes}
-use Rattle.dep_model.specs.declared.dep.Dep.{Dep}
-use Rattle.dep_model.specs.Dependencies.{Dependency, fd, mvd, is_fd}
+use Rattle.std.proofs.lemmas.List.Elements.{filter-append}
+use Rattle.dep_model.specs.Dependencies.{Dependency, fd, mvd}
 use Rattle.dep_model.specs.Deps.{dependency_of, dependencies_of}
 use Rattle.min_cover.specs.Members.{members_of}
 use Rattle.min_cover.specs.Covers.{multivalued_part}
 use Rattle.cover_steps.specs.declared.shortening.ShortMember.{ShortMember}
 use Rattle.cover_steps.specs.declared.thinning.PlacedDep.{PlacedDep}
 use Rattle.cover_steps.specs.Steps.{Placed, placed, placed_from, placed_members, place_of, places_of, without_positions, is_multivalued, short_of, shortened_of, shortened_list}
-use Rattle.cover_steps.specs.Gathering.{AreOfOneKind, deps_of_places, short_dep}
+use Rattle.cover_steps.specs.Gathering.{deps_of_places, short_dep}
 
 -- those of the code
 pub positions_gone : (list : List PlacedDep) → without_positions (places_of list) ≡ dependencies_of (deps_of_places list)
@@ -77,25 +75,3 @@ stands_after cover all ms are =
 pub short_places : (members : List ShortMember) → places_of (map short_dep members) ≡ map short_of (shortened_list members)
 short_places [] = refl
 short_places (m ∷ members) = ap (λ (ps : List Placed). short_of (shortened_of m) ∷ ps) (short_places members)
-
-pub short_functional : (members : List ShortMember) → All (λ (d : Dep). is_fd (dependency_of d) ≡ true) (deps_of_places (map short_dep members))
-short_functional members =
-    let F : Dep → Type 0 = λ (d : Dep). is_fd (dependency_of d) ≡ true in
-    All-map F (λ (p : PlacedDep). p.dep) (map short_dep members)
-    (All-map (λ (p : PlacedDep). F p.dep) short_dep members (λ k d low. refl))
-
--- multivalued ones, of the code
-kinds_alone : (list : List PlacedDep) → All (λ (p : Placed). is_multivalued p ≡ true) (places_of list) → All (λ (d : Dep). is_fd (dependency_of d) ≡ false) (deps_of_places list)
-kinds_alone [] all = All-nil (λ (d : Dep). is_fd (dependency_of d) ≡ false)
-kinds_alone (p ∷ list) all =
-    let P : Placed → Type 0 = λ (q : Placed). is_multivalued q ≡ true in
-    All-cons (λ (d : Dep). is_fd (dependency_of d) ≡ false) p.dep (deps_of_places list)
-    (not-true (is_fd (dependency_of p.dep)) (All-head P (place_of p) (places_of list) all))
-    (kinds_alone list (All-tail P (place_of p) (places_of list) all))
-
-pub multivalued_after : (cover all : List PlacedDep) (list : List Placed) → places_of all ≡ places_of cover ++ filter is_multivalued list
-    → AreOfOneKind (deps_of_places all) (length cover)
-multivalued_after cover all list are =
-    let rest = kinds_alone (drop (length cover) all)
-    (subst (λ (ps : List Placed). All (λ (p : Placed). is_multivalued p ≡ true) ps) (sym (stands_after cover all (filter is_multivalued list) are)) (filter_passes is_multivalued list)) in
-    inr (subst (λ (ds : List Dep). All (λ (d : Dep). is_fd (dependency_of d) ≡ false) ds) (sym (drop-map (λ (p : PlacedDep). p.dep) (length cover) all)) rest)

@@ -1,12 +1,11 @@
 -- Dependencies with their positions while they are gathered: for the functions below `cover_steps`. `Desk`
 -- does not cite it.
-use Rattle.std.specs.Prelude.{◌≡◌, ◌⊎◌, ℕ, true, false, List, map, drop, All}
+use Rattle.std.specs.Prelude.{List, map}
 use Rattle.attr_sets.specs.Attributes.{Attributes, IsSubset}
 use Rattle.attr_sets.specs.Sets.{attributes}
 use Rattle.dep_model.specs.declared.dep.Dep.{Dep}
 use Rattle.dep_model.specs.declared.dep.Dep.TheVariants.{Fd}
-use Rattle.dep_model.specs.Dependencies.{is_fd}
-use Rattle.dep_model.specs.Deps.{dependency_of, IsDepWithin}
+use Rattle.dep_model.specs.Deps.{IsDepWithin}
 use Rattle.cover_steps.specs.declared.shortening.ShortMember.{ShortMember}
 use Rattle.cover_steps.specs.declared.thinning.PlacedDep.{PlacedDep}
 
@@ -20,11 +19,6 @@ IsPlacedWithin universe one = IsDepWithin universe one.dep
 abbrev pub IsMemberWithin : Attributes → ShortMember → Type 0
 IsMemberWithin universe m =
     IsSubset (attributes m.left) universe × IsSubset (attributes m.right) universe
-
--- functional dependencies alone, or multivalued ones from a position on
-abbrev pub AreOfOneKind : List Dep → ℕ → Type 0
-AreOfOneKind list k =
-    All (λ d. is_fd (dependency_of d) ≡ true) list ⊎ All (λ d. is_fd (dependency_of d) ≡ false) (drop k list)
 
 -- a member as a dependency, with what is left of its left side
 abbrev pub short_dep : ShortMember → PlacedDep

@@ -3,10 +3,11 @@ ghost use Rattle.attr_sets.specs.Attributes.{below};
 ghost use Rattle.attr_sets.specs.declared.set.TheConstants.{MOST_ATTRIBUTES};
 ghost use Rattle.dep_model.specs.Schemas.{theory_of, universe_of};
 ghost use Rattle.cover_steps.specs.Steps.{Placed, IsParted, placed_from, places_of, is_multivalued};
-ghost use Rattle.cover_steps.specs.Gathering.{AreOfOneKind, IsPlacedWithin, deps_of_places};
+ghost use Rattle.cover_steps.specs.Gathering.{IsPlacedWithin, deps_of_places};
 
+use dep_basis::is_implied_by;
 use dep_model::{Dep, OutOfMemory, Schema};
-use min_cover::{is_implied, trivial_dependency};
+use min_cover::trivial_dependency;
 use std::alloc::Global;
 
 /// A dependency that comes of the one at a position of a schema, from 0.
@@ -60,7 +61,6 @@ pub fn part_from(
     requires width { width ≤ MOST_ATTRIBUTES }
     requires from { from ≤ length list.now }
     requires within { All (IsPlacedWithin (below width)) list.now }
-    requires kinds { AreOfOneKind (deps_of_places list.now) from }
     ensures parted { IfOk result (λ kept. (out : List Placed)
         × (places_of gone.new.items ≡ places_of gone.old.items ++ out)
         × IsParted width (places_of (take from list.now)) (places_of (drop from list.now))
@@ -72,7 +72,7 @@ pub fn part_from(
     for k in from..list.len() {
         let one = list[k];
         others[k] = trivial_dependency();
-        if is_implied(&others, width, one.dep) {
+        if is_implied_by(&others, width, one.dep) {
             gone.push(one)?;
         } else {
             others[k] = one.dep;

@@ -1,21 +1,21 @@
 -- The ordered projection of rows, by the first rows of their groups; and the columns of its table.
-use Rattle.std.proofs.Common.{inl, inr, ◌≡◌, ◌+◌, ◌<◌, ◌≤◌, ℕ, zero, suc, Bool, true, false, if◌then◌else◌, List, [], ◌∷◌, ◌++◌, length, get_or, map, take, sym, ap, subst, ◌∙◌, arith, add-one}
+use Rattle.std.proofs.Common.{inl, inr, ◌≡◌, ◌+◌, ◌<◌, ◌≤◌, ℕ, zero, suc, true, false, List, [], ◌∷◌, ◌++◌, length, get_or, map, take, sym, ap, ◌∙◌, arith, add-one}
 use Rattle.std.specs.Prelude.{All, Some, slice_get}
 use Rattle.std.proofs.lemmas.Bool.{cases_Bool}
-use Rattle.std.proofs.lemmas.List.{map-append, length-map, length-append, length-take-le, take_all, append-nil}
-use Rattle.std.proofs.lemmas.Option.{slice_get-get_or, slice_get_within}
+use Rattle.std.proofs.lemmas.List.{map-append, length-map, length-append, take_all}
+use Rattle.std.proofs.lemmas.Option.{get_or_from_slice_get, slice_get-get_or, slice_get_within}
 use Rattle.std.proofs.Math.ListN.{get_or-map}
 use Rattle.attr_sets.specs.Attributes.{Attributes, count_below}
 use Rattle.attr_sets.proofs.AttributesLemmas.{count_below-member, count_below-outside, count_below-none}
-use Rattle.dep_model.specs.Tuples.{Tuple, Relation, IsOver, value_at}
+use Rattle.dep_model.specs.Tuples.{Tuple, Relation, IsOver}
 use Rattle.dep_model.specs.Projections.{members_below, project_tuple, projection, ordered_projection}
-use Rattle.dep_model.proofs.SchemeLemmas.{members_below-member, members_below-outside, members_below-none, length-project_tuple}
+use Rattle.dep_model.proofs.SchemeLemmas.{members_below-member, members_below-outside, length-project_tuple}
 use Rattle.dep_model.proofs.JoinLemmas.{project_tuple-same, agree-from_projections}
 use Rattle.schema_printer.specs.Printing.{members_from}
+use Rattle.schema_printer.proofs.MemberLemmas.{names_inside, names_outside}
 use Rattle.csv_rows.specs.Numberings.{number_at, AreGroups, AreFirsts}
 use Rattle.row_store.specs.Rows.{row_at}
 use Rattle.csv_rows.proofs.NumberingLemmas.{same_default}
-use Rattle.csv_rows.proofs.RowLemmas.{take_next}
 use Rattle.csv_migrate.proofs.DistinctLemmas.{AreClasses, distinct_values}
 
 -- ---- rows by the groups of a scheme
@@ -56,48 +56,16 @@ first_projections n rows scheme numbers firsts over groups are =
     (classes_of n rows scheme numbers over groups) are)
 
 -- ---- the names of the columns
-abbrev if_member : Bool → List ℕ → List (List ℕ)
-if_member member name = if member then name ∷ [] else []
-
-members_more : (x : Attributes) (k : ℕ) (names : List (List ℕ)) (name : List ℕ)
-    → members_from x k (names ++ name ∷ []) ≡ members_from x k names ++ if_member (x (k + length names)) name
-members_more x k [] name = ap (λ (j : ℕ). if_member (x j) name) at
-  where
-    at : k ≡ k + 0
-    at = omega arith
-members_more x k (first ∷ names) name =
-    let at : (k + 1) + length names ≡ k + length (first ∷ names) = omega arith in
-    by (x k) (members_from x (k + 1) (names ++ name ∷ [])) (members_from x (k + 1) names)
-    (if_member (x (k + length (first ∷ names))) name)
-    (members_more x (k + 1) names name ∙ ap (λ (j : ℕ). members_from x (k + 1) names ++ if_member (x j) name) at)
-  where
-    by : (b : Bool) (whole front last : List (List ℕ)) → whole ≡ front ++ last
-        → (if b then first ∷ whole else whole) ≡ (if b then first ∷ front else front) ++ last
-    by true whole front last later = ap (λ (l : List (List ℕ)). first ∷ l) later
-    by false whole front last later = later
-
--- the names at the members among the first n, and one more
-names_next : (x : Attributes) (names : List (List ℕ)) (n : ℕ) (name : List ℕ) → slice_get names n ≡ Some name
-    → members_from x 0 (take (n + 1) names) ≡ members_from x 0 (take n names) ++ if_member (x n) name
-names_next x names n name is =
-    let l : n < length names = slice_get_within names n name is in
-    let at : 0 + length (take n names) ≡ n = omega (arith, length-take-le n names (omega (arith, l))) in
-    ap (members_from x 0) (take_next names n name is) ∙ members_more x 0 (take n names) name
-    ∙ ap (λ (j : ℕ). members_from x 0 (take n names) ++ if_member (x j) name) at
-
 pub name_taken : (x : Attributes) (names : List (List ℕ)) (n : ℕ) (name : List ℕ) → slice_get names n ≡ Some name
     → x n ≡ true
     → members_from x 0 (take (n + 1) names) ≡ members_from x 0 (take n names) ++ name ∷ []
 name_taken x names n name is member =
-    names_next x names n name is
-    ∙ ap (λ (b : Bool). members_from x 0 (take n names) ++ if_member b name) member
+    names_inside x names n (slice_get_within names n name is) member
+    ∙ ap (λ (last : List ℕ). members_from x 0 (take n names) ++ last ∷ []) (get_or_from_slice_get names n name [] is)
 
 pub name_passed : (x : Attributes) (names : List (List ℕ)) (n : ℕ) → n < length names → x n ≡ false
     → members_from x 0 (take (n + 1) names) ≡ members_from x 0 (take n names)
-name_passed x names n l outside =
-    names_next x names n (get_or names n []) (slice_get-get_or names n [] l)
-    ∙ ap (λ (b : Bool). members_from x 0 (take n names) ++ if_member b (get_or names n [])) outside
-    ∙ append-nil (members_from x 0 (take n names))
+name_passed = names_outside
 
 pub ruleset name_steps = (name_taken, name_passed)
 

@@ -1,9 +1,10 @@
-//! Tables of a migration.
+//! Tables of a migration: each distinct projection of the rows once.
 //!
-//! [`tables`] makes the tables of a decomposition: each distinct projection of the rows once. It looks at
-//! rows by numbers in place of values, group by group, and compares no row with all others. A table is the
-//! numbers of the rows that it chooses. Where the rows are legal and the plan loses nothing, the tables' join
-//! is exactly the rows.
+//! [`tables`] looks at rows by numbers in place of values, group by group, and compares no row with
+//! all others. A table is the numbers of the rows that it chooses.
+//!
+//! Promises: the ordered projections of the rows, whose join is exactly the rows where they are
+//! legal and the plan loses nothing.
 #![tactic(auto)]
 
 mod migration;

@@ -1,15 +1,16 @@
-//! Rows as CSV text, and rows as numbers.
+//! Rows as CSV text and back, the record with an open quote, and rows as numbers.
 //!
 //! `read_rows` gives the rows of a text, each with its values in the order of the schema, or the
 //! text's first refusal. The records are those that `csv` defines, with a comma between fields and
-//! double quotes, after one byte-order mark. `read_part` reads a text that has a column for some of the
-//! attributes. `print_rows` writes a header of the declared names and then each row; its bytes are the
-//! text that `csv` writes with its default settings. A law says that it means these rows, and another
-//! that no text has two meanings. `open_reader`, `take_record` and `field` give the records of any text,
-//! one after the other.
+//! double quotes, after one byte-order mark. `read_part` reads a text that has a column for some of
+//! the attributes. `print_rows` writes a header of the declared names and then each row.
+//! `open_reader`, `take_record` and `field` give the records of any text, one after the other.
 //!
-//! `Interned` holds rows by numbers in place of their values. `Groups` numbers rows by what they have
-//! on a set of attributes: two rows have one number exactly where they agree on it.
+//! `Interned` holds rows by numbers in place of their values. `Groups` numbers rows by what they
+//! have on a set of attributes: two rows have one number exactly where they agree on it.
+//!
+//! Promises: the bytes are those of `csv`, with its default settings; each value fits its column; a
+//! text has one meaning, and a printed one means its rows.
 #![tactic(auto)]
 
 mod buckets;

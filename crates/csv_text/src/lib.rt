@@ -1,8 +1,10 @@
 //! Rows as CSV text, as `csv` writes them with its default settings.
 //!
-//! [`write_row`] writes one row after others through a writer of `csv`; [`add_row`] adds the line of one row
-//! to a text without one, where each row goes its own way. [`header_line`] gives the line of the names of
-//! columns, and [`fields_line`] that of any fields.
+//! [`write_row`] writes one row after others through a writer of `csv`; [`add_row`] adds the line
+//! of one row to a text without one, where each row goes its own way. [`header_line`] gives the
+//! line of the names of columns, and [`fields_line`] that of any fields.
+//!
+//! Promises: the bytes are those of `csv`.
 #![tactic(auto)]
 
 mod adding;

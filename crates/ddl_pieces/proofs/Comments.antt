@@ -1,20 +1,20 @@
 -- The lines of comments before a statement are passed over.
-use Rattle.std.proofs.Common.{◌≡◌, ◌+◌, ℕ, Bool, true, false, not, None, Some, Option, All, List, [], ◌∷◌, ◌++◌, length, filter, refl, sym, ap, subst, ◌∙◌, inl, inr, arith, append_assoc, length-append}
-use Rattle.std.specs.Prelude.{codes, if◌then◌else◌, ◌==◌, Vec}
+use Rattle.std.proofs.Common.{◌≡◌, ◌+◌, ℕ, Bool, true, false, not, None, Some, Option, All, List, [], ◌∷◌, ◌++◌, length, filter, refl, sym, ap, subst, ◌∙◌, arith, append_assoc, length-append}
+use Rattle.std.specs.Prelude.{codes, if◌then◌else◌, Vec}
 use Rattle.std.specs.declared.alloc.Global.{Global}
 use Rattle.std.specs.List.{flat_map, list_all, list_any}
-use Rattle.std.proofs.lemmas.Bool.{and_from, and_parts, cases_Bool, or_parts}
-use Rattle.std.proofs.lemmas.Bool.Decides.{nat_tests}
-use Rattle.std.proofs.lemmas.List.Elements.{All-cons, All-head, All-nil, All-tail}
-use Rattle.std.proofs.lemmas.List.Folds.{list_all-append}
+use Rattle.std.proofs.lemmas.Bool.{and_from, not_from_false, or_parts}
+use Rattle.std.proofs.lemmas.List.Elements.{All-head, All-tail}
 use Rattle.attr_sets.specs.Attributes.{Attributes}
 use Rattle.attr_sets.specs.Sets.{attributes}
 use Rattle.attr_sets.specs.declared.set.AttrSet.{AttrSet}
-use Rattle.dep_model.specs.Names.{IsName, is_control, quotes_doubled}
+use Rattle.dep_model.specs.Names.{IsName}
+use Rattle.dep_model.proofs.PlainLemmas.{IsPlain, name_plain, plain_both, quoted_plain}
 use Rattle.dep_model.specs.Plans.{schemes_of}
 use Rattle.dep_model.specs.Schemas.{names_of}
 use Rattle.dep_model.specs.declared.schema.Schema.{Schema}
 use Rattle.schema_printer.specs.Printing.{members_from}
+use Rattle.schema_printer.proofs.MemberLemmas.{members_each}
 use Rattle.sql_names.specs.Names.{comma_list, name_list, quoted_name, separator}
 use Rattle.sql_lexemes.specs.Bytes.{is_line_feed}
 use Rattle.sql_lexemes.specs.Pieces.{front_piece}
@@ -32,22 +32,21 @@ use Rattle.ddl_pieces.proofs.Fronts.{prefix_past}
 abbrev is_plain : ℕ → Bool
 is_plain b = not (is_line_feed b)
 
-abbrev IsPlain : List ℕ → Type 0
-IsPlain bytes = list_all is_plain bytes ≡ true
-
 abbrev comment_line : List ℕ → List ℕ
 comment_line line = 45 ∷ 45 ∷ (line ++ 10 ∷ [])
 
-plain_both : (a b : List ℕ) → IsPlain a → IsPlain b → IsPlain (a ++ b)
-plain_both a b first second =
-    list_all-append is_plain a b ∙ and_from (list_all is_plain a) (list_all is_plain b) first second
+all_plain : (bytes : List ℕ) → IsPlain bytes → list_all is_plain bytes ≡ true
+all_plain [] none = refl
+all_plain (b ∷ bytes) none =
+    let parts = or_parts (is_line_feed b) (list_any is_line_feed bytes) none in
+    and_from (is_plain b) (list_all is_plain bytes) (not_from_false (is_line_feed b) parts.0) (all_plain bytes parts.1)
 
 comment_front : (d : Dialect) (before : Before) (line rest : List ℕ) → IsPlain line
     → front_piece d before (45 ∷ 45 ∷ (line ++ 10 ∷ rest)) ≡ piece.Gap (length line + 1)
 unfolding front_piece
 comment_front d before line rest plain =
     ap (λ (n : ℕ). piece.Gap n)
-    (prefix_past is_plain (45 ∷ line) (10 ∷ rest) plain refl ∙ omega arith)
+    (prefix_past is_plain (45 ∷ line) (10 ∷ rest) (all_plain line plain) refl ∙ omega arith)
 
 to_line_end : (d : Dialect) (s : Scan) (line rest : List ℕ) → IsPlain line
     → statements_after d 0 s (45 ∷ 45 ∷ (line ++ 10 ∷ rest))
@@ -94,55 +93,19 @@ both_passed d s a b rest first later =
     }
 
 -- ---- names
-plain_byte : (b : ℕ) → is_control b ≡ false → is_plain b ≡ true
-plain_byte b control = grind (arith, nat_tests, control)
-
-controls_plain : (bytes : List ℕ) → list_any is_control bytes ≡ false → IsPlain bytes
-controls_plain [] none = refl
-controls_plain (b ∷ bytes) none =
-    let parts = or_parts (is_control b) (list_any is_control bytes) none in
-    and_from (is_plain b) (list_all is_plain bytes) (plain_byte b parts.0) (controls_plain bytes parts.1)
-
-doubled_plain : (bytes : List ℕ) → IsPlain bytes → IsPlain (quotes_doubled bytes)
-unfolding quotes_doubled
-doubled_plain [] plain = refl
-doubled_plain (b ∷ bytes) plain =
-    let parts = and_parts (is_plain b) (list_all is_plain bytes) plain in
-    let this : IsPlain (if b == 34 then 34 ∷ 34 ∷ [] else b ∷ []) = elim (cases_Bool (b == 34)) [
-      | inl quote ↦ rw quote refl
-      | inr other ↦ rw other (and_from (is_plain b) true parts.0 refl)
-    ] in
-    plain_both (if b == 34 then 34 ∷ 34 ∷ [] else b ∷ []) (quotes_doubled bytes) this
-    (doubled_plain bytes parts.1)
-
-quoted_plain : (name : List ℕ) → IsName name → IsPlain (quoted_name name)
-quoted_plain name is =
-    plain_both (34 ∷ quotes_doubled name) (34 ∷ [])
-    (doubled_plain name (controls_plain name is.no_control)) refl
-
-members_are : (x : Attributes) (k : ℕ) (names : List (List ℕ)) → All IsName names
-    → All IsName (members_from x k names)
-members_are x k [] all = All-nil IsName
-members_are x k (name ∷ names) all = elim (cases_Bool (x k)) [
-  | inl member ↦
-      rw member (All-cons IsName name (members_from x (k + 1) names) (All-head IsName name names all)
-      (members_are x (k + 1) names (All-tail IsName name names all)))
-  | inr outside ↦ rw outside (members_are x (k + 1) names (All-tail IsName name names all))
-]
-
 further_plain : (names : List (List ℕ)) → All IsName names
     → IsPlain (flat_map (λ name. separator ++ quoted_name name) names)
 further_plain [] all = refl
 further_plain (name ∷ names) all =
     plain_both (separator ++ quoted_name name) (flat_map (λ name. separator ++ quoted_name name) names)
-    (quoted_plain name (All-head IsName name names all))
+    (quoted_plain name (name_plain name (All-head IsName name names all)))
     (further_plain names (All-tail IsName name names all))
 
 listed_plain : (names : List (List ℕ)) → All IsName names → IsPlain (comma_list quoted_name names)
 listed_plain [] all = refl
 listed_plain (name ∷ names) all =
     plain_both (quoted_name name) (flat_map (λ name. separator ++ quoted_name name) names)
-    (quoted_plain name (All-head IsName name names all))
+    (quoted_plain name (name_plain name (All-head IsName name names all)))
     (further_plain names (All-tail IsName name names all))
 
 -- ---- comments
@@ -162,7 +125,7 @@ left_out s key =
 said_plain : (s : Schema) (key : Attributes) → All IsName (names_of s) → IsPlain (said s key)
 said_plain s key names =
     plain_both (name_list s key) ending
-    (listed_plain (members_from key 0 (names_of s)) (members_are key 0 (names_of s) names)) refl
+    (listed_plain (members_from key 0 (names_of s)) (members_each IsName key 0 (names_of s) names)) refl
 
 left_out_passed : (d : Dialect) (scan : Scan) (s : Schema) (keys : List Attributes) (rest : List ℕ)
     → All IsName (names_of s)

@@ -1,6 +1,11 @@
-//! The statements that create the tables of a design, as the lexemes that stand in them.
+//! The statements that create the tables of a design, piece by piece, as the lexemes that stand in
+//! them, and the law of its text. No code.
 //!
-//! Each law is a function that does nothing, whose clause is the law; so the gate asks for its proof.
+//! Each law is a function that does nothing, whose clause is the law; so the gate asks for its
+//! proof.
+//!
+//! Promises: the text of a design is cut into statements that create exactly its tables, one each,
+//! in order: which lexemes each has.
 #![tactic(auto)]
 
 ghost use Rattle.std.specs.Prelude.{List, All, IsTrue};

@@ -1,9 +1,11 @@
 //! Tables for the schemes of a plan: their names, keys and references, and these as SQL.
 //!
-//! `design` gives each scheme a table, whose key is its primary key by all dependencies, beside all other
-//! keys of the scheme where these can be listed, and which refers to each earlier table whose key lies within
-//! it. In the tables of every legal relation each key and each reference holds. `print_ddl` prints a design as
-//! `CREATE TABLE` statements.
+//! `design` gives each scheme a table, whose key is its primary key by all dependencies, beside all
+//! other keys of the scheme where these can be listed, and which refers to each earlier table whose
+//! key lies within it.
+//!
+//! Promises: the design of a plan; in the tables of every legal relation each key and each
+//! reference holds; `print_ddl` gives the text of a design, as `CREATE TABLE` statements.
 #![tactic(auto)]
 
 mod columns;

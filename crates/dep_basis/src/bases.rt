@@ -12,6 +12,7 @@ use crate::pieces::{all_pieces, outside_all};
 use crate::refining::block_of;
 use attr_sets::AttrSet;
 use dep_model::{Dep, Schema};
+use fd_closure::{functional_closure, is_functional};
 
 /// The dependency basis of a left side: the attributes that it determines, and the blocks, the least
 /// sets of other attributes that it multidetermines (Beeri 1980). A set is multidetermined exactly
@@ -47,7 +48,7 @@ pub fn trace_basis_by(deps: &[Dep], width: u8, scheme: AttrSet, lhs: AttrSet) ->
 }
 
 /// The attributes that a left side determines.
-pub fn closure_of(schema: &Schema, lhs: AttrSet) -> AttrSet
+pub fn closure(schema: &Schema, lhs: AttrSet) -> AttrSet
     requires within { IsSubset (attributes lhs) (universe_of schema.now) }
     ensures closure { (a : ℕ) → (attributes result a ≡ true)
         ↔ InClosure (width_of schema.now) (theory_of schema.now) (attributes lhs) a }
@@ -56,6 +57,7 @@ pub fn closure_of(schema: &Schema, lhs: AttrSet) -> AttrSet
 }
 
 /// The attributes that a left side determines by a list of dependencies over this many attributes.
+/// Where all are functional they are found without the blocks.
 pub fn closure_by(deps: &[Dep], width: u8, lhs: AttrSet) -> AttrSet
     requires width { width ≤ MOST_ATTRIBUTES }
     requires deps { All (IsDepWithin (below width)) deps.now }
@@ -63,6 +65,9 @@ pub fn closure_by(deps: &[Dep], width: u8, lhs: AttrSet) -> AttrSet
     ensures closure { (a : ℕ) → (attributes result a ≡ true)
         ↔ InClosure width (dependencies_of deps.now) (attributes lhs) a }
 {
+    if is_functional(deps) {
+        return functional_closure(deps, lhs);
+    }
     let found = all_pieces(deps, width, lhs);
     outside_all(AttrSet::full(width), &found.sets[..found.count as usize])
 }

@@ -13,7 +13,7 @@ ghost use Rattle.dep_basis.specs.Decisions.{IsDecided};
 use crate::bases::{basis_by, block_by};
 use attr_sets::AttrSet;
 use dep_model::{Dep, Schema};
-use fd_closure::closure;
+use fd_closure::functional_closure;
 
 /// Whether a schema implies a dependency.
 #[derive(Clone, Copy, Debug, PartialEq, Eq)]
@@ -80,7 +80,7 @@ fn block_beyond(deps: &[Dep], width: u8, lhs: AttrSet, rhs: AttrSet) -> Option<A
     ensures block { IfSome result (λ p.
         IsBreakingBlock width (dependencies_of deps.now) (fd (attributes lhs) (attributes rhs)) (attributes p)) }
 {
-    let mut left = rhs.difference(closure(deps, lhs));
+    let mut left = rhs.difference(functional_closure(deps, lhs));
     while let Some(first) = left.first() {
         let block = block_by(deps, width, lhs, first);
         if block.is_some() {

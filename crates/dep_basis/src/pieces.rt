@@ -9,7 +9,7 @@ ghost use Rattle.dep_basis.specs.Pieces.{found_blocks, HasRoom, ArePieces, IsRef
 use crate::cutting::next_cut;
 use attr_sets::{AttrSet, MOST_ATTRIBUTES};
 use dep_model::Dep;
-use fd_closure::closure;
+use fd_closure::functional_closure;
 
 /// How many blocks there are at most: one for each attribute.
 pub const MOST_BLOCKS: usize = MOST_ATTRIBUTES as usize;
@@ -33,7 +33,7 @@ pub fn all_pieces(deps: &[Dep], width: u8, lhs: AttrSet) -> Pieces
         sets: [AttrSet::empty(); MOST_BLOCKS],
         count: 0,
     };
-    let outside = AttrSet::full(width).difference(closure(deps, lhs));
+    let outside = AttrSet::full(width).difference(functional_closure(deps, lhs));
     refine(deps, outside, &mut found);
     found
 }

@@ -4,7 +4,7 @@ ghost use Rattle.attr_sets.specs.Sets.{attributes};
 ghost use Rattle.dep_model.specs.Keys.{IsSuperkey};
 ghost use Rattle.dep_model.specs.Schemas.{width_of, universe_of, theory_of};
 
-use crate::deciding::{Decision, decide};
+use crate::implying::is_implied_by_blocks;
 use attr_sets::AttrSet;
 use dep_model::{Dep, Schema};
 
@@ -19,8 +19,5 @@ pub fn is_superkey(schema: &Schema, scheme: AttrSet, set: AttrSet) -> bool
         lhs: set,
         rhs: scheme,
     };
-    match decide(schema, goal) {
-        Decision::Implied => true,
-        Decision::Broken { .. } => false,
-    }
+    is_implied_by_blocks(schema.deps(), schema.width(), goal)
 }

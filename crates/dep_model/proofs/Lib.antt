@@ -13,6 +13,7 @@ pub mod NameLemmas
 pub mod NumeralLemmas
 pub mod PartLemmas
 pub mod PermutationLemmas
+pub mod PlainLemmas
 pub mod PreservationLemmas
 pub mod RuleLemmas
 pub mod SchemeLemmas

@@ -1,5 +1,5 @@
--- Where a name stands among names, and that each bare name is a name.
-use Rattle.std.proofs.Common.{◌≡◌, ◌+◌, ◌<◌, ◌&&◌, ℕ, zero, suc, true, false, List, [], ◌∷◌, ◌++◌, length, get_or, Some, refl, arith, length-append, lt-ltb}
+-- Where a name stands among names, and that each bare name is a name, and the text of each type.
+use Rattle.std.proofs.Common.{◌≡◌, ◌+◌, ◌<◌, ◌≤◌, ◌&&◌, ℕ, zero, suc, Bool, true, false, List, [], ◌∷◌, ◌++◌, length, get_or, Some, refl, arith, length-append, lt-ltb}
 use Rattle.std.specs.Prelude.{nat_lt, nat_le, slice_index, All}
 use Rattle.std.specs.Char.{is_ascii_alphabetic}
 use Rattle.std.specs.List.{position_or_len, list_all, list_any}
@@ -10,8 +10,9 @@ use Rattle.std.proofs.lemmas.Slice.Eq.{bytes_eq-Decides}
 use Rattle.std.proofs.lemmas.Bool.{and_parts}
 use Rattle.std.proofs.lemmas.Bool.Decides.{nat_tests}
 use Rattle.std.proofs.lemmas.Str.{IsUtf8-from_ascii}
-use Rattle.dep_model.specs.declared.name.TheConstants.{MOST_BARE_NAME_BYTES}
-use Rattle.dep_model.specs.Names.{IsName, is_control, is_name_byte, is_word, is_bare_name, same_name}
+use Rattle.dep_model.specs.declared.name.TheConstants.{MOST_BARE_NAME_BYTES, MOST_NAME_BYTES}
+use Rattle.dep_model.specs.declared.type_name.TheConstants.{MOST_TYPE_BYTES}
+use Rattle.dep_model.specs.Names.{IsName, is_control, is_name_byte, is_word, is_bare_name, is_type_byte, is_type_text, same_name}
 use Rattle.dep_model.specs.Schemas.{attribute_named}
 
 -- a name is found at its position
@@ -28,19 +29,30 @@ attribute_named-append before name after none =
     rw (at, inside) refl
 
 -- ---- bare names
+-- bytes that pass a test which no control character and no byte beyond ASCII passes
+module _ (test : ℕ → Bool) (each : (b : ℕ) → test b ≡ true → (b < 128) × (is_control b ≡ false)) where
+  bytes_ascii : (bytes : List ℕ) → list_all test bytes ≡ true → (i : ℕ) → get_or bytes i 0 < 128
+  bytes_ascii [] all i = omega arith
+  bytes_ascii (b ∷ bytes) all zero = (each b (and_parts (test b) (list_all test bytes) all).0).0
+  bytes_ascii (b ∷ bytes) all (suc i) = bytes_ascii bytes (and_parts (test b) (list_all test bytes) all).1 i
+
+  bytes_no_control : (bytes : List ℕ) → list_all test bytes ≡ true → list_any is_control bytes ≡ false
+  bytes_no_control [] all = refl
+  bytes_no_control (b ∷ bytes) all =
+      let parts = and_parts (test b) (list_all test bytes) all in
+      rw ((each b parts.0).1) (bytes_no_control bytes parts.1)
+
+  -- are a name, where there are some and not too many
+  named : (bytes : List ℕ) → list_all test bytes ≡ true → 0 < length bytes → length bytes ≤ MOST_NAME_BYTES → IsName bytes
+  named bytes all some few = record {
+    some_bytes = some;
+    within_limit = few;
+    utf8 = IsUtf8-from_ascii bytes (bytes_ascii bytes all);
+    no_control = bytes_no_control bytes all;
+  }
+
 name_byte : (b : ℕ) → is_name_byte b ≡ true → (b < 128) × (is_control b ≡ false)
 name_byte b named = (grind (arith, nat_tests), grind (arith, nat_tests))
-
-name_bytes_ascii : (bytes : List ℕ) → list_all is_name_byte bytes ≡ true → (i : ℕ) → get_or bytes i 0 < 128
-name_bytes_ascii [] all i = omega arith
-name_bytes_ascii (b ∷ bytes) all zero = (name_byte b (and_parts (is_name_byte b) (list_all is_name_byte bytes) all).0).0
-name_bytes_ascii (b ∷ bytes) all (suc i) = name_bytes_ascii bytes (and_parts (is_name_byte b) (list_all is_name_byte bytes) all).1 i
-
-name_bytes_no_control : (bytes : List ℕ) → list_all is_name_byte bytes ≡ true → list_any is_control bytes ≡ false
-name_bytes_no_control [] all = refl
-name_bytes_no_control (b ∷ bytes) all =
-    let parts = and_parts (is_name_byte b) (list_all is_name_byte bytes) all in
-    rw ((name_byte b parts.0).1) (name_bytes_no_control bytes parts.1)
 
 -- each bare name is a name
 pub bare_name_is_name : (bytes : List ℕ) → is_bare_name bytes ≡ true → IsName bytes
@@ -48,9 +60,15 @@ bare_name_is_name bytes bare =
     let sized = and_parts (is_word bytes) (nat_le (length bytes) MOST_BARE_NAME_BYTES) bare in
     let word = and_parts (nat_lt 0 (length bytes) && is_ascii_alphabetic (slice_index bytes 0)) (list_all is_name_byte bytes) sized.0 in
     let begun = and_parts (nat_lt 0 (length bytes)) (is_ascii_alphabetic (slice_index bytes 0)) word.0 in
-    record {
-      some_bytes = grind (arith, nat_tests, begun.0);
-      within_limit = grind (arith, nat_tests, sized.1);
-      utf8 = IsUtf8-from_ascii bytes (name_bytes_ascii bytes word.1);
-      no_control = name_bytes_no_control bytes word.1;
-    }
+    named is_name_byte name_byte bytes word.1 (grind (arith, nat_tests, begun.0)) (grind (arith, nat_tests, sized.1))
+
+-- ---- the text of a type
+type_byte : (b : ℕ) → is_type_byte b ≡ true → (b < 128) × (is_control b ≡ false)
+type_byte b is = (grind (arith, nat_tests), grind (arith, nat_tests))
+
+-- is a name, which may stand between quotes
+pub type_text_is_name : (bytes : List ℕ) → is_type_text bytes ≡ true → IsName bytes
+type_text_is_name bytes is =
+    let all = and_parts (nat_lt 0 (length bytes) && nat_le (length bytes) MOST_TYPE_BYTES) (list_all is_type_byte bytes) is in
+    let sized = and_parts (nat_lt 0 (length bytes)) (nat_le (length bytes) MOST_TYPE_BYTES) all.0 in
+    named is_type_byte type_byte bytes all.1 (grind (arith, nat_tests, sized.0)) (grind (arith, nat_tests, sized.1))

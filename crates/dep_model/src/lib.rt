@@ -1,8 +1,11 @@
-//! Names, rows, dependencies and schemas, and the theory of dependencies that every crate cites.
+//! Names, types of columns, values, rows, dependencies and schemas, the failures of calls, and the
+//! theory of dependencies that every crate cites.
 //!
-//! Every `Schema` is valid: its names differ, and its dependencies lie within its universe.
-//! The definitions of the theory (relations, obedience, implication, projection and join, keys, normal
-//! forms) are in `specs/`; `laws` has the theorems by which they were tried.
+//! The definitions of the theory (relations, obedience, implication, projection and join, keys,
+//! normal forms) are in `specs/`; `laws` has the theorems by which they were tried.
+//!
+//! Promises: every `Schema` is valid: its names differ, and its dependencies lie within its
+//! universe; the laws of the theory: rules, keys, normal forms, joins, plans.
 #![tactic(auto)]
 
 mod column_type;

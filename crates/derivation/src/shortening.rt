@@ -166,8 +166,8 @@ fn seek_root(whole: Concluded, sought: Dep) -> Sought
     }
 }
 
-// Whether two dependencies are the same.
-fn same_dep(one: Dep, other: Dep) -> bool
+/// Whether two dependencies are the same.
+pub fn same_dep(one: Dep, other: Dep) -> bool
     ensures same { IsTrue result ↔ (dependency_of one ≡ dependency_of other) }
 {
     match (one, other) {

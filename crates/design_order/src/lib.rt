@@ -1,10 +1,12 @@
-//! The order of the tables of a design.
+//! The order of the tables of a plan, and of the names that it gives them.
 //!
-//! `in_design_order` puts a plan in the order in which its tables are made: those whose schemes determine
-//! fewer attributes come first, of equally many in the plan's order. So where a key lies within another
-//! scheme, its table comes first, or both determine the same attributes. A lossless plan stays lossless.
-//! `names_in_design_order` puts the names that a plan gives to its tables in the same order.
-//! `laws` says that there is one such order, and what it is like.
+//! `in_design_order` puts a plan in the order in which its tables are made: those whose schemes
+//! determine fewer attributes come first, of equally many in the plan's order. So where a key lies
+//! within another scheme, its table comes first, or both determine the same attributes.
+//! `names_in_design_order` puts the names in the same order.
+//!
+//! Promises: the plan in that order, of which there is one, and the names in it; a lossless plan
+//! stays lossless.
 #![tactic(auto)]
 
 pub mod laws;

@@ -1,8 +1,10 @@
-//! The tables of a design as a picture in SVG: a box for each table, with a row for its name and one for each
-//! attribute, and a line for each reference. A table stands right of those that it refers to.
+//! The tables of a design as a picture in SVG: a box for each table, with a row for its name and
+//! one for each attribute, and a line for each reference.
 //!
-//! `draw_design` gives the text, which is that of the definition, to the pixel; `place_tables` says where the
-//! boxes stand.
+//! A table stands right of those that it refers to. `draw_design` gives the text; `place_tables`
+//! says where the boxes stand.
+//!
+//! Promises: the text of the definition, to the pixel.
 #![tactic(auto)]
 
 mod boxes;

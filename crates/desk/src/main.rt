@@ -1,7 +1,12 @@
-//! The program: it answers its words over the files of the current folder, on standard output, and
-//! ends with the number of the status, or with 6 where no memory was found. A refusal goes to standard error
-//! too, where standard output is no terminal. Tables that it migrates
-//! become files of the current folder, `t1.csv`, `t1.sql` and so on, or those of a folder of their own.
+//! The program: `main`, which answers its words over the files of the current folder, on standard
+//! output.
+//!
+//! A refusal goes to standard error too, where standard output is no terminal. Tables that it
+//! migrates become files of the current folder, `t1.csv`, `t1.sql` and so on, or those of a folder
+//! of their own.
+//!
+//! Promises: it hands in the real objects and the words, and ends with the number of the status, or
+//! with 6 where no memory was found.
 #![tactic(auto)]
 
 mod words;

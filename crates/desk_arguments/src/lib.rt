@@ -1,6 +1,6 @@
 //! What an argument of a command says: the goal or the set that its text states.
 //!
-//! Each function promises what the text means under the grammar of schemas, or how the command ends.
+//! Promises: what the text means under the grammar of schemas, or how the command ends.
 #![tactic(auto)]
 
 mod goal;

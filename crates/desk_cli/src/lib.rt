@@ -1,9 +1,10 @@
-//! The top call: the words of a command, the files of a file source, a text for a sink, tables for
-//! destinations and a status.
+//! The top call: the words of a command, the files of a file source in their order, a text for a
+//! sink, tables for destinations and a status.
 //!
-//! `desk` promises, in one record of clauses, that its answer is one that the words and the files
-//! allow, that the sink took just that answer's text and the destinations just its tables, that each
-//! fault has its cause, and that where nothing fails the answer is the one that the theory fixes.
+//! Promises: `desk` says, in one record of clauses, that its answer is one that the words and the
+//! files allow, that the sink took just that answer's text and the destinations just its tables,
+//! that each fault has its cause, and that where nothing fails the answer is the one that the
+//! theory fixes.
 #![tactic(auto)]
 
 mod help;

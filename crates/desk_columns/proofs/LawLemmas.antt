@@ -1,10 +1,11 @@
 -- The schema of the columns of a file: the values that fit it, what its text means, and that it is one.
-use Rattle.std.proofs.Common.{inl, inr, ◌≡◌, ◌<◌, ◌≤◌, ℕ, Bool, true, false, List, [], ◌++◌, length, map, get_or, refl, sym, ap, subst, ◌∙◌, arith}
+use Rattle.std.proofs.Common.{inl, inr, ◌≡◌, ◌<◌, ◌≤◌, ℕ, Bool, true, List, [], ◌++◌, length, map, get_or, refl, sym, ap, subst, ◌∙◌, arith}
 use Rattle.std.proofs.lemmas.Bool.{cases_lt}
 use Rattle.std.proofs.lemmas.Bool.Decides.{nat_tests}
 use Rattle.std.proofs.lemmas.List.{ext_get_or, get_or_default}
 use Rattle.std.proofs.lemmas.Option.{slice_get-get_or, slice_get_within}
 use Rattle.attr_sets.specs.Attributes.{Attributes, below}
+use Rattle.attr_sets.proofs.AttributesLemmas.{same_truth}
 use Rattle.column_types.proofs.FirstLemmas.{type_once}
 use Rattle.column_types.specs.FirstTypes.{AreTypesOf, HasEmpty, HaveEmpty, IsTypeOf, value_in}
 use Rattle.column_values.specs.Values.{FitsColumn, FitsColumns}
@@ -41,16 +42,10 @@ values_fit headed s is i d low k column here =
     (value_fits rows k i column (nullable_of s k) (is.types k column here) (is.nullable.each k within).1 low)
 
 -- ---- there is one such schema
-same_flag : (one other : Bool) → (one ≡ true → other ≡ true) → (other ≡ true → one ≡ true) → one ≡ other
-same_flag true true there back = refl
-same_flag true false there back = sym (there refl)
-same_flag false true there back = back refl
-same_flag false false there back = refl
-
 empty_once : (n : ℕ) (rows : Relation) (x y : Attributes) → HaveEmpty n rows x → HaveEmpty n rows y → (k : ℕ) → x k ≡ y k
 empty_once n rows x y p q k = elim (cases_lt k n) [
-  | inl low ↦ same_flag (x k) (y k) (λ in_x. (q.each k low).1 ((p.each k low).0 in_x)) (λ in_y. (p.each k low).1 ((q.each k low).0 in_y))
-  | inr past ↦ same_flag (x k) (y k) (λ in_x. absurd (beyond past (p.within k in_x))) (λ in_y. absurd (beyond past (q.within k in_y)))
+  | inl low ↦ same_truth (x k) (y k) (λ in_x. (q.each k low).1 ((p.each k low).0 in_x)) (λ in_y. (p.each k low).1 ((q.each k low).0 in_y))
+  | inr past ↦ same_truth (x k) (y k) (λ in_x. absurd (beyond past (p.within k in_x))) (λ in_y. absurd (beyond past (q.within k in_y)))
 ]
   where
     beyond : n ≤ k → below n k ≡ true → ⊥

@@ -1,6 +1,8 @@
 //! The answers about schemas that say the same: whether two do, and the cover of one.
 //!
-//! Each is a pure function of values, with the one clause that its response is allowed.
+//! Each is a pure function of values.
+//!
+//! Promises: the response is allowed.
 #![tactic(auto)]
 
 mod cover_checks;

@@ -1,6 +1,8 @@
 //! What derivations as one writes them by hand come to: the answer to `check derivation`.
 //!
-//! It is a pure function of values, with the one clause that its response is allowed.
+//! It is a pure function of values.
+//!
+//! Promises: the response is allowed.
 #![tactic(auto)]
 
 mod checking;

@@ -1,7 +1,9 @@
-//! Plans and what is made of them: the answers about normal forms, lossless joins, kept dependencies, SQL
-//! tables, scripts and pictures.
+//! Plans and what is made of them: the answers about normal forms, lossless joins, kept
+//! dependencies, SQL tables, scripts and pictures.
 //!
-//! Each is a pure function of values, with the one clause that its response is allowed.
+//! Each is a pure function of values.
+//!
+//! Promises: the response is allowed.
 #![tactic(auto)]
 
 mod decomposition;

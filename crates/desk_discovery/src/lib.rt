@@ -1,8 +1,10 @@
-//! Between dependencies and relations: the relation that exhibits a schema, and what the rows of a file
-//! obey: their minimal dependencies, those of few attributes on the left, those that nearly hold, all of either kind,
-//! and their minimal keys.
+//! Between dependencies and relations: the relation that exhibits a schema, and what the rows of a
+//! file obey: their minimal dependencies, those of few attributes on the left, those that nearly
+//! hold, all of either kind, and their minimal keys.
 //!
-//! Each is a pure function of values, with the one clause that its response is allowed.
+//! Each is a pure function of values.
+//!
+//! Promises: the response is allowed.
 #![tactic(auto)]
 
 mod all;

@@ -9,7 +9,7 @@ ghost use Rattle.desk_responses.specs.Responses.{response_value, RespondsAs};
 
 use attr_sets::AttrSet;
 use closure_steps::{ClosureStep, closure_steps};
-use dep_basis::closure_of;
+use dep_basis::closure;
 use dep_model::{OutOfMemory, Schema};
 use desk_arguments::set_of;
 use desk_outside::Argument;
@@ -44,7 +44,7 @@ fn closure_lines(alloc: Global, schema: &Schema, start: AttrSet) -> Result<Vec<u
     ensures text { IfOk result (λ text. ComesAbout schema.now (attributes start) text.items) }
 {
     let found = closure_steps(alloc, schema, start)?;
-    let closed = closure_of(schema, start);
+    let closed = closure(schema, start);
     let beside = beside_line(alloc, schema, closed.difference(found.reached))?;
     let text = print_closure(alloc, schema, start, &found.steps, &beside, closed)?;
     Ok(text)

@@ -1,7 +1,9 @@
-//! What follows from the dependencies of a schema: the answers about implication, certificates, blocks,
-//! closures, and what holds inside a set.
+//! What follows from the dependencies of a schema: the answers about implication, certificates,
+//! blocks, closures, and what holds inside a set.
 //!
-//! Each is a pure function of values, with the one clause that its response is allowed.
+//! Each is a pure function of values.
+//!
+//! Promises: the response is allowed.
 #![tactic(auto)]
 
 mod bases;

@@ -1,7 +1,9 @@
-//! The answers of `import sqlite` and `import postgres`: the schema of a table that the SQL of a file defines.
+//! The answers of `import sqlite` and `import postgres`: the schema of a table that the SQL of a
+//! file defines.
 //!
-//! They are a pure function of values, with the one clause that its response is allowed: the text of the
-//! schema, or the first refusal with its place.
+//! They are a pure function of values: the text of the schema, or the first refusal with its place.
+//!
+//! Promises: the response is allowed.
 #![tactic(auto)]
 
 mod importing;

@@ -1,7 +1,11 @@
-//! The files of a command: how each is read and turned into its value or its refusal.
+//! The files of a command: how each is read and turned into its value or its refusal, the only code
+//! that is generic over a file source.
 //!
-//! Each `open_..` loads a file from a file source, within its limit, and has it read by its grammar. It
-//! promises the value under every reading that the file source shows, or how the command ends.
+//! Each `open_..` loads a file from a file source, within its limit, and has it read by its
+//! grammar.
+//!
+//! Promises: the value of the file under every reading that the file source shows, or how the
+//! command ends, with the cause.
 #![tactic(auto)]
 
 mod derived;

@@ -13,7 +13,7 @@ ghost use Rattle.desk_responses.specs.Responses.{response_value, RespondsAs};
 
 use attr_sets::AttrSet;
 use closure_steps::{Without, closures_without};
-use dep_basis::{Decision, closure_of, decide};
+use dep_basis::{Decision, closure, decide};
 use dep_model::{Dep, OutOfMemory, Schema};
 use desk_arguments::set_of;
 use desk_outside::Argument;
@@ -129,7 +129,7 @@ fn no_superkey_lines(
         (fd (attributes set) (universe_of schema.now)) (attributes agreement) }
     ensures text { IfOk result (λ text. IsNoSuperkey schema.now (attributes set) text.items) }
 {
-    let missing = AttrSet::full(schema.width()).difference(closure_of(schema, set));
+    let missing = AttrSet::full(schema.width()).difference(closure(schema, set));
     let text = print_no_superkey(alloc, schema, set, missing, agreement)?;
     Ok(text)
 }

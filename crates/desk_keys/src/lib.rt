@@ -1,7 +1,9 @@
-//! The answers about keys: those of a schema and of the schemes of a plan, what they have in common, and
-//! whether a set is one.
+//! The answers about keys: those of a schema and of the schemes of a plan, what they have in
+//! common, and whether a set is one.
 //!
-//! Each is a pure function of values, with the one clause that its response is allowed.
+//! Each is a pure function of values.
+//!
+//! Promises: the response is allowed.
 #![tactic(auto)]
 
 mod key_checks;

@@ -5,6 +5,8 @@ use Rattle.dep_model.specs.declared.schema.Schema.{Schema}
 use Rattle.dep_model.specs.Dependencies.{Dependency}
 use Rattle.dep_model.specs.Schemas.{names_of, naming_of}
 use Rattle.dep_model.specs.declared.naming.Naming.{Naming}
+use Rattle.implication_laws.proofs.GoalLemmas.{one_goal}
+use Rattle.implication_laws.proofs.ImplyingLaws.{no_not_yes}
 use Rattle.derivation.specs.declared.deriv.Deriv.{Deriv}
 use Rattle.derivation.specs.Conclusions.{Proves}
 use Rattle.derivation.specs.Derivs.{tree_of}
@@ -20,7 +22,6 @@ use Rattle.schema_grammar.specs.Declarations.{Declarations}
 use Rattle.schema_grammar.specs.Meanings.{MeansGoal}
 use Rattle.schema_grammar.specs.Schemas.{MeansSchema}
 use Rattle.schema_grammar.specs.Texts.{declarations_of}
-use Rattle.schema_grammar.proofs.GoalLaws.{goal-law}
 use Rattle.schema_grammar.proofs.SchemaLaws.{schema-law}
 use Rattle.proof_text.specs.declared.text.TheConstants.{MOST_PROOF_BYTES}
 use Rattle.proof_grammar.specs.Printing.{canonical_certificate}
@@ -41,7 +42,7 @@ use Rattle.desk_texts.specs.Texts.{yes_text}
 use Rattle.alike_laws.proofs.Alike.{proves_alike}
 use Rattle.alike_laws.specs.SameDeclarations.{AreAlike}
 use Rattle.desk_laws.proofs.SchemaLemmas.{spells_alike}
-use Rattle.desk_laws.proofs.StopLemmas.{schema_says, goal_says, no_says, one_content, schema_goes, proof_goes, goal_goes}
+use Rattle.desk_laws.proofs.StopLemmas.{schema_says, goal_says, one_content, schema_goes, proof_goes, goal_goes}
 use Rattle.desk_tables.specs.OwnFolders.{Looks}
 
 -- ---- the first answer
@@ -77,7 +78,7 @@ yes_there files schema goal response says_yes (inr (of, file, rest)) = after_goa
       is_proof = found.1;
       printed = ap (λ (a : ResponseValue). a.text) found.4;
     }
-    decided dep goal_within_limit means_goal (inr (broken, found)) = absurd (no_says response says_yes (ap (λ (a : ResponseValue). a.status) found.2))
+    decided dep goal_within_limit means_goal (inr (broken, found)) = absurd (no_not_yes response says_yes (ap (λ (a : ResponseValue). a.status) found.2))
 
     after_goal : WithGoal of goal (Decided of) response → SaidYes files schema goal response.text
     after_goal (inl exit) = absurd (goal_says of goal response says_yes exit)
@@ -90,11 +91,6 @@ one_schema text s r first second = record { naming = ap (λ (d : Declarations). 
   where
     same : declarations_of s ≡ declarations_of r
     same = the_ok {A = Declarations} {E = SchemaRefusal} (declarations_of s) (declarations_of r) (sym ((schema-law text (declarations_of s)).1 first) ∙ (schema-law text (declarations_of r)).1 second)
-
--- a goal means one dependency at most
-one_goal : (naming : Naming) (names : List (List ℕ)) (goal : List ℕ) (d e : Dependency) → MeansGoal naming names goal d → MeansGoal naming names goal e → d ≡ e
-one_goal naming names goal d e first second =
-    the_ok {A = Dependency} {E = SchemaRefusal} d e (sym ((goal-law naming names goal d).1 first) ∙ (goal-law naming names goal e).1 second)
 
 -- what was printed after yes spells the tree that was found, for a schema alike
 printed_within : (files : Files) (schema goal text : List ℕ) (r : Schema) → (said : SaidYes files schema goal text) → AreAlike said.of r → SpellsWithin r text (tree_of said.proof)

@@ -12,6 +12,7 @@ use Rattle.ddl_text.specs.declared.table.TableDesign.{TableDesign}
 use Rattle.dep_model.specs.Plans.{IsPlan, schemes_of}
 use Rattle.dep_model.specs.Schemas.{nullable_of, theory_of, width_of}
 use Rattle.dep_model.specs.declared.schema.Schema.{Schema}
+use Rattle.implication_laws.proofs.ImplyingLaws.{refused_not_yes, no_not_yes}
 use Rattle.design_order.proofs.OrderLemmas.{order-plan}
 use Rattle.import_laws.proofs.LawLemmas.{table_imported}
 use Rattle.import_laws.specs.PrintedDesigns.{IsPrintedDesign}
@@ -59,19 +60,19 @@ use Rattle.desk_laws.specs.Imported.{AreImported, FormIsImported, IsAskedByName,
 use Rattle.desk_laws.proofs.ImportLaws.{postgres_asks, sql_answer, sqlite_asks}
 use Rattle.desk_laws.proofs.NumberedNames.{number_asks}
 use Rattle.desk_laws.proofs.OneInput.{tables_plan}
-use Rattle.desk_laws.proofs.StopLemmas.{file_says, no_says, refused_says, schema_says, status_is}
+use Rattle.desk_laws.proofs.StopLemmas.{file_says, schema_says, status_is}
 use Rattle.desk_laws.proofs.TableLaws.{WritesRequired, ddl_asks, ddl_plan_asks}
 
 -- ---- no way to stop says yes
 plan_says : (r : Reading) (s : Schema) (name : List ℕ) (response : ResponseValue) → response.status ≡ Yes
     → FileStops (plan_file s) r name response → ⊥
 plan_says r s name response says_yes (inl exit) = file_says r name MOST_PLAN_BYTES response says_yes exit
-plan_says r s name response says_yes (inr exit) = refused_says response says_yes (status_is response _ exit.2)
+plan_says r s name response says_yes (inr exit) = refused_not_yes response says_yes (status_is response _ exit.2)
 
 split_says : (s : Schema) (form : Form) (response : ResponseValue) → response.status ≡ Yes
     → SplitStops s form response → ⊥
-split_says s form response says_yes (inl wide) = refused_says response says_yes (status_is response _ wide.2)
-split_says s form response says_yes (inr many) = refused_says response says_yes (status_is response _ many.1)
+split_says s form response says_yes (inl wide) = refused_not_yes response says_yes (status_is response _ wide.2)
+split_says s form response says_yes (inr many) = refused_not_yes response says_yes (status_is response _ many.1)
 
 form_says : (s : Schema) (form : Form) (response : ResponseValue) → response.status ≡ Yes
     → FormStops s form response → ⊥
@@ -82,13 +83,13 @@ form_says s Fourth response says_yes exit = split_says s Fourth response says_ye
 missing_says : (s : Schema) (names : GivenNames) (schemes : List Attributes) (response : ResponseValue)
     → response.status ≡ Yes → MissingStops s names schemes response → ⊥
 missing_says s names schemes response says_yes (tables, design, (refusal, finds, says)) =
-    refused_says response says_yes (status_is response _ says)
+    refused_not_yes response says_yes (status_is response _ says)
 
 loss_says : (s : Schema) (schemes : List Attributes) (response : ResponseValue) → response.status ≡ Yes
     → LossStops s schemes response → ⊥
 loss_says s schemes response says_yes (inl (fits, lossy, (rows, shows, says))) =
-    no_says response says_yes (status_is response _ says)
-loss_says s schemes response says_yes (inr large) = refused_says response says_yes (status_is response _ large.1)
+    no_not_yes response says_yes (status_is response _ says)
+loss_says s schemes response says_yes (inr large) = refused_not_yes response says_yes (status_is response _ large.1)
 
 -- ---- the text of a design has no byte-order mark
 -- a text begins with a byte of ASCII

@@ -1,9 +1,10 @@
 -- `measure`, `offences` and `kept` have one answer each, and their rows are read by one schema.
-use Rattle.std.proofs.Common.{◌≡◌, ◌+◌, ◌<◌, ℕ, Bool, true, false, List, [], ◌++◌, length, refl, sym, ap, subst, ◌∙◌, inl, inr, arith}
+use Rattle.std.proofs.Common.{◌≡◌, ◌+◌, ◌<◌, ℕ, Bool, false, List, [], ◌++◌, length, sym, ap, subst, ◌∙◌, inl, inr, arith}
 use Rattle.std.proofs.lemmas.List.{ext_get_or}
 use Rattle.std.specs.Prelude.{◌==◌, if◌then◌else◌, not}
 use Rattle.std.specs.List.{flat_map, position_or_len}
 use Rattle.attr_sets.specs.Attributes.{Attributes, difference, only}
+use Rattle.attr_sets.proofs.AttributesLemmas.{same_truth}
 use Rattle.csv_text.specs.Rows.{csv_row, rows_text}
 use Rattle.dep_model.specs.Dependencies.{Dependency, fd, mvd}
 use Rattle.dep_model.specs.Schemas.{names_of, theory_of, width_of}
@@ -72,16 +73,11 @@ one_list_by_row s rows = one_listed s row_headings (AreRowLines s rows) (one_of_
 
 -- ---- `measure`
 module _ (s : Schema) (rows : Relation) where
-  same_flag : (a b : Bool) → (a ≡ true → b ≡ true) → (b ≡ true → a ≡ true) → a ≡ b
-  same_flag true b there back = sym (there refl)
-  same_flag false true there back = back refl
-  same_flag false false there back = refl
-
   one_list_of_flags : (a : ℕ) (one other : List Bool) → AreMistyped s rows a one → AreMistyped s rows a other → one ≡ other
   one_list_of_flags a one other first second =
       ext_get_or false one other (first.one_each ∙ sym second.one_each) (λ i low.
       let here : i < length rows = omega (arith, low, first.one_each) in
-      same_flag (flag_at one i) (flag_at other i)
+      same_truth (flag_at one i) (flag_at other i)
       (λ set. (second.told i here).1 ((first.told i here).0 set))
       (λ set. (first.told i here).1 ((second.told i here).0 set)))
 

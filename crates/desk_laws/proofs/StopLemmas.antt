@@ -4,6 +4,7 @@ use Rattle.std.specs.Prelude.{IsSomeAnd, ◌<◌}
 use Rattle.dep_model.specs.declared.schema.Schema.{Schema}
 use Rattle.dep_model.specs.Dependencies.{Dependency}
 use Rattle.dep_model.specs.Schemas.{names_of, naming_of}
+use Rattle.implication_laws.proofs.ImplyingLaws.{refused_not_yes}
 use Rattle.derivation.specs.Trees.{Tree}
 use Rattle.desk_outside.specs.Files.{Files, bytes_of_file}
 use Rattle.schema_reader.specs.declared.goal.TheConstants.{MOST_GOAL_BYTES}
@@ -21,7 +22,7 @@ use Rattle.proof_grammar.specs.Spelling.{SpellsWithin}
 use Rattle.proof_grammar.specs.Texts.{read_proof}
 use Rattle.proof_grammar.proofs.TextRefusals.{refused_back}
 use Rattle.proof_grammar.proofs.CertificateLaws.{spelled_back}
-use Rattle.desk_responses.specs.declared.status.Status.TheVariants.{Yes, No, Refused, CannotRead}
+use Rattle.desk_responses.specs.declared.status.Status.TheVariants.{Yes, CannotRead}
 use Rattle.desk_inputs.specs.Readings.{Reading, known_files}
 use Rattle.desk_responses.specs.ResponseValues.{ResponseValue}
 use Rattle.desk_inputs.specs.FileKinds.{FileStops, LoadStops}
@@ -29,12 +30,6 @@ use Rattle.desk_inputs.specs.Inputs.{schema_file, proof_file}
 use Rattle.desk_arguments.specs.Goals.{GoalStops}
 
 -- ---- no way to stop says yes
-pub refused_says : (response : ResponseValue) → response.status ≡ Yes → response.status ≡ Refused → ⊥
-refused_says response says_yes is = cc
-
-pub no_says : (response : ResponseValue) → response.status ≡ Yes → response.status ≡ No → ⊥
-no_says response says_yes is = cc
-
 unread_says : (response : ResponseValue) → response.status ≡ Yes → response.status ≡ CannotRead → ⊥
 unread_says response says_yes is = cc
 
@@ -43,15 +38,15 @@ status_is response wanted is = ap (λ (a : ResponseValue). a.status) is
 
 pub file_says : (r : Reading) (name : List ℕ) (limit : ℕ) (response : ResponseValue) → response.status ≡ Yes → LoadStops r name limit response → ⊥
 file_says r name limit response says_yes (inl exit) = unread_says response says_yes (status_is response _ exit.1)
-file_says r name limit response says_yes (inr exit) = refused_says response says_yes (status_is response _ exit.1)
+file_says r name limit response says_yes (inr exit) = refused_not_yes response says_yes (status_is response _ exit.1)
 
 pub schema_says : (r : Reading) (name : List ℕ) (response : ResponseValue) → response.status ≡ Yes → FileStops schema_file r name response → ⊥
 schema_says r name response says_yes (inl exit) = file_says r name MOST_TEXT_BYTES response says_yes exit
-schema_says r name response says_yes (inr exit) = refused_says response says_yes (status_is response _ exit.2)
+schema_says r name response says_yes (inr exit) = refused_not_yes response says_yes (status_is response _ exit.2)
 
 pub goal_says : (s : Schema) (goal : List ℕ) (response : ResponseValue) → response.status ≡ Yes → GoalStops s goal response → ⊥
-goal_says s goal response says_yes (inl exit) = refused_says response says_yes (status_is response _ exit.1)
-goal_says s goal response says_yes (inr exit) = refused_says response says_yes (status_is response _ exit.2)
+goal_says s goal response says_yes (inl exit) = refused_not_yes response says_yes (status_is response _ exit.1)
+goal_says s goal response says_yes (inr exit) = refused_not_yes response says_yes (status_is response _ exit.2)
 
 -- ---- what has a meaning does not stop
 -- a file of this name has one content

@@ -1,7 +1,11 @@
-//! Laws of whole calls of `desk`: what one call prints another accepts, and a call whose inputs
-//! have a meaning is answered where nothing fails.
+//! Laws of whole calls of `desk`, of the commands together. No code.
 //!
-//! Each law is a function that does nothing, whose clause is the law; so the gate asks for its proof.
+//! Each law is a function that does nothing, whose clause is the law; so the gate asks for its
+//! proof.
+//!
+//! Promises: what `implies` prints, `check proof` accepts; what `ddl` prints, `import` reads back;
+//! where nothing fails, a call whose inputs have a meaning is answered; over known files any two
+//! answers to words are equal, but for the derivation of a goal.
 #![tactic(auto)]
 
 mod begun;

@@ -70,7 +70,7 @@ pub fn take_part(
 }
 
 // The fields become those of a row of a broken group.
-pub fn take_row(
+pub fn take_broken_row(
     fields: &mut FlatValues,
     schema: &Schema,
     rows: &Rows,

@@ -1,8 +1,10 @@
-//! What is wrong with rows: how far they are from legal, which are at odds, and which of them can
-//! stay.
+//! What is wrong with rows: the answers about how far they are from legal, which are at odds, and
+//! which of them can stay.
 //!
-//! Each answer is a pure function of values, with the one clause that its response is allowed.
-//! `text_columns_alone` gives the schema by which rows are read whose values may not be of their column's type.
+//! Each is a pure function of values.
+//!
+//! Promises: the response is allowed; `text_columns_alone` gives the schema of text columns alone
+//! by which rows are read whose values may not be of their column's type.
 #![tactic(auto)]
 
 mod columns;

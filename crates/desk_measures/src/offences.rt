@@ -11,7 +11,9 @@ ghost use Rattle.desk_measures.specs.Findings.{Adds};
 ghost use Rattle.desk_measures.specs.Offences.{ArePartLines, AreRowLines, ListsBelow, ListsOffences, ListsOffencesByRow, part_fields, row_fields, shown_of};
 ghost use Rattle.desk_measures.specs.Telling.{Tells};
 
-use crate::fields::{push_names, take_part, take_part_headings, take_row, take_row_headings};
+use crate::fields::{
+    push_names, take_broken_row, take_part, take_part_headings, take_row_headings,
+};
 use crate::telling::{Told, put_each, status_of};
 use attr_sets::AttrSet;
 use csv_rows::Interned;
@@ -194,7 +196,7 @@ fn put_row_lines(
         ++ flat_map (λ row. csv_row (row_fields schema.now rows.now k row)) broken.now) }
 {
     for row in broken {
-        take_row(fields, schema, rows, k, *row)?;
+        take_broken_row(fields, schema, rows, k, *row)?;
         add_row(text, fields)?;
     }
     Ok(())

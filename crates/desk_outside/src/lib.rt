@@ -1,17 +1,20 @@
 //! The outside of the desk: files to read, a sink of the printed text, a folder for files to write,
-//! and what the desk may believe of them.
+//! in memory and real, and what the desk may believe of them.
 //!
 //! Any call of the outside may fail. What an object holds is said by the ghost functions of its
-//! trait, as `files` of a file source. Each fault that is answered was one: the object's error
-//! count increased in that call.
+//! trait, as `files` of a file source.
 //!
-//! - [`FileSource`], [`Sink`] and [`Folder`] are the files to read, the printed text and the files to
-//!   write.
+//! - [`FileSource`], [`Sink`] and [`Folder`] are the files to read, the printed text and the files
+//!   to write.
 //! - [`load`] reads a whole file, up to a limit; [`send`] and [`write_all`] write all of a text.
-//! - [`MemoryFiles`], [`MemorySink`] and [`MemoryFolder`] make known all that they hold, and fail at chosen
-//!   calls alone. [`MemorySeries`] is what `MemoryFolder` and a destination in memory both are.
-//! - [`RealFiles`], [`StdoutSink`] and [`FileFolder`] are the system's. Nothing is known of their content.
-//!   What takes long they tell on standard error, where it is a terminal.
+//! - [`MemoryFiles`], [`MemorySink`] and [`MemoryFolder`] make known all that they hold, and fail
+//!   at chosen calls alone. [`MemorySeries`] is what `MemoryFolder` and a destination in memory
+//!   both are.
+//! - [`RealFiles`], [`StdoutSink`] and [`FileFolder`] are the system's. Nothing is known of their
+//!   content. What takes long they tell on standard error, where it is a terminal.
+//!
+//! Promises: `load` gives the file, `send` gives all bytes; a folder says which names it has begun;
+//! each fault that is answered was one: the object's error count increased in that call.
 #![tactic(auto)]
 
 mod argument;

@@ -1,5 +1,8 @@
-//! What a process gives to the desk and takes from it: the words of its arguments, where notices go, and the number
-//! that it ends with.
+//! What a process gives to the desk and takes from it: the words of its arguments, where notices
+//! go, and the number that it ends with.
+//!
+//! Promises: the words without the program's name, none where an argument is not UTF-8; the number
+//! of each way to end.
 #![tactic(auto)]
 
 mod ending;

@@ -1,6 +1,8 @@
 //! Plans below how they come about: the answers of `explain synthesize` and `explain split`.
 //!
-//! Each is a pure function of values, with the one clause that its response is allowed.
+//! Each is a pure function of values.
+//!
+//! Promises: the response is allowed.
 #![tactic(auto)]
 
 mod left_out;

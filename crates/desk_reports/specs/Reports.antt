@@ -29,7 +29,9 @@ KeysSection file s = Section (codes "Keys")
 -- rows that obey just what follows
 abbrev pub ExampleSection : List ℕ → Schema → Shown
 ExampleSection file s = Section (codes "Example rows")
-    (Opens (title_with_words (codes "Rows that obey just what follows") (codes "exhibit " ++ shell_word file)) (Exhibits s))
+    (Opens
+    (title_with_words (codes "Rows that obey just what follows") (codes "exhibit " ++ shell_word file))
+    (Exhibits s))
 
 -- the sections before those of tables
 abbrev pub FrontSections : List ℕ → Schema → Shown

@@ -1,7 +1,10 @@
-//! One page that says of a schema, or of a schema and a plan, all that the commands say.
+//! One page of HTML that says of a schema, or of a schema and a plan, all that the commands say.
 //!
-//! Each piece of a page is what a command answers about these values, a refusal too; so its one clause is that there
-//! are such answers, and that the page is their texts in its frame. Running out of memory ends a report.
+//! Each piece of a page is what a command answers about these values, a refusal too. Running out of
+//! memory ends a report.
+//!
+//! Promises: the page is the texts that the commands are allowed, refusals too, in their order and
+//! frame.
 #![tactic(auto)]
 
 mod attributes;

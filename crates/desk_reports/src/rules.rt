@@ -1,17 +1,14 @@
 //! The section on the dependencies.
 
-ghost use Rattle.std.specs.Prelude.{◌≡◌, ◌↔◌, ◌<◌, ◌≤◌, length, All, IfOk, IsTrue};
-ghost use Rattle.attr_sets.specs.Attributes.{below};
-ghost use Rattle.attr_sets.specs.declared.set.TheConstants.{MOST_ATTRIBUTES};
-ghost use Rattle.dep_model.specs.Deps.{dependencies_of, dependency_of, IsDepWithin};
-ghost use Rattle.dep_model.specs.Implication.{Implies};
+ghost use Rattle.std.specs.Prelude.{◌≡◌, ◌↔◌, ◌<◌, length, IfOk, IsTrue};
 ghost use Rattle.dep_model.specs.Schemas.{deps_of};
 ghost use Rattle.desk_reports.specs.Pieces.{EachBelow};
 ghost use Rattle.desk_reports.specs.Rules.{FollowsFromOthers, RulesSection, ShowsRule, ShowsRules, follows_mark, rule_text};
 
 use crate::pieces::both;
-use dep_basis::{Decision, decide_by};
-use dep_model::{Dep, OutOfMemory, Schema};
+use cover_check::dependency_and_others;
+use dep_basis::is_implied_by;
+use dep_model::{OutOfMemory, Schema};
 use desk_responses::{put_dep, put_line};
 use html_escapes::add_html;
 use html_pages::section;
@@ -66,22 +63,8 @@ fn follows_from_others(alloc: Global, schema: &Schema, k: usize) -> Result<bool,
     requires position { k < length (deps_of schema.now) }
     ensures follows { IfOk result (λ follows. IsTrue follows ↔ FollowsFromOthers schema.now k) }
 {
-    let mut others = Vec::from_slice(alloc, schema.deps())?;
-    let dep = others.remove(k);
-    Ok(is_implied(&others, schema.width(), dep))
-}
-
-// Whether dependencies imply one more.
-fn is_implied(deps: &[Dep], width: u8, dep: Dep) -> bool
-    requires width { width ≤ MOST_ATTRIBUTES }
-    requires deps { All (IsDepWithin (below width)) deps.now }
-    requires within { IsDepWithin (below width) dep }
-    ensures implied { IsTrue result ↔ Implies width (dependencies_of deps.now) (dependency_of dep) }
-{
-    match decide_by(deps, width, dep) {
-        Decision::Implied => true,
-        Decision::Broken { .. } => false,
-    }
+    let (dep, others) = dependency_and_others(alloc, schema, k)?;
+    Ok(is_implied_by(&others, schema.width(), dep))
 }
 
 // A dependency, with its line.

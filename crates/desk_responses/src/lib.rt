@@ -1,8 +1,11 @@
-//! What a command may answer: a status, a text, and tables for the destinations or for a folder of their own.
+//! What a command may answer: a status, a text, and tables for the destinations or for a folder of
+//! their own.
 //!
-//! A `Response` is an answer as a value; an `EarlyExit` ends a command before that. `lines` holds the lines
-//! and refusals that several commands have. The definitions say which answers may be given, and the
-//! steps (`With`, `Unless`) of which every command is made.
+//! A `Response` is an answer as a value; an `EarlyExit` ends a command before that. `lines` holds
+//! the lines and refusals that several commands have. The definitions say which answers may be
+//! given, and the steps (`With`, `Unless`) of which every command is made.
+//!
+//! Promises: a response is one that the definitions allow; only yes has tables.
 #![tactic(auto)]
 
 mod lines;

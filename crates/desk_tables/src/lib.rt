@@ -1,7 +1,9 @@
-//! Rows and tables: the answers about legal rows, rows migrated to the tables of a plan, invented rows, and
-//! tables joined again.
+//! Rows and tables: the answers about legal rows, rows migrated to the tables of a plan, invented
+//! rows, and tables joined again.
 //!
-//! Each is a pure function of values, with the one clause that its response is allowed.
+//! Each is a pure function of values.
+//!
+//! Promises: the response is allowed.
 #![tactic(auto)]
 
 mod migration;

@@ -1,5 +1,10 @@
 //! Pieces of what the program prints, and how it words the refusals of schemas, certificates and
 //! derivations.
+//!
+//! A refusal that needs no names of a schema has its text, by `Display`, and its number beside its
+//! type.
+//!
+//! Promises: the text of the definition.
 #![tactic(auto)]
 
 mod conclusions;

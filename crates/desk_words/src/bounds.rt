@@ -3,7 +3,8 @@ ghost use Rattle.lexer.specs.Bytes.{number_of};
 ghost use Rattle.desk_words.specs.Numbers.{is_left_bound, is_row_bound};
 ghost use Rattle.desk_words.specs.declared.bounds.TheConstants.{MOST_ON_LEFT};
 
-use crate::numbers::{is_short_number, value_of};
+use crate::numbers::is_short_number;
+use lexer::number_of;
 
 /// The most attributes on the left of a dependency that is asked for.
 pub const MOST_ON_LEFT: u8 = 64;
@@ -24,7 +25,7 @@ pub fn left_bound_of(word: &[u8]) -> Option<LeftBound>
     if !is_short_number(word, 2) {
         return None;
     }
-    let number = value_of(word);
+    let number = number_of(word);
     if number == 0 || number > u32::from(MOST_ON_LEFT) {
         return None;
     }
@@ -39,7 +40,7 @@ pub fn row_bound_of(word: &[u8]) -> Option<u32>
     ensures bound { result ≡ (if is_row_bound word.now then Some (number_of word.now) else None) }
 {
     if is_short_number(word, 7) {
-        Some(value_of(word))
+        Some(number_of(word))
     } else {
         None
     }

@@ -1,6 +1,7 @@
 //! The words of the command line: which words form which command.
 //!
-//! `parse` gives the command that words form, by their first words, and none exactly where they form none.
+//! Promises: `parse` gives exactly the command that words form, by their first words, and none
+//! exactly where they form none.
 #![tactic(auto)]
 
 mod bounds;

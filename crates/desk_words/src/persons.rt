@@ -3,7 +3,8 @@ ghost use Rattle.lexer.specs.Bytes.{number_of};
 ghost use Rattle.desk_words.specs.Numbers.{is_count};
 ghost use Rattle.sample_rows.specs.declared.rows.TheConstants.{MOST_PERSONS};
 
-use crate::numbers::{is_short_number, value_of};
+use crate::numbers::is_short_number;
+use lexer::number_of;
 
 /// How many persons a sample has.
 #[derive(Clone, Copy, Debug)]
@@ -21,7 +22,7 @@ pub fn count_of(word: &[u8]) -> Option<Persons>
     if !is_short_number(word, 5) {
         return None;
     }
-    let number = value_of(word);
+    let number = number_of(word);
     if number == 0 || number > sample_rows::MOST_PERSONS {
         return None;
     }

@@ -1,12 +1,15 @@
-//! Destinations of tables: what is handed to a destination, it holds.
+//! Destinations of tables: in memory, CSV files, SQL files.
 //!
 //! - [`Destination`] says what each call does to the finished tables and to the open one. A
 //!   `Box<dyn Destination>` is a destination.
 //! - [`MemoryDestination`] keeps the tables, and fails at chosen calls alone.
-//! - [`BufferedFolder`] gathers what is written to a folder. [`opening_of`], [`front_of`] and [`add_line`] make
-//!   the text of a table in a [`TableFormat`].
-//! - [`FileDestination`] writes each table to a file of a folder, in such a format. It makes known what it
-//!   holds where the folder does.
+//! - [`BufferedFolder`] gathers what is written to a folder. [`opening_of`], [`front_of`] and
+//!   [`add_line`] make the text of a table in a [`TableFormat`].
+//! - [`FileDestination`] writes each table to a file of a folder, in such a format. It makes known
+//!   what it holds where the folder does.
+//!
+//! Promises: a destination holds what it was given, each table in place of one of its name, and
+//! says which names it has begun.
 #![tactic(auto)]
 
 mod boxed;

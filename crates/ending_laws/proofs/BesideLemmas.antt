@@ -1,8 +1,8 @@
 -- Rows beside rows, where no test of two rows is an error.
-use Rattle.std.proofs.Common.{◌≡◌, ℕ, Bool, true, false, not, ◌&&◌, List, [], ◌∷◌, ◌++◌, map, filter, cond, Some, Option, refl, sym, ap, subst, ◌∙◌, inl, inr, ⊎_elim, arith}
-use Rattle.std.proofs.lemmas.Bool.{cases_Bool, true≢false}
+use Rattle.std.proofs.Common.{◌≡◌, ℕ, Bool, true, false, not, ◌&&◌, List, [], ◌∷◌, ◌++◌, map, filter, Some, Option, refl, sym, ap, subst, ◌∙◌, inl, inr, ⊎_elim, arith}
+use Rattle.std.proofs.lemmas.Bool.{cases_Bool, true≢false, and_parts, and_from}
 use Rattle.std.proofs.lemmas.List.Elements.{Contains-append_cases, Contains-append_left, Contains-append_right}
-use Rattle.std.specs.Prelude.{Contains, if◌then◌else◌, option_and_then}
+use Rattle.std.specs.Prelude.{Contains, if◌then◌else◌}
 use Rattle.dep_model.proofs.ListLemmas.{Contains-head, Contains-later, Contains-cases}
 use Rattle.sql_evaluation.specs.Cells.{Cell, equal}
 use Rattle.sql_evaluation.specs.Values.{of_both, named_cell}
@@ -101,13 +101,6 @@ cells_beside-known name cell by (m ∷ ms) = elim (cases_Bool (is_name_of by (na
 ]
 
 -- ---- whether two rows agree
-both_true : (a b : Bool) → (a && b) ≡ true → (a ≡ true) × (b ≡ true)
-both_true true b e = (refl, e)
-both_true false b e = absurd (true≢false (sym e))
-
-true_both : (a b : Bool) → a ≡ true → b ≡ true → (a && b) ≡ true
-true_both a b first second = grind (arith, first, second)
-
 -- two rows have equal values in columns
 abbrev pub AllEqual : (ℕ → Cell) → (ℕ → Cell) → List ℕ → Type 0
 AllEqual c d ks = (k : ℕ) → Contains ks k → equal (c k) (d k) ≡ Some true
@@ -136,10 +129,10 @@ module _ (name : ℕ → List ℕ) (c d : ℕ → Cell) (ks ms : List ℕ) (apar
         test = here.0 && rest.test;
         is = ap (λ (a : Option Bool). of_both (λ x y. Some (x && y)) a later) first
             ∙ ap (λ (b : Option Bool). of_both (λ (x y : Bool). Some (x && y)) (Some here.0) b) rest.is;
-        to = λ e m h. let both = both_true here.0 rest.test e in ⊎_elim
+        to = λ e m h. let both = and_parts here.0 rest.test e in ⊎_elim
             (λ (same : m ≡ k). subst (λ (z : ℕ). equal (c z) (d z) ≡ Some true) (sym same) (here.1 ∙ ap (λ (b : Bool). Some b) both.0))
             (λ after. rest.to both.1 m after)
             (Contains-cases k sh m h);
-        from = λ all. true_both here.0 rest.test
+        from = λ all. and_from here.0 rest.test
             (some_is here.0 true (sym here.1 ∙ all k (Contains-head k sh))) (rest.from (λ m h. all m (Contains-later k sh m h)));
       }

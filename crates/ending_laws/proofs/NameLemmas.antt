@@ -1,14 +1,10 @@
 -- The names of attributes, as they stand in statements.
-use Rattle.std.proofs.Common.{◌≡◌, ◌<◌, ◌≤◌, ◌+◌, ℕ, zero, suc, Bool, true, false, List, [], ◌∷◌, ◌++◌, length, get_or, map, take, take_all, refl, sym, ap, subst, ◌∙◌, inl, inr, arith}
-use Rattle.std.proofs.lemmas.Bool.{cases_Bool}
-use Rattle.std.proofs.lemmas.List.{map-append}
+use Rattle.std.proofs.Common.{◌≡◌, ℕ, List, [], ◌∷◌, map, refl, ap, ◌∙◌}
 use Rattle.attr_sets.specs.Attributes.{Attributes}
 use Rattle.dep_model.specs.declared.schema.Schema.{Schema}
-use Rattle.dep_model.specs.Projections.{members_below}
-use Rattle.dep_model.specs.Schemas.{names_of, width_of}
-use Rattle.dep_model.proofs.SchemeLemmas.{members_below-member, members_below-outside, members_below-none}
+use Rattle.dep_model.specs.Schemas.{names_of}
 use Rattle.schema_printer.specs.Printing.{members_from}
-use Rattle.sql_names.proofs.NameLemmas.{members_named}
+use Rattle.schema_printer.proofs.MemberLemmas.{members_named}
 use Rattle.sql_syntax.specs.Syntax.{attribute}
 use Rattle.sql_evaluation.specs.Values.{bytes_of}
 use Rattle.check_laws.proofs.ValuesLemmas.{names_on}

@@ -67,8 +67,9 @@ AreComparable s cell r =
     → (b : Bool) × (equal (copied_cell s cell k (value_at t k)) (copied_cell s cell k (value_at u k)) ≡ Some b)
 
 -- ---- a run
--- an engine holds a legal relation as a table without other columns, in which no value is missing that may not be and the integers are
--- integers; it casts these, and refuses nothing but what breaks a rule of a table; a design without loss fits
+-- an engine holds a legal relation as a table without other columns, in which no value is missing that may not be and
+-- the integers are integers; it casts these, and refuses nothing but what breaks a rule of a table; a design without
+-- loss fits
 pub record IsSoundRun (fails : Fails) (cast : Cast) (s : Schema) (name : List ℕ) (cell : ℕ → List ℕ → Cell)
     (r : Relation) (designs : List TableDesign) (start : State) : Type 0 where
   pub holds : Holds (engine_at cast start) name s cell r

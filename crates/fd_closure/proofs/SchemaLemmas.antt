@@ -17,8 +17,8 @@ of_functional_part s deps same P holds =
     (holds (width_of s) (subst (λ (es : List Dep). All (IsDepWithin (universe_of s)) es) (sym same) s.valid.deps_within))
 
 -- the closure by the functional dependencies of a schema
-pub closure_of_schema : (s : Schema) (deps : List Dep) → deps ≡ deps_of s → (x closed : Attributes) → IsSubset x (universe_of s)
+pub functional_closure_of_schema : (s : Schema) (deps : List Dep) → deps ≡ deps_of s → (x closed : Attributes) → IsSubset x (universe_of s)
     → ((n : ℕ) → All (IsDepWithin (below n)) deps → IsSubset x (below n) → (a : ℕ) → (closed a ≡ true) ↔ InClosure n (functional_part (dependencies_of deps)) x a)
     → (a : ℕ) → (closed a ≡ true) ↔ InClosure (width_of s) (functional_part (theory_of s)) x a
-closure_of_schema s deps same x closed low exact =
+functional_closure_of_schema s deps same x closed low exact =
     of_functional_part s deps same (λ n ds. IsSubset x (below n) → (a : ℕ) → (closed a ≡ true) ↔ InClosure n ds x a) exact low

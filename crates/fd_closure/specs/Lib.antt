@@ -1,7 +1,8 @@
--- The definitions of fd_closure, in reading order: functionally closed sets, sets that grow, counting,
--- lists of keys, and left sides.
+-- The definitions of fd_closure, in reading order: functionally closed sets, sets that grow, closures,
+-- counting, lists of keys, and left sides.
 pub mod FunctionallyClosed
 pub mod Growth
+pub mod Closures
 pub mod Counting
 pub mod KeyLists
 pub mod LeftSides

@@ -14,7 +14,7 @@ use dep_model::Dep;
 
 /// The attributes that `from` determines by the functional dependencies of a list (Maier 1983).
 /// Multivalued ones are passed over.
-pub fn closure(deps: &[Dep], from: AttrSet) -> AttrSet
+pub fn functional_closure(deps: &[Dep], from: AttrSet) -> AttrSet
     ensures closure { (n : ℕ) → All (IsDepWithin (below n)) deps.now
         → IsSubset (attributes from) (below n)
         → (a : ℕ) → (attributes result a ≡ true)

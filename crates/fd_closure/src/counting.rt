@@ -60,7 +60,7 @@ impl Counters {
 ghost use Rattle.fd_closure.specs.Counting.{FitsList};
 
 /// The attributes that `from` determines by the functional dependencies of a list.
-pub fn closure_with(counters: &mut Counters, deps: &[Dep], from: AttrSet) -> AttrSet
+pub fn functional_closure_with(counters: &mut Counters, deps: &[Dep], from: AttrSet) -> AttrSet
     requires fits { FitsList counters.old deps.now }
     ensures closure { (n : ℕ) → All (IsDepWithin (below n)) deps.now
         → IsSubset (attributes from) (below n)

@@ -1,5 +1,5 @@
 -- The search for minimal dependencies, set by set and attribute by attribute.
-use Rattle.std.proofs.Common.{inl, inr, ◌≡◌, ◌+◌, ◌<◌, ◌≤◌, ◌⊎◌, ◌↔◌, ◌||◌, ◌==◌, nat_lt, ℕ, Bool, true, false, List, [], ◌∷◌, ◌++◌, get_or, refl, sym, ap, subst, ◌∙◌, arith}
+use Rattle.std.proofs.Common.{inl, inr, ◌≡◌, ◌+◌, ◌<◌, ◌≤◌, ◌↔◌, ◌||◌, ◌==◌, nat_lt, ℕ, Bool, true, false, List, [], ◌∷◌, ◌++◌, get_or, refl, sym, ap, subst, ◌∙◌, arith}
 use mathlib.Core.Path.{fun_ext}
 use Rattle.std.specs.Prelude.{All, Contains}
 use Rattle.std.proofs.lemmas.Bool.{cases_lt, cases_Bool, cases_order, true≢false, ltb-true, eqb-true}
@@ -9,6 +9,7 @@ use Rattle.std.proofs.lemmas.List.Quantifiers.{all_pairs_push}
 use Rattle.attr_sets.specs.Attributes.{Attributes, IsSubset, IsEmpty, IsBefore, IsFirstFrom, IsNextSubset, below, only, difference, union}
 use Rattle.attr_sets.proofs.AttributesLemmas.{same_from_within, same_at}
 use Rattle.attr_sets.proofs.OrderLemmas.{IsBefore-trans, tell_before, next_subset-is, next_subset-before}
+use Rattle.attr_sets.proofs.UpToLemmas.{IsUpTo, before_up_to, filled_in, holds_after, only_before, subset_up_to, up_to_before}
 use Rattle.dep_model.specs.Tuples.{Relation, IsOver}
 use Rattle.dep_model.specs.Dependencies.{Dependency, fd, left_of, right_of, ObeysFd, Obeys, IsWithin}
 use Rattle.dep_model.specs.Implication.{IsLegal, Implies}
@@ -16,42 +17,6 @@ use Rattle.dep_model.proofs.RuleLemmas.{fd_weaker_obeyed}
 use Rattle.fd_discovery.specs.Minimal.{IsMinimalWithin, IsMinimalFd, Precedes, AreAllMinimal}
 use Rattle.fd_discovery.specs.Searching.{IsListedFrom, AreUndetermined, IsTried, IsFoundBefore, AreFound}
 use Rattle.fd_discovery.proofs.GivenLemmas.{given_still, given_now, given_cases, given_more}
-
--- ---- the order of attributes and of sets
-only_before : (a b : ℕ) → a < b → IsBefore (only a) (only b)
-only_before a b less = (
-  b,
-  grind (arith, nat_tests, less),
-  grind (arith, nat_tests),
-  λ j more. grind
-      (arith, nat_tests, less, more),
-)
-
--- x is the same as y or comes before it
-abbrev IsUpTo : Attributes → Attributes → Type 0
-IsUpTo x y = (x ≡ y) ⊎ IsBefore x y
-
-up_to_before : (x y z : Attributes) → IsUpTo x y → IsBefore y z → IsBefore x z
-up_to_before x y z up before = elim up [
-  | inl same ↦ subst (λ (v : Attributes). IsBefore v z) (sym same) before
-  | inr earlier ↦ IsBefore-trans x y z earlier before
-]
-
-before_up_to : (x y z : Attributes) → IsBefore x y → IsUpTo y z → IsBefore x z
-before_up_to x y z before up = elim up [
-  | inl same ↦ subst (λ (v : Attributes). IsBefore x v) same before
-  | inr earlier ↦ IsBefore-trans x y z before earlier
-]
-
--- a subset is the same or comes before
-subset_up_to : (n : ℕ) (x y : Attributes) → IsSubset y (below n) → IsSubset x y → IsUpTo x y
-subset_up_to n x y low inside = elim (tell_before n x y (λ k m. low k (inside k m)) low) [
-  | inl same ↦ inl same
-  | inr other ↦ elim other [
-    | inl before ↦ inr before
-    | inr back ↦ absurd (true≢false (sym (inside back.0 back.2) ∙ back.1))
-  ]
-]
 
 -- ---- one attribute of a set after the other
 -- minimal dependencies that were tried before y -> a, where `wanted` has the attributes that were not
@@ -71,7 +36,7 @@ added_none n r y wanted ds found given = record {
   rest = given.rest;
 }
 
-tried_more : (y x : Attributes) (a b : ℕ) → IsTried y a x b → IsTried y (a + 1) x b
+pub tried_more : (y x : Attributes) (a b : ℕ) → IsTried y a x b → IsTried y (a + 1) x b
 tried_more y x a b tried = elim tried [
   | inl before ↦ inl before
   | inr same ↦ inr (same.0, omega (arith, same.1))
@@ -237,12 +202,7 @@ module _ (n bound i : ℕ) (set : Attributes) (set_in : IsSubset set (below n)) 
   ]
 
   before_in : IsSubset (union set (below i)) (below n)
-  before_in k m = elim (cases_Bool (set k)) [
-    | inl member ↦ set_in k member
-    | inr out ↦
-        let low : k < i = ltb-true k i (sym (ap (λ (b : Bool). b || nat_lt k i) out) ∙ m) in
-        grind (arith, nat_tests, low, i_in, bound_in)
-  ]
+  before_in = filled_in n i set set_in (omega (arith, i_in, bound_in))
 
   -- the set with all attributes below i is followed by the set with i
   pub larger_next : IsNextSubset (below n) (union set (below i)) larger
@@ -276,12 +236,7 @@ module _ (n bound i : ℕ) (set : Attributes) (set_in : IsSubset set (below n)) 
   ])
 
   top_in : IsSubset (union set (below (i + 1))) (below n)
-  top_in k m = elim (cases_Bool (set k)) [
-    | inl member ↦ set_in k member
-    | inr out ↦
-        let low : k < i + 1 = ltb-true k (i + 1) (sym (ap (λ (b : Bool). b || nat_lt k (i + 1)) out) ∙ m) in
-        grind (arith, nat_tests, low, i_in, bound_in)
-  ]
+  top_in = filled_in n (i + 1) set set_in (omega (arith, i_in, bound_in))
 
   larger_up : IsUpTo larger (union set (below (i + 1)))
   larger_up = subset_up_to n larger (union set (below (i + 1))) top_in
@@ -289,25 +244,7 @@ module _ (n bound i : ℕ) (set : Attributes) (set_in : IsSubset set (below n)) 
 
   -- a set after the set with i, up to the one with all attributes up to i, holds the set with i
   holds : (v : Attributes) → IsBefore larger v → IsUpTo v (union set (below (i + 1))) → IsSubset larger v
-  holds v after up = elim (cases_lt after.0 i) [
-    | inl low ↦ λ k m. sym (after.3 k (omega (arith, larger_above k m, low))) ∙ m
-    | inr high ↦ absurd (elim up [
-      | inl same ↦ true≢false (sym after.2 ∙ same_at same after.0 ∙ beyond high)
-      | inr before ↦ elim (cases_order before.0 after.0) [
-        | inl at ↦ true≢false (sym after.2 ∙ ap v (sym at) ∙ before.1)
-        | inr other ↦ elim other [
-          | inl lower ↦ true≢false (sym after.2 ∙ before.3 after.0 lower ∙ beyond high)
-          | inr higher ↦
-              let out : larger before.0 ≡ false = after.3 before.0 higher ∙ before.1 in
-              true≢false (sym before.2 ∙ sym (same_at larger_filled before.0) ∙ grind (arith, nat_tests, out, higher, high))
-        ]
-      ]
-    ])
-  ]
-    where
-      beyond : i ≤ after.0 → union set (below (i + 1)) after.0 ≡ false
-      beyond high = sym (same_at larger_filled after.0)
-          ∙ (let out : larger after.0 ≡ false = after.1 in grind (arith, nat_tests, out, high))
+  holds v after up = holds_after i larger v larger_above after (subst (IsUpTo v) (sym larger_filled) up)
 
   pub found_at_larger : (r : Relation) (ds : List Dependency) → AreFound n r (union set (below i)) n ds
       → AreFound n r larger 0 ds

@@ -128,7 +128,7 @@ fn read_body(
             Some(refusal) => return Err(Failure::Refused(refusal)),
             None => {}
         }
-        take_row(&fields, &mut row)?;
+        take_fields(&fields, &mut row)?;
         rows.push(&row)?;
     }
 }
@@ -158,7 +158,7 @@ fn row_refusal(
 }
 
 // The values become those of a record.
-fn take_row(fields: &ByteRecord, values: &mut FlatValues) -> Result<(), OutOfMemory>
+fn take_fields(fields: &ByteRecord, values: &mut FlatValues) -> Result<(), OutOfMemory>
     ensures row { OnOk result (values.new ≡ fields_of fields.now) }
 {
     values.clear();

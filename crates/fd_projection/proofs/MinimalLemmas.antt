@@ -15,7 +15,8 @@ use Rattle.fd_closure.specs.LeftSides.{left_sides}
 use Rattle.fd_closure.proofs.LeftSideLemmas.{left_sides_in, left_sides_each}
 use Rattle.normal_forms.proofs.AddedLemmas.{closure_more, added_by_all}
 use Rattle.fd_projection.specs.Projections.{IsMinimalWithin}
-use Rattle.fd_projection.specs.Closures.{IsClosureOf, IsClosureOfParts}
+use Rattle.fd_closure.specs.Closures.{IsClosureOf}
+use Rattle.fd_projection.specs.Closures.{IsClosureOfParts}
 
 -- ---- least left sides
 -- no one attribute of a set can be spared where it determines another

@@ -7,7 +7,8 @@ use Rattle.attr_sets.proofs.AttributesLemmas.{same_at}
 use Rattle.dep_model.specs.Dependencies.{Dependency}
 use Rattle.dep_model.specs.Keys.{InClosure}
 use Rattle.normal_forms.proofs.AddedLemmas.{closure_more}
-use Rattle.fd_projection.specs.Closures.{IsClosureOf, IsClosureOfParts}
+use Rattle.fd_closure.specs.Closures.{IsClosureOf}
+use Rattle.fd_projection.specs.Closures.{IsClosureOfParts}
 
 -- it determines an attribute without one of those below m
 pub record LeavesOut (n : ℕ) (ds : List Dependency) (x : Attributes) (m a : ℕ) : Type 0 where

@@ -1,6 +1,6 @@
 -- What is left of the minimal dependencies inside a set says of it what the list says, and nothing of it
 -- can be spared.
-use Rattle.std.proofs.Common.{◌≡◌, ◌≤◌, ◌↔◌, ℕ, true, false, List, [], ◌∷◌, ◌++◌, refl, sym, subst, ◌∙◌, inl, inr, ⊎_elim, arith}
+use Rattle.std.proofs.Common.{◌≡◌, ◌≤◌, ◌↔◌, ℕ, true, false, List, [], ◌∷◌, ◌++◌, sym, subst, ◌∙◌, inl, inr, ⊎_elim, arith}
 use Rattle.std.proofs.lemmas.Bool.{cases_Bool, ltb-true}
 use Rattle.std.proofs.lemmas.Bool.Decides.{nat_tests}
 use Rattle.std.proofs.lemmas.List.Elements.{All-nil, All-contains, All-weaker}
@@ -8,7 +8,7 @@ use Rattle.std.specs.Prelude.{All, Contains}
 use Rattle.attr_sets.specs.Attributes.{Attributes, below, only, difference, IsSubset}
 use Rattle.dep_model.specs.declared.dep.Dep.{Dep}
 use Rattle.dep_model.specs.Tuples.{Relation}
-use Rattle.dep_model.specs.Dependencies.{Dependency, fd, left_of, right_of, is_fd, Obeys, IsWithin}
+use Rattle.dep_model.specs.Dependencies.{Dependency, fd, left_of, right_of, Obeys, IsWithin}
 use Rattle.dep_model.specs.Deps.{dependencies_of, IsDepWithin}
 use Rattle.dep_model.specs.Implication.{IsLegal, Implies}
 use Rattle.dep_model.specs.Keys.{InClosure}
@@ -24,9 +24,6 @@ minimal_within_set n ds set d (x, a, is, minimal) = subst (IsWithin set) (sym is
   minimal.left,
   λ k m. let here : k ≡ a = grind (arith, nat_tests, m) in subst (λ (j : ℕ). set j ≡ true) (sym here) minimal.right,
 )
-
-pub minimal_functional : (n : ℕ) (ds : List Dependency) (set : Attributes) (d : Dependency) → IsMinimalFd n ds set d → is_fd d ≡ true
-minimal_functional n ds set d (x, a, is, minimal) = subst (λ (e : Dependency). is_fd e ≡ true) (sym is) refl
 
 -- and is implied
 minimal_implied : (n : ℕ) (ds : List Dependency) (set : Attributes) (d : Dependency) → IsMinimalFd n ds set d → Implies n ds d

@@ -1,23 +1,11 @@
--- Closures that are kept, what the parts of a set determine, and which minimal dependencies were found
--- so far: for the search of fd_projection. `Desk` does not cite it.
+-- What the parts of a set determine, and which minimal dependencies were found so far: for the search of
+-- fd_projection. `Desk` does not cite it.
 use Rattle.std.specs.Prelude.{◌≡◌, ◌⊎◌, ◌↔◌, ◌≤◌, ℕ, true, List, length, All, AllPairs, Contains}
 use Rattle.attr_sets.specs.Attributes.{Attributes, only, difference, IsBefore}
-use Rattle.attr_sets.specs.Sets.{attributes}
-use Rattle.dep_model.specs.declared.schema.Schema.{Schema}
 use Rattle.dep_model.specs.Dependencies.{Dependency, fd}
 use Rattle.dep_model.specs.Keys.{InClosure}
-use Rattle.dep_model.specs.Schemas.{width_of, theory_of}
-use Rattle.fd_projection.specs.declared.closures.KnownClosure.{KnownClosure}
 use Rattle.fd_projection.specs.declared.refusal.TheConstants.{MOST_LISTED}
 use Rattle.fd_projection.specs.Projections.{IsMinimalWithin, IsMinimalFd, Precedes}
-
--- c is the closure of x
-abbrev pub IsClosureOf : ℕ → List Dependency → Attributes → Attributes → Type 0
-IsClosureOf n ds x c = (a : ℕ) → (c a ≡ true) ↔ InClosure n ds x a
-
--- what is kept with a set is its closure
-abbrev pub IsKnown : Schema → KnownClosure → Type 0
-IsKnown s known = IsClosureOf (width_of s) (theory_of s) (attributes known.of) (attributes known.closed)
 
 -- c has what x determines without one of its attributes
 abbrev pub IsClosureOfParts : ℕ → List Dependency → Attributes → Attributes → Type 0

@@ -1,10 +1,11 @@
-//! The functional dependencies inside a set of attributes: the projection of a schema's dependencies
-//! (Ullman 1982).
+//! The functional dependencies inside a set of attributes: the projection of a schema's
+//! dependencies (Ullman 1982).
 //!
-//! `project` gives dependencies inside a set from which each functional dependency inside it follows
-//! that the schema implies, by its functional and its multivalued dependencies. Each has a least left
-//! side and one attribute on the right, and none follows from the others. `laws` has what holds of
-//! them whatever made them.
+//! `laws` has what holds of them whatever made them.
+//!
+//! Promises: a functional dependency inside the set follows from those that `project` gives exactly
+//! where the schema implies it, by its functional and its multivalued dependencies; each has a
+//! least left side and one attribute on the right, and none follows from the others.
 #![tactic(auto)]
 
 mod closures;

@@ -3,13 +3,14 @@ ghost use Rattle.attr_sets.specs.Attributes.{IsSubset};
 ghost use Rattle.attr_sets.specs.Sets.{attributes};
 ghost use Rattle.dep_model.specs.Deps.{dependencies_of};
 ghost use Rattle.dep_model.specs.Schemas.{width_of, universe_of, theory_of};
-ghost use Rattle.fd_projection.specs.Closures.{IsClosureOf, IsClosureOfParts, AreFound, AreFoundWithin, TriedBefore, TriedUpTo};
+ghost use Rattle.fd_closure.specs.Closures.{IsClosureOf};
+ghost use Rattle.fd_projection.specs.Closures.{IsClosureOfParts, AreFound, AreFoundWithin, TriedBefore, TriedUpTo};
 
-use crate::closures::{KnownClosure, closed_beyond, closed_by_parts};
+use crate::closures::{closed_beyond, closed_by_parts};
 use crate::refusal::MOST_LISTED;
 use attr_sets::AttrSet;
 use dep_model::{Dep, OutOfMemory, Schema};
-use fd_closure::{is_functional, left_attributes};
+use fd_closure::{KnownClosure, left_attributes};
 use std::alloc::Global;
 
 // The minimal dependencies inside a set, in order: all, or more than are listed. Their left sides lie
@@ -19,14 +20,13 @@ pub fn minimal_within(alloc: Global, schema: &Schema, set: AttrSet) -> Result<Ve
     ensures found { IfOk result (λ found. AreFoundWithin (width_of schema.now) (theory_of schema.now)
         (attributes set) (dependencies_of found.items)) }
 {
-    let functional = is_functional(schema.deps());
     let whole = left_attributes(schema.deps()).intersection(set);
     let mut table = Vec::new(alloc);
     let mut found = Vec::new(alloc);
     let mut next = Some(AttrSet::empty());
     while let Some(lhs) = next {
-        let given = closed_by_parts(schema, functional, &table, whole, lhs);
-        let closed = closed_beyond(schema, functional, lhs, given);
+        let given = closed_by_parts(schema, &table, whole, lhs);
+        let closed = closed_beyond(schema, lhs, given);
         add_minimal(schema, set, lhs, closed, given, &mut found)?;
         if found.len() > MOST_LISTED {
             return Ok(found);

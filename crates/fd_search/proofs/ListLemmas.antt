@@ -17,6 +17,7 @@ use Rattle.attr_sets.specs.declared.set.AttrSet.{AttrSet}
 use Rattle.attr_sets.specs.declared.set.TheConstants.{MOST_ATTRIBUTES}
 use Rattle.attr_sets.proofs.AttributesLemmas.{attributes-at_number}
 use Rattle.attr_sets.proofs.OrderLemmas.{IsBefore-irrefl, before_from_lt}
+use Rattle.attr_sets.proofs.UpToLemmas.{only_before}
 use Rattle.dep_model.specs.Dependencies.{fd}
 use Rattle.dep_model.specs.Tuples.{Relation}
 use Rattle.dep_model.proofs.ListLemmas.{Contains-cases, Contains-head, Contains-later, Contains-map, map-member}
@@ -173,14 +174,6 @@ pairs_apart n most r (side ∷ sides) are ascend =
     omega (arith, less, p_right, q_right, equal)))
 
 -- ---- the sorted list
-only_before : (a b : ℕ) → a < b → IsBefore (only a) (only b)
-only_before a b less = (
-  b,
-  grind (arith, nat_tests, less),
-  grind (arith, nat_tests),
-  λ j more. grind (arith, nat_tests, less, more),
-)
-
 -- one number for both parts of a pair
 abbrev key : Pair → ℕ
 key p = p.0.0 * 128 + p.1

@@ -1,8 +1,11 @@
-//! Pages of HTML that a browser shows without anything else: no script, no link out, light and dark.
+//! Pages of HTML that a browser shows without anything else: no script, no link out, light and
+//! dark.
 //!
-//! A page is its frame around sections, a section a heading above pieces, and a piece a text that was printed,
-//! below its title, open or folded. Each text stands in it escaped; the words of a command that stand beside a title are
-//! those that a shell takes.
+//! A page is its frame around sections, a section a heading above pieces, and a piece a text that
+//! was printed, below its title, open or folded.
+//!
+//! Promises: the text of the definition; each text in it is escaped; a shell reads what stands for
+//! a word of a command as this word.
 #![tactic(auto)]
 
 mod commands;

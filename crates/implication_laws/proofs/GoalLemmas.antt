@@ -1,20 +1,16 @@
 -- A goal is read as one dependency, or refused; the status of an answer is that of the allowed one.
-use Rattle.std.proofs.Common.{◌≡◌, ℕ, List, length, Ok, Err, inl, inr, sym, ap, ◌∙◌, subst, arith}
-use Rattle.std.proofs.lemmas.Bool.{true≢false}
-use Rattle.attr_sets.specs.Attributes.{Attributes, IsSubset, below}
+use Rattle.std.proofs.Common.{◌≡◌, ℕ, List, Ok, Err, inl, inr, sym, ap, ◌∙◌, subst, arith}
 use Rattle.dep_model.specs.Dependencies.{Dependency, IsWithin}
 use Rattle.dep_model.specs.Schemas.{naming_of, names_of, universe_of}
 use Rattle.dep_model.specs.declared.naming.Naming.{Naming}
 use Rattle.dep_model.specs.declared.schema.Schema.{Schema}
 use Rattle.derivation.proofs.RuleTableLemmas.{the_ok}
-use Rattle.lexer.specs.Tokens.{Mark}
 use Rattle.schema_grammar.specs.declared.format.Format.{Format}
 use Rattle.schema_grammar.specs.declared.format.Format.TheVariants as format
 use Rattle.schema_grammar.specs.declared.symbol.Sign.{Sign}
 use Rattle.schema_grammar.specs.declared.symbol.Sign.TheVariants as sign
-use Rattle.schema_grammar.specs.Grammar.{dependency_of_sign}
-use Rattle.schema_grammar.specs.Meanings.{MeansGoal, IsSide}
-use Rattle.schema_grammar.proofs.WithinLemmas.{named_within}
+use Rattle.schema_grammar.specs.Meanings.{MeansGoal}
+use Rattle.schema_grammar.proofs.WithinLemmas.{side_within, stated_within}
 use Rattle.schema_grammar.specs.Reading.{read_goal}
 use Rattle.schema_grammar.specs.declared.refusal.SchemaRefusal.{SchemaRefusal}
 use Rattle.schema_grammar.proofs.GoalLaws.{goal-law}
@@ -67,20 +63,6 @@ goal_moved schema other goal d naming names is = record {
 }
 
 -- ---- what a goal means lies within the universe
-side_within : (f : Format) (names : List (List ℕ)) (ms : List Mark) (x : Attributes)
-    → IsSide f names ms x → IsSubset x (below (length names))
-side_within f names ms x (inl empty) =
-    subst (λ (z : Attributes). IsSubset z (below (length names))) (sym empty.nothing)
-    (λ k member. absurd (true≢false (sym member)))
-side_within f names ms x (inr words) =
-    subst (λ (z : Attributes). IsSubset z (below (length names))) (sym words.members)
-    (named_within names ms)
-
-stated_within : (u : Attributes) (s : Sign) (x y : Attributes) → IsSubset x u → IsSubset y u
-    → IsWithin u (dependency_of_sign s x y)
-stated_within u sign.Functional x y left right = (left, right)
-stated_within u sign.Multivalued x y left right = (left, right)
-
 pub goal_within : (schema : Schema) (goal : List ℕ) (d : Dependency) → IsGoal schema goal d
     → IsWithin (universe_of schema) d
 goal_within schema goal d is =

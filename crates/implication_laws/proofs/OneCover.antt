@@ -1,48 +1,14 @@
 -- A list of dependencies has one fixed cover, and one fixed whole cover.
-use Rattle.std.proofs.Common.{◌≡◌, ◌+◌, ◌<◌, ℕ, zero, suc, false, List, [], ◌∷◌, ◌++◌, refl, sym, subst, ap, ◌∙◌, inl, inr, arith}
+use Rattle.std.proofs.Common.{◌≡◌, ◌+◌, ℕ, List, [], ◌∷◌, ◌++◌, refl, sym, subst, ap, ◌∙◌, inl, inr, arith}
 use mathlib.Core.Path.{fun_ext}
 use Rattle.std.specs.List.{AllZip, flat_map}
-use Rattle.std.proofs.lemmas.Bool.{true≢false, cases_Bool, cases_lt}
-use Rattle.std.proofs.lemmas.Bool.Decides.{nat_tests}
-use Rattle.attr_sets.specs.Attributes.{Attributes, IsSubset}
-use Rattle.dep_model.specs.Dependencies.{Dependency, fd, functional_part, left_of, right_of}
-use Rattle.dep_model.specs.Implication.{Implies}
+use Rattle.attr_sets.specs.Attributes.{Attributes}
+use Rattle.dep_model.specs.Dependencies.{Dependency, fd, left_of, right_of}
+use Rattle.cover_steps.proofs.MemberLemmas.{shorts_agree}
 use Rattle.min_cover.specs.Covers.{IsThinned, IsFixedCover, IsFixedWholeCover, multivalued_part}
-use Rattle.min_cover.specs.Members.{kept_beside, members_of, IsLeftReduced, IsLeftReducedDependency}
-use Rattle.implication_laws.proofs.OneKey.{same_by_false}
+use Rattle.min_cover.specs.Members.{members_of, IsLeftReducedDependency}
 
 -- ---- shortened left sides
-beside_same : (left one other : Attributes) (i : ℕ) → ((k : ℕ) → k < i → one k ≡ other k)
-    → kept_beside left one i ≡ kept_beside left other i
-beside_same left one other i earlier = fun_ext (λ (k : ℕ). elim (cases_lt k i) [
-  | inl before ↦ grind (arith, nat_tests, earlier k before)
-  | inr after ↦ grind (arith, nat_tests, after)
-])
-
-not_in : (short x : Attributes) (i : ℕ) → IsSubset short x → x i ≡ false → short i ≡ false
-not_in short x i within outside =
-    elim (cases_Bool (short i)) [
-      | inl member ↦
-          absurd (true≢false (sym (within i member) ∙ outside))
-      | inr out ↦ out
-    ]
-
-shorts_agree : (n : ℕ) (ds : List Dependency) (x y one other : Attributes)
-    → IsLeftReduced n ds x y one → IsLeftReduced n ds x y other
-    → (m i : ℕ) → i < m → one i ≡ other i
-shorts_agree n ds x y one other first second zero i l = absurd (omega (arith, l))
-shorts_agree n ds x y one other first second (suc m) i l = elim (cases_Bool (x i)) [
-  | inl member ↦
-      let beside =
-      beside_same x one other i (λ k before. shorts_agree n ds x y one other first second m k
-      (omega (arith, before, l))) in
-      let P : Attributes → Type 0 = λ left. Implies n (functional_part ds) (fd left y) in
-      same_by_false (one i) (other i)
-      (λ out. (second.left_out i member).1 (subst P beside ((first.left_out i member).0 out)))
-      (λ out. (first.left_out i member).1 (subst P (sym beside) ((second.left_out i member).0 out)))
-  | inr outside ↦ not_in one x i first.within outside ∙ sym (not_in other x i second.within outside)
-]
-
 one_short : (n : ℕ) (ds : List Dependency) (d e f : Dependency) → IsLeftReducedDependency n ds d e
     → IsLeftReducedDependency n ds d f → e ≡ f
 one_short n ds d e f (one, is, first) (other, also, second) =

@@ -73,7 +73,7 @@ one_end schema scheme one other (inl (wide, says)) (inr (narrow, found)) = absur
 one_end schema scheme one other (inr (narrow, found)) (inl (wide, said)) = absurd (narrow wide)
 one_end schema scheme one other (inr (narrow, (found, many, says))) (inr (also, (more, too, said))) = says ∙ sym said
 
-failing_in_plan : (Passes : Attributes → Type 0) (plan : List Attributes) (scheme : Attributes)
+pub failing_in_plan : (Passes : Attributes → Type 0) (plan : List Attributes) (scheme : Attributes)
     → IsFirstFailing Passes plan scheme → Contains plan scheme
 failing_in_plan Passes plan scheme is =
     subst (λ (schemes : List Attributes). Contains schemes scheme) (sym is.list)

@@ -1,7 +1,10 @@
-//! Laws between the answers of the commands on implication: what one of them answers, another confirms,
-//! and what each prints is the only one that its definition allows.
+//! Laws between the answers of the commands on implication. No code.
 //!
-//! Each law is a function that does nothing, whose clause is the law; so the gate asks for its proof.
+//! Each law is a function that does nothing, whose clause is the law; so the gate asks for its
+//! proof.
+//!
+//! Promises: what one answer says another confirms; each command on implication has one answer, but
+//! for the derivation of a goal.
 #![tactic(auto)]
 
 mod answering;

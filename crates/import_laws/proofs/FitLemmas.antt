@@ -23,7 +23,7 @@ use Rattle.key_listing.specs.declared.refusal.TheConstants.{MOST_KEYS}
 use Rattle.primary_keys.proofs.PrimaryLemmas.{primary_is_key}
 use Rattle.primary_keys.specs.PrimaryKeys.{IsPrimaryKey}
 use Rattle.schema_printer.specs.Printing.{members_from}
-use Rattle.sql_names.proofs.NameLemmas.{members_named}
+use Rattle.schema_printer.proofs.MemberLemmas.{members_named}
 use Rattle.table_names.specs.TableNames.{GivenNames}
 use Rattle.ddl_text.specs.Ddl.{is_empty, is_never_missing}
 use Rattle.ddl_text.specs.Designs.{AreOtherKeys, AreReferences, IsTableOf, RefersTo, known_keys, without_key}

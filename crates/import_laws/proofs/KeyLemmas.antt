@@ -13,12 +13,12 @@ use Rattle.dep_model.specs.Projections.{members_below}
 use Rattle.dep_model.specs.Schemas.{names_of, width_of}
 use Rattle.dep_model.specs.declared.schema.Schema.{Schema}
 use Rattle.schema_printer.specs.Printing.{members_from}
+use Rattle.schema_printer.proofs.MemberLemmas.{members_named}
 use Rattle.sql_lexemes.specs.declared.dialect.Dialect.{Dialect}
 use Rattle.sql_definitions.specs.Facts.{Facts, StatedColumn, StatedKey, StatedPart}
 use Rattle.sql_schemas.specs.Keys.{KeyColumns, and_then, column_named, columns_of_parts, is_dependency, is_new, key_dependency, keys_after, new_keys, says_so, with_part}
 use Rattle.import_laws.specs.ImportedTables.{determines_others, places_in}
 use Rattle.import_laws.specs.ReadTables.{read_columns}
-use Rattle.sql_names.proofs.NameLemmas.{members_named}
 use Rattle.import_laws.proofs.PlaceLemmas.{IsMember, all_places, column_found, members_are, places_any}
 
 -- the parts of a stated key, by their names; and the names of a set

@@ -1,6 +1,10 @@
-//! What `import` reads of what `ddl` prints.
+//! Laws of what `import` reads of the SQL of a design, which `ddl` prints. No code.
 //!
-//! Each law is a function that does nothing, whose clause is the law; so the gate asks for its proof.
+//! Each law is a function that does nothing, whose clause is the law; so the gate asks for its
+//! proof.
+//!
+//! Promises: of each table its columns, those of which a value may be missing, and the keys that
+//! the SQL states, but one of all columns, are read back.
 #![tactic(auto)]
 
 ghost use Rattle.std.specs.Prelude.{◌≡◌, ℕ, false, IsTrue, List, Ok, Some, slice_get};

@@ -4,18 +4,18 @@ use Rattle.std.proofs.lemmas.Bool.{cases_eq, true≢false}
 use Rattle.std.proofs.lemmas.List.{length_push, length-map, get_or_default, get_or-take, map_more}
 use Rattle.std.proofs.lemmas.List.Elements.{All-push, All-contains, All-map, Contains-get_or}
 use Rattle.std.proofs.lemmas.List.Quantifiers.{all_pairs_push}
-use Rattle.std.proofs.lemmas.List.Sorted.{All-permutation, length_permutation, IsNonDecreasingBy-from_sort}
+use Rattle.std.proofs.lemmas.List.Sorted.{All-permutation, length_permutation}
 use Rattle.std.specs.Prelude.{All, AllPairs, Any, Contains}
 use Rattle.std.specs.List.Sorted.{IsSorted, IsPermutation}
 use Rattle.std.specs.Ordering.{nat_cmp}
 use Rattle.attr_sets.specs.declared.set.AttrSet.{AttrSet}
 use Rattle.attr_sets.specs.declared.set.TheConstants.{MOST_ATTRIBUTES}
-use Rattle.attr_sets.proofs.AttributesLemmas.{attributes-at_number, same_at}
-use Rattle.attr_sets.proofs.OrderLemmas.{before_from_lt}
+use Rattle.attr_sets.proofs.AttributesLemmas.{same_at}
+use Rattle.attr_sets.proofs.OrderLemmas.{sorted_ascend}
 use Rattle.dep_model.specs.declared.dep.Dep.{Dep}
 use Rattle.dep_model.specs.Deps.{dependency_of, dependencies_of}
 use Rattle.attr_sets.specs.Sets.{attributes}
-use Rattle.attr_sets.specs.Attributes.{Attributes, below, union, IsSubset, IsBefore}
+use Rattle.attr_sets.specs.Attributes.{Attributes, below, union, IsSubset}
 use Rattle.dep_model.specs.Dependencies.{Dependency, fd, mvd, Obeys, ObeysFd, is_fd, functional_part, IsWithin}
 use Rattle.dep_model.specs.Keys.{IsSuperkey, IsKey, IsGreedyKey}
 use Rattle.dep_model.proofs.RuleLemmas.{reflexivity_obeyed, transitivity_obeyed, fd_weaker_obeyed, fd_union_obeyed}
@@ -125,20 +125,6 @@ some_multivalued ds other = ⊎_elim (λ not_empty. not_empty) (λ same. absurd 
 pub none_multivalued : (ds : List Dependency) → functional_part ds ≡ ds → Any (λ (d : Dependency). is_fd d ≡ false) ds → ⊥
 none_multivalued ds same not_empty =
     true≢false (sym (all_functional ds same not_empty.0 not_empty.1 not_empty.2) ∙ ap is_fd not_empty.3 ∙ not_empty.4)
-
--- ---- the keys in their order
--- sorted keys ascend
-pub sorted_ascend : (found : List AttrSet) → AllPairs (λ j k. attributes j ≡ attributes k → ⊥) found → All (λ (k : AttrSet). k.0 < 2 ^ MOST_ATTRIBUTES) found
-    → IsSorted (λ (j k : AttrSet). nat_cmp j.0 k.0) found → AllPairs (λ j k. IsBefore (attributes j) (attributes k)) found
-sorted_ascend found differ fit sorted i j d before l =
-    let x = get_or found i d in
-    let y = get_or found j d in
-    let rises : x.0 ≤ y.0 = IsNonDecreasingBy-from_sort (λ (k : AttrSet). k.0) found sorted i j d (omega (arith, before)) l in
-    before_from_lt x y (fit j d l)
-    (⊎_elim
-    (λ (same : x.0 ≡ y.0). absurd (differ i j d before l (attributes-at_number x y same)))
-    (λ (other : x.0 ≡ y.0 → ⊥). omega (arith, rises, other))
-    (cases_eq x.0 y.0))
 
 -- ---- all keys
 -- the law over lists of sets of attributes

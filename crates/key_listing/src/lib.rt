@@ -1,12 +1,13 @@
-//! Keys: all keys of a schema, and all keys or one of a scheme, by functional and multivalued dependencies.
+//! Keys: all keys of a schema, and all keys or one of a scheme, by functional and multivalued
+//! dependencies.
 //!
-//! `keys` gives exactly all keys of the universe, ascending. By functional dependencies alone they
-//! are found one from another, at any width (Lucchesi and Osborn 1978; `fd_closure::laws` has the
-//! theorem). Where a multivalued dependency is given, they are searched between what is in every
-//! key and what is in some, where at most `fd_closure::WIDEST_SEARCHED` attributes stand in left
-//! sides. `keys_of_scheme` searches so for exactly all keys of a scheme with at most as many,
-//! ascending. `laws` says which
-//! attributes are in every key, and which in none. `one_key` takes no memory.
+//! By functional dependencies alone the keys of the universe are found one from another, at any
+//! width (Lucchesi and Osborn 1978; `fd_closure::laws` has the theorem). Where a multivalued
+//! dependency is given, they are searched between what is in every key and what is in some, where
+//! at most `fd_closure::WIDEST_SEARCHED` attributes stand in left sides; so are those of a scheme.
+//! `laws` says which attributes are in every key, and which in none. `one_key` takes no memory.
+//!
+//! Promises: `keys` and `keys_of_scheme` give exactly all keys, ascending.
 #![tactic(auto)]
 
 mod exchanging;

@@ -5,7 +5,7 @@ ghost use Rattle.dep_model.specs.Schemas.{width_of, universe_of, theory_of};
 ghost use Rattle.key_listing.specs.Narrowing.{IsInEveryKey, DropsAttributesInNoKey};
 
 use attr_sets::{AttrSet, MOST_ATTRIBUTES};
-use dep_basis::{closure_of, is_superkey};
+use dep_basis::{closure, is_superkey};
 use dep_model::Schema;
 use fd_closure::left_attributes;
 
@@ -42,6 +42,6 @@ pub fn without_attributes_in_no_key(schema: &Schema, scheme: AttrSet) -> AttrSet
         (attributes scheme) (attributes result) }
 {
     let used = left_attributes(schema.deps());
-    let determined = closure_of(schema, scheme.intersection(used));
+    let determined = closure(schema, scheme.intersection(used));
     scheme.difference(determined.difference(used))
 }

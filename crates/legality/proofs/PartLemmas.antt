@@ -44,7 +44,7 @@ number_of : (r : Relation) (x : Attributes) (g : List ℕ) (i j : ℕ) → AreGr
 number_of r x g i j k li lj e = (k.equal i j li lj).1 e
 
 -- what agrees on both parts agrees everywhere
-agree_all : (n : ℕ) (x y : Attributes) (t u : Tuple) → AgreeOn (union x y) t u → AgreeOn (union x (rest_of n x y)) t u → AgreeOn (below n) t u
+pub agree_all : (n : ℕ) (x y : Attributes) (t u : Tuple) → AgreeOn (union x y) t u → AgreeOn (union x (rest_of n x y)) t u → AgreeOn (below n) t u
 agree_all n x y t u a b m low = elim (cases_Bool (union x y m)) [
   | inl has ↦ a m has
   | inr lacks ↦ AgreeOn-right x (rest_of n x y) t u b m (ap (λ (c : Bool). c && not (union x y m)) low ∙ ap not lacks)

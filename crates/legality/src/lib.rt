@@ -1,11 +1,16 @@
 //! Which rows break which dependency of a schema.
 //!
-//! `offences` gives for each dependency that rows do not obey the least pair of rows that breaks it,
-//! of all pairs of rows, and gives nothing exactly where the rows are legal. It looks at rows by
-//! numbers in place of values, group by group, and never at all pairs of rows. Laws say that each offence
-//! names its dependency, and that rows have one list of offences.
+//! `offences` looks at rows by numbers in place of values, group by group, and never at all pairs
+//! of rows.
+//!
+//! `part_counts` counts the parts of groups, for the crates above too.
+//!
+//! Promises: for each dependency that rows do not obey the least pair of rows that breaks it, of
+//! all pairs, and nothing exactly where the rows are legal; each offence names its dependency, and
+//! rows have one list of offences.
 #![tactic(auto)]
 
+mod counting;
 mod finding;
 mod functional;
 mod laws;
@@ -13,6 +18,7 @@ mod multivalued;
 mod offence;
 mod pair;
 
+pub use counting::{part_counts, zero_counts};
 pub use finding::offences;
 pub use laws::{offences_name_dependencies, one_list_of_offences};
 pub use offence::Offence;

@@ -1,12 +1,12 @@
 ghost use Rattle.std.specs.Prelude.{◌≡◌, ◌<◌, ◌≤◌, false, length, replicate, IfOk};
 ghost use Rattle.attr_sets.specs.Attributes.{IsSubset, below};
 ghost use Rattle.attr_sets.specs.Sets.{attributes};
-ghost use Rattle.csv_rows.specs.Interning.{IsInterned, firsts_of, groups_of};
-ghost use Rattle.csv_rows.specs.Numberings.{AreFirsts};
+ghost use Rattle.csv_rows.specs.Interning.{IsInterned};
 ghost use Rattle.dep_model.specs.Dependencies.{mvd};
 ghost use Rattle.legality.specs.Answers.{IsLeastOffence};
-ghost use Rattle.legality.specs.Parts.{AreBelow, AreBeside, ArePartCounts, IsFirstMissing, IsFirstShort};
+ghost use Rattle.legality.specs.Parts.{AreBelow, AreBeside, IsFirstMissing, IsFirstShort};
 
+use crate::counting::part_counts;
 use crate::pair::Pair;
 use attr_sets::{AttrSet, MOST_ATTRIBUTES};
 use csv_rows::{Groups, Interned};
@@ -53,33 +53,8 @@ pub fn least_multivalued_pair(
     }
 }
 
-// How many of the parts each group has.
-fn part_counts(alloc: Global, groups: &Groups, parts: &Groups) -> Result<Vec<usize>, OutOfMemory>
-    requires same_length { length (groups_of groups.now) ≡ length (groups_of parts.now) }
-    requires groups { AreFirsts (groups_of groups.now) (firsts_of groups.now) }
-    requires parts { AreFirsts (groups_of parts.now) (firsts_of parts.now) }
-    ensures counts { IfOk result (λ v. ArePartCounts (groups_of groups.now) (firsts_of groups.now)
-        (firsts_of parts.now) v.items) }
-{
-    let mut counts = zero_counts(alloc, groups.firsts().len())?;
-    for row in parts.firsts() {
-        let group = groups.numbers()[*row as usize] as usize;
-        counts[group] += 1;
-    }
-    Ok(counts)
-}
-
-// This many counts of nothing.
-fn zero_counts(alloc: Global, count: usize) -> Result<Vec<usize>, OutOfMemory>
-    ensures zeros { IfOk result (λ v. v.items ≡ replicate count 0) }
-{
-    let mut counts = Vec::new(alloc);
-    counts.resize(count, 0)?;
-    Ok(counts)
-}
-
 // The first row whose left and right side has fewer rests beside it than there are in its group.
-fn first_short(groups: &[u32], wanted: &[usize], lefts: &[u32], present: &[usize]) -> Option<usize>
+fn first_short(groups: &[u32], wanted: &[u32], lefts: &[u32], present: &[u32]) -> Option<usize>
     requires same_length { length lefts.now ≡ length groups.now }
     requires wanted { AreBelow groups.now (length wanted.now) }
     requires present { AreBelow lefts.now (length present.now) }

@@ -15,11 +15,11 @@ use Rattle.lexer.proofs.Quoting.{is_quote, closing_at_quote, closing_other, undo
 use Rattle.lexer.proofs.Steps.{at_token, between_taken}
 
 -- the quote that closes is the one after the name
-closing-doubled : (name rest : List ℕ) → is_quote rest ≡ false
+pub closing_doubled : (name rest : List ℕ) → is_quote rest ≡ false
     → closing_quote (quotes_doubled name ++ 34 ∷ rest) ≡ Some (length (quotes_doubled name))
 unfolding closing_quote quotes_doubled
-closing-doubled [] rest apart = closing_at_quote rest apart
-closing-doubled (b ∷ name) rest apart = at (b == 34) refl (closing-doubled name rest apart)
+closing_doubled [] rest apart = closing_at_quote rest apart
+closing_doubled (b ∷ name) rest apart = at (b == 34) refl (closing_doubled name rest apart)
   where
     at : (q : Bool) → (b == 34) ≡ q
         → closing_quote (quotes_doubled name ++ 34 ∷ rest) ≡ Some (length (quotes_doubled name))
@@ -30,10 +30,10 @@ closing-doubled (b ∷ name) rest apart = at (b == 34) refl (closing-doubled nam
         closing_other (b ∷ (quotes_doubled name ++ 34 ∷ rest)) (omega arith) (grind (arith, nat_tests))
         ∙ ap (further 1) later ∙ ap (λ (n : ℕ). Some n) (omega arith)
 
-undoubled-doubled : (name : List ℕ) → undoubled (quotes_doubled name) ≡ name
+pub undoubled_doubled : (name : List ℕ) → undoubled (quotes_doubled name) ≡ name
 unfolding undoubled quotes_doubled
-undoubled-doubled [] = refl
-undoubled-doubled (b ∷ name) = at (b == 34) refl (undoubled-doubled name)
+undoubled_doubled [] = refl
+undoubled_doubled (b ∷ name) = at (b == 34) refl (undoubled_doubled name)
   where
     at : (q : Bool) → (b == 34) ≡ q → undoubled (quotes_doubled name) ≡ name
         → undoubled (cond q (34 ∷ 34 ∷ []) (b ∷ []) ++ quotes_doubled name) ≡ b ∷ name
@@ -50,8 +50,8 @@ quoted_front : (m : Mode) (name rest : List ℕ) → m.quotes ≡ true → is_na
 unfolding quoted_piece
 quoted_front m name rest taken is apart =
     front_quote m (quotes_doubled name ++ 34 ∷ rest) taken
-    ∙ ap (closed_piece (34 ∷ (quotes_doubled name ++ 34 ∷ rest))) (closing-doubled name rest apart)
-    ∙ rw (take-append_seam (quotes_doubled name) (34 ∷ rest)) (rw (undoubled-doubled name) (rw is refl))
+    ∙ ap (closed_piece (34 ∷ (quotes_doubled name ++ 34 ∷ rest))) (closing_doubled name rest apart)
+    ∙ rw (take-append_seam (quotes_doubled name) (34 ∷ rest)) (rw (undoubled_doubled name) (rw is refl))
 
 -- where quotes are taken, the quoted text of a name is one token for that name
 pub quoted_lexed : (m : Mode) (column : ℕ) (name rest : List ℕ) → m.quotes ≡ true → is_name name ≡ true
@@ -70,7 +70,7 @@ quoted_lexed m column name rest taken is apart =
     ∙ drop-append_seam (quoted name) rest in
     let word : undoubled (between (take (length doubled + 2) text)) ≡ name =
     ap undoubled (between_taken text (length doubled) (omega (arith, length-append doubled (34 ∷ rest)))
-    ∙ take-append_seam doubled (34 ∷ rest)) ∙ undoubled-doubled name in
+    ∙ take-append_seam doubled (34 ∷ rest)) ∙ undoubled_doubled name in
     ap (tokens_after m 0 column) whole
     ∙ at_token m column text token.Quoted (length doubled + 2) (omega arith) (sym (quoted_front m name rest taken is apart))
     ∙ rw (size, left, word) refl

@@ -1,6 +1,6 @@
 -- Names between double quotes: for the tokens (`Pieces`) and the law of quoted names.
-use Rattle.std.specs.Prelude.{◌≡◌, ◌≤◌, ℕ, ◌+◌, ◌-◌, true, ◌==◌, Bool, ◌&&◌, not, nat_lt, nat_le, Option, Some, None, List, [], ◌∷◌, ◌++◌, length, take, drop, if◌then◌else◌}
-use Rattle.std.specs.List.{flat_map, list_any}
+use Rattle.std.specs.Prelude.{◌≡◌, ◌≤◌, ℕ, ◌+◌, ◌-◌, true, ◌==◌, Bool, ◌&&◌, not, nat_lt, nat_le, Option, Some, None, List, [], ◌∷◌, length, take, drop, if◌then◌else◌}
+use Rattle.std.specs.List.{list_any}
 use Rattle.std.specs.Str.{is_utf8}
 use Rattle.dep_model.specs.declared.name.TheConstants.{MOST_NAME_BYTES}
 use Rattle.dep_model.specs.Names.{is_control}

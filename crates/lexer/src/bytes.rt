@@ -43,7 +43,8 @@ pub fn is_number(run: &[u8]) -> bool
     !run.is_empty() && run.len() < 10 && are_digits(run)
 }
 
-fn are_digits(bytes: &[u8]) -> bool
+/// Whether all bytes are ASCII digits.
+pub fn are_digits(bytes: &[u8]) -> bool
     ensures digits { result ≡ list_all is_ascii_digit bytes.now }
 {
     bytes.iter().all(|byte| byte.is_ascii_digit())

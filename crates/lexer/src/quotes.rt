@@ -54,8 +54,9 @@ pub fn quoted_piece(text: &[u8]) -> Piece
 }
 
 /// How many bytes stand before the quote that closes.
-fn closing_quote(text: &[u8]) -> Option<usize>
+pub fn closing_quote(text: &[u8]) -> Option<usize>
     ensures end { result ≡ closing_quote text.now }
+    ensures within { IfSome result (λ end. end < length text.now) }
 {
     let mut end = 0;
     let mut rest = text;
@@ -74,7 +75,7 @@ fn closing_quote(text: &[u8]) -> Option<usize>
 }
 
 /// The name that these bytes spell, a quote by two.
-fn name_between(text: &[u8]) -> Option<Name>
+pub fn name_between(text: &[u8]) -> Option<Name>
     ensures name { IsSome result ↔ IsTrue (is_name (undoubled text.now)) }
     ensures value { IfSome result (λ name. name ≡ undoubled text.now) }
 {

@@ -1,15 +1,15 @@
 -- The loop that leaves out what the others imply: a list in which a dependency that every relation obeys stands for each that was left out.
-use Rattle.std.proofs.Common.{◌≡◌, ℕ, ◌+◌, ◌<◌, suc, ◌↔◌, true, List, [], ◌∷◌, ◌++◌, length, get_or, set, take, drop, refl, sym, ◌∙◌, subst, ap, ◌⊎◌, ◌≤◌, ⊎_elim, inl, inr, Bool, not, false, append-nil, arith}
-use Rattle.std.proofs.lemmas.Bool.{true≢false, not-true}
+use Rattle.std.proofs.Common.{◌≡◌, ℕ, ◌+◌, ◌<◌, suc, ◌↔◌, true, List, [], ◌∷◌, ◌++◌, length, get_or, set, take, drop, refl, sym, ◌∙◌, subst, ap, ◌≤◌, inl, inr, Bool, not, false, append-nil, arith}
+use Rattle.std.proofs.lemmas.Bool.{true≢false}
 use Rattle.std.proofs.lemmas.List.{set_split, set-set, set-get_or, drop-set-lt, drop_more, drop_all, take_more, take_more_set, map_push, map-append, drop-map, drop_at, length-map, length-take, map_more, take-append-le}
-use Rattle.std.proofs.lemmas.List.Elements.{All-cons, All-head, All-tail, All-append, All-push, All-set, All-weaker, filter_passes, filter-append}
+use Rattle.std.proofs.lemmas.List.Elements.{All-cons, All-tail, All-append, All-push, filter-append}
 use Rattle.std.specs.Prelude.{All, filter}
 use Rattle.dep_model.specs.declared.dep.Dep.{Dep}
 use Rattle.dep_model.specs.Tuples.{Relation}
 use Rattle.dep_model.specs.Dependencies.{Dependency, fd, mvd, Obeys, is_fd}
 use Rattle.dep_model.specs.Implication.{IsLegal, Implies}
 use Rattle.dep_model.specs.Deps.{dependency_of, dependencies_of}
-use Rattle.dep_model.proofs.DepLemmas.{legal-to, legal-from, dependencies_all-to}
+use Rattle.dep_model.proofs.DepLemmas.{legal-to, legal-from}
 use Rattle.min_cover.specs.Covers.{IsThinned, multivalued_part}
 use Rattle.min_cover.proofs.ListLemmas.{All-left, All-right}
 
@@ -37,42 +37,6 @@ pub thinned_done : (n : ℕ) (first first_kept others kept : List Dep) (k : ℕ)
 thinned_done n first first_kept others kept k done thinned =
     let over : drop k others ≡ [] = drop_all k others done in
     thinned.onward (dependencies_of kept) (subst (λ (es : List Dep). IsThinned n (dependencies_of kept) (dependencies_of es) (dependencies_of kept)) (sym over) refl)
-
--- ---- functional dependencies among functional ones alone, or multivalued ones
-abbrev pub AreOfAKind : List Dep → ℕ → Type 0
-AreOfAKind others k = All (λ (d : Dep). is_fd (dependency_of d) ≡ true) others ⊎ All (λ (d : Dep). is_fd (dependency_of d) ≡ false) (drop k others)
-
-pub kind_tried : (others : List Dep) (k : ℕ) (d nothing : Dep) → d ≡ get_or others k d → k < length others → is_fd (dependency_of nothing) ≡ true → AreOfAKind others k
-    → is_fd (dependency_of d) ≡ true → All (λ (e : Dep). is_fd (dependency_of e) ≡ true) (set others k nothing)
-kind_tried others k d nothing at lt functional kinds is =
-    let F : Dep → Type 0 = λ (e : Dep). is_fd (dependency_of e) ≡ true in
-    let M : Dep → Type 0 = λ (e : Dep). is_fd (dependency_of e) ≡ false in
-    ⊎_elim
-    (λ all. All-set F others k nothing functional all)
-    (λ later.
-    let here : M (get_or others k d) = All-head M (get_or others k d) (drop (k + 1) others) (subst (λ (es : List Dep). All M es) (drop_more others k d lt) later) in
-    absurd (true≢false (sym is ∙ subst M (sym at) here)))
-    kinds
-
-pub kind_left_out : (others : List Dep) (k j : ℕ) (d nothing : Dep) → j ≡ k + 1 → k < length others → is_fd (dependency_of nothing) ≡ true → AreOfAKind others k → AreOfAKind (set others k nothing) j
-kind_left_out others k j d nothing e lt functional kinds =
-    let F : Dep → Type 0 = λ (f : Dep). is_fd (dependency_of f) ≡ true in
-    let M : Dep → Type 0 = λ (f : Dep). is_fd (dependency_of f) ≡ false in
-    ⊎_elim
-    (λ all. inl (All-set F others k nothing functional all))
-    (λ later.
-    let rest : All M (drop (k + 1) others) = All-tail M (get_or others k d) (drop (k + 1) others) (subst (λ (es : List Dep). All M es) (drop_more others k d lt) later) in
-    inr (subst (λ (i : ℕ). All M (drop i (set others k nothing))) (sym e) (subst (λ (es : List Dep). All M es) (sym (drop-set-lt (k + 1) others k nothing (omega arith))) rest)))
-    kinds
-
-pub kind_kept : (others : List Dep) (k j : ℕ) (d : Dep) → j ≡ k + 1 → k < length others → AreOfAKind others k → AreOfAKind others j
-kind_kept others k j d e lt kinds =
-    let M : Dep → Type 0 = λ (f : Dep). is_fd (dependency_of f) ≡ false in
-    ⊎_elim inl
-    (λ later.
-    let rest : All M (drop (k + 1) others) = All-tail M (get_or others k d) (drop (k + 1) others) (subst (λ (es : List Dep). All M es) (drop_more others k d lt) later) in
-    inr (subst (λ (i : ℕ). All M (drop i others)) (sym e) rest))
-    kinds
 
 module _ (n : ℕ) (first first_kept others kept : List Dep) (k : ℕ) (d nothing : Dep) (at : d ≡ get_or others k d) (lt : k < length others)
     (obeyed : (r : Relation) → Obeys n (dependency_of nothing) r) (before : IsThinnedTo n first first_kept others kept k) where
@@ -159,14 +123,6 @@ module _ (n : ℕ) (first first_kept others kept : List Dep) (k : ℕ) (d nothin
 pub added_later : (cover others : List Dep) (ms : List Dependency) → dependencies_of others ≡ dependencies_of cover ++ ms → dependencies_of (drop (length cover) others) ≡ ms
 added_later cover others ms added =
     sym (drop-map dependency_of (length cover) others) ∙ ap (λ (es : List Dependency). drop (length cover) es) added ∙ drop_at (dependencies_of cover) ms (length cover) (length-map cover dependency_of)
-
--- and are multivalued
-pub added_kinds : (cover others : List Dep) (ds : List Dependency) → dependencies_of others ≡ dependencies_of cover ++ multivalued_part ds → AreOfAKind others (length cover)
-added_kinds cover others ds added =
-    let M : Dependency → Type 0 = λ (d : Dependency). is_fd d ≡ false in
-    let test : Dependency → Bool = λ (d : Dependency). not (is_fd d) in
-    let all : All M (multivalued_part ds) = All-weaker (λ (d : Dependency). test d ≡ true) M (λ (d : Dependency) passes. not-true (is_fd d) passes) (multivalued_part ds) (filter_passes test ds) in
-    inr (dependencies_all-to M (drop (length cover) others) (subst (λ (es : List Dependency). All M es) (sym (added_later cover others (multivalued_part ds) added)) all))
 
 -- one more of a list
 multivalued_part-take : (deps : List Dep) (i : ℕ) (first : Dep) → i < length deps

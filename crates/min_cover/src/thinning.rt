@@ -1,16 +1,14 @@
-ghost use Rattle.std.specs.Prelude.{◌≡◌, ◌≤◌, ◌⊎◌, ◌↔◌, ℕ, true, false, ◌++◌, length, take, drop, IsTrue, IfOk, All};
+ghost use Rattle.std.specs.Prelude.{◌≡◌, ◌≤◌, ℕ, true, ◌++◌, length, take, drop, IfOk, All};
 ghost use Rattle.attr_sets.specs.Attributes.{below};
 ghost use Rattle.attr_sets.specs.declared.set.TheConstants.{MOST_ATTRIBUTES};
 ghost use Rattle.dep_model.specs.Tuples.{Relation};
 ghost use Rattle.dep_model.specs.Dependencies.{is_fd, Obeys};
 ghost use Rattle.dep_model.specs.Deps.{dependency_of, dependencies_of, IsDepWithin};
-ghost use Rattle.dep_model.specs.Implication.{Implies};
 ghost use Rattle.min_cover.specs.Covers.{IsThinned, multivalued_part};
 
 use attr_sets::AttrSet;
-use dep_basis::{Decision, decide_by};
+use dep_basis::is_implied_by;
 use dep_model::{Dep, OutOfMemory};
-use fd_closure::follows;
 use std::alloc::Global;
 
 /// A dependency that every relation obeys, which stands where one was left out.
@@ -25,38 +23,8 @@ pub fn trivial_dependency() -> Dep
     }
 }
 
-/// Whether dependencies imply one more. A functional one is asked of functional ones alone, since their
-/// closures are found sooner than blocks.
-pub fn is_implied(deps: &[Dep], width: u8, dep: Dep) -> bool
-    requires width { width ≤ MOST_ATTRIBUTES }
-    requires deps { All (IsDepWithin (below width)) deps.now }
-    requires within { IsDepWithin (below width) dep }
-    requires kind { is_fd (dependency_of dep) ≡ true
-        → All (λ d. is_fd (dependency_of d) ≡ true) deps.now }
-    ensures implied { IsTrue result ↔ Implies width (dependencies_of deps.now) (dependency_of dep) }
-{
-    match dep {
-        Dep::Fd { lhs, rhs } => follows(deps, lhs, rhs),
-        Dep::Mvd { .. } => is_implied_by_blocks(deps, width, dep),
-    }
-}
-
-// Whether dependencies imply one more, by the blocks of its left side.
-fn is_implied_by_blocks(deps: &[Dep], width: u8, dep: Dep) -> bool
-    requires width { width ≤ MOST_ATTRIBUTES }
-    requires deps { All (IsDepWithin (below width)) deps.now }
-    requires within { IsDepWithin (below width) dep }
-    ensures implied { IsTrue result ↔ Implies width (dependencies_of deps.now) (dependency_of dep) }
-{
-    match decide_by(deps, width, dep) {
-        Decision::Implied => true,
-        Decision::Broken { .. } => false,
-    }
-}
-
 /// What is left of a list where, from a position on, each dependency is left out that the others imply:
-/// those kept before it and all after it. From that position on all are multivalued, or all of the list
-/// are functional.
+/// those kept before it and all after it.
 pub fn nonredundant_from(
     alloc: Global,
     width: u8,
@@ -66,8 +34,6 @@ pub fn nonredundant_from(
     requires width { width ≤ MOST_ATTRIBUTES }
     requires from { from ≤ length others.items }
     requires within { All (IsDepWithin (below width)) others.items }
-    requires kinds { All (λ d. is_fd (dependency_of d) ≡ true) others.items
-        ⊎ All (λ d. is_fd (dependency_of d) ≡ false) (drop from others.items) }
     ensures thinned { IfOk result (λ kept. IsThinned width
         (dependencies_of (take from others.items)) (dependencies_of (drop from others.items))
         (dependencies_of kept.items)) }
@@ -77,7 +43,7 @@ pub fn nonredundant_from(
     for k in from..others.len() {
         let dep = others[k];
         others[k] = trivial_dependency();
-        let implied = is_implied(&others, width, dep);
+        let implied = is_implied_by(&others, width, dep);
         if !implied {
             others[k] = dep;
             kept.push(dep)?;

@@ -1,11 +1,11 @@
 -- The list of all that rows obey, as it is put together.
-use Rattle.std.proofs.Common.{◌≡◌, ℕ, true, false, List, ◌++◌, refl, sym, ap, subst, ◌∙◌, length, take, drop, arith}
+use Rattle.std.proofs.Common.{◌≡◌, ℕ, true, List, ◌++◌, refl, sym, ap, subst, ◌∙◌, length, take, drop, arith}
 use Rattle.std.specs.Prelude.{All}
 use Rattle.std.proofs.lemmas.List.{drop_at, take_at}
 use Rattle.std.proofs.lemmas.List.Elements.{All-weaker}
 use Rattle.attr_sets.specs.Attributes.{Attributes, below, only}
-use Rattle.dep_model.specs.Dependencies.{Dependency, IsWithin, Obeys, is_fd, mvd}
-use Rattle.dep_model.specs.Deps.{IsDepWithin, dependencies_of, dependency_of}
+use Rattle.dep_model.specs.Dependencies.{Dependency, IsWithin, Obeys, mvd}
+use Rattle.dep_model.specs.Deps.{IsDepWithin, dependencies_of}
 use Rattle.dep_model.specs.Tuples.{Relation}
 use Rattle.dep_model.specs.declared.dep.Dep.{Dep}
 use Rattle.dep_model.proofs.DepLemmas.{dependencies_all-to}
@@ -20,11 +20,6 @@ minimal_obeyed n r fds are = All-weaker (IsMinimalFd n r) (λ (d : Dependency). 
 pub reduced_within : (n : ℕ) (r : Relation) (ds : List Dep) → AreAllReduced n r (dependencies_of ds) → All (IsDepWithin (below n)) ds
 reduced_within n r ds are = dependencies_all-to (IsWithin (below n)) ds (All-weaker (IsReducedMvd n r) (IsWithin (below n))
     (λ d is. subst (IsWithin (below n)) (sym is.2) (is.3.left, is.3.block.part.within)) (dependencies_of ds) are.each)
-
-pub reduced_kind : (n : ℕ) (r : Relation) (ds : List Dep) → AreAllReduced n r (dependencies_of ds)
-    → All (λ d. is_fd (dependency_of d) ≡ false) ds
-reduced_kind n r ds are = dependencies_all-to (λ (d : Dependency). is_fd d ≡ false) ds (All-weaker (IsReducedMvd n r) (λ (d : Dependency). is_fd d ≡ false)
-    (λ d is. ap is_fd is.2) (dependencies_of ds) are.each)
 
 -- a list of two parts, cut where the first one ends
 pub parted : {X : Type 0} (whole xs ys : List X) (from : ℕ) → whole ≡ xs ++ ys → from ≡ length xs → (take from whole ≡ xs) × (drop from whole ≡ ys)

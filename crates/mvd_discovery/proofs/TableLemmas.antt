@@ -1,14 +1,13 @@
 -- Rows in groups: the first rows of the groups by all columns are the different rows, and how many of them are in each
 -- group of a set are the sizes by that set.
-use Rattle.std.proofs.Common.{◌≡◌, ◌+◌, ◌<◌, ◌≤◌, ◌^◌, ◌==◌, ◌*◌, ◌%◌, ◌∷◌, [], ◌++◌, ℕ, zero, suc, true, List, length, slice_index_or, refl, sym, ap, subst, ◌∙◌, inl, inr, arith}
+use Rattle.std.proofs.Common.{◌≡◌, ◌+◌, ◌<◌, ◌∷◌, [], ◌++◌, ℕ, List, length, slice_index_or, sym, ap, subst, ◌∙◌, inl, inr, arith}
 use Rattle.std.proofs.Math.Seq.{get_or-append_seam}
 use Rattle.std.proofs.lemmas.Bool.{cases_lt}
-use Rattle.std.proofs.lemmas.List.{get_or_append_left, length-append}
-use Rattle.attr_sets.specs.Attributes.{Attributes, below, count_below}
+use Rattle.std.proofs.lemmas.List.{get_or_append_left}
+use Rattle.attr_sets.specs.Attributes.{Attributes, below}
 use Rattle.attr_sets.specs.Sets.{attributes}
 use Rattle.csv_rows.specs.Numberings.{AreFirsts, AreGroups, number_at}
 use Rattle.dep_model.specs.Tuples.{Relation}
-use Rattle.legality.proofs.CountLemmas.{count_below-injection}
 use Rattle.mvd_laws.specs.Sizes.{AreDifferentRows, AreSizes}
 use Rattle.mvd_discovery.specs.Counting.{ArePartSizes, set_of}
 
@@ -28,20 +27,6 @@ different_rows n r numbers firsts are first = record {
   where
     in_rows : (j : ℕ) → j < length firsts → number_at firsts j < length r
     in_rows j low = omega (arith, first.within j low, are.one_each)
-
-all_count : (n : ℕ) → count_below (λ g. true) n ≡ n
-unfolding count_below
-all_count zero = refl
-all_count (suc n) = omega (arith, all_count n)
-
--- they are no more than the rows
-pub firsts_few : (numbers firsts : List ℕ) → AreFirsts numbers firsts → length firsts ≤ length numbers
-firsts_few numbers firsts are =
-    let few : count_below (λ g. true) (length firsts) ≤ count_below (λ g. true) (length numbers) =
-    count_below-injection (length firsts) (length numbers) (λ g. true) (λ g. true) (λ g p. number_at firsts g ≡ p)
-    (λ g low h. (number_at firsts g, are.within g low, refl, refl))
-    (λ g k p g_in k_in h i here there. sym (are.number g g_in) ∙ ap (number_at numbers) (here ∙ sym there) ∙ are.number k k_in) in
-    omega (arith, few, all_count (length firsts), all_count (length numbers))
 
 -- ---- sizes
 pub sizes_by_groups : (r : Relation) (x : Attributes) (numbers ones sizes : List ℕ) → AreGroups r x numbers

@@ -1,7 +1,6 @@
 -- The counts that code holds: for each set of columns, how many of the different rows agree with each of them on it.
 -- For the functions below `discover_all`. `Desk` does not cite it.
-use Rattle.std.specs.Prelude.{◌≡◌, ◌<◌, ◌≤◌, ◌^◌, ◌==◌, ℕ, List, [], length, slice_index_or}
-use Rattle.attr_sets.specs.Attributes.{count_below}
+use Rattle.std.specs.Prelude.{◌≡◌, ◌<◌, ◌≤◌, ◌^◌, ℕ, List, [], length, slice_index_or}
 use Rattle.attr_sets.specs.Sets.{attributes}
 use Rattle.attr_sets.specs.declared.set.AttrSet.{AttrSet}
 use Rattle.csv_rows.specs.Numberings.{number_at}
@@ -30,12 +29,6 @@ pub record AreCounts (r : Relation) (counts : Counts) : Type 0 where
   pub different : AreDifferentRows counts.width r ones
   pub sizes : (number : ℕ) → number < 2 ^ counts.width
       → AreSizes r ones (attributes (set_of number)) (sizes_at counts number)
-
--- of rows at these positions, how many have each number below a count
-pub record ArePartCounts (numbers positions : List ℕ) (count : ℕ) (counts : List ℕ) : Type 0 where
-  pub one_each : length counts ≡ count
-  pub each : (h : ℕ) → h < count
-      → number_at counts h ≡ count_below (λ k. number_at numbers (number_at positions k) == h) (length positions)
 
 -- of rows at these positions, how many have the number of each
 pub record ArePartSizes (numbers positions sizes : List ℕ) : Type 0 where

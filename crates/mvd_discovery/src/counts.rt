@@ -1,16 +1,14 @@
-ghost use Rattle.std.specs.Prelude.{◌≡◌, ◌+◌, ◌<◌, ◌≤◌, ◌^◌, ℕ, length, replicate, IfOk};
-ghost use Rattle.attr_sets.specs.Attributes.{Attributes, IsSubset, below};
-ghost use Rattle.attr_sets.specs.Sets.{attributes};
+ghost use Rattle.std.specs.Prelude.{◌≡◌, ◌<◌, ◌≤◌, ◌^◌, ℕ, length, IfOk};
 ghost use Rattle.csv_rows.specs.Interning.{firsts_of, groups_of};
-ghost use Rattle.csv_rows.specs.Numberings.{AreFirsts, AreGroups};
-ghost use Rattle.dep_model.specs.Tuples.{IsOver, Relation};
-ghost use Rattle.mvd_laws.specs.Sizes.{AreDifferentRows, AreSizes};
-ghost use Rattle.mvd_discovery.specs.Counting.{ArePartCounts, ArePartSizes};
+ghost use Rattle.csv_rows.specs.Numberings.{AreFirsts};
+ghost use Rattle.dep_model.specs.Tuples.{IsOver};
+ghost use Rattle.mvd_discovery.specs.Counting.{ArePartSizes};
 ghost use Rattle.fd_discovery.specs.declared.headed_rows.TheConstants.{WIDEST_WITH_ALL};
 
 use attr_sets::AttrSet;
 use csv_rows::{Groups, Interned};
 use dep_model::OutOfMemory;
+use legality::part_counts;
 use row_store::{Hashing, Rows};
 use std::alloc::Global;
 use std::marker::Model;
@@ -80,7 +78,7 @@ fn sizes_by(alloc: Global, groups: &Groups, different: &Groups) -> Result<Vec<u3
     requires fits_u32 { length (firsts_of different.now) < 2 ^ 32 }
     ensures sizes { IfOk result (λ v. ArePartSizes (groups_of groups.now) (firsts_of different.now) v.items) }
 {
-    let counts = counts_by(alloc, groups, different)?;
+    let counts = part_counts(alloc, groups, different)?;
     let numbers = groups.numbers();
     let mut sizes = Vec::with_capacity(alloc, different.firsts().len())?;
     for row in different.firsts() {
@@ -88,31 +86,4 @@ fn sizes_by(alloc: Global, groups: &Groups, different: &Groups) -> Result<Vec<u3
         sizes.push(counts[group])?;
     }
     Ok(sizes)
-}
-
-// How many of the different rows are in each group.
-fn counts_by(alloc: Global, groups: &Groups, different: &Groups) -> Result<Vec<u32>, OutOfMemory>
-    requires same_length { length (groups_of groups.now) ≡ length (groups_of different.now) }
-    requires groups { AreFirsts (groups_of groups.now) (firsts_of groups.now) }
-    requires different { AreFirsts (groups_of different.now) (firsts_of different.now) }
-    requires fits_u32 { length (firsts_of different.now) < 2 ^ 32 }
-    ensures counts { IfOk result (λ v. ArePartCounts (groups_of groups.now) (firsts_of different.now)
-        (length (firsts_of groups.now)) v.items) }
-{
-    let numbers = groups.numbers();
-    let mut counts = zeros(alloc, groups.firsts().len())?;
-    for row in different.firsts() {
-        let group = numbers[*row as usize] as usize;
-        counts[group] += 1;
-    }
-    Ok(counts)
-}
-
-// This many counts of nothing.
-fn zeros(alloc: Global, count: usize) -> Result<Vec<u32>, OutOfMemory>
-    ensures zeros { IfOk result (λ v. v.items ≡ replicate count 0) }
-{
-    let mut counts = Vec::new(alloc);
-    counts.resize(count, 0)?;
-    Ok(counts)
 }

@@ -1,9 +1,12 @@
-//! All dependencies that given rows obey.
+//! All dependencies that given rows obey, functional and multivalued (Ozsoyoglu and Yuan 1987).
 //!
-//! `discover_all` gives the minimal functional dependencies of rows, and after them their reduced multivalued ones
-//! (Ozsoyoglu and Yuan 1987) without those that the others imply. The list implies a dependency of either kind between
-//! columns exactly where the rows obey it. It counts, for each set of columns, how many different rows agree with each
-//! row; these counts decide which dependencies are obeyed. All sets are tried, so it is meant for few columns.
+//! `discover_all` counts, for each set of columns, how many different rows agree with each row;
+//! these counts decide which dependencies are obeyed. All sets are tried, so it is meant for few
+//! columns.
+//!
+//! Promises: the minimal functional dependencies, and after them the reduced multivalued ones
+//! without those that the others imply, in order; the list implies a dependency of either kind
+//! between columns exactly where the rows obey it.
 #![tactic(auto)]
 
 mod blocks;

@@ -1,23 +1,21 @@
 -- A multivalued dependency by counting: a relation obeys it exactly where, for each of its different rows, those that
 -- agree with it on the left side are as many as those that agree on both sides times those that agree on the left side
 -- and the rest.
-use Rattle.std.proofs.Common.{◌≡◌, ◌+◌, ◌*◌, ◌<◌, ◌≤◌, ◌⊎◌, ◌==◌, ◌&&◌, ℕ, zero, suc, Bool, true, false, List, length, refl, sym, ap, subst, ◌∙◌, inl, inr, ⊎_elim, le_of_mul-le-mul_right, le_antisymm, arith}
+use Rattle.std.proofs.Common.{◌≡◌, ◌+◌, ◌*◌, ◌<◌, ◌≤◌, ◌⊎◌, ◌==◌, ◌&&◌, ℕ, zero, suc, Bool, true, false, List, length, refl, sym, ap, subst, ◌∙◌, inl, inr, ⊎_elim, arith}
 use Rattle.std.specs.Prelude.{◌↔◌, if◌then◌else◌, Contains}
-use Rattle.std.proofs.lemmas.Bool.{cases_Bool, eq-eqb, eqb-true, true≢false}
-use Rattle.std.proofs.lemmas.Bool.Decides.{nat_tests}
+use Rattle.std.proofs.lemmas.Bool.{cases_Bool, eq-eqb, eqb-true, true≢false, and_from}
 use Rattle.attr_sets.specs.Attributes.{Attributes, below, count_below, difference, union, IsSubset}
-use Rattle.attr_sets.proofs.AttributesLemmas.{count_below-equal, count_below-lt, count_below-pos, count_below-none}
+use Rattle.attr_sets.proofs.AttributesLemmas.{count_below-equal, count_below-pos, count_below-none}
 use Rattle.csv_rows.specs.Numberings.{number_at}
 use Rattle.csv_rows.proofs.NumberingLemmas.{row_of}
 use Rattle.dep_model.specs.Tuples.{Tuple, Relation, AgreeOn}
 use Rattle.dep_model.specs.Dependencies.{ObeysFd, ObeysMvd}
-use Rattle.dep_model.proofs.TwoRowLemmas.{AgreeOn-left, AgreeOn-sym, AgreeOn-trans, AgreeOn-union, AgreeOn-within}
+use Rattle.dep_model.proofs.TwoRowLemmas.{AgreeOn-left, AgreeOn-union}
 use Rattle.legality.proofs.CountLemmas.{count_below-injection}
 use Rattle.legality.proofs.PairLemmas.{member_of}
 use Rattle.removal_laws.specs.Counts.{total}
 use Rattle.removal_laws.proofs.CountLemmas.{count-le, found_below, total-le, total-same}
-use Rattle.row_store.specs.Rows.{row_at}
-use Rattle.mvd_laws.specs.Sizes.{AreDifferentRows, AreNumbersOn, AreSizes, one_at, size_at}
+use Rattle.mvd_laws.specs.Sizes.{AreDifferentRows, AreSizes, one_at, size_at}
 
 -- ---- sums
 abbrev one_if : Bool → ℕ
@@ -95,10 +93,6 @@ equal_tests m p q each same k low =
     told false false e = refl
 
 -- ---- tests
-both : (a b : Bool) → a ≡ true → b ≡ true → (a && b) ≡ true
-both true b h g = g
-both false b h g = h
-
 first_of_both : (a b : Bool) → (a && b) ≡ true → a ≡ true
 first_of_both true b h = refl
 first_of_both false b h = h
@@ -235,7 +229,7 @@ module _ (d : ℕ) (a b c : ℕ → ℕ) (b_finer : (i j : ℕ) → i < d → j 
       there k low = elim (cases_Bool (a k == a i)) [
         | inl same ↦
             let v = paired i k i_in low (sym (eqb-true (a k) (a i) same)) in
-            let some = count_below-pos d (λ w. pairs i w k) v.0 v.1 (both _ _ (eq-eqb (b v.0) (b i) v.2) (eq-eqb (c k) (c v.0) (sym v.3))) in
+            let some = count_below-pos d (λ w. pairs i w k) v.0 v.1 (and_from _ _ (eq-eqb (b v.0) (b i) v.2) (eq-eqb (c k) (c v.0) (sym v.3))) in
             rw same (omega (arith, some, found_one i k i_in low))
         | inr other ↦ rw other (omega (arith, at_most k low other))
       ]

@@ -1,10 +1,13 @@
-//! Multivalued dependencies that one relation obeys, and how a list says all that it obeys.
+//! Multivalued dependencies that one relation obeys, and how a list says all that it obeys. Laws,
+//! no code.
 //!
-//! In one relation the right sides of a set are closed under union and difference, so each is a union of blocks. The
-//! law `reduced_ones_cover_all` says that a cover of the functional dependencies that the relation obeys, with its
-//! reduced multivalued ones, is a cover of all that it obeys. The laws of counts say how counting decides whether a
-//! dependency is obeyed. Each law is a function that does nothing, whose clause is the law; so the gate asks for its
-//! proof.
+//! In one relation the right sides of a set are closed under union and difference, so each is a
+//! union of blocks. Each law is a function that does nothing, whose clause is the law; so the gate
+//! asks for its proof.
+//!
+//! Promises: the reduced ones, with a cover of the functional dependencies that a relation obeys,
+//! are a cover of all that it obeys; how counting rows that agree decides whether a dependency is
+//! obeyed.
 #![tactic(auto)]
 
 ghost use Rattle.std.specs.Prelude.{◌≡◌, ◌*◌, ◌<◌, ◌↔◌, ℕ, List, length, All};

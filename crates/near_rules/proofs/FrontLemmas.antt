@@ -1,13 +1,13 @@
 -- What was tried: from one place in the order of sets and right sides to a later one.
 use Rattle.std.proofs.Common.{inl, inr, ◌≡◌, ◌<◌, ◌≤◌, ◌+◌, ◌⊎◌, ◌||◌, nat_lt, ℕ, Bool, true, false, List, ◌++◌, length, get_or, sym, ap, subst, ◌∙◌, arith}
 use Rattle.std.specs.Prelude.{Contains}
-use Rattle.std.proofs.lemmas.Bool.{cases_lt, cases_Bool, cases_order, true≢false, ltb-true, eqb-true}
-use Rattle.std.proofs.lemmas.Bool.Decides.{nat_tests}
+use Rattle.std.proofs.lemmas.Bool.{cases_lt, cases_Bool, true≢false, ltb-true, eqb-true}
 use Rattle.std.proofs.lemmas.List.{get_or_append_left, length-append, map-append}
 use Rattle.std.proofs.lemmas.List.Elements.{All-weaker}
 use Rattle.attr_sets.specs.Attributes.{Attributes, IsSubset, IsEmpty, IsBefore, IsNextSubset, below, count_below, only, union}
 use Rattle.attr_sets.proofs.AttributesLemmas.{count_below-lt, count_below-union_only, count_below-within, same_at}
 use Rattle.attr_sets.proofs.OrderLemmas.{IsBefore-trans, tell_before, next_subset-before}
+use Rattle.attr_sets.proofs.UpToLemmas.{IsUpTo, before_up_to, filled_in, holds_after, subset_up_to, up_to_before}
 use Rattle.csv_rows.specs.Numberings.{number_at}
 use Rattle.dep_model.specs.Tuples.{Relation}
 use Rattle.dep_model.specs.Dependencies.{Dependency, fd, left_of, right_of}
@@ -15,20 +15,13 @@ use Rattle.dep_model.specs.Deps.{dependencies_of, dependency_of}
 use Rattle.dep_model.specs.declared.dep.Dep.{Dep}
 use Rattle.fd_discovery.specs.Searching.{AreUndetermined, IsListedFrom, IsTried}
 use Rattle.fd_discovery.proofs.GivenLemmas.{given_more}
-use Rattle.fd_discovery.proofs.SearchLemmas.{larger_above, larger_filled, larger_in, larger_next}
-use Rattle.near_rules.proofs.OrderLemmas.{IsUpTo, before_up_to, filled_in, subset_up_to, up_to_before}
+use Rattle.fd_discovery.proofs.SearchLemmas.{larger_above, larger_filled, larger_in, larger_next, tried_more}
 use Rattle.near_rules.specs.NearRules.{IsMinimalNear, MustBeTried}
 use Rattle.near_rules.specs.Searching.{AreFoundBefore, AreTriedFor, IsFoundBefore}
 use Rattle.near_rules.specs.declared.found.Found.{Found}
 use Rattle.near_rules.specs.declared.found.Sought.{Sought}
 
 -- ---- the order
-tried_more : (y x : Attributes) (a b : ℕ) → IsTried y a x b → IsTried y (a + 1) x b
-tried_more y x a b tried = elim tried [
-  | inl before ↦ inl before
-  | inr same ↦ inr (same.0, omega (arith, same.1))
-]
-
 -- what is listed stays listed
 pub kept_listed : (old more new : List Dep) → new ≡ old ++ more → (x : Attributes) (a : ℕ)
     → IsListedFrom (dependencies_of old) x a → IsListedFrom (dependencies_of new) x a
@@ -50,28 +43,6 @@ kept_listed old more new is x a (k, d, l, at, gives) = (
 -- a set is not before itself, nor before one within it
 not_before : (x y : Attributes) → IsBefore x y → IsSubset y x → ⊥
 not_before x y before inside = true≢false (sym (inside before.0 before.2) ∙ before.1)
-
--- a set after another, up to that one with all attributes below m, holds it where its members stand from m on
-pub holds_after : (m : ℕ) (x v : Attributes) → ((k : ℕ) → x k ≡ true → m ≤ k) → IsBefore x v → IsUpTo v (union x (below m))
-    → IsSubset x v
-holds_after m x v above after up = elim (cases_lt after.0 m) [
-  | inl low ↦ λ k h. sym (after.3 k (omega (arith, above k h, low))) ∙ h
-  | inr high ↦ absurd (elim up [
-    | inl same ↦ true≢false (sym after.2 ∙ same_at same after.0 ∙ beyond high)
-    | inr before ↦ elim (cases_order before.0 after.0) [
-      | inl at ↦ true≢false (sym after.2 ∙ ap v (sym at) ∙ before.1)
-      | inr other ↦ elim other [
-        | inl lower ↦ true≢false (sym after.2 ∙ before.3 after.0 lower ∙ beyond high)
-        | inr higher ↦
-            let out : x before.0 ≡ false = after.3 before.0 higher ∙ before.1 in
-            true≢false (sym before.2 ∙ grind (arith, nat_tests, out, higher, high))
-      ]
-    ]
-  ])
-]
-  where
-    beyond : m ≤ after.0 → union x (below m) after.0 ≡ false
-    beyond high = (let out : x after.0 ≡ false = after.1 in grind (arith, nat_tests, out, high))
 
 -- ---- from a place to a later one
 module _ (s : Sought) (r : Relation) where

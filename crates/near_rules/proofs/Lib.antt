@@ -1,4 +1,3 @@
-pub mod OrderLemmas
 pub mod FrontLemmas
 pub mod RightLemmas
 pub mod WholeLemmas

@@ -18,7 +18,7 @@ use Rattle.dep_model.proofs.ListLemmas.{Contains-head, Contains-later}
 use Rattle.fd_discovery.specs.Minimal.{Precedes}
 use Rattle.fd_discovery.specs.Searching.{IsListedFrom, IsTried}
 use Rattle.fd_discovery.proofs.GivenLemmas.{given_now, given_still}
-use Rattle.near_rules.proofs.OrderLemmas.{only_before}
+use Rattle.attr_sets.proofs.UpToLemmas.{only_before}
 use Rattle.removal_laws.specs.Errors.{IsError}
 use Rattle.removal_laws.proofs.ErrorLemmas.{same_error}
 use Rattle.near_rules.specs.NearRules.{AreErrors, ExceedsTried, MustBeTried}

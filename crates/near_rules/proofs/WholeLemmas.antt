@@ -15,7 +15,7 @@ use Rattle.dep_model.specs.Dependencies.{Dependency, IsWithin, fd}
 use Rattle.dep_model.specs.Deps.{dependencies_of}
 use Rattle.fd_discovery.specs.Minimal.{Precedes}
 use Rattle.fd_discovery.specs.Searching.{AreUndetermined, IsTried}
-use Rattle.near_rules.proofs.OrderLemmas.{subset_up_to}
+use Rattle.attr_sets.proofs.UpToLemmas.{subset_up_to}
 use Rattle.near_rules.specs.NearRules.{AreErrors, AreNearRules, ExceedsTried, IsNearFd, MustBeTried}
 use Rattle.near_rules.specs.Searching.{AreFoundBefore, AreTriedFor, IsFoundBefore}
 use Rattle.near_rules.specs.declared.found.Found.{Found}

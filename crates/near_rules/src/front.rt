@@ -1,16 +1,15 @@
-ghost use Rattle.std.specs.Prelude.{◌≡◌, ◌<◌, ◌≤◌, ℕ, length, take, IsTrue, IfOk, OnOk};
+ghost use Rattle.std.specs.Prelude.{◌≡◌, ◌<◌, ◌≤◌, ℕ, length, take, IsTrue, IfOk};
 ghost use Rattle.attr_sets.specs.Attributes.{IsSubset, below};
 ghost use Rattle.attr_sets.specs.Sets.{attributes};
 ghost use Rattle.dep_model.specs.Tuples.{Relation};
 ghost use Rattle.near_rules.specs.Searching.{AreSought, IsSoughtNear};
-ghost use Rattle.row_store.specs.Rows.{row_at};
 
 use crate::found::Sought;
 use attr_sets::AttrSet;
 use csv_rows::Groups;
 use dep_model::OutOfMemory;
 use row_measures::error_within;
-use row_store::{FlatValues, Rows};
+use row_store::{FlatValues, Rows, take_row};
 use std::alloc::Global;
 
 // How many rows are looked at first.
@@ -26,22 +25,10 @@ pub fn front_rows(alloc: Global, rows: &Rows) -> Result<Rows, OutOfMemory>
     let mut row = FlatValues::new(alloc);
     let count = rows.len().min(FRONT);
     for i in 0..count {
-        take_row(rows, i, &mut row)?;
+        take_row(&mut row, rows, i)?;
         front.push(&row)?;
     }
     Ok(front)
-}
-
-// The values become those of a row.
-fn take_row(rows: &Rows, position: usize, row: &mut FlatValues) -> Result<(), OutOfMemory>
-    requires position { position < length rows.now }
-    ensures row { OnOk result (row.new ≡ row_at rows.now position) }
-{
-    row.clear();
-    for k in 0..rows.width(position) {
-        row.push(rows.value(position, k))?;
-    }
-    Ok(())
 }
 
 // Whether a set is not near for an attribute even among the first rows. It is a matter of speed alone: where the answer

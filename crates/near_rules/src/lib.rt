@@ -1,8 +1,12 @@
 //! The minimal functional dependencies that given rows nearly obey.
 //!
-//! `X -> A` is near where at most so many rows must go for the others to obey it: the error of Kivinen and Mannila
-//! (1995), as a number of rows. `near_rules` gives exactly the near dependencies no proper part of whose left side is
-//! near, each with its error. The error never grows with the left side, so these say which others are near too.
+//! `X -> A` is near where at most so many rows must go for the others to obey it: the error of
+//! Kivinen and Mannila (1995), as a number of rows. The error never grows with the left side, so
+//! those that are given say which others are near too.
+//!
+//! Promises: `near_rules` gives exactly the near dependencies no proper part of whose left side is
+//! near, in order, each with its error; or a refusal of the first attribute for which more than
+//! 1,000,000 sets have to be tried.
 #![tactic(auto)]
 
 mod finding;

@@ -1,4 +1,7 @@
-//! The lines of a help that are nearest to words: those that show most of the words that were given.
+//! The lines of a help that are nearest to words: those that show most of the words that were
+//! given.
+//!
+//! Promises: exactly those that the definition ranks first.
 #![tactic(auto)]
 
 mod forms;

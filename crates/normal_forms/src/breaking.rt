@@ -14,7 +14,7 @@ use crate::forms::Form;
 use crate::parting::parts_none;
 use crate::passing::{FEWEST_PASSED, determines_none, filled};
 use attr_sets::AttrSet;
-use dep_basis::{block, closure_of, has_two_parts};
+use dep_basis::{block, closure, has_two_parts};
 use dep_model::Schema;
 
 // Whether a left side violates Boyce-Codd or fourth form. Where all dependencies are functional
@@ -170,7 +170,7 @@ pub fn right_side(schema: &Schema, scheme: AttrSet, form: Form, lhs: AttrSet) ->
 {
     match form {
         Form::Fourth => first_part(schema, scheme, lhs),
-        Form::Third | Form::Bcnf => closure_of(schema, lhs).intersection(scheme).difference(lhs),
+        Form::Third | Form::Bcnf => closure(schema, lhs).intersection(scheme).difference(lhs),
     }
 }
 

@@ -2,10 +2,13 @@
 //! violation that shows where it is not.
 //!
 //! `violation` ranges over every left side within a scheme, of which at most
-//! `fd_closure::WIDEST_SEARCHED` attributes stand in given left sides: it answers none exactly where
-//! the scheme is in the form, and else the first left side that violates it, in the order of sets,
-//! with its right side. `visible_violation` looks at the given
-//! left sides alone, at any width. `laws` has what holds of violations. No call takes memory.
+//! `fd_closure::WIDEST_SEARCHED` attributes stand in given left sides. `visible_violation` looks at
+//! the given left sides alone, at any width. `laws` has what holds of violations. No call takes
+//! memory.
+//!
+//! Promises: no violation exactly where the scheme is in the form, and else the first left side
+//! that violates it, in the order of sets, which lies within the given left sides, with its right
+//! side.
 #![tactic(auto)]
 
 mod beginning;

@@ -10,7 +10,7 @@ ghost use Rattle.normal_forms.specs.Breaking.{IsEnough};
 use crate::forms::Form;
 use attr_sets::AttrSet;
 use dep_model::Schema;
-use fd_closure::{closure, functional_left_attributes, left_attributes};
+use fd_closure::{functional_closure, functional_left_attributes, left_attributes};
 
 // The attributes of a scheme to whose subsets a search for violations can keep: those of the
 // given left sides. Where all dependencies are functional, a left side that the scheme does not
@@ -45,6 +45,6 @@ pub fn functionally_searched_attributes(schema: &Schema, scheme: AttrSet) -> Att
     ensures added { AddOnlyThemselves (width_of schema.now) (functional_part (theory_of schema.now))
         (attributes scheme) (attributes result) }
 {
-    let reach = closure(schema.deps(), scheme);
+    let reach = functional_closure(schema.deps(), scheme);
     functional_left_attributes(schema.deps(), reach).intersection(scheme)
 }

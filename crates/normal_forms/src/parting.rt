@@ -8,7 +8,7 @@ ghost use Rattle.normal_forms.specs.Breaking.{Breaks};
 ghost use Rattle.normal_forms.specs.Passing.{LiesBetween, HasNoPartsAbout};
 
 use attr_sets::{AttrSet, MOST_ATTRIBUTES};
-use dep_basis::{closure_of, has_two_parts};
+use dep_basis::{closure, has_two_parts};
 use dep_model::Schema;
 
 // Whether it is seen at once that no set between two violates fourth form: the smaller one determines
@@ -23,7 +23,7 @@ pub fn parts_none(schema: &Schema, scheme: AttrSet, least: AttrSet, most: AttrSe
         → Breaks (width_of schema.now) (theory_of schema.now) forms.Fourth (attributes scheme) x
         → ⊥ }
 {
-    if scheme.is_subset(closure_of(schema, least)) {
+    if scheme.is_subset(closure(schema, least)) {
         return true;
     }
     has_no_parts_about(schema, scheme, least, most)

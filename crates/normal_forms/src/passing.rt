@@ -8,9 +8,9 @@ ghost use Rattle.normal_forms.specs.Breaking.{Breaks};
 ghost use Rattle.normal_forms.specs.Passing.{theory_by, LiesBetween};
 
 use attr_sets::{AttrSet, MOST_ATTRIBUTES};
-use dep_basis::closure_of;
+use dep_basis::closure;
 use dep_model::Schema;
-use fd_closure::closure;
+use fd_closure::functional_closure;
 
 // The fewest attributes that may still be added to a set where a search looks whether it can pass over
 // all that comes of it: what that costs grows with their number or its square, what it saves
@@ -39,9 +39,9 @@ pub fn closed_set(schema: &Schema, functional: bool, lhs: AttrSet) -> AttrSet
         ↔ InClosure (width_of schema.now) (theory_by functional schema.now) (attributes lhs) a }
 {
     if functional {
-        closure(schema.deps(), lhs)
+        functional_closure(schema.deps(), lhs)
     } else {
-        closure_of(schema, lhs)
+        closure(schema, lhs)
     }
 }
 

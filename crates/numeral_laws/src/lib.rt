@@ -1,7 +1,10 @@
-//! What the program makes up holds numerals: tableaux as relations, and exhibits. So the laws of
-//! `typed_rows` hold of it.
+//! Laws of what the program makes up: so the laws of `typed_rows` hold of it. No code.
 //!
-//! Each law is a function that does nothing, whose clause is the law; so the gate asks for its proof.
+//! Each law is a function that does nothing, whose clause is the law; so the gate asks for its
+//! proof.
+//!
+//! Promises: tableaux as relations and exhibits hold numerals; a relation that gains a tuple still
+//! does with values of the columns' types.
 #![tactic(auto)]
 
 ghost use Rattle.std.specs.Prelude.{ℕ, ◌<◌, List, length, Contains};

@@ -3,7 +3,7 @@ use Rattle.std.proofs.Common.{◌≡◌, ◌≤◌, ◌++◌, ℕ, List, [], ◌
 use Rattle.std.specs.Prelude.{All, Contains}
 use Rattle.std.proofs.lemmas.List.{length-map}
 use Rattle.std.proofs.lemmas.Bool.{cases_Bool}
-use Rattle.std.proofs.lemmas.List.Elements.{All-cons, All-head, All-tail, All-weaker, All-contains, Contains-append_right}
+use Rattle.std.proofs.lemmas.List.Elements.{All-cons, All-head, All-tail, All-weaker, All-contains}
 use Rattle.attr_sets.specs.Attributes.{Attributes, below, IsSubset}
 use Rattle.attr_sets.specs.Sets.{attributes}
 use Rattle.attr_sets.specs.declared.set.AttrSet.{AttrSet}
@@ -13,7 +13,8 @@ use Rattle.dep_model.specs.Plans.{schemes_of}
 use Rattle.dep_model.specs.Schemas.{width_of, theory_of}
 use Rattle.dep_model.specs.declared.schema.Schema.{Schema}
 use Rattle.dep_model.proofs.FormLemmas.{fourth_bcnf}
-use Rattle.dep_model.proofs.ListLemmas.{Any-from, Contains-head}
+use Rattle.dep_model.proofs.ListLemmas.{Any-from}
+use Rattle.implication_laws.proofs.OnePlanAnswer.{failing_in_plan}
 use Rattle.fd_closure.specs.LeftSides.{IsWide}
 use Rattle.normal_forms.specs.Chosen.{IsInForm}
 use Rattle.normal_forms.specs.Violations.{Violates}
@@ -24,7 +25,7 @@ use Rattle.plans.specs.Containing.{is_contained, without_contained_after, withou
 use Rattle.split_forms.specs.Splitting.{StaysWhole}
 use Rattle.split_forms.proofs.WalkLemmas.{reached_plan}
 use Rattle.wide_bcnf.proofs.SplitLemmas.{schema_parts}
-use Rattle.desk_responses.specs.ResponseValues.{ResponseValue, IsFirstFailing}
+use Rattle.desk_responses.specs.ResponseValues.{ResponseValue}
 use Rattle.desk_designs.specs.declared.join.TheConstants.{MOST_TABLEAU_ROWS}
 use Rattle.desk_designs.specs.Decompositions.{IsPlanInForm, IsSplitInForm, IsWideSplit}
 use Rattle.desk_designs.specs.Joins.{IsTooLarge, LosesNothing}
@@ -46,24 +47,17 @@ not_violated n ds Bcnf scheme x y low formed violates =
 not_violated n ds Fourth scheme x y low formed violates =
     not_in_form n ds Fourth scheme x y (low (λ same. cc)) violates formed
 
--- what is so of each scheme is so of the first that fails
-failing_in : (Passes : Attributes → Type 0) (plan : List Attributes) (scheme : Attributes)
-    → IsFirstFailing Passes plan scheme → Contains plan scheme
-failing_in Passes plan scheme first =
-    subst (λ (l : List Attributes). Contains l scheme) (sym first.list)
-    (Contains-append_right first.earlier (scheme ∷ first.later) scheme (Contains-head scheme first.later))
-
 form_passes : (s : Schema) (form : Form) (plan : List Attributes)
     → ((form ≡ Third → ⊥) → All (λ scheme. IsSubset scheme (below (width_of s))) plan)
     → All (IsInForm (width_of s) (theory_of s) form) plan → PassesCheckForm s form plan
 form_passes s form plan low formed response (inl passed) = inl passed.1
 form_passes s form plan low formed response (inr (scheme, first, inl (wide, says))) =
     inr (
-      Any-from (IsWide (theory_of s)) plan scheme (failing_in (PassesForm s form) plan scheme first) wide,
+      Any-from (IsWide (theory_of s)) plan scheme (failing_in_plan (PassesForm s form) plan scheme first) wide,
       ap (λ (r : ResponseValue). r.status) says,
     )
 form_passes s form plan low formed response (inr (scheme, first, inr (narrow, found))) =
-    let within = failing_in (PassesForm s form) plan scheme first in
+    let within = failing_in_plan (PassesForm s form) plan scheme first in
     absurd (not_violated (width_of s) (theory_of s) form scheme found.0 found.1
     (λ other. All-contains (λ (z : Attributes). IsSubset z (below (width_of s))) plan scheme (low other) within)
     (All-contains (IsInForm (width_of s) (theory_of s) form) plan scheme formed within) found.2.violates)

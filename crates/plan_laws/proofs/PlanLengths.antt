@@ -16,12 +16,13 @@ use Rattle.dep_model.specs.Plans.{schemes_of}
 use Rattle.dep_model.specs.Projections.{members_below}
 use Rattle.dep_model.specs.Schemas.{deps_of, theory_of, width_of}
 use Rattle.dep_model.specs.declared.schema.Schema.{Schema}
+use Rattle.wide_bcnf.proofs.SplitLemmas.{length-without_contained_after}
 use Rattle.design_order.specs.Order.{IsInDesignOrder, grouped_below, with_number}
 use Rattle.min_cover.specs.Covers.{IsThinned}
 use Rattle.min_cover.specs.Members.{IsLeftReducedDependency, members_of}
 use Rattle.normal_forms.specs.declared.forms.Form.{Form}
 use Rattle.normal_forms.specs.declared.forms.Form.TheVariants.{Third, Bcnf, Fourth}
-use Rattle.plans.specs.Containing.{is_contained, without_contained, without_contained_after}
+use Rattle.plans.specs.Containing.{without_contained, without_contained_after}
 use Rattle.split_forms.proofs.StepLemmas.{reached_length}
 use Rattle.split_forms.specs.Lists.{ReachedIn}
 use Rattle.split_forms.specs.Splitting.{IsCutBy, StaysWhole}
@@ -95,19 +96,10 @@ ordered_length n ds plan ordered is =
     omega (arith, same, grouped_length (n + 1) plan is.counts)
 
 -- ---- without contained schemes
-kept_length : (earlier later : List AttrSet) → length (without_contained_after earlier later) ≤ length later
-kept_length earlier [] = omega arith
-kept_length earlier (x ∷ later) =
-    let rest = kept_length (earlier ++ x ∷ []) later in
-    elim (cases_Bool (is_contained earlier x later)) [
-      | inl spare ↦ rw spare (omega (arith, rest))
-      | inr kept ↦ rw kept (omega (arith, rest))
-    ]
-
 plan_length : (all plan : List AttrSet) → plan ≡ without_contained all → length plan ≤ length all
 plan_length all plan is =
     let same = ap (λ (l : List AttrSet). length l) is in
-    omega (arith, same, kept_length [] all)
+    omega (arith, same, length-without_contained_after [] all)
 
 -- ---- splits
 module _ (n : ℕ) (Whole : Attributes → Type 0) (Cut : Attributes → Attributes → Attributes → Type 0) where

@@ -1,14 +1,15 @@
 -- The plan of a split is one, and so are the answers of `check form`, `check join` and `check keeps`.
-use Rattle.std.proofs.Common.{◌≡◌, ◌+◌, ◌||◌, ◌&&◌, ◌++◌, ℕ, Bool, true, false, not, if◌then◌else◌, List, [], ◌∷◌, map, refl, sym, ap, subst, ◌∙◌, inl, inr}
+use Rattle.std.proofs.Common.{◌≡◌, ◌+◌, ◌||◌, ◌&&◌, ◌++◌, ℕ, Bool, not, if◌then◌else◌, List, [], ◌∷◌, map, refl, sym, ap, subst, ◌∙◌, inl, inr}
 use mathlib.Core.Path.{fun_ext}
 use Rattle.std.specs.Prelude.{codes, All, Contains}
 use Rattle.std.proofs.lemmas.List.Elements.{All-contains, Contains-append_right}
 use Rattle.std.specs.List.{AllZip, list_any, flat_map}
-use Rattle.std.proofs.lemmas.Bool.{cases_Bool, true≢false}
+use Rattle.std.proofs.lemmas.Bool.{cases_Bool}
 use Rattle.std.proofs.lemmas.List.{map-append}
 use Rattle.attr_sets.specs.Attributes.{Attributes, below, IsSubset}
 use Rattle.attr_sets.specs.Sets.{attributes, is_subset}
 use Rattle.attr_sets.specs.declared.set.AttrSet.{AttrSet}
+use Rattle.attr_sets.proofs.AttributesLemmas.{same_truth}
 use Rattle.csv_text.specs.Rows.{rows_text}
 use Rattle.chase_laws.proofs.UniqueLemmas.{closed_unique}
 use Rattle.dep_model.specs.Dependencies.{Dependency, fd, mvd, functional_part}
@@ -166,11 +167,6 @@ one_join s plan =
     (λ response shown stops. loss_goes s plan response shown stops) (λ shown one other says said. says ∙ sym said)
 
 -- ---- losses
-same_truth : (a b : Bool) → (a ≡ true → b ≡ true) → (b ≡ true → a ≡ true) → a ≡ b
-same_truth true b there back = sym (there refl)
-same_truth false true there back = absurd (true≢false (sym (back refl)))
-same_truth false false there back = refl
-
 one_agreement : (n : ℕ) (ds : List Dependency) (plan : List Attributes) (d : Dependency) (a b : Attributes)
     → IsLostOn n ds plan d a → IsLostOn n ds plan d b → a ≡ b
 one_agreement n ds plan (fd x y) a b one other = fun_ext (λ k.

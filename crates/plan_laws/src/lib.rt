@@ -1,6 +1,12 @@
-//! Laws of plans: what one command gives, another accepts, and gives again.
+//! Laws of plans and of what commands make of them: what one command gives, another accepts, and
+//! gives again. No code.
 //!
-//! Each law is a function that does nothing, whose clause is the law; so the gate asks for its proof.
+//! Each law is a function that does nothing, whose clause is the law; so the gate asks for its
+//! proof.
+//!
+//! Promises: plans that commands give pass those that test plans; `migrate` makes the tables of
+//! `ddl`, and `rejoin` gives their rows back, in whatever order; each command on plans, tables and
+//! rows has one answer.
 #![tactic(auto)]
 
 mod answering;

@@ -1,6 +1,7 @@
 //! Plan texts, read by their grammar.
 //!
-//! `read_plan` gives the plan that a text means, with the names of its tables, or refuses it by its first diagnostic.
+//! Promises: `read_plan` gives the plan that a text means, with the names of its tables, or refuses
+//! it by its first diagnostic.
 #![tactic(auto)]
 
 mod covering;

@@ -8,14 +8,9 @@ use Rattle.std.proofs.lemmas.Bool.{true≢false, cases_Bool, or_cases, or_left, 
 use Rattle.std.proofs.lemmas.List.Elements.{All-nil, All-push, All-weaker, All-contains, Contains-append_left, Contains-push}
 use Rattle.attr_sets.specs.declared.set.AttrSet.{AttrSet}
 use Rattle.attr_sets.specs.Sets.{attributes}
-use Rattle.attr_sets.proofs.AttributesLemmas.{attributes_below, is_subset-true, is_subset-from}
+use Rattle.attr_sets.proofs.AttributesLemmas.{attributes_below, is_subset-true, is_subset-from, same_truth}
 use Rattle.plans.specs.Containing.{lies_within, lies_properly_within, is_contained, without_contained_after, without_contained}
 use Rattle.plans.proofs.ListLemmas.{any_from, any_some}
-
-same_truth : (a b : Bool) → (a ≡ true → b ≡ true) → (b ≡ true → a ≡ true) → a ≡ b
-same_truth true b there back = sym (there refl)
-same_truth false true there back = absurd (true≢false (sym (back refl)))
-same_truth false false there back = refl
 
 -- ---- within, as a test
 pub lies_within-refl : (a : AttrSet) → lies_within a a ≡ true

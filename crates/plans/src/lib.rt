@@ -1,8 +1,8 @@
-//! Plans: lists of schemes that together have all attributes of a universe.
+//! Plans: lists of schemes that together have all attributes of a universe, printed in one form.
 //!
-//! Each holder of a `Plan` has its validity (`IsPlan`): its schemes have attributes, lie within the
-//! universe and cover it. `drop_contained` keeps, in order, the schemes that lie within no other one; a
-//! lossless plan stays lossless. `print_plan` prints it in one form.
+//! Promises: each holder of a `Plan` has its validity (`IsPlan`): its schemes have attributes, lie
+//! within the universe and cover it; `drop_contained` keeps, in order, the schemes that lie within
+//! no other one, and a lossless plan stays lossless.
 #![tactic(auto)]
 
 mod containing;

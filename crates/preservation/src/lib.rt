@@ -1,8 +1,10 @@
-//! Which functional dependencies a plan keeps.
+//! Which functional dependencies a plan keeps: what follows inside its schemes, and what is lost.
 //!
-//! `losses` names exactly the given ones that do not follow from those that they imply inside the schemes
-//! of a plan, each with two tuples that show it: these agree on exactly the attributes that follow from its
-//! left side. The set is closed scheme by scheme, and no subsets are tried (Ullman 1982).
+//! The set is closed scheme by scheme, and no subsets are tried (Ullman 1982).
+//!
+//! Promises: `losses` names exactly the given dependencies that do not follow from those that they
+//! imply inside the schemes of a plan, each with two tuples that show it: these agree on exactly
+//! the attributes that follow from its left side.
 #![tactic(auto)]
 
 mod closing;

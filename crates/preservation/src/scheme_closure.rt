@@ -7,7 +7,7 @@ ghost use Rattle.preservation.specs.SchemeClosures.{IsSchemeClosure, schemes_of_
 
 use attr_sets::AttrSet;
 use dep_model::{OutOfMemory, Schema};
-use fd_closure::{Counters, closure_with};
+use fd_closure::{Counters, functional_closure_with};
 use std::alloc::Global;
 
 /// What a part of a scheme determines inside it.
@@ -56,7 +56,7 @@ fn closure_within(
     ensures part { result.part ≡ part }
     ensures fits { FitsList counters.new (deps_of schema.now) }
 {
-    let closed = closure_with(counters, schema.deps(), part).intersection(scheme);
+    let closed = functional_closure_with(counters, schema.deps(), part).intersection(scheme);
     SchemeClosure {
         scheme,
         part,

@@ -1,10 +1,12 @@
-//! What certificates spell, and how they are refused: the grammar of certificates, which their reader and
-//! their printer promise.
+//! What certificates spell, and how they are refused: the grammar of certificates, which their
+//! reader and their printer promise.
 //!
-//! A text spells a tree where its lines are the nodes of the tree, or it is refused at the first line
-//! that goes wrong, and there for the first diagnostic. Beside these definitions stands a reading of a
-//! text from line to line; the laws say that it gives what the text spells, and else the refusal. What
-//! is printed of a derivation spells its tree. There is no code here but the enums that refusals carry.
+//! A text spells a tree where its lines are the nodes of the tree, or it is refused at the first
+//! line that goes wrong, and there for the first diagnostic. Beside these definitions stands a
+//! reading of a text from line to line. There is no code here but the enums that refusals carry.
+//!
+//! Promises: a text spells one tree, or has one refusal, and the reading from line to line gives
+//! which; what is printed of a derivation spells its tree.
 #![tactic(auto)]
 
 mod laws;

@@ -1,8 +1,11 @@
-//! Certificates: derivations as numbered lines of text, which anybody can write and check.
+//! Certificates: derivations as numbered lines of text, which anybody can write and check; read and
+//! printed.
 //!
-//! `read_concluded` takes a text from any hand. It gives the derivation whose nodes the lines are, with the
-//! dependency that it concludes by the rules alone, or refuses the first line that goes wrong. `print_proof`
-//! writes the one text of a derivation, a line for each node in post-order.
+//! `read_concluded` takes a text from any hand. `print_proof` writes the one text of a derivation,
+//! a line for each node in post-order.
+//!
+//! Promises: a text is read as the tree that it spells, with the dependency that it concludes by
+//! the rules alone, or refused at the first line that goes wrong, as the definition says.
 #![tactic(auto)]
 
 mod checker_state;

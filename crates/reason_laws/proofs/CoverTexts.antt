@@ -7,6 +7,7 @@ use Rattle.dep_model.specs.Names.{IsName}
 use Rattle.dep_model.specs.Projections.{members_below}
 use Rattle.dep_model.specs.Schemas.{lines_of, names_of, width_of}
 use Rattle.dep_model.specs.declared.schema.Schema.{Schema}
+use Rattle.dep_model.proofs.PlainLemmas.{IsPlain, plain_both}
 use Rattle.schema_printer.specs.Printing.{dependency_text, set_text}
 use Rattle.schema_printer.specs.Spelling.{printed_names_of}
 use Rattle.desk_covers.specs.CoverReasons.{AreCoverReasons, ExplainsCover, all_gone_text, gone_text, member_before, member_text, members_text, needless_text, placed_text}
@@ -15,7 +16,7 @@ use Rattle.desk_responses.specs.Lines.{line_number_text}
 use Rattle.desk_responses.specs.ResponseValues.{ResponseValue}
 use Rattle.desk_responses.specs.declared.status.Status.TheVariants.{Yes}
 use Rattle.reason_laws.specs.ReasonLines.{LeavesAnswer}
-use Rattle.reason_laws.proofs.LineLemmas.{AreLines, IsPlain, both_lines, each_lines, leaves_answer, one_line, plain_both}
+use Rattle.reason_laws.proofs.LineLemmas.{AreLines, both_lines, each_lines, leaves_answer, one_line}
 use Rattle.reason_laws.proofs.NameTexts.{IsPrinted, dependency_plain, names_printed, set_plain}
 use Rattle.reason_laws.proofs.SchemaTexts.{number_plain, schema_own}
 

@@ -1,29 +1,16 @@
 -- Texts of lines that all begin with `# `, or of lines none of which does.
-use Rattle.std.proofs.Common.{◌≡◌, ◌||◌, ℕ, Bool, true, false, List, [], ◌∷◌, ◌++◌, refl, sym, ap, subst, ◌∙◌, append-nil, inl, inr}
-use Rattle.std.specs.Prelude.{All, filter, not, ◌==◌}
+use Rattle.std.proofs.Common.{◌≡◌, ℕ, Bool, true, false, List, [], ◌∷◌, ◌++◌, refl, sym, ap, subst, ◌∙◌, append-nil, inl, inr}
+use Rattle.std.specs.Prelude.{All, filter, not}
 use Rattle.std.specs.List.{flat_map}
 use Rattle.std.proofs.lemmas.List.Elements.{All-nil, All-cons, All-head, All-tail, All-append}
 use Rattle.std.proofs.lemmas.Grind.{flat_map-append}
+use Rattle.dep_model.proofs.PlainLemmas.{IsPlain}
 use Rattle.schema_printer.specs.Printing.{lines_text}
 use Rattle.desk_texts.specs.Texts.{line}
 use Rattle.desk_responses.specs.Reasons.{Explained}
 use Rattle.desk_responses.specs.ResponseValues.{Allowed, ResponseValue}
 use Rattle.desk_responses.specs.declared.status.Status.TheVariants.{Yes}
 use Rattle.reason_laws.specs.ReasonLines.{IsWithoutReasons, LeavesAnswer, has_line_feed, is_reason}
-
--- bytes without a line feed
-abbrev pub IsPlain : List ℕ → Type 0
-IsPlain text = has_line_feed text ≡ false
-
-pub plain_both : (one other : List ℕ) → IsPlain one → IsPlain other → IsPlain (one ++ other)
-plain_both [] other first second = second
-plain_both (b ∷ one) other first second =
-    let parts : ((b == 10) ≡ false) × IsPlain one = neither (b == 10) (has_line_feed one) first in
-    ap (λ (t : Bool). t || has_line_feed (one ++ other)) parts.0 ∙ plain_both one other parts.1 second
-  where
-    neither : (p q : Bool) → (p || q) ≡ false → (p ≡ false) × (q ≡ false)
-    neither true q e = absurd (cc)
-    neither false q e = (refl, e)
 
 -- lines, all of which begin with `# `, or none
 pub record AreLines (told : Bool) (text : List ℕ) : Type 0 where

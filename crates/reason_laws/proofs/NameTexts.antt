@@ -1,9 +1,9 @@
 -- The printed names of a schema, and what is printed of sets and dependencies by them, have no line feed; and no
 -- printed name begins with `#`.
-use Rattle.std.proofs.Common.{◌≡◌, ◌&&◌, ◌||◌, ◌+◌, ℕ, Bool, true, false, if◌then◌else◌, List, [], ◌∷◌, ◌++◌, map, refl, sym, ap, ◌∙◌, inl, inr, arith}
+use Rattle.std.proofs.Common.{◌≡◌, ◌&&◌, ◌+◌, ℕ, Bool, true, false, List, [], ◌∷◌, ◌++◌, map, refl, sym, ap, ◌∙◌, inl, inr, arith}
 use Rattle.std.specs.Prelude.{All, codes, not, ◌==◌, slice_index, nat_lt, nat_le, length}
 use Rattle.std.specs.Char.{is_ascii_alphabetic}
-use Rattle.std.specs.List.{list_any, list_all}
+use Rattle.std.specs.List.{list_all}
 use Rattle.std.proofs.lemmas.Bool.{cases_Bool, and_parts, true≢false}
 use Rattle.std.proofs.lemmas.Bool.Decides.{nat_tests}
 use Rattle.std.proofs.lemmas.List.Elements.{All-nil, All-cons, All-head, All-tail}
@@ -13,42 +13,14 @@ use Rattle.dep_model.specs.declared.naming.Naming.{Naming}
 use Rattle.dep_model.specs.declared.naming.Naming.TheVariants.{Bare, Any}
 use Rattle.dep_model.specs.declared.schema.Schema.{Schema}
 use Rattle.dep_model.specs.Dependencies.{Dependency, fd, mvd}
-use Rattle.dep_model.specs.Names.{IsName, is_bare_name, is_control, is_name_byte, is_word, quoted, quotes_doubled}
+use Rattle.dep_model.specs.Names.{IsName, is_bare_name, is_name_byte, is_word, quoted, quotes_doubled}
 use Rattle.dep_model.specs.Schemas.{naming_of, names_of}
+use Rattle.dep_model.proofs.PlainLemmas.{IsPlain, name_plain, plain_both, quoted_plain}
 use Rattle.schema_printer.specs.Printing.{dependency_text, members_from, set_text, side_text, words_text}
 use Rattle.schema_printer.specs.Spelling.{is_schema_word, printed_names_of, spelling}
-use Rattle.reason_laws.specs.ReasonLines.{has_line_feed, is_reason}
-use Rattle.reason_laws.proofs.LineLemmas.{IsPlain, plain_both}
+use Rattle.reason_laws.specs.ReasonLines.{is_reason}
 
 -- ---- names
-plain_byte : (b : ℕ) → is_control b ≡ false → (b == 10) ≡ false
-plain_byte b control = grind (arith, nat_tests, control)
-
-neither : (p q : Bool) → (p || q) ≡ false → (p ≡ false) × (q ≡ false)
-neither true q e = absurd (cc)
-neither false q e = (refl, e)
-
-controls_plain : (bytes : List ℕ) → list_any is_control bytes ≡ false → IsPlain bytes
-controls_plain [] none = refl
-controls_plain (b ∷ bytes) none =
-    let parts = neither (is_control b) (list_any is_control bytes) none in
-    ap (λ (t : Bool). t || has_line_feed bytes) (plain_byte b parts.0) ∙ controls_plain bytes parts.1
-
-pub doubled_plain : (bytes : List ℕ) → IsPlain bytes → IsPlain (quotes_doubled bytes)
-unfolding quotes_doubled
-doubled_plain [] none = refl
-doubled_plain (b ∷ bytes) none =
-    let parts = neither (b == 10) (has_line_feed bytes) none in
-    let this : IsPlain (if b == 34 then 34 ∷ 34 ∷ [] else b ∷ []) = elim (cases_Bool (b == 34)) [
-      | inl quote ↦ rw quote refl
-      | inr other ↦ rw other (ap (λ (t : Bool). t || false) parts.0)
-    ] in
-    plain_both (if b == 34 then 34 ∷ 34 ∷ [] else b ∷ []) (quotes_doubled bytes) this (doubled_plain bytes parts.1)
-
-pub quoted_plain : (bytes : List ℕ) → IsPlain bytes → IsPlain (quoted bytes)
-quoted_plain bytes none =
-    plain_both (34 ∷ []) (quotes_doubled bytes ++ 34 ∷ []) refl (plain_both (quotes_doubled bytes) (34 ∷ []) (doubled_plain bytes none) refl)
-
 -- a printed name has no line feed, and does not begin with `#`
 pub record IsPrinted (name : List ℕ) : Type 0 where
   pub plain : IsPlain name
@@ -59,7 +31,7 @@ pub record IsPrinted (name : List ℕ) : Type 0 where
 
 quoted_printed : (name : List ℕ) → IsName name → IsPrinted (quoted name)
 quoted_printed name is = record {
-  plain = quoted_plain name (controls_plain name is.no_control);
+  plain = quoted_plain name (name_plain name is);
   first = 34;
   rest = quotes_doubled name ++ 34 ∷ [];
   begins = refl;
@@ -74,7 +46,7 @@ bare_printed (b ∷ name) is bare =
     let begun = and_parts (nat_lt 0 (length (b ∷ name))) (is_ascii_alphabetic (slice_index (b ∷ name) 0)) word.0 in
     let letter : is_ascii_alphabetic b ≡ true = begun.1 in
     record {
-      plain = controls_plain (b ∷ name) is.no_control;
+      plain = name_plain (b ∷ name) is;
       first = b;
       rest = name;
       begins = refl;

@@ -11,6 +11,7 @@ use Rattle.dep_model.specs.Names.{IsName}
 use Rattle.dep_model.specs.Plans.{schemes_of}
 use Rattle.dep_model.specs.Schemas.{names_of}
 use Rattle.dep_model.specs.declared.schema.Schema.{Schema}
+use Rattle.dep_model.proofs.PlainLemmas.{IsPlain, plain_both}
 use Rattle.normal_forms.specs.declared.forms.Form.{Form}
 use Rattle.normal_forms.specs.declared.forms.Form.TheVariants.{Third, Bcnf, Fourth}
 use Rattle.plans.specs.Containing.{lies_within, without_contained}
@@ -32,7 +33,7 @@ use Rattle.desk_responses.specs.declared.status.Status.TheVariants.{Yes}
 use Rattle.desk_texts.specs.Texts.{line, set_line}
 use Rattle.desk_reasons.proofs.StatusLemmas.{refused_not_yes}
 use Rattle.reason_laws.specs.ReasonLines.{LeavesAnswer, is_reason}
-use Rattle.reason_laws.proofs.LineLemmas.{AreLines, IsPlain, both_lines, each_lines, leaves_answer, no_lines, one_line, plain_both}
+use Rattle.reason_laws.proofs.LineLemmas.{AreLines, both_lines, each_lines, leaves_answer, no_lines, one_line}
 use Rattle.reason_laws.proofs.NameTexts.{IsPrinted, dependency_plain, names_printed, scheme_plain, set_own, set_plain}
 
 module _ (names : List (List ℕ)) (all : All IsPrinted names) where

@@ -1,10 +1,10 @@
 -- The lines of a printed schema, none of which begins with `# `, and of the reasons of a cover.
-use Rattle.std.proofs.Common.{◌≡◌, ◌<◌, ◌≤◌, ◌^◌, ◌&&◌, ◌||◌, ℕ, Bool, true, false, List, [], ◌∷◌, ◌++◌, map, refl, sym, ap, subst, ◌∙◌, append_assoc, inl, inr, arith, length, Some, None}
-use Rattle.std.specs.Prelude.{All, Option, codes, nat_le, nat_lt, slice_get, ◌==◌}
+use Rattle.std.proofs.Common.{◌≡◌, ◌<◌, ◌≤◌, ◌^◌, ◌||◌, ℕ, Bool, true, false, List, [], ◌∷◌, ◌++◌, map, refl, ap, subst, ◌∙◌, append_assoc, inl, inr, arith, Some, None}
+use Rattle.std.specs.Prelude.{All, Option, codes, slice_get, ◌==◌}
 use Rattle.std.specs.Fmt.{decimal}
 use Rattle.std.specs.Char.{is_ascii_digit}
 use Rattle.std.specs.List.{list_all, list_any}
-use Rattle.std.proofs.lemmas.Bool.{cases_Bool, and_parts, eqb-true, true≢false}
+use Rattle.std.proofs.lemmas.Bool.{cases_Bool, and_parts}
 use Rattle.std.proofs.lemmas.Bool.Decides.{nat_tests}
 use Rattle.std.proofs.lemmas.Fmt.{digits_decimal}
 use Rattle.std.proofs.lemmas.Option.{get_or_from_slice_get, slice_get_within}
@@ -12,7 +12,7 @@ use Rattle.std.proofs.lemmas.List.Elements.{All-nil, All-cons, All-head, All-tai
 use Rattle.attr_sets.specs.Attributes.{Attributes}
 use Rattle.dep_model.specs.Columns.{is_column_type}
 use Rattle.dep_model.specs.Dependencies.{Dependency, fd, mvd}
-use Rattle.dep_model.specs.Names.{IsName, is_type_byte, quoted}
+use Rattle.dep_model.specs.Names.{IsName, quoted}
 use Rattle.dep_model.specs.Schemas.{naming_of, names_of, nullable_of, types_of}
 use Rattle.dep_model.specs.declared.column_type.ColumnType.{ColumnType}
 use Rattle.dep_model.specs.declared.column_type.ColumnType.TheVariants.{Text, Integer, Date, Timestamp, Decimal, Uuid, Other}
@@ -20,14 +20,15 @@ use Rattle.dep_model.specs.declared.column_type.TheConstants.{MOST_SCALE}
 use Rattle.dep_model.specs.declared.naming.Naming.{Naming}
 use Rattle.dep_model.specs.declared.naming.Naming.TheVariants.{Bare, Any}
 use Rattle.dep_model.specs.declared.schema.Schema.{Schema}
-use Rattle.dep_model.specs.declared.type_name.TheConstants.{MOST_TYPE_BYTES}
 use Rattle.dep_model.proofs.NumeralLemmas.{decimal_numeral_model}
+use Rattle.dep_model.proofs.NameLemmas.{type_text_is_name}
+use Rattle.dep_model.proofs.PlainLemmas.{IsPlain, name_plain, plain_both, quoted_plain}
 use Rattle.schema_printer.specs.Printing.{Run, declaring_lines, dependency_text, in_front, is_integer, lines_text, members_from, nullable_lines, run_line, runs_of, same_column, schema_lines, schema_text, set_text, side_text, type_word, words_text}
 use Rattle.schema_printer.specs.Spelling.{printed_names_of}
 use Rattle.desk_responses.specs.Lines.{line_number_text}
 use Rattle.reason_laws.specs.ReasonLines.{has_line_feed, is_reason}
-use Rattle.reason_laws.proofs.LineLemmas.{AreLines, IsPlain, plain_both}
-use Rattle.reason_laws.proofs.NameTexts.{IsPrinted, dependency_plain, members_printed, names_printed, quoted_plain, set_own, side_plain, words_plain}
+use Rattle.reason_laws.proofs.LineLemmas.{AreLines}
+use Rattle.reason_laws.proofs.NameTexts.{IsPrinted, dependency_plain, members_printed, names_printed, set_own, side_plain, words_plain}
 
 -- ---- numbers
 digits_plain : (bytes : List ℕ) → list_all is_ascii_digit bytes ≡ true → IsPlain bytes
@@ -51,18 +52,6 @@ number_plain lines low k = of (slice_get lines k) refl
         decimal_plain at (omega (arith, here))
 
 -- ---- types of columns
-type_byte_plain : (b : ℕ) → is_type_byte b ≡ true → (b == 10) ≡ false
-type_byte_plain b is = elim (cases_Bool (b == 10)) [
-  | inl feed ↦ absurd (true≢false (sym is ∙ ap is_type_byte (eqb-true b 10 feed)))
-  | inr other ↦ other
-]
-
-type_bytes_plain : (bytes : List ℕ) → list_all is_type_byte bytes ≡ true → IsPlain bytes
-type_bytes_plain [] all = refl
-type_bytes_plain (b ∷ bytes) all =
-    let parts = and_parts (is_type_byte b) (list_all is_type_byte bytes) all in
-    ap (λ (t : Bool). t || has_line_feed bytes) (type_byte_plain b parts.0) ∙ type_bytes_plain bytes parts.1
-
 type_plain : (column : ColumnType) → is_column_type column ≡ true → IsPlain (type_word column)
 type_plain Text is = refl
 type_plain Integer is = refl
@@ -73,8 +62,7 @@ type_plain (Decimal scale) is =
     plain_both (codes "decimal ") (decimal scale) refl (decimal_plain scale (omega (arith, most)))
 type_plain Uuid is = refl
 type_plain (Other text) is =
-    let bytes = and_parts (nat_lt 0 (length text) && nat_le (length text) MOST_TYPE_BYTES) (list_all is_type_byte text) is in
-    plain_both (codes "other ") (quoted text) refl (quoted_plain text (type_bytes_plain text bytes.1))
+    plain_both (codes "other ") (quoted text) refl (quoted_plain text (name_plain text (type_text_is_name text is)))
 
 -- ---- lines of the command's own
 record IsOwn (text : List ℕ) : Type 0 where

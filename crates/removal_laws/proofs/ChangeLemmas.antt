@@ -12,10 +12,11 @@ use Rattle.dep_model.specs.Dependencies.{ObeysFd}
 use Rattle.dep_model.specs.Tuples.{Tuple, Relation, AgreeOn, IsOver}
 use Rattle.dep_model.proofs.ListLemmas.{Contains-head, Contains-later, Contains-cases}
 use Rattle.dep_model.proofs.TupleLemmas.{IsOver-length}
+use Rattle.dep_model.proofs.TwoRowLemmas.{AgreeOn-union}
 use Rattle.row_store.specs.Rows.{row_at}
 use Rattle.removal_laws.specs.Classes.{AreLargestClasses, in_chosen}
 use Rattle.removal_laws.specs.Removals.{Positions, IsChanged, IsLeastChange}
-use Rattle.removal_laws.proofs.LargestLemmas.{both_sides, staying_is_most, union_parts}
+use Rattle.removal_laws.proofs.LargestLemmas.{staying_is_most, union_parts}
 
 -- ---- rows by their positions
 row_in : (r : Relation) (i : ℕ) → i < length r → Contains r (row_at r i)
@@ -148,7 +149,7 @@ module _ (x y : Attributes) (r : Relation) (groups classes chosen : List ℕ)
       let right = obeys (row_at s i) (row_at s j) (there_in i i_in) (there_in j j_in) there in
       let back : AgreeOn y (row_at r i) (row_at r j) =
       subst (λ (v : Tuple). AgreeOn y v (row_at r j)) i_row (subst (λ (v : Tuple). AgreeOn y (row_at s i) v) j_row right) in
-      (by_both.equal i j i_in j_in).1 (both_sides x y (row_at r i) (row_at r j) agree back))
+      (by_both.equal i j i_in j_in).1 (AgreeOn-union x y (row_at r i) (row_at r j) agree back))
     where
       unchanged : (i : ℕ) → i < count → other i ≡ true → row_at s i ≡ row_at r i
       unchanged i lt there =

@@ -1,12 +1,13 @@
 -- The largest class of each group stays: what stays obeys the dependency, and no more rows can.
 use Rattle.std.proofs.Common.{◌≡◌, ℕ, ◌<◌, ◌≤◌, true, false, ◌&&◌, ◌==◌, List, length, sym, ap, subst, ◌∙◌, ⊎_elim, arith}
-use Rattle.std.proofs.lemmas.Bool.{cases_Bool, cases_eq, and_parts, eq-eqb}
+use Rattle.std.proofs.lemmas.Bool.{cases_eq, and_parts, eq-eqb}
 use Rattle.std.proofs.lemmas.Bool.Decides.{nat_tests}
 use Rattle.attr_sets.specs.Attributes.{Attributes, union, count_below}
 use Rattle.attr_sets.proofs.AttributesLemmas.{count_below-equal, count_below-none}
 use Rattle.csv_rows.specs.Numberings.{AreGroups, number_at}
 use Rattle.dep_model.specs.Dependencies.{ObeysFd, fd}
 use Rattle.dep_model.specs.Tuples.{Tuple, Relation, AgreeOn}
+use Rattle.dep_model.proofs.TwoRowLemmas.{AgreeOn-union}
 use Rattle.row_store.specs.Rows.{row_at}
 use Rattle.removal_laws.specs.Classes.{AreLargestClasses, in_chosen, rows_of}
 use Rattle.removal_laws.specs.Removals.{Positions, IsLeastRemoval, rows_at}
@@ -16,10 +17,6 @@ use Rattle.removal_laws.proofs.StayingLemmas.{count_staying, stands, stay}
 -- two rows that agree on both sides agree on each
 pub union_parts : (x y : Attributes) (t u : Tuple) → AgreeOn (union x y) t u → AgreeOn x t u × AgreeOn y t u
 union_parts x y t u agree = (λ k m. agree k (grind (arith, m)), λ k m. agree k (grind (arith, m)))
-
-pub both_sides : (x y : Attributes) (t u : Tuple) → AgreeOn x t u → AgreeOn y t u → AgreeOn (union x y) t u
-both_sides x y t u left right k m =
-    ⊎_elim (λ (inside : x k ≡ true). left k inside) (λ (outside : x k ≡ false). right k (grind (arith, m, outside))) (cases_Bool (x k))
 
 module _ (x y : Attributes) (r : Relation) (groups classes chosen : List ℕ)
     (by_left : AreGroups r x groups) (by_both : AreGroups r (union x y) classes)
@@ -70,7 +67,7 @@ module _ (x y : Attributes) (r : Relation) (groups classes chosen : List ℕ)
   of_obeying other obeys i j i_in j_in i_there j_there same =
       let agree = (by_left.equal i j i_in j_in).0 same in
       let right = obeys (row_at r i) (row_at r j) (stay other r i i_in i_there) (stay other r j j_in j_there) agree in
-      (by_both.equal i j i_in j_in).1 (both_sides x y (row_at r i) (row_at r j) agree right)
+      (by_both.equal i j i_in j_in).1 (AgreeOn-union x y (row_at r i) (row_at r j) agree right)
 
   -- how many stay in a group
   is_chosen : (h k : ℕ) → h < length chosen → k < count → in_group stays group h k ≡ (class k == number_at chosen h)

@@ -1,9 +1,11 @@
-//! How few rows must go, or change, so that rows obey a functional dependency.
+//! How few rows must go, or change, so that rows obey a functional dependency. Laws, no code.
 //!
-//! Of each group of rows that agree on the left side the largest class stays, which agrees on the right side
-//! too. The laws say that the other rows are a least removal, and that it is enough, and needed, to change as
-//! many (Kivinen and Mannila 1995). How many these are is the error of the dependency: rows have one, it is none
-//! exactly where they obey the dependency, and it never grows with the left side.
+//! How many these are is the error of the dependency (Kivinen and Mannila 1995).
+//!
+//! Promises: of each group of rows that agree on the left side the largest class stays, which
+//! agrees on the right side too: the others are a least removal, and it is enough, and needed, to
+//! change as many; rows have one error, it is none exactly where they obey the dependency, and it
+//! never grows with the left side.
 #![tactic(auto)]
 
 ghost use Rattle.std.specs.Prelude.{◌≡◌, ◌≤◌, ◌↔◌, ℕ, List};

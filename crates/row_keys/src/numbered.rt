@@ -12,7 +12,7 @@ ghost use Rattle.row_store.specs.Rows.{row_at};
 use attr_sets::AttrSet;
 use csv_rows::{Groups, Interned};
 use dep_model::OutOfMemory;
-use row_store::{FlatValues, Hashing, Rows};
+use row_store::{FlatValues, Hashing, Rows, take_row};
 use std::alloc::Global;
 
 // Rows with the number of their group as one value more, where equal rows are a group. The rows themselves are let go.
@@ -66,10 +66,7 @@ fn take_numbered(
     requires position { position < length rows.now }
     ensures row { OnOk result (row.new ≡ with_number number (row_at rows.now position)) }
 {
-    row.clear();
-    for k in 0..rows.width(position) {
-        row.push(rows.value(position, k))?;
-    }
+    take_row(row, rows, position)?;
     let bytes = number.to_le_bytes();
     row.push(&bytes)
 }

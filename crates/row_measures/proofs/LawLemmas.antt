@@ -5,7 +5,7 @@ use Rattle.std.proofs.lemmas.List.{ext_get_or, get_or_append_left, get_or_defaul
 use Rattle.std.proofs.lemmas.List.Elements.{All-contains}
 use Rattle.std.specs.Prelude.{All, Contains, if◌then◌else◌}
 use Rattle.attr_sets.specs.Attributes.{Attributes, count_below}
-use Rattle.attr_sets.proofs.AttributesLemmas.{count_below-before_member}
+use Rattle.attr_sets.proofs.AttributesLemmas.{count_below-before_member, same_truth}
 use Rattle.csv_rows.specs.Numberings.{number_at}
 use Rattle.dep_model.specs.Dependencies.{Dependency, Obeys, ObeysFd, fd, mvd, is_fd}
 use Rattle.dep_model.specs.Implication.{IsLegal}
@@ -30,7 +30,7 @@ use Rattle.row_measures.specs.declared.breach.BrokenPart.{BrokenPart}
 use Rattle.row_measures.specs.declared.breach.BrokenRow.{BrokenRow}
 use Rattle.row_measures.specs.declared.breach.Mark.TheVariants as mark
 use Rattle.row_measures.specs.declared.breach.Measure.{Measure}
-use Rattle.row_measures.proofs.UniqueLemmas.{same_of_classes, same_of_parts, same_flag}
+use Rattle.row_measures.proofs.UniqueLemmas.{same_of_classes, same_of_parts}
 
 -- ---- one answer
 pub same_measure : (n : ℕ) (r : Relation) (d : Dependency) (one other : Measure) → IsMeasure n r d one → IsMeasure n r d other → one ≡ other
@@ -91,7 +91,7 @@ pub same_kept : (ds : List Dependency) (r : Relation) (one other : List Bool) �
 same_kept ds r one other a b =
     ext_get_or false one other (a.one_each ∙ sym b.one_each) (λ i low.
     let within : i < length r = omega (arith, low, a.one_each) in
-    same_flag (flag_at one i) (flag_at other i) (λ is. (b.told i within).1 ((a.told i within).0 is)) (λ is. (a.told i within).1 ((b.told i within).0 is)))
+    same_truth (flag_at one i) (flag_at other i) (λ is. (b.told i within).1 ((a.told i within).0 is)) (λ is. (a.told i within).1 ((b.told i within).0 is)))
 
 -- ---- what the measure counts
 pub count_all : (x : Attributes) (n : ℕ) → count_below (λ i. not (x i)) n + count_below x n ≡ n

@@ -1,25 +1,21 @@
 -- How many pairs of a left part and a rest are missing, by how many rests stand beside each left part.
 use Rattle.std.proofs.Common.{◌≡◌, ◌+◌, ◌-◌, ◌<◌, ◌≤◌, ◌==◌, ◌&&◌, not, ℕ, suc, Bool, true, false, true≢false, List, length, map, refl, sym, ap, subst, ◌∙◌, ⊎_elim, arith}
-use Rattle.std.proofs.lemmas.Bool.{and_parts, cases_Bool, eq-eqb, eqb-true}
+use Rattle.std.proofs.lemmas.Bool.{and_parts, cases_Bool, eq-eqb, eqb-true, and_from}
 use Rattle.std.proofs.lemmas.List.{get_or-map, length-map}
 use Rattle.attr_sets.specs.Attributes.{Attributes, below, union, difference, count_below}
 use Rattle.attr_sets.proofs.AttributesLemmas.{tell_member, count_below-difference, count_below-none, count_below-pos, union_within}
 use Rattle.csv_rows.specs.Numberings.{AreFirsts, AreGroups, number_at}
-use Rattle.dep_model.specs.Tuples.{Tuple, Relation, AgreeOn}
+use Rattle.dep_model.specs.Tuples.{Relation, AgreeOn}
 use Rattle.dep_model.proofs.TwoRowLemmas.{AgreeOn-left}
 use Rattle.legality.specs.Parts.{ArePartCounts, flag_at, part_count}
 use Rattle.legality.proofs.CountLemmas.{count_below-injection}
-use Rattle.legality.proofs.PartLemmas.{Grouping, rest_within}
+use Rattle.legality.proofs.PartLemmas.{Grouping, rest_within, agree_all}
 use Rattle.removal_laws.specs.Counts.{total}
 use Rattle.removal_laws.proofs.CountLemmas.{total-same}
 use Rattle.row_store.specs.Rows.{row_at}
 use Rattle.row_measures.specs.Broken.{AreFlags, LacksRow, is_absent, lacks, missing_pairs}
 use Rattle.row_measures.specs.ByPart.{AreShort, shortage}
 use Rattle.row_measures.specs.Sorted.{rest_of}
-
-pub both_true : (a b : Bool) → a ≡ true → b ≡ true → (a && b) ≡ true
-both_true true b there also = also
-both_true false b there also = there
 
 number_of : (r : Relation) (x : Attributes) (numbers : List ℕ) (i j : ℕ) → AreGroups r x numbers → i < length r → j < length r
     → AgreeOn x (row_at r i) (row_at r j) → number_at numbers i ≡ number_at numbers j
@@ -29,20 +25,13 @@ agree_of : (r : Relation) (x : Attributes) (numbers : List ℕ) (i j : ℕ) → 
     → number_at numbers i ≡ number_at numbers j → AgreeOn x (row_at r i) (row_at r j)
 agree_of r x numbers i j are i_in j_in = (are.equal i j i_in j_in).0
 
--- what agrees on both parts agrees everywhere
-agree_all : (n : ℕ) (x y : Attributes) (t u : Tuple) → AgreeOn (union x y) t u → AgreeOn (union x (rest_of n x y)) t u → AgreeOn (below n) t u
-agree_all n x y t u left right k low =
-    ⊎_elim (λ there. left k there)
-    (λ outside. right k (grind (arith, low, outside)))
-    (cases_Bool (union x y k))
-
 -- ---- a row has a left part and a rest
 abbrev has_both : List ℕ → List ℕ → ℕ → ℕ → Attributes
 has_both l z p q v = (number_at l v == p) && (number_at z v == q)
 
 pub stands_beside : (l z : List ℕ) (p q v : ℕ) → v < length l → number_at l v ≡ p → number_at z v ≡ q → is_absent l z p q ≡ false
 stands_beside l z p q v low left right =
-    let there : has_both l z p q v ≡ true = both_true _ _ (eq-eqb _ _ left) (eq-eqb _ _ right) in
+    let there : has_both l z p q v ≡ true = and_from _ _ (eq-eqb _ _ left) (eq-eqb _ _ right) in
     let more = count_below-pos (length l) (has_both l z p q) v low there in
     ⊎_elim (λ (none : is_absent l z p q ≡ true). absurd (omega (arith, more, eqb-true (count_below (has_both l z p q) (length l)) 0 none)))
     (λ (some : is_absent l z p q ≡ false). some) (cases_Bool (is_absent l z p q))
@@ -134,7 +123,7 @@ module _ (n : ℕ) (r : Relation) (x y : Attributes) (g fg l fl z fz a fa : List
       let grouped : number_at g (number_at fz q) ≡ number_at g (number_at fl p) =
       group_of_rest (number_at fz q) v w_in v_in (k.rest_firsts.number q q_in)
       ∙ group_of_left v (number_at fl p) v_in (left_in p low) (left ∙ sym (k.both_firsts.number p low)) in
-      (q, q_in, both_true _ _ (eq-eqb _ _ grouped) (ap not (not_absent p q v v_in left refl)), refl)
+      (q, q_in, and_from _ _ (eq-eqb _ _ grouped) (ap not (not_absent p q v v_in left refl)), refl)
 
   one_row : (p h m : ℕ) → h < length fa → m < length fa → (number_at l (number_at fa h) == p) ≡ true → (number_at l (number_at fa m) == p) ≡ true
       → number_at z (number_at fa h) ≡ number_at z (number_at fa m) → h ≡ m
@@ -208,7 +197,7 @@ module _ (n : ℕ) (r : Relation) (x y : Attributes) (g fg l fl z fz a fa : List
         let grouped : number_at g (number_at fz q) ≡ number_at g (number_at fl p) =
         group_of_rest (number_at fz q) j (first_in z fz k.rest_firsts k.rest.one_each q q_in) j_low (k.rest_firsts.number q q_in)
         ∙ sym same ∙ sym (group_of_left (number_at fl p) i (left_in p p_in) i_low (k.both_firsts.number p p_in)) in
-        let there : lacks g l fl z fz p q ≡ true = both_true _ _ (eq-eqb _ _ grouped)
+        let there : lacks g l fl z fz p q ≡ true = and_from _ _ (eq-eqb _ _ grouped)
         (absent p q (λ v v_in left right. none v (omega (arith, v_in, k.left.one_each)) left right)) in
         omega (arith, shortage_at p p_in, count_below-pos (length fz) (lacks g l fl z fz p) q q_in there)
 

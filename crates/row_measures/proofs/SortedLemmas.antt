@@ -18,7 +18,7 @@ use Rattle.row_measures.specs.declared.breach.Mark.TheVariants as mark
 use Rattle.row_measures.specs.declared.breach.Measure.{Measure}
 use Rattle.row_measures.specs.declared.by_class.ByClass.{ByClass}
 use Rattle.row_measures.specs.declared.by_part.ByPart.{ByPart}
-use Rattle.row_measures.proofs.OrderLemmas.{few_firsts}
+use Rattle.legality.proofs.CountLemmas.{few_firsts}
 
 -- each row's group is one of so many
 pub groups_below : {X : Type 0} (numbers firsts ns : List ℕ) (flags fs : List X) → AreFirsts numbers firsts → length flags ≡ length firsts

@@ -1,6 +1,6 @@
 -- The tuples that the groups lack: one for each left part and rest of a group that no row has.
 use Rattle.std.proofs.Common.{◌≡◌, ◌⊎◌, ◌+◌, ◌-◌, ◌<◌, ◌≤◌, ◌==◌, ℕ, zero, suc, Bool, true, false, true≢false, List, [], ◌∷◌, ◌++◌, length, map, refl, sym, ap, subst, ◌∙◌, inl, inr, ⊎_elim, arith}
-use Rattle.std.proofs.lemmas.Bool.{and_parts, cases_Bool, cases_lt, eq-eqb, eqb-true}
+use Rattle.std.proofs.lemmas.Bool.{and_parts, cases_Bool, cases_lt, eq-eqb, eqb-true, and_from}
 use Rattle.std.proofs.lemmas.Bool.Decides.{nat_tests}
 use Rattle.std.proofs.lemmas.List.{append-nil, ext_get_or, get_or_append_left, get_or-append_right, get_or-append-add, length-append, length-map, map-append}
 use Rattle.std.proofs.lemmas.List.FromFn.{length-map-range_with_len, get_or-map-range_with_len}
@@ -22,7 +22,7 @@ use Rattle.row_store.specs.Rows.{row_at}
 use Rattle.row_measures.specs.Broken.{is_absent, lacks, missing_pairs}
 use Rattle.row_measures.specs.Laws.{AreMissing, IsMissing, IsOnce}
 use Rattle.row_measures.specs.Sorted.{Parts, rest_of}
-use Rattle.row_measures.proofs.MissingLemmas.{both_true, none_beside, stands_beside}
+use Rattle.row_measures.proofs.MissingLemmas.{none_beside, stands_beside}
 
 -- ---- lists in which no tuple stands twice
 once_append : (xs ys : List Tuple) → IsOnce xs → IsOnce ys → ((t : Tuple) → Contains xs t → Contains ys t → ⊥) → IsOnce (xs ++ ys)
@@ -275,7 +275,7 @@ module _ (n : ℕ) (x y : Attributes) (r : Relation) (p : Parts n x y r) (over :
         ∙ sym (of_left (number_at p.left_firsts a) (left_in a a_in) (p.left_rows.number a a_in) k (grind (arith, of_x))))
 
     is_lacked : lacked a b ≡ true
-    is_lacked = both_true _ _ (eq-eqb _ _ one_group) (none_beside p.lefts p.rests a b none_both)
+    is_lacked = and_from _ _ (eq-eqb _ _ one_group) (none_beside p.lefts p.rests a b none_both)
 
     is_joined : joined a b ≡ t
     is_joined = same_tuple_by (joined a b) t (joined_size a b) m.size (λ k low. ⊎_elim

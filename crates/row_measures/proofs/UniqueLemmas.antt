@@ -1,10 +1,11 @@
 -- Rows have one numbering by a set, one list of first rows, one chosen class of each group and one list of
 -- flags.
-use Rattle.std.proofs.Common.{◌≡◌, ℕ, zero, suc, ◌<◌, ◌≤◌, Bool, true, false, List, length, refl, sym, ap, subst, ◌∙◌, ⊎_elim, arith}
+use Rattle.std.proofs.Common.{◌≡◌, ℕ, zero, suc, ◌<◌, ◌≤◌, Bool, false, List, length, sym, ap, subst, ◌∙◌, ⊎_elim, arith}
 use Rattle.std.proofs.lemmas.Bool.{cases_lt}
 use Rattle.std.proofs.lemmas.Grind.{same_number_lists}
 use Rattle.std.proofs.lemmas.List.{ext_get_or}
 use Rattle.attr_sets.specs.Attributes.{Attributes, union}
+use Rattle.attr_sets.proofs.AttributesLemmas.{same_truth}
 use Rattle.csv_rows.specs.Numberings.{AreFirsts, AreGroups, number_at}
 use Rattle.dep_model.specs.Tuples.{Relation}
 use Rattle.legality.specs.Parts.{flag_at}
@@ -103,16 +104,11 @@ one_choice groups firsts classes one other a b =
     omega (arith, no_less groups firsts classes one other a b h low high, no_less groups firsts classes other one b a h high low))
 
 -- ---- one list of flags
-pub same_flag : (a b : Bool) → (a ≡ true → b ≡ true) → (b ≡ true → a ≡ true) → a ≡ b
-same_flag true b there back = sym (there refl)
-same_flag false true there back = back refl
-same_flag false false there back = refl
-
 pub one_list_of_flags : (firsts : List ℕ) (IsSo : ℕ → Type 0) (one other : List Bool) → AreFlags firsts IsSo one → AreFlags firsts IsSo other → one ≡ other
 one_list_of_flags firsts IsSo one other a b =
     ext_get_or false one other (a.one_each ∙ sym b.one_each) (λ h low.
     let high : h < length other = omega (arith, low, a.one_each, b.one_each) in
-    same_flag (flag_at one h) (flag_at other h) (λ is. (b.told h high).1 ((a.told h low).0 is)) (λ is. (a.told h low).1 ((b.told h high).0 is)))
+    same_truth (flag_at one h) (flag_at other h) (λ is. (b.told h high).1 ((a.told h low).0 is)) (λ is. (a.told h low).1 ((b.told h high).0 is)))
 
 -- ---- one value of a function of the numbers
 -- step by step, since each list decides what the next may be

@@ -1,16 +1,17 @@
 ghost use Rattle.std.specs.Prelude.{◌≡◌, ◌<◌, ◌≤◌, ◌^◌, ℕ, length, IfOk};
 ghost use Rattle.attr_sets.specs.Attributes.{IsSubset, below};
 ghost use Rattle.attr_sets.specs.Sets.{attributes};
-ghost use Rattle.csv_rows.specs.Interning.{IsInterned, firsts_of, groups_of};
-ghost use Rattle.csv_rows.specs.Numberings.{AreFirsts, number_at};
-ghost use Rattle.legality.specs.Parts.{AreBelow, ArePartCounts};
+ghost use Rattle.csv_rows.specs.Interning.{IsInterned};
+ghost use Rattle.csv_rows.specs.Numberings.{number_at};
+ghost use Rattle.legality.specs.Parts.{AreBelow};
 ghost use Rattle.row_measures.specs.ByPart.{ArePartsSorted, AreShort, shortage};
 
 use crate::by_class::no_flags;
-use crate::counting::{numbers_of, row_counts};
+use crate::counting::numbers_of;
 use attr_sets::{AttrSet, MOST_ATTRIBUTES};
 use csv_rows::{Groups, Interned};
 use dep_model::OutOfMemory;
+use legality::part_counts;
 use row_store::Rows;
 use std::alloc::Global;
 
@@ -56,20 +57,6 @@ pub fn sort_by_part(
         broken,
         missing,
     })
-}
-
-// How many of the parts each group has.
-fn part_counts(alloc: Global, groups: &Groups, parts: &Groups) -> Result<Vec<u32>, OutOfMemory>
-    requires same_length { length (groups_of groups.now) ≡ length (groups_of parts.now) }
-    requires fits_u32 { length (groups_of parts.now) < 2 ^ 32 }
-    requires groups { AreFirsts (groups_of groups.now) (firsts_of groups.now) }
-    requires parts { AreFirsts (groups_of parts.now) (firsts_of parts.now) }
-    ensures counts { IfOk result (λ v. ArePartCounts (groups_of groups.now) (firsts_of groups.now)
-        (firsts_of parts.now) v.items) }
-{
-    let owners = numbers_of(alloc, groups.numbers(), parts.firsts())?;
-    let counts = row_counts(alloc, &owners, groups.firsts().len())?;
-    Ok(counts)
 }
 
 // Which groups have a left part beside which fewer rests stand than the group has.

@@ -1,9 +1,10 @@
-ghost use Rattle.std.specs.Prelude.{◌≡◌, ◌+◌, ◌<◌, ◌^◌, ℕ, All, length, map, replicate, IfOk};
+ghost use Rattle.std.specs.Prelude.{◌≡◌, ◌+◌, ◌<◌, ◌^◌, All, length, map, IfOk};
 ghost use Rattle.csv_rows.specs.Numberings.{number_at};
 ghost use Rattle.legality.specs.Parts.{AreBelow};
 ghost use Rattle.row_measures.specs.Broken.{AreOrdinals, AreRowCounts, flagged_groups, flagged_rows};
 
 use dep_model::OutOfMemory;
+use legality::zero_counts;
 use std::alloc::Global;
 
 // How many rows have each of this many numbers.
@@ -16,15 +17,6 @@ pub fn row_counts(alloc: Global, numbers: &[u32], count: usize) -> Result<Vec<u3
     for number in numbers {
         counts[*number as usize] += 1;
     }
-    Ok(counts)
-}
-
-// This many counts of nothing.
-fn zero_counts(alloc: Global, count: usize) -> Result<Vec<u32>, OutOfMemory>
-    ensures zeros { IfOk result (λ v. v.items ≡ replicate count 0) }
-{
-    let mut counts = Vec::new(alloc);
-    counts.resize(count, 0)?;
     Ok(counts)
 }
 

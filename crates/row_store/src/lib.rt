@@ -1,9 +1,14 @@
 //! Rows of values in three pieces of memory: the bytes of all values, where each value ends, and
-//! where each row ends.
+//! where each row ends; and how values are hashed.
 //!
-//! A value takes its bytes and four more. `FlatValues` is a list of values, and `Rows` one of rows; a
-//! contract sees the lists alone. [`project_row`] gives the values of a row at the attributes of a scheme, and
+//! A value takes its bytes and four more. `FlatValues` is a list of values, and `Rows` one of rows;
+//! a contract sees the lists alone.
+//!
+//! [`take_row`] gives the values of a row, [`project_row`] those at the attributes of a scheme, and
 //! `Hashing` is how values are hashed.
+//!
+//! Promises: a list of rows that grows at its end; a value is the one of the list; [`project_row`]
+//! gives the values of a row at the attributes of a scheme.
 #![tactic(auto)]
 
 mod flat_values;
@@ -14,4 +19,4 @@ mod rows;
 pub use flat_values::FlatValues;
 pub use hashing::Hashing;
 pub use projecting::project_row;
-pub use rows::Rows;
+pub use rows::{Rows, take_row};

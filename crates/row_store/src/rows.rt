@@ -55,7 +55,7 @@ impl Rows {
         let mut made = Rows::new(alloc);
         let mut values = FlatValues::new(alloc);
         for row in rows {
-            take_row(&mut values, row)?;
+            take_values(&mut values, row)?;
             made.push(&values)?;
         }
         Ok(made)
@@ -102,8 +102,20 @@ impl Rows {
     }
 }
 
-// The values become those of a row.
-fn take_row(values: &mut FlatValues, row: &Row) -> Result<(), OutOfMemory>
+/// The values become those of a row.
+pub fn take_row(values: &mut FlatValues, rows: &Rows, row: usize) -> Result<(), OutOfMemory>
+    requires row { row < length rows.now }
+    ensures values { OnOk result (values.new ≡ row_at rows.now row) }
+{
+    values.clear();
+    for i in 0..rows.width(row) {
+        values.push(rows.value(row, i))?;
+    }
+    Ok(())
+}
+
+// The values become those that a row has.
+fn take_values(values: &mut FlatValues, row: &Row) -> Result<(), OutOfMemory>
     ensures values { OnOk result (values.new ≡ row.now) }
 {
     values.clear();

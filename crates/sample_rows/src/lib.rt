@@ -1,8 +1,11 @@
-//! A large valid input that is made from a number.
+//! A large legal input that is made from a number.
 //!
-//! [`sample_schema`] has the attributes PERSON, CITY, SKILL and TONGUE: a person has one city, and the
-//! skills do not depend on the tongues. [`sample_rows`] gives the rows of so many persons, each with two
-//! skills beside two tongues; they are legal, and all different.
+//! [`sample_schema`] has the attributes PERSON, CITY, SKILL and TONGUE: a person has one city, and
+//! the skills do not depend on the tongues. [`sample_rows`] gives the rows of so many persons, each
+//! with two skills beside two tongues.
+//!
+//! Promises: the schema and the rows are those of the definition; the rows are legal, and all
+//! different.
 #![tactic(auto)]
 
 mod rows;

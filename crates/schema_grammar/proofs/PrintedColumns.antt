@@ -1,18 +1,16 @@
 -- What is printed before the names of columns of a type declares the type.
-use Rattle.std.proofs.Common.{◌≡◌, ◌<◌, ◌+◌, ◌⊎◌, ◌&&◌, ◌==◌, inl, inr, ℕ, zero, suc, true, false, IsTrue, List, [], ◌∷◌, ◌++◌, length, get_or, nat_eq, refl, sym, ◌∙◌, ap, subst, arith}
-use Rattle.std.specs.Prelude.{codes, map, nat_lt, nat_le}
-use Rattle.std.specs.List.{All, list_all, list_any, starts_with}
-use Rattle.std.proofs.lemmas.Bool.{and_parts}
+use Rattle.std.proofs.Common.{◌≡◌, ◌<◌, ◌+◌, ◌⊎◌, ◌&&◌, ◌==◌, inl, inr, ℕ, zero, suc, true, false, IsTrue, List, [], ◌∷◌, ◌++◌, length, nat_eq, refl, sym, ◌∙◌, ap, subst, arith}
+use Rattle.std.specs.Prelude.{codes, map, nat_le}
+use Rattle.std.specs.List.{All, starts_with}
 use Rattle.std.proofs.lemmas.Bool.Decides.{nat_tests}
 use Rattle.std.proofs.lemmas.Fmt.{decimal_digit}
-use Rattle.std.proofs.lemmas.Str.{IsUtf8-from_ascii}
 use Rattle.dep_model.specs.declared.column_type.ColumnType.{ColumnType}
 use Rattle.dep_model.specs.declared.column_type.ColumnType.TheVariants as types
 use Rattle.dep_model.specs.declared.column_type.TheConstants.{MOST_SCALE}
 use Rattle.dep_model.specs.declared.naming.Naming.TheVariants.{Any}
-use Rattle.dep_model.specs.declared.type_name.TheConstants.{MOST_TYPE_BYTES}
 use Rattle.dep_model.specs.Columns.{is_column_type, is_plain_type}
-use Rattle.dep_model.specs.Names.{IsName, is_bare_name, is_control, is_type_byte, is_type_text, quoted}
+use Rattle.dep_model.specs.Names.{is_bare_name, is_type_text, quoted}
+use Rattle.dep_model.proofs.NameLemmas.{type_text_is_name}
 use Rattle.lexer.specs.declared.mode.Mode.{Mode}
 use Rattle.lexer.specs.declared.piece.Piece.TheVariants as piece
 use Rattle.lexer.specs.declared.token.TokenKind.TheVariants as token
@@ -132,32 +130,6 @@ scale_run scale names less all =
     small = grind (arith, nat_tests)
 
 -- ---- by `other` and a type
-type_byte : (b : ℕ) → is_type_byte b ≡ true → (b < 128) × (is_control b ≡ false)
-type_byte b is = (grind (arith, nat_tests), grind (arith, nat_tests))
-
-type_bytes_ascii : (bytes : List ℕ) → list_all is_type_byte bytes ≡ true → (i : ℕ) → get_or bytes i 0 < 128
-type_bytes_ascii [] all i = omega arith
-type_bytes_ascii (b ∷ bytes) all zero = (type_byte b (and_parts (is_type_byte b) (list_all is_type_byte bytes) all).0).0
-type_bytes_ascii (b ∷ bytes) all (suc i) = type_bytes_ascii bytes (and_parts (is_type_byte b) (list_all is_type_byte bytes) all).1 i
-
-type_bytes_no_control : (bytes : List ℕ) → list_all is_type_byte bytes ≡ true → list_any is_control bytes ≡ false
-type_bytes_no_control [] all = refl
-type_bytes_no_control (b ∷ bytes) all =
-    let parts = and_parts (is_type_byte b) (list_all is_type_byte bytes) all in
-    rw ((type_byte b parts.0).1) (type_bytes_no_control bytes parts.1)
-
--- the text of a type is a name, which may stand between quotes
-type_is_name : (bytes : List ℕ) → is_type_text bytes ≡ true → IsName bytes
-type_is_name bytes is =
-    let all = and_parts (nat_lt 0 (length bytes) && nat_le (length bytes) MOST_TYPE_BYTES) (list_all is_type_byte bytes) is in
-    let sized = and_parts (nat_lt 0 (length bytes)) (nat_le (length bytes) MOST_TYPE_BYTES) all.0 in
-    record {
-      some_bytes = grind (arith, nat_tests, sized.0);
-      within_limit = grind (arith, nat_tests, sized.1);
-      utf8 = IsUtf8-from_ascii bytes (type_bytes_ascii bytes all.1);
-      no_control = type_bytes_no_control bytes all.1;
-    }
-
 text_run : (text : List ℕ) (names : List (List ℕ)) → is_type_text text ≡ true → All (IsReadBack format.Full Any) names
     → PrintsRun format.Full (codes "other " ++ quoted text) (types.Other text) names
 unfolding line_kind
@@ -171,7 +143,7 @@ text_run text names is all =
     let tokens : HasTokens (lex m line) (head ∷ mark ∷ name_marks Any at names) =
     name_lexed m 1 (codes "other") (32 ∷ (quoted text ++ words)) refl refl
     ∙ ap (led_by_mark head) (blank_lexed m 6 (quoted text ++ words)
-    ∙ quoted_lexed m 7 text words refl ((name_test text).1 (type_is_name text is)) (unquoted names)
+    ∙ quoted_lexed m 7 text words refl ((name_test text).1 (type_text_is_name text is)) (unquoted names)
     ∙ ap (led_by_mark mark) (last_names format.Full Any m at names refl all)) in
     record {
       at = at;
@@ -226,4 +198,4 @@ column_bytes format.Full (types.Decimal scale) is =
     let digit : Bytes ((48 + scale) ∷ []) = grind (arith, nat_tests) in
     subst (λ (digits : List ℕ). Bytes (codes "decimal " ++ digits)) (sym (decimal_digit scale less))
     (bytes_both (codes "decimal ") ((48 + scale) ∷ []) refl digit)
-column_bytes format.Full (types.Other text) is = bytes_both (codes "other ") (quoted text) refl (quoted_bytes text (type_is_name text is))
+column_bytes format.Full (types.Other text) is = bytes_both (codes "other ") (quoted text) refl (quoted_bytes text (type_text_is_name text is))

@@ -29,11 +29,12 @@ use Rattle.schema_grammar.specs.Words.{line_kind}
 use Rattle.schema_printer.specs.Printing.{words_text, members_from, Run, run_line, runs_of, in_front, same_column, type_word, nullable_lines}
 use Rattle.schema_printer.specs.Spelling.{spelling}
 use Rattle.schema_printer.proofs.PrintLemmas.{same_column-is}
+use Rattle.schema_printer.proofs.MemberLemmas.{members_each}
 use Rattle.schema_grammar.proofs.PrintedColumns.{IsPrinted, PrintsRun, column_run, column_bytes}
 use Rattle.schema_grammar.proofs.PrintedDependencies.{plain_line}
 use Rattle.schema_grammar.proofs.PrintedTexts.{bytes_both, EachBytes}
 use Rattle.schema_grammar.proofs.SpelledSides.{IsCutAt, cut_more, words_set, IsKnown, each_known, differ_before, kind_is_word, kind_not_reserved, marks_name, marks_set, members_are}
-use Rattle.schema_grammar.proofs.SpelledWords.{name_marks, named_line, members_spelled, members_each, names_bytes}
+use Rattle.schema_grammar.proofs.SpelledWords.{name_marks, named_line, members_spelled, names_bytes}
 
 -- ---- names that are declared one by one
 -- a name that differs from those before is none of them

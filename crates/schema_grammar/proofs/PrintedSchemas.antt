@@ -57,7 +57,7 @@ last_lines naming names deps = map (dependency_text (map (spelling naming) names
 abbrev MeansText : List (List ℕ) → Declarations → Type 0
 MeansText lines whole = MeansSchema (lines_text lines) whole
 
-each_append : (xs ys : List (List ℕ)) → EachBytes xs → EachBytes ys → EachBytes (xs ++ ys)
+pub each_append : (xs ys : List (List ℕ)) → EachBytes xs → EachBytes ys → EachBytes (xs ++ ys)
 each_append [] ys h g = g
 each_append (x ∷ xs) ys (here, rest) g = (here, each_append xs ys rest g)
 

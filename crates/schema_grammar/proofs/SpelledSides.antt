@@ -16,12 +16,13 @@ use Rattle.dep_model.specs.Schemas.{attribute_named}
 use Rattle.dep_model.proofs.NameLemmas.{attribute_named-append}
 use Rattle.schema_printer.specs.Printing.{members_from}
 use Rattle.schema_printer.specs.Spelling.{is_schema_word, spelling}
+use Rattle.schema_printer.proofs.MemberLemmas.{members_each}
 use Rattle.schema_grammar.specs.declared.format.Format.{Format}
 use Rattle.schema_grammar.specs.declared.format.Format.TheVariants as format
 use Rattle.schema_grammar.specs.Meanings.{is_at, attributes_of_words, IsAttribute, IsSide}
 use Rattle.schema_grammar.specs.Words.{is_reserved, is_word_token, is_reserved_token}
 use Rattle.schema_grammar.specs.Printed.{IsReadBack, AreReadBack}
-use Rattle.schema_grammar.proofs.SpelledWords.{is_plain_word, kind_of, name_mark, name_marks, side_marks, members_each}
+use Rattle.schema_grammar.proofs.SpelledWords.{is_plain_word, kind_of, name_mark, name_marks, side_marks}
 
 -- names are those before a position, and those from it on
 pub record IsCutAt (names before after : List (List ℕ)) (position : ℕ) : Type 0 where

@@ -5,7 +5,7 @@ use Rattle.std.specs.List.{starts_with, list_any, list_all}
 use Rattle.std.proofs.lemmas.Bool.{cases_Bool, and_parts, or_parts}
 use Rattle.std.proofs.lemmas.Bool.Decides.{nat_tests}
 use Rattle.std.proofs.lemmas.List.{append-nil}
-use Rattle.std.proofs.lemmas.List.Elements.{All-nil, All-cons, All-head, All-tail}
+use Rattle.std.proofs.lemmas.List.Elements.{All-head, All-tail}
 use Rattle.attr_sets.specs.Attributes.{Attributes}
 use Rattle.dep_model.specs.declared.naming.Naming.{Naming}
 use Rattle.dep_model.specs.declared.naming.Naming.TheVariants.{Bare, Any}
@@ -130,16 +130,6 @@ members_spelled naming x k [] = refl
 members_spelled naming x k (name ∷ names) = elim (cases_Bool (x k)) [
   | inl member ↦ rw member (ap (λ ns. spelling naming name ∷ ns) (members_spelled naming x (k + 1) names))
   | inr outside ↦ rw outside (members_spelled naming x (k + 1) names)
-]
-
-pub members_each : (P : List ℕ → Type 0) (x : Attributes) (k : ℕ) (names : List (List ℕ)) → All P names
-    → All P (members_from x k names)
-members_each P x k [] all = All-nil P
-members_each P x k (name ∷ names) all = elim (cases_Bool (x k)) [
-  | inl member ↦
-      rw member (All-cons P name (members_from x (k + 1) names) (All-head P name names all)
-      (members_each P x (k + 1) names (All-tail P name names all)))
-  | inr outside ↦ rw outside (members_each P x (k + 1) names (All-tail P name names all))
 ]
 
 -- ---- no line feed and no carriage return stands in them

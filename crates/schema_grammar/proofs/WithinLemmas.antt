@@ -37,7 +37,7 @@ named_within names (m ∷ ms) k member =
     (λ later. named_within names ms k later)
     (or_cases (is_at (attribute_named names m.word) k) (list_any (λ w. is_at (attribute_named names w.word) k) ms) member)
 
-side_within : (f : Format) (names : List (List ℕ)) (ms : List Mark) (x : Attributes) → IsSide f names ms x
+pub side_within : (f : Format) (names : List (List ℕ)) (ms : List Mark) (x : Attributes) → IsSide f names ms x
     → IsSubset x (below (length names))
 side_within f names ms x (inl empty) = rw empty.nothing (λ k e. cc)
 side_within f names ms x (inr words) = rw words.members (named_within names ms)
@@ -45,7 +45,7 @@ side_within f names ms x (inr words) = rw words.members (named_within names ms)
 pub union_within : (u x y : Attributes) → IsSubset x u → IsSubset y u → IsSubset (union x y) u
 union_within u x y xs ys k member = ⊎_elim (xs k) (ys k) (or_cases (x k) (y k) member)
 
-stated_within : (u : Attributes) (s : Sign) (x y : Attributes) → IsSubset x u → IsSubset y u → IsWithin u (dependency_of_sign s x y)
+pub stated_within : (u : Attributes) (s : Sign) (x y : Attributes) → IsSubset x u → IsSubset y u → IsWithin u (dependency_of_sign s x y)
 stated_within u sign.Functional x y h g = (h, g)
 stated_within u sign.Multivalued x y h g = (h, g)
 

@@ -1,9 +1,13 @@
-//! What schema texts, goals and sets mean, and how they are refused: the grammar, which readers promise.
+//! What schema texts, goals and sets mean, and how they are refused: the grammar, which readers
+//! promise, and the texts of refusals.
 //!
-//! A text means what it declares, or it has diagnostics, and is refused by the first of them: that of
-//! the first line, there of the first position, and there of the least number. Beside these definitions
-//! stands a reading of a text from left to right; the laws say that it gives what the text means, and
-//! else the first diagnostic. There is no code here but the enums that refusals carry.
+//! A text means what it declares, or it has diagnostics, and is refused by the first of them: that
+//! of the first line, there of the first position, and there of the least number. Beside these
+//! definitions stands a reading of a text from left to right. There is no code here but the enums
+//! that refusals carry.
+//!
+//! Promises: a text means one value, or has one refusal, its first diagnostic, and the reading from
+//! left to right gives which; a printed schema means what was printed.
 #![tactic(auto)]
 
 mod format;

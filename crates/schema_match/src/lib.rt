@@ -1,9 +1,9 @@
 //! Whether two schemas over the same names say the same.
 //!
-//! `first_undeclared` gives the first attribute of a schema whose name another does not declare, and
-//! `differences` those dependencies of a schema that, carried over by names, the other does not imply.
-//! `laws` says what follows: where there are none either way, the two have the same legal relations,
-//! columns taken by their names; and the other way round.
+//! Promises: `first_undeclared` gives the first attribute of a schema whose name another does not
+//! declare, and `differences` exactly those dependencies of a schema that, carried over by names,
+//! the other does not imply; where there are none either way, and only there, the two have the same
+//! legal relations, columns taken by their names.
 #![tactic(auto)]
 
 mod carrying;

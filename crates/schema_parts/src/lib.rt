@@ -1,4 +1,6 @@
 //! Parts of schemas: what a schema has of a set of attributes, printed as a schema.
+//!
+//! Promises: the text of the definition.
 #![tactic(auto)]
 
 mod parts;

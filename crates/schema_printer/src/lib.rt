@@ -1,7 +1,10 @@
-//! Schemas, dependencies and sets, printed in one form, which is the form that their readers take.
+//! Schemas, dependencies and sets, printed in one form, which is the form that their readers take;
+//! names, quoted where they must be.
 //!
-//! A clause says which text is printed, by a definition over the names of the schema. That the text
-//! means what was printed is a law of `schema_grammar`, which stands above.
+//! That the text means what was printed is a law of `schema_grammar`, which stands above.
+//!
+//! Promises: the text of the definition, over the names of the schema; a schema of bare names
+//! prints them as they are.
 #![tactic(auto)]
 
 pub mod laws;
@@ -9,6 +12,7 @@ mod printing;
 mod spelling;
 
 pub use printing::{
-    add, add_dep, add_digit, add_number, add_set, add_type_word, print_dep, print_deps, print_set,
+    add, add_dep, add_deps, add_digit, add_nullable, add_number, add_set, add_type_word, print_dep,
+    print_deps, print_set,
 };
 pub use spelling::{add_name, add_quoted, is_schema_word};

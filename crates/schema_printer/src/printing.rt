@@ -23,10 +23,7 @@ pub fn print_deps(alloc: Global, schema: &Schema, deps: &[Dep]) -> Result<Vec<u8
 {
     let mut text = Vec::new(alloc);
     add_declarations(&mut text, schema)?;
-    for dep in deps {
-        add_dep(&mut text, schema, *dep)?;
-        add(&mut text, b"\n")?;
-    }
+    add_deps(&mut text, schema, deps)?;
     Ok(text)
 }
 
@@ -77,6 +74,18 @@ pub fn add_dep(text: &mut Vec<u8>, schema: &Schema, dep: Dep) -> Result<(), OutO
         Dep::Fd { lhs, rhs } => add_sides(text, schema, lhs, b" -> ", rhs),
         Dep::Mvd { lhs, rhs } => add_sides(text, schema, lhs, b" ->> ", rhs),
     }
+}
+
+/// Adds a line for each dependency to a text.
+pub fn add_deps(text: &mut Vec<u8>, schema: &Schema, deps: &[Dep]) -> Result<(), OutOfMemory>
+    ensures added { OnOk result (text.new.items ≡ text.old.items
+        ++ lines_text (map (dependency_text (printed_names_of schema.now)) (dependencies_of deps.now))) }
+{
+    for dep in deps {
+        add_dep(text, schema, *dep)?;
+        add(text, b"\n")?;
+    }
+    Ok(())
 }
 
 fn add_sides(
@@ -141,18 +150,22 @@ fn add_declarations(text: &mut Vec<u8>, schema: &Schema) -> Result<(), OutOfMemo
         Naming::Any => {
             add(text, b"version 3\n")?;
             add_runs(text, schema)?;
-            add_nullable(text, schema)
+            add_nullable(text, schema, schema.nullable())
         }
     }
 }
 
-/// The line of the attributes of which a value may be missing, where there are any.
-fn add_nullable(text: &mut Vec<u8>, schema: &Schema) -> Result<(), OutOfMemory>
+/// Adds the line of the attributes of which a value may be missing to a text, where there are any.
+pub fn add_nullable(
+    text: &mut Vec<u8>,
+    schema: &Schema,
+    nullable: AttrSet,
+) -> Result<(), OutOfMemory>
+    requires within { IsSubset (attributes nullable) (universe_of schema.now) }
     ensures added { OnOk result (text.new.items ≡ text.old.items
         ++ lines_text (nullable_lines
-        (members_from (nullable_of schema.now) 0 (printed_names_of schema.now)))) }
+        (members_from (attributes nullable) 0 (printed_names_of schema.now)))) }
 {
-    let nullable = schema.nullable();
     if nullable.is_empty() {
         Ok(())
     } else {

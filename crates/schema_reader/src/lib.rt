@@ -1,7 +1,7 @@
 //! Schema texts, goals and sets, read by their grammar.
 //!
-//! `read_schema`, `read_goal` and `read_set` give the value that a text means, or refuse it at the first
-//! position where it goes wrong, and there for the reason of the least number.
+//! Promises: `read_schema`, `read_goal` and `read_set` give the value that a text means, or refuse
+//! it at the first position where it goes wrong, and there for the reason of the least number.
 #![tactic(auto)]
 
 mod column;

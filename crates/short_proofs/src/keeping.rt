@@ -1,6 +1,6 @@
 //! The shorter of two derivations of a goal.
 
-ghost use Rattle.std.specs.Prelude.{◌≡◌, ◌≤◌, ◌<◌, ◌^◌, ◌↔◌, IsTrue};
+ghost use Rattle.std.specs.Prelude.{◌≡◌, ◌≤◌, ◌<◌, ◌^◌, IsTrue};
 ghost use Rattle.dep_model.specs.Dependencies.{Dependency};
 ghost use Rattle.dep_model.specs.Deps.{dependency_of};
 ghost use Rattle.derivation.specs.Trees.{nodes};
@@ -13,7 +13,7 @@ ghost use Rattle.short_proofs.specs.Short.{IsNoLongerThan};
 ghost use Rattle.short_proofs.specs.Shapes.{IsKept};
 
 use dep_model::{Dep, Schema};
-use derivation::{Deriv, conclude, nodes, shorten};
+use derivation::{Deriv, conclude, nodes, same_dep, shorten};
 
 // The first of two derivations of the same, unless the second one is shorter once what it says twice is
 // left out.
@@ -58,15 +58,4 @@ pub fn is_no_longer(deriv: &Box<Deriv>, most: u8) -> bool
     ensures most { IsTrue result → nodes (tree_of deriv.now.value) ≤ most }
 {
     nodes(deriv) <= most as u32
-}
-
-// Whether two dependencies are the same.
-pub fn same_dep(one: Dep, other: Dep) -> bool
-    ensures same { IsTrue result ↔ (dependency_of one ≡ dependency_of other) }
-{
-    match (one, other) {
-        (Dep::Fd { lhs: x, rhs: y }, Dep::Fd { lhs: v, rhs: w }) => x == v && y == w,
-        (Dep::Mvd { lhs: x, rhs: y }, Dep::Mvd { lhs: v, rhs: w }) => x == v && y == w,
-        _ => false,
-    }
 }

@@ -1,11 +1,13 @@
 //! Splits of a universe into schemes in Boyce-Codd or fourth normal form.
 //!
 //! `split` cuts schemes at their violations, the first that is not in the form first, until each is
-//! in the form; then contained schemes are dropped. The plan is lossless, and a scheme that is in the
-//! form is never cut. What lists are reached on the way is a definition (`specs`): `split` gives up
-//! exactly where one of them is too long, or has a wide scheme that no given left side cuts.
-//! `split_steps` gives the cuts, and `plan_of_steps` the plan that they lead to. `laws` has what holds
-//! of the reached lists and of the cuts.
+//! in the form; then contained schemes are dropped. What lists are reached on the way is a
+//! definition (`specs`). `split_steps` gives the cuts, and `plan_of_steps` the plan that they lead
+//! to. `laws` has what holds of the reached lists and of the cuts.
+//!
+//! Promises: the finished list without contained schemes, lossless and in the form; a scheme that
+//! is in the form is never cut; `split` gives up exactly where a reached list is too long, or has a
+//! wide scheme that no given left side cuts.
 #![tactic(auto)]
 
 mod cutting;

@@ -1,9 +1,12 @@
 //! The lexemes of SQL texts as `sqlite3` and `pg_dump` print them, and their statements.
 //!
-//! `cut_statement` gives the statements of a text one after the other, each as its lexemes, with the
-//! place of each and how many round brackets stand around it. What stands in comments, in strings and
-//! in the lines of a COPY is no lexeme of a statement. A text ends where a byte begins no lexeme, or
-//! where a quote or a comment is never closed: its last statement says so.
+//! `cut_statement` gives the statements of a text one after the other, each as its lexemes, with
+//! the place of each and how many round brackets stand around it. It takes memory for one
+//! statement's lexemes alone.
+//!
+//! Promises: the statements of the definition: what stands in comments, in strings and in the lines
+//! of a COPY is no lexeme of a statement; a text ends where a byte begins no lexeme, or where a
+//! quote or a comment is never closed, and its last statement says so.
 #![tactic(auto)]
 
 mod data;

@@ -1,4 +1,7 @@
-//! Names in SQL: one in double quotes, and lists of them with a comma and a blank between.
+//! Names in SQL: one in double quotes, those within doubled, and lists of them with a comma and a
+//! blank between.
+//!
+//! Promises: the text of the definition.
 #![tactic(auto)]
 
 mod name_list;

@@ -27,13 +27,10 @@ use Rattle.schema_grammar.proofs.PrintedDeclarations.{are_runs, nullable_bytes, 
 use Rattle.schema_grammar.proofs.PrintedLexing.{blank_lexed, name_lexed}
 use Rattle.schema_grammar.proofs.PrintedTexts.{EachBytes, lines_cut}
 use Rattle.schema_grammar.proofs.SpelledWords.{nothing_left}
+use Rattle.schema_grammar.proofs.PrintedSchemas.{each_append}
 use Rattle.sql_schemas.specs.Keys.{KeyColumns}
 use Rattle.sql_schemas.specs.Texts.{key_line}
 use Rattle.sql_schemas.proofs.LineLemmas.{IsKeyWithin, each_key, key_numbers, keys_mean, stated}
-
-each_append : (xs ys : List (List ℕ)) → EachBytes xs → EachBytes ys → EachBytes (xs ++ ys)
-each_append [] ys h g = g
-each_append (x ∷ xs) ys (here, rest) g = (here, each_append xs ys rest g)
 
 -- the line `version 3`
 full_line : IsVersionLine (codes "version 3") format.Full

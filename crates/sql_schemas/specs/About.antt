@@ -20,7 +20,8 @@ abbrev pub first_of : Option (List Lexed) → Option (List Lexed) → Option (Li
 first_of (Some rest) other = Some rest
 first_of None other = other
 
--- the rest of a statement from the name of the table on that it creates or alters, or over which it makes a unique index
+-- the rest of a statement from the name of the table on that it creates or alters, or over which it makes a unique
+-- index
 abbrev pub after_table : List Lexed → Option (List Lexed)
 after_table lexemes = first_of (after_create lexemes) (first_of (after_alter lexemes) (after_index lexemes))
 

@@ -48,7 +48,8 @@ comment_text names key =
 -- the line of a key: a dependency, where it states one, else a comment
 unfoldable pub key_line : List (List ℕ) → Attributes → KeyColumns → List ℕ
 key_line names missing key =
-    if is_dependency missing key then dependency_text names (key_dependency (length names) key) else comment_text names key
+    if is_dependency missing key then dependency_text names (key_dependency (length names) key)
+    else comment_text names key
 
 -- ---- the schema and its text
 -- a schema has these columns, those among them of which a value may be missing, and no dependencies

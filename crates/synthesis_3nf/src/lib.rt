@@ -1,10 +1,12 @@
 //! Synthesis of a plan in third normal form.
 //!
-//! `synthesize` groups a minimal cover of the functional dependencies by left side, and adds the primary
-//! key of the universe, by the functional dependencies, where no group holds a key. The plan is lossless,
-//! each of its schemes is in third normal form, and it keeps the functional dependencies.
-//! `synthesis_steps` gives the cover, its left sides and their schemes, and `plan_of_steps` the plan that
-//! they lead to.
+//! `synthesize` groups a minimal cover of the functional dependencies by left side, and adds the
+//! primary key of the universe, by the functional dependencies, where no group holds a key.
+//! `synthesis_steps` gives the cover, its left sides and their schemes, and `plan_of_steps` the
+//! plan that they lead to.
+//!
+//! Promises: the plan is lossless, each of its schemes is in third normal form, and it keeps the
+//! functional dependencies.
 #![tactic(auto)]
 
 mod completing;

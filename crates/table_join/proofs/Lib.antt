@@ -4,5 +4,6 @@ pub mod OrderLemmas
 pub mod JoinLemmas
 pub mod MatchLemmas
 pub mod LentLemmas
+pub mod FoundLemmas
 pub mod PartLemmas
 pub mod AnswerLemmas

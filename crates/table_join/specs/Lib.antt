@@ -7,4 +7,5 @@ pub mod Answers
 pub mod Lent
 pub mod Keys
 pub mod Seams
+pub mod Matches
 pub mod RefusalTexts

@@ -6,7 +6,6 @@ use Rattle.std.proofs.Math.ListN.{get_or-map}
 use Rattle.std.proofs.lemmas.Bool.{cases_Bool, cases_eq, and_parts}
 use Rattle.std.proofs.lemmas.Bool.Decides.{nat_tests}
 use Rattle.std.proofs.lemmas.List.{append_assoc, append-nil, length-append, length-map, ext_get_or}
-use Rattle.std.proofs.lemmas.List.Elements.{All-cons, All-tail}
 use Rattle.std.proofs.lemmas.List.Sums.{position_or_len_is}
 use Rattle.attr_sets.specs.Attributes.{Attributes, count_below}
 use Rattle.attr_sets.proofs.AttributesLemmas.{count_below-before_member, same_at}
@@ -33,6 +32,7 @@ use Rattle.dep_model.specs.declared.schema.Schema.{Schema}
 use Rattle.dep_model.proofs.NameLemmas.{attribute_named-append}
 use Rattle.dep_model.proofs.SchemeLemmas.{length-members_below, members_below-none, members_below-member, members_below-outside, members_below-at, members_below-one_more, members_below-no_more}
 use Rattle.schema_printer.specs.Printing.{members_from}
+use Rattle.schema_printer.proofs.MemberLemmas.{members_each}
 
 -- ---- truth values
 or_true : (b : Bool) → (b || true) ≡ true
@@ -217,17 +217,6 @@ row_is s x row t size within_limit typed =
           (typed a column both.1 is),
     )
 
-members_all : (P : List ℕ → Type 0) (x : Attributes) (k : ℕ) (names : List (List ℕ)) → All P names
-    → All P (members_from x k names)
-members_all P x k [] all = all
-members_all P x k (name ∷ names) all =
-    by (x k) (members_all P x (k + 1) names (All-tail P name names all))
-  where
-    by : (b : Bool) → All P (members_from x (k + 1) names)
-        → All P (if b then name ∷ members_from x (k + 1) names else members_from x (k + 1) names)
-    by true rest = All-cons P name (members_from x (k + 1) names) (all 0 name (omega arith)) rest
-    by false rest = rest
-
 -- a text of rows over a scheme that has an attribute
 pub part_back : (s : Schema) (x : Attributes) (rows : Relation) → All (λ name. IsTrue (is_bare_name name)) (names_of s)
     → 0 < count_below x (width_of s) → IsOver (count_below x (width_of s)) rows → All (Fits s x) rows
@@ -240,10 +229,10 @@ part_back s x rows proper not_empty over typed within_limit =
     let wide : All (λ row. 0 < length row) rows = λ k d h. omega (arith, over k d h, not_empty) in
     let long : 0 < length header = omega (arith, not_empty, column_count x names) in
     let records : records_of (rows_text header rows) ≡ header ∷ rows =
-    printed_records header rows long (members_all (λ name. IsTrue (is_bare_name name)) x 0 names proper) wide in
+    printed_records header rows long (members_each (λ name. IsTrue (is_bare_name name)) x 0 names proper) wide in
     let means : columns_of_header names header ≡ Ok columns = part_columns names x s.valid.names_differ in
     let closed : open_record (rows_text header rows) ≡ None =
-    printed_closed header rows long (members_all (λ name. IsTrue (is_bare_name name)) x 0 names proper) in
+    printed_closed header rows long (members_each (λ name. IsTrue (is_bare_name name)) x 0 names proper) in
     let first : AreFirstRows s columns None rows rows = record {
       within = omega arith;
       each =

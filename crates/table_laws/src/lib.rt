@@ -1,6 +1,8 @@
-//! Laws of tables. What a destination over a folder writes of a table as CSV is read back as the table's
-//! rows, and what stands for a value in its SQL determines the value, also that it is missing. A design in its
-//! order states each reference that it can.
+//! Laws of tables and their files. No code.
+//!
+//! Promises: the CSV file of a table means the table's rows, and so does that of each table of a
+//! migration; what stands for a value in its SQL determines the value, also that it is missing; a
+//! design in its order states each reference that it can.
 #![tactic(auto)]
 
 ghost use Rattle.std.specs.Prelude.{◌≡◌, ◌<◌, ◌≤◌, ℕ, Bool, true, List, length, slice_get, Some, All, IsTrue, Ok};

@@ -1,6 +1,6 @@
 -- The names of the tables of a plan differ, ASCII case aside: those that are given are apart and none of them is that of
 -- a number, and the numbers differ.
-use Rattle.std.proofs.Common.{◌≡◌, ◌+◌, ◌<◌, ◌≤◌, ◌^◌, ◌%◌, ◌&&◌, ◌||◌, ◌∷◌, ◌++◌, ℕ, zero, suc, inl, inr, Bool, true, false, List, [], Option, Some, None, length, get_or, refl, ap, subst, ◌∙◌, sym, arith}
+use Rattle.std.proofs.Common.{◌≡◌, ◌+◌, ◌<◌, ◌≤◌, ◌^◌, ◌&&◌, ◌||◌, ◌∷◌, ℕ, zero, suc, inl, inr, Bool, true, false, List, [], Option, Some, None, length, get_or, refl, ap, subst, ◌∙◌, sym, arith}
 use Rattle.std.specs.Prelude.{All, codes, nat_lt, unwrap_or}
 use Rattle.std.specs.Char.{is_ascii_digit, to_ascii_lowercase}
 use Rattle.std.specs.Fmt.{decimal}
@@ -8,11 +8,11 @@ use Rattle.std.specs.List.{list_all}
 use Rattle.std.specs.Str.{str_to_ascii_lowercase}
 use Rattle.std.proofs.lemmas.Bool.{cases_lt, false_from_ne_true, true≢false}
 use Rattle.std.proofs.lemmas.Bool.Decides.{nat_tests}
-use Rattle.std.proofs.lemmas.Fmt.{decimal_by_steps, decimal_injective}
+use Rattle.std.proofs.lemmas.Fmt.{decimal_injective, decimal_nonempty, digits_decimal}
 use Rattle.std.proofs.lemmas.List.{length-map}
-use Rattle.std.proofs.lemmas.List.Folds.{list_all-append}
 use Rattle.std.proofs.lemmas.Slice.Eq.{bytes_eq-Decides}
 use Rattle.dep_model.specs.Names.{same_name}
+use Rattle.dep_model.proofs.NumeralLemmas.{decimal_numeral_model}
 use Rattle.named_plans.specs.NamedPlans.{ApartFrom, AreApart, IsOwnName}
 use Rattle.table_names.specs.TableNames.{GivenNames, is_taken, name_of_table, table_name}
 
@@ -28,29 +28,8 @@ pub same_itself : (name : List ℕ) → same_name name name ≡ true
 same_itself name = (bytes_eq-Decides (str_to_ascii_lowercase name) (str_to_ascii_lowercase name)).1 refl
 
 -- ---- digits
-digit_byte : (d : ℕ) → d < 10 → is_ascii_digit (48 + d) ≡ true
-digit_byte d small = grind (arith, nat_tests)
-
 digits_are : (n : ℕ) → n < 2 ^ 64 → list_all is_ascii_digit (decimal n) ≡ true
-digits_are = decimal_by_steps (λ n ds. list_all is_ascii_digit ds ≡ true) one more
-  where
-    one : (n : ℕ) → n < 10 → list_all is_ascii_digit ((48 + n) ∷ []) ≡ true
-    one n small = ap (λ (b : Bool). b && true) (digit_byte n small)
-
-    more : (n : ℕ) (ds : List ℕ) → 10 ≤ n → list_all is_ascii_digit ds ≡ true
-        → list_all is_ascii_digit (ds ++ ((48 + n % 10) ∷ [])) ≡ true
-    more n ds large all =
-        let low : n % 10 < 10 = omega arith in
-        list_all-append is_ascii_digit ds ((48 + n % 10) ∷ [])
-        ∙ ap (λ (b : Bool). b && (is_ascii_digit (48 + n % 10) && true)) all
-        ∙ ap (λ (b : Bool). b && true) (digit_byte (n % 10) low)
-
-some_digits : (n : ℕ) → n < 2 ^ 64 → 0 < length (decimal n)
-some_digits = decimal_by_steps (λ n ds. 0 < length ds) (λ n small. omega arith) (λ n ds large some. longer ds (48 + n % 10))
-  where
-    longer : (ds : List ℕ) (b : ℕ) → 0 < length (ds ++ b ∷ [])
-    longer [] b = omega arith
-    longer (d ∷ ds) b = omega arith
+digits_are n wide = digits_decimal decimal_numeral_model n wide
 
 -- a digit has one case
 low_digits : (bs : List ℕ) → list_all is_ascii_digit bs ≡ true → str_to_ascii_lowercase bs ≡ bs
@@ -104,7 +83,7 @@ numbered_taken (c ∷ cs) n wide same =
     let rest : str_to_ascii_lowercase cs ≡ decimal n = cc in
     let digits : list_all is_ascii_digit cs ≡ true = digits_back cs (ap (list_all is_ascii_digit) rest ∙ digits_are n wide) in
     let size : length (str_to_ascii_lowercase cs) ≡ length cs = length-map cs to_ascii_lowercase in
-    let some = some_digits n wide in
+    let some = decimal_nonempty n wide in
     let many : length (str_to_ascii_lowercase cs) ≡ length (decimal n) = ap (λ (t : List ℕ). length t) rest in
     let long : nat_lt 1 (length (c ∷ cs)) ≡ true = grind (arith, nat_tests, size, some, many) in
     let head : same_name (c ∷ []) (codes "t") ≡ true =

@@ -1,6 +1,10 @@
-//! What is known of the names of the tables of a plan.
+//! The law of the names of the tables of a plan. No code.
 //!
-//! The law is a function that does nothing, whose clause is the law; so the gate asks for its proof.
+//! The law is a function that does nothing, whose clause is the law; so the gate asks for its
+//! proof.
+//!
+//! Promises: the names of two tables differ, ASCII case aside, where the names that are given are
+//! apart.
 #![tactic(auto)]
 
 ghost use Rattle.std.specs.Prelude.{◌≡◌, ◌+◌, ◌<◌, ◌^◌, ℕ, false};

@@ -1,4 +1,6 @@
-//! The names of the tables of a decomposition: `t1`, `t2` and so on, or those that a plan gives. `is_taken` says
+//! The names of the tables of a decomposition: those that a plan gives, or `t1`, `t2` and so on.
+//!
+//! Promises: the name that is given, or `t` and the number in decimal; `is_taken` says exactly
 //! which names no plan gives.
 #![tactic(auto)]
 

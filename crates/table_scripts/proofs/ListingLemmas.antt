@@ -19,6 +19,7 @@ use Rattle.schema_printer.specs.Spelling.{spelling}
 use Rattle.std.proofs.lemmas.List.FromFn.{map-range_with_len_more}
 use Rattle.std.proofs.lemmas.List.{map-id}
 use Rattle.std.specs.List.{range_with_len}
+use Rattle.check_laws.proofs.LawLemmas.{nil_not_empty}
 use Rattle.check_queries.specs.Columns.{named_column, column_at, group_name, items_on, groups_made}
 use Rattle.check_queries.specs.Checks.{has_members, line_item, count_column, integer_query, missing_query}
 use Rattle.table_scripts.specs.declared.unpaired.Counted.{Counted}
@@ -89,10 +90,6 @@ empty_members n x empty k low = elim (cases_Bool (x k)) [
       absurd (omega (arith, past))
   | inr outside ↦ outside
 ]
-
-nil_not_empty : {X : Type 0} (xs : List X) → is_not_empty xs ≡ false → xs ≡ []
-nil_not_empty [] e = refl
-nil_not_empty (x ∷ xs) e = absurd (true≢false e)
 
 pub members_told : (n : ℕ) (x : Attributes) (b : Bool) → (IsTrue b ↔ IsEmpty (intersection x (below n))) → not b ≡ is_not_empty (members_below n x)
 members_told n x true told =

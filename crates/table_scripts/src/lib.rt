@@ -1,11 +1,14 @@
 //! SQL scripts over a table of the user's, whose columns are the attributes of a schema.
 //!
-//! `check_script` asks for the rows in which a value is missing, for what is no integer and for what breaks
-//! each rule; its queries are values of `check_queries`, and `check_laws` says what they give in an engine.
-//! `migrate_script` makes the tables of a design from the table, in one transaction that undoes itself where
-//! their join is not the table; its statements are values of `migrate_queries`, and `migrate_laws` says what
-//! they do in an engine.
-//! `is_table_name` says the names that a script may hold.
+//! `check_script` asks for the rows in which a value is missing, for what is no integer and for
+//! what breaks each rule; its queries are values of `check_queries`, and `check_laws` says what
+//! they give in an engine. `migrate_script` makes the tables of a design from the table, in one
+//! transaction that undoes itself where their join is not the table; its statements are values of
+//! `migrate_queries`, and `migrate_laws` says what they do in an engine.
+//!
+//! Promises: each query and statement is the text of its value; a script that checks says whether
+//! rows are legal, one that migrates moves the table or changes nothing; `is_table_name` says which
+//! names of a user's table a script may hold.
 #![tactic(auto)]
 
 mod checking;

@@ -1,13 +1,13 @@
 -- Parts are read from what spells them, one part at the front after the other.
-use Rattle.std.proofs.Common.{◌≡◌, ◌<◌, ◌≤◌, ◌+◌, ◌==◌, ◌&&◌, ◌||◌, ℕ, zero, suc, Bool, true, false, cond, not, Option, None, Some, List, [], ◌∷◌, ◌++◌, length, take, drop, nat_eq, arith, ap, sym, ◌∙◌, refl, append_assoc, length-append}
-use Rattle.std.proofs.lemmas.Bool.{and_parts, eqb-true, ne_eqb}
-use Rattle.std.proofs.lemmas.Bool.Decides.{nat_tests}
+use Rattle.std.proofs.Common.{◌≡◌, ◌<◌, ◌≤◌, ◌+◌, ◌&&◌, ◌||◌, ℕ, zero, suc, Bool, true, false, cond, not, Option, None, Some, List, [], ◌∷◌, ◌++◌, length, take, drop, nat_eq, arith, ap, sym, ◌∙◌, refl, append_assoc, length-append}
+use Rattle.std.proofs.lemmas.Bool.{and_parts, ne_eqb}
 use Rattle.std.proofs.Math.Seq.{take-append_seam, drop-append_seam}
 use Rattle.std.specs.Prelude.{codes, nat_lt, option_map}
 use Rattle.std.specs.List.{flat_map, join_by, list_all, list_any, position_or_len, starts_with}
 use Rattle.dep_model.specs.Names.{quotes_doubled, quoted}
-use Rattle.lexer.specs.Quotes.{is_name, further, closing_quote, undoubled}
-use Rattle.lexer.proofs.Quoting.{is_quote, closing_at_quote, closing_other, undoubled_one}
+use Rattle.lexer.specs.Quotes.{is_name, undoubled}
+use Rattle.lexer.proofs.Quoting.{is_quote}
+use Rattle.lexer.proofs.QuotedNames.{closing_doubled, undoubled_doubled}
 use Rattle.table_words.specs.declared.parts.TheConstants.{MOST_PARTS}
 use Rattle.table_words.specs.Parts.{Part, before_dot, front, is_dot, led_by_front, parts_within, quoted_front, table_parts}
 use Rattle.table_words.specs.Laws.{is_bare, is_part, spelling}
@@ -26,32 +26,6 @@ no_quote_behind None = refl
 no_quote_behind (Some text) = refl
 
 -- ---- a quoted part
-closing_doubled : (name rest : List ℕ) → is_quote rest ≡ false
-    → closing_quote (quotes_doubled name ++ 34 ∷ rest) ≡ Some (length (quotes_doubled name))
-unfolding closing_quote quotes_doubled
-closing_doubled [] rest apart = closing_at_quote rest apart
-closing_doubled (b ∷ name) rest apart = at (b == 34) refl (closing_doubled name rest apart)
-  where
-    at : (q : Bool) → (b == 34) ≡ q
-        → closing_quote (quotes_doubled name ++ 34 ∷ rest) ≡ Some (length (quotes_doubled name))
-        → closing_quote ((cond q (34 ∷ 34 ∷ []) (b ∷ []) ++ quotes_doubled name) ++ 34 ∷ rest)
-        ≡ Some (length (cond q (34 ∷ 34 ∷ []) (b ∷ []) ++ quotes_doubled name))
-    at true e later = ap (further 2) later ∙ ap (λ (n : ℕ). Some n) (omega arith)
-    at false e later =
-        closing_other (b ∷ (quotes_doubled name ++ 34 ∷ rest)) (omega arith) (grind (arith, nat_tests))
-        ∙ ap (further 1) later ∙ ap (λ (n : ℕ). Some n) (omega arith)
-
-undoubled_doubled : (name : List ℕ) → undoubled (quotes_doubled name) ≡ name
-unfolding undoubled quotes_doubled
-undoubled_doubled [] = refl
-undoubled_doubled (b ∷ name) = at (b == 34) refl (undoubled_doubled name)
-  where
-    at : (q : Bool) → (b == 34) ≡ q → undoubled (quotes_doubled name) ≡ name
-        → undoubled (cond q (34 ∷ 34 ∷ []) (b ∷ []) ++ quotes_doubled name) ≡ b ∷ name
-    at true e later = ap (λ t. 34 ∷ t) later ∙ ap (λ (x : ℕ). x ∷ name) (sym (eqb-true b 34 e))
-    at false e later =
-        undoubled_one (b ∷ quotes_doubled name) (omega arith) (grind (arith, nat_tests)) ∙ ap (λ t. b ∷ t) later
-
 quoted_part : (name : List ℕ) (rest : Option (List ℕ)) → is_name name ≡ true
     → front (quoted name ++ behind rest) ≡ Some (record { part = record { name = name; quoted = true }; rest = rest })
 quoted_part name rest is =

@@ -3,8 +3,7 @@ ghost use Rattle.std.specs.List.{position_or_len};
 ghost use Rattle.lexer.specs.Quotes.{closing_quote};
 ghost use Rattle.table_words.specs.Parts.{after_dot, bare_front, front, front_of, is_dot, part_of, parts_of, quoted_front, table_parts};
 
-use crate::quotes::{closing_quote, name_between};
-use lexer::WordBytes;
+use lexer::{WordBytes, closing_quote, name_between};
 
 /// The most parts of the name of a table.
 pub const MOST_PARTS: usize = 3;

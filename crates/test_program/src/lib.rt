@@ -1,5 +1,5 @@
-//! Tests of whole calls of the desk, where calls of a file source, a sink or a destination fail one at
-//! a time.
+//! Tests of whole calls of the desk, where calls of a file source, a sink or a destination fail one
+//! at a time.
 #![tactic(auto)]
 
 #[cfg(test)]

@@ -1,8 +1,10 @@
 //! A line of text, read token by token: what the readers of all texts share.
 //!
-//! A `Cursor` is what is left of a line. `next` says what comes next; the other calls take a token, a
-//! number, an arrow, a side or the line's end, or refuse the line at its place, by what it wants there.
-//! `look_up` gives the attribute that a word of a side, or a quoted name, stands for.
+//! A `Cursor` is what is left of a line. `look_up` gives the attribute that a word of a side, or a
+//! quoted name, stands for.
+//!
+//! Promises: `next` says what comes next on a line; the other calls take a token, a number, an
+//! arrow, a side or the line's end, or refuse the line at its place, by what it wants there.
 #![tactic(auto)]
 
 mod cursor;

@@ -147,7 +147,7 @@ split_is_plan n ds schemes parts = record {
 }
 
 -- ---- without contained schemes
-length-without_contained_after : (earlier later : List AttrSet) → length (without_contained_after earlier later) ≤ length later
+pub length-without_contained_after : (earlier later : List AttrSet) → length (without_contained_after earlier later) ≤ length later
 length-without_contained_after earlier [] = omega arith
 length-without_contained_after earlier (x ∷ later) =
     let rest = without_contained_after (earlier ++ x ∷ []) later in

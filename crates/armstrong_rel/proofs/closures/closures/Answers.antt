@@ -8,8 +8,9 @@ use Rattle.attr_sets.specs.Attributes.{IsSubset}
 use Rattle.attr_sets.specs.Sets.{attributes}
 use Rattle.attr_sets.specs.declared.set.AttrSet.{AttrSet}
 use Rattle.attr_sets.proofs.AttributesLemmas.{same_at}
-use Rattle.armstrong_rel.specs.declared.closures.KnownClosure.{KnownClosure}
-use Rattle.armstrong_rel.specs.Closures.{IsKnown}
+use Rattle.fd_closure.specs.declared.known.KnownClosure.{KnownClosure}
+use Rattle.dep_model.specs.Schemas.{width_of, theory_of}
+use Rattle.fd_closure.specs.Closures.{IsKnownClosure}
 use Rattle.armstrong_rel.proofs.FoundLemmas.{next_within, parts_left-less}
 use Rattle.armstrong_rel.proofs.KnownLemmas.{closure_known}
 use Rattle.armstrong_rel.proofs.closures.closures.Goals as goal
@@ -22,7 +23,7 @@ at_hand c = subst (λ (o : Option AttrSet). IfSome o (λ set. IsSubset (attribut
 pub loop-next-init : goal.loop-next-init
 loop-next-init c = record {
   within = λ k m. absurd (true≢false (sym m ∙ same_at c.empty.ensures.members k));
-  known = subst (λ (xs : List KnownClosure). All (IsKnown c.args.schema.now) xs) (sym c.new-table.ensures.items) (All-nil (IsKnown c.args.schema.now));
+  known = subst (λ (xs : List KnownClosure). All (IsKnownClosure (width_of c.args.schema.now) (theory_of c.args.schema.now)) xs) (sym c.new-table.ensures.items) (All-nil (IsKnownClosure (width_of c.args.schema.now) (theory_of c.args.schema.now)));
 }
 
 pub next_subset-next-requires : goal.next_subset-next-requires
@@ -36,11 +37,11 @@ loop-next-preserved c =
     let s = c.args.schema.now in
     let set = c.in-Some.set in
     let inside = at_hand (goal.at.loop-next-preserved c).In-Some in
-    let is = closure_known s c.deps.result.now c.deps.ensures.deps (attributes set) (attributes c.closure.result)
-    c.requires.functional (λ k m. c.requires.whole k (inside k m)) c.closure.ensures.closure in
-    let known : KnownClosure = record { of = set; closure = c.closure.result } in
+    let is = closure_known s c.deps.result.now c.deps.ensures.deps (attributes set) (attributes c.functional_closure.result)
+    c.requires.functional (λ k m. c.requires.whole k (inside k m)) c.functional_closure.ensures.closure in
+    let known : KnownClosure = record { of = set; closed = c.functional_closure.result } in
     record {
       within = next_within (attributes c.args.whole) set c.next_subset-next.result c.next_subset-next.ensures.next;
-      known = subst (λ (xs : List KnownClosure). All (IsKnown s) xs) (sym c.in_ok-push.ensures.items)
-          (All-push (IsKnown s) c.loop-next.table.items known c.loop-next.invariant.known is);
+      known = subst (λ (xs : List KnownClosure). All (IsKnownClosure (width_of s) (theory_of s)) xs) (sym c.in_ok-push.ensures.items)
+          (All-push (IsKnownClosure (width_of s) (theory_of s)) c.loop-next.table.items known c.loop-next.invariant.known is);
     }

@@ -7,8 +7,8 @@ use Rattle.attr_sets.specs.Sets.{attributes}
 use Rattle.attr_sets.specs.declared.set.AttrSet.{AttrSet}
 use Rattle.attr_sets.proofs.AttributesLemmas.{same_at}
 use Rattle.dep_model.specs.Schemas.{width_of, theory_of}
-use Rattle.armstrong_rel.specs.declared.closures.KnownClosure.{KnownClosure}
-use Rattle.armstrong_rel.specs.Closures.{IsKnown}
+use Rattle.fd_closure.specs.declared.known.KnownClosure.{KnownClosure}
+use Rattle.fd_closure.specs.Closures.{IsKnownClosure}
 use Rattle.armstrong_rel.proofs.PartLemmas.{schema_within, left_sides_low}
 use Rattle.armstrong_rel.proofs.FoundLemmas.{IsWalk, walk_on, found_sorted}
 use Rattle.armstrong_rel.proofs.irreducible.irreducible_sets.Goals as goal
@@ -25,7 +25,7 @@ closures-requires-clause-whole c k m =
 
 pub add_sets_with-requires-clause-table : goal.add_sets_with-requires-clause-table
 add_sets_with-requires-clause-table c =
-    subst (λ (xs : List KnownClosure). All (IsKnown c.args.schema.now) xs) (sym c.deref.ensures.value) c.in_ok-table.ensures.known
+    subst (λ (xs : List KnownClosure). All (IsKnownClosure (width_of c.args.schema.now) (theory_of c.args.schema.now)) xs) (sym c.deref.ensures.value) c.in_ok-table.ensures.known
 
 pub add_sets_with-requires-clause-found : goal.add_sets_with-requires-clause-found
 add_sets_with-requires-clause-found c = (at_hand (goal.at.add_sets_with-requires-clause-found c).In-Some).passed

@@ -1,4 +1,4 @@
--- What is left to prove of `shared_beyond`: its clause `shared`, what `closure_of` requires, and that a
+-- What is left to prove of `shared_beyond`: its clause `shared`, what `closed_at` requires, and that a
 -- round of its loop keeps the invariant, by `SharedLemmas`.
 use Rattle.std.proofs.Common.{◌≡◌, ℕ, ◌+◌, ◌<◌, true, false, sym, subst, ◌∙◌, inl, inr, arith}
 use Rattle.std.proofs.lemmas.Bool.{true≢false, cases_eq, lt-ltb}
@@ -13,8 +13,8 @@ use Rattle.armstrong_rel.proofs.SharedLemmas.{IsSharedBelow, shared_pass, shared
 use Rattle.armstrong_rel.proofs.irreducible.shared_beyond.Goals as goal
 use Rattle.armstrong_rel.proofs.irreducible.shared_beyond.Goals.{then-contains, else-contains}
 
-pub closure_of-closed-requires-clause-set : goal.closure_of-closed-requires-clause-set
-closure_of-closed-requires-clause-set c k m =
+pub closed_at-closed-requires-clause-set : goal.closed_at-closed-requires-clause-set
+closed_at-closed-requires-clause-set c k m =
     let s = c.args.schema.now in
     let a = c.loop-attribute.attribute in
     let low : a < width_of s = omega (arith, c.loop-attribute-test.true, c.width-attribute-end.ensures.count) in
@@ -41,9 +41,9 @@ loop-attribute-preserved c =
           let used : left_sides ds a ≡ true = grind (arith, used_at, yes) in
           let out : z a ≡ false = grind (arith, used_at, yes) in
           subst (λ (m : AttrSet). IsSharedBelow n ds z (a + 1) (attributes m)) (sym w.shared-is)
-          (shared_more n ds z (attributes w.with-more.result) (attributes w.closure_of-closed.result) (attributes c.loop-attribute.shared)
+          (shared_more n ds z (attributes w.with-more.result) (attributes w.closed_at-closed.result) (attributes c.loop-attribute.shared)
           (attributes w.intersection-shared.result) a used out w.with-more.ensures.members
-          w.closure_of-closed.ensures.closure w.intersection-shared.ensures.members before)
+          w.closed_at-closed.ensures.closure w.intersection-shared.ensures.members before)
       | else-contains w ↦
           let no = sym in_rest ∙ w.if-contains.false in
           subst (λ (m : AttrSet). IsSharedBelow n ds z (a + 1) (attributes m)) (sym w.shared-is)

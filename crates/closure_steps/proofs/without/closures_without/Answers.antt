@@ -25,18 +25,18 @@ loop-attribute-preserved c =
     let before = c.loop-attribute.invariant in
     elim c.if-contains.branch [
       | then-contains+in_ok-push w ↦
-          let one : Without = record { attribute = m; closed = w.closure_of-closed.result } in
+          let one : Without = record { attribute = m; closed = w.closure-closed.result } in
           let pushed = ap (λ v. v.items) w.found-is ∙ w.in_ok-push.ensures.items in
           let is : IsClosureWithout n ds x one = record {
             member = sym c.contains.ensures.member ∙ w.if-contains.true;
-            closed = subst (λ (y : Attributes). (a : ℕ) → (attributes w.closure_of-closed.result a ≡ true) ↔ InClosure n ds y a) w.without.ensures.members w.closure_of-closed.ensures.closure;
+            closed = subst (λ (y : Attributes). (a : ℕ) → (attributes w.closure-closed.result a ≡ true) ↔ InClosure n ds y a) w.without.ensures.members w.closure-closed.ensures.closure;
           } in
           record {
             earlier = subst (λ (items : List Without). AreWithoutBelow n ds x (m + 1) items) (sym pushed)
                 (without_push n ds x m c.loop-attribute.found.items one before.earlier is refl);
             within = subst (λ (items : List Without). All (λ w. IsSubset (attributes w.closed) (universe_of s)) items) (sym pushed)
                 (All-push (λ (w : Without). IsSubset (attributes w.closed) (universe_of s)) c.loop-attribute.found.items one before.within
-                (λ a m. lt-ltb a n ((w.closure_of-closed.ensures.closure a).0 m).0));
+                (λ a m. lt-ltb a n ((w.closure-closed.ensures.closure a).0 m).0));
           }
       | else-contains w ↦
           let same = ap (λ v. v.items) w.found-is in

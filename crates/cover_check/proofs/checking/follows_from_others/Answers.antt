@@ -1,51 +1,5 @@
--- What is left to prove of `follows_from_others`: what `is_implied` requires, and the clause `follows`.
-use Rattle.std.proofs.Common.{◌≡◌, ◌↔◌, ℕ, List, get_or, sym, ap, subst, ◌∙◌}
-use Rattle.std.proofs.lemmas.Option.{same_Some}
-use Rattle.std.specs.List.{remove}
-use Rattle.std.specs.Prelude.{All, IsTrue}
-use Rattle.attr_sets.specs.Attributes.{below}
-use Rattle.dep_model.specs.declared.dep.Dep.{Dep}
-use Rattle.dep_model.specs.Dependencies.{Dependency}
-use Rattle.dep_model.specs.Deps.{dependency_of, dependencies_of, IsDepWithin}
-use Rattle.dep_model.specs.Schemas.{deps_of, width_of, universe_of, theory_of}
-use Rattle.cover_check.specs.CoverDiagnostics.{FollowsFrom}
-use Rattle.cover_check.proofs.CoverLemmas.{remove_map, remove_all}
-use Rattle.cover_check.proofs.GatheringLemmas.{read_at, within_at}
+-- What is left to prove of `follows_from_others`: what `follows_from` requires of the others.
 use Rattle.cover_check.proofs.checking.follows_from_others.Goals as goal
 
-pub is_implied-requires-clause-deps : goal.is_implied-requires-clause-deps
-is_implied-requires-clause-deps c =
-    let s = c.args.schema.now in
-    let k = c.args.k in
-    let given = c.in_ok-others.ensures.items ∙ c.deps.ensures.deps in
-    let removed : c.deref.result.now ≡ remove (deps_of s) k =
-    c.deref.ensures.value ∙ c.remove-dep.ensures.items ∙ ap (λ (ds : List Dep). remove ds k) given in
-    subst (λ (w : ℕ). All (IsDepWithin (below w)) c.deref.result.now) (sym c.width.ensures.count)
-    (subst (λ (ds : List Dep). All (IsDepWithin (universe_of s)) ds) (sym removed)
-    (remove_all (IsDepWithin (universe_of s)) (deps_of s) k s.valid.deps_within))
-
-pub is_implied-requires-clause-within : goal.is_implied-requires-clause-within
-is_implied-requires-clause-within c =
-    let s = c.args.schema.now in
-    let given = c.in_ok-others.ensures.items ∙ c.deps.ensures.deps in
-    subst (λ (w : ℕ). IsDepWithin (below w) c.remove-dep.result) (sym c.width.ensures.count)
-    (subst (λ (d : Dep). IsDepWithin (universe_of s) d) (sym c.remove-dep.ensures.value)
-    (within_at s c.in_ok-others.others.items c.args.k c.remove-dep.result given c.requires.position))
-
-pub returns : goal.returns
-returns c =
-    let s = c.args.schema.now in
-    let k = c.args.k in
-    let given = c.in_ok-others.ensures.items ∙ c.deps.ensures.deps in
-    let removed : c.deref.result.now ≡ remove (deps_of s) k =
-    c.deref.ensures.value ∙ c.remove-dep.ensures.items ∙ ap (λ (ds : List Dep). remove ds k) given in
-    let told = subst (λ (w : ℕ). IsTrue c.is_implied.result ↔ FollowsFrom w (dependencies_of c.deref.result.now) (dependency_of c.remove-dep.result)) c.width.ensures.count c.is_implied.ensures.implied in
-    let of_others = subst (λ (ds : List Dependency). IsTrue c.is_implied.result ↔ FollowsFrom (width_of s) ds (dependency_of c.remove-dep.result))
-    (ap dependencies_of removed ∙ remove_map (deps_of s) k) told in
-    record {
-      follows = λ d read.
-          let here = read_at s c.in_ok-others.others.items k c.remove-dep.result given c.requires.position in
-          let same : dependency_of c.remove-dep.result ≡ d =
-          ap dependency_of c.remove-dep.ensures.value ∙ same_Some (dependency_of (get_or c.in_ok-others.others.items k c.remove-dep.result)) d (sym here ∙ read) in
-          subst (λ (e : Dependency). IsTrue c.is_implied.result ↔ FollowsFrom (width_of s) (remove (theory_of s) k) e) same of_others;
-    }
+pub follows_from-requires-clause-deps : goal.follows_from-requires-clause-deps
+follows_from-requires-clause-deps c = rw (c.deref.ensures.value, c.width.ensures.count) c.in_ok-dep.ensures.others_within

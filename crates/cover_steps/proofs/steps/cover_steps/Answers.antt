@@ -17,7 +17,7 @@ use Rattle.cover_steps.specs.declared.shortening.ShortMember.{ShortMember}
 use Rattle.cover_steps.specs.declared.thinning.PlacedDep.{PlacedDep}
 use Rattle.cover_steps.specs.Steps.{AreCoverSteps, AreShortMembers, IsParted, Placed, without_positions, places_of, placed_from, placed_members, is_multivalued, short_of, shortened_list}
 use Rattle.cover_steps.specs.Gathering.{IsPlacedWithin, deps_of_places}
-use Rattle.cover_steps.proofs.PlaceLemmas.{multivalued_after, positions_gone, stands_after}
+use Rattle.cover_steps.proofs.PlaceLemmas.{positions_gone, stands_after}
 use Rattle.cover_steps.proofs.MemberLemmas.{steps_cover}
 use Rattle.cover_steps.proofs.steps.cover_steps.Goals.{In_ok-kept, In_ok-whole}
 use Rattle.cover_steps.proofs.steps.cover_steps.Goals as goal
@@ -29,13 +29,6 @@ part_from-requires-clause-within c =
     subst (λ (ps : List PlacedDep). All (IsPlacedWithin (below n)) ps) (sym c.deref-3.ensures.value) c.in_ok-list.ensures.within in
     let all = c.in_ok-add_multivalued.ensures.within n c.in_ok-rest.ensures.within list_in in
     rw (c.width.ensures.count, c.deref-4.ensures.value) all
-
-pub part_from-requires-clause-kinds : goal.part_from-requires-clause-kinds
-part_from-requires-clause-kinds c =
-    let rest = c.in_ok-rest.rest.items in
-    let from_is : length rest ≡ c.len-from.result = omega (arith, c.len-from.ensures, c.in_ok-rest.rest.ok.0) in
-    let kinds = multivalued_after rest c.add_multivalued.new.others.items (places_of c.deref-3.result.now) c.in_ok-add_multivalued.ensures.added in
-    rw c.deref-4.ensures.value (rw (sym from_is) kinds)
 
 -- the steps, and the cover that they leave
 record IsAccount (s : Schema) (members : List ShortMember) (gone kept : List PlacedDep) : Type 0 where

@@ -1,12 +1,12 @@
 -- What is left to prove of `thinned_members`: what `part_from` requires, and its clauses.
-use Rattle.std.proofs.Common.{◌≡◌, List, map, sym, ap, ◌∙◌, inl}
+use Rattle.std.proofs.Common.{◌≡◌, List, map, sym, ap, ◌∙◌}
 use Rattle.std.proofs.lemmas.List.Elements.{All-map}
 use Rattle.attr_sets.specs.Attributes.{below}
 use Rattle.dep_model.specs.Schemas.{width_of}
 use Rattle.cover_steps.specs.declared.thinning.PlacedDep.{PlacedDep}
 use Rattle.cover_steps.specs.Steps.{places_of, short_of, shortened_list}
 use Rattle.cover_steps.specs.Gathering.{IsPlacedWithin, short_dep}
-use Rattle.cover_steps.proofs.PlaceLemmas.{short_places, short_functional}
+use Rattle.cover_steps.proofs.PlaceLemmas.{short_places}
 use Rattle.cover_steps.proofs.steps.thinned_members.Goals as goal
 
 pub part_from-requires-clause-within : goal.part_from-requires-clause-within
@@ -14,10 +14,6 @@ part_from-requires-clause-within c =
     let n = width_of c.args.schema.now in
     rw (c.width.ensures.count, c.deref.ensures.value, c.in_ok-list.ensures.list)
     (All-map (IsPlacedWithin (below n)) short_dep c.args.members.now c.requires.within)
-
-pub part_from-requires-clause-kinds : goal.part_from-requires-clause-kinds
-part_from-requires-clause-kinds c =
-    rw (c.deref.ensures.value, c.in_ok-list.ensures.list) (inl (short_functional c.args.members.now))
 
 pub returns-clause-parted : goal.returns-clause-parted
 returns-clause-parted c =

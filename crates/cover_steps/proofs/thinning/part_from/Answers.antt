@@ -1,4 +1,4 @@
--- What is left to prove of `part_from`: its clauses, what `is_implied` requires, and that the invariant of its
+-- What is left to prove of `part_from`: its clauses, what `is_implied_by` requires, and that the invariant of its
 -- loop holds at first and stays, by `PartLemmas`.
 use Rattle.std.proofs.Common.{◌≡◌, ◌+◌, ◌<◌, ◌↔◌, List, [], ◌∷◌, ◌++◌, length, get_or, set, take, drop, refl, sym, ◌∙◌, subst, ap, arith, append-nil, append_assoc}
 use Rattle.std.proofs.lemmas.Bool.{false≢true}
@@ -10,12 +10,12 @@ use Rattle.dep_model.specs.declared.dep.Dep.{Dep}
 use Rattle.dep_model.specs.declared.dep.Dep.TheVariants.{Fd}
 use Rattle.dep_model.specs.Implication.{Implies}
 use Rattle.dep_model.specs.Deps.{dependency_of, dependencies_of, IsDepWithin}
-use Rattle.min_cover.proofs.ThinningLemmas.{set-set_back, kind_tried, kind_left_out, kind_kept}
+use Rattle.min_cover.proofs.ThinningLemmas.{set-set_back}
 use Rattle.cover_steps.specs.declared.thinning.PlacedDep.{PlacedDep}
 use Rattle.cover_steps.specs.Steps.{Placed, place_of, places_of}
-use Rattle.cover_steps.specs.Gathering.{AreOfOneKind, IsPlacedWithin, deps_of_places}
+use Rattle.cover_steps.specs.Gathering.{IsPlacedWithin, deps_of_places}
 use Rattle.cover_steps.proofs.PartLemmas.{IsPartedTo, here, parted_none, parted_done, parted_gone, parted_kept}
-use Rattle.cover_steps.proofs.thinning.part_from.Goals.{then-is_implied+in_ok-push, else-is_implied+in_ok-push-2}
+use Rattle.cover_steps.proofs.thinning.part_from.Goals.{then-is_implied_by+in_ok-push, else-is_implied_by+in_ok-push-2}
 use Rattle.cover_steps.proofs.thinning.part_from.Goals as goal
 
 pub loop-k-init : goal.loop-k-init
@@ -26,7 +26,6 @@ loop-k-init c =
     let items : c.in_ok-kept.kept.items ≡ take c.args.from list = c.in_ok-kept.ensures.items in
     rw items (record {
       long = ap (λ (ds : List Dep). length ds) others ∙ length-map list dep;
-      kinds = subst (λ (ds : List Dep). AreOfOneKind ds c.args.from) (sym others) c.requires.kinds;
       within = subst (λ (ds : List Dep). All (IsDepWithin (below c.args.width)) ds) (sym others) (All-map (IsDepWithin (below c.args.width)) dep list c.requires.within);
       kept_within = All-take (IsPlacedWithin (below c.args.width)) c.args.from list c.requires.within;
       out = [];
@@ -37,25 +36,12 @@ loop-k-init c =
 abbrev zero : PlacedDep
 zero = record { position = 0; dep = Fd (record { 0 = 0 }) (record { 0 = 0 }) }
 
-pub is_implied-requires-clause-deps : goal.is_implied-requires-clause-deps
-is_implied-requires-clause-deps c =
+pub is_implied_by-requires-clause-deps : goal.is_implied_by-requires-clause-deps
+is_implied_by-requires-clause-deps c =
     rw c.deref.ensures.value (All-set (IsDepWithin (below c.args.width)) c.loop-k.others.items c.loop-k.k c.trivial_dependency.result (c.trivial_dependency.ensures.within c.args.width) c.loop-k.invariant.within)
 
-pub is_implied-requires-clause-within : goal.is_implied-requires-clause-within
-is_implied-requires-clause-within c = c.requires.within c.loop-k.k zero (omega (arith, c.loop-k-test.true))
-
-pub is_implied-requires-clause-kind : goal.is_implied-requires-clause-kind
-is_implied-requires-clause-kind c is =
-    let list = c.args.list.now in
-    let others = c.loop-k.others.items in
-    let k = c.loop-k.k in
-    let before = c.loop-k.invariant in
-    let p = get_or list k zero in
-    let low : k < length list = omega (arith, c.loop-k-test.true) in
-    let lt : k < length others = omega (arith, low, before.long) in
-    let nothing = c.trivial_dependency in
-    let at = here c.args.width (drop c.args.from list) (take c.args.from list) list others c.loop-k.kept.items before.out k p zero nothing.result refl low lt (nothing.ensures.obeyed c.args.width) before.parted in
-    rw c.deref.ensures.value (kind_tried others k p.dep nothing.result (sym at) lt nothing.ensures.functional before.kinds is)
+pub is_implied_by-requires-clause-within : goal.is_implied_by-requires-clause-within
+is_implied_by-requires-clause-within c = c.requires.within c.loop-k.k zero (omega (arith, c.loop-k-test.true))
 
 pub loop-k-preserved : goal.loop-k-preserved
 loop-k-preserved c =
@@ -75,43 +61,41 @@ loop-k-preserved c =
     let low : k < length list = omega (arith, c.loop-k-test.true) in
     let lt : k < length others = omega (arith, low, before.long) in
     let at : get_or others k p.dep ≡ p.dep = here n first first_kept list others kept before.out k p zero nothing refl low lt obeyed before.parted in
-    let tested : IsTrue c.is_implied.result ↔ Implies n (dependencies_of without) (dependency_of p.dep) =
-    subst (λ (es : List Dep). IsTrue c.is_implied.result ↔ Implies n (dependencies_of es) (dependency_of p.dep)) c.deref.ensures.value c.is_implied.ensures.implied in
-    elim c.if-is_implied.branch [
-      | then-is_implied+in_ok-push w ↦
-          let after : c.if-is_implied.others.items ≡ without = ap (λ v. v.items) w.others-is in
-          let same_kept : c.if-is_implied.kept.items ≡ kept = ap (λ v. v.items) w.kept-is in
-          let pushed : c.if-is_implied.gone.items ≡ c.loop-k.gone.items ++ p ∷ [] = ap (λ v. v.items) w.gone-is ∙ w.in_ok-push.ensures.items in
+    let tested : IsTrue c.is_implied_by.result ↔ Implies n (dependencies_of without) (dependency_of p.dep) =
+    subst (λ (es : List Dep). IsTrue c.is_implied_by.result ↔ Implies n (dependencies_of es) (dependency_of p.dep)) c.deref.ensures.value c.is_implied_by.ensures.implied in
+    elim c.if-is_implied_by.branch [
+      | then-is_implied_by+in_ok-push w ↦
+          let after : c.if-is_implied_by.others.items ≡ without = ap (λ v. v.items) w.others-is in
+          let same_kept : c.if-is_implied_by.kept.items ≡ kept = ap (λ v. v.items) w.kept-is in
+          let pushed : c.if-is_implied_by.gone.items ≡ c.loop-k.gone.items ++ p ∷ [] = ap (λ v. v.items) w.gone-is ∙ w.in_ok-push.ensures.items in
           record {
             long = ap (λ (es : List Dep). length es) after ∙ length-set others k nothing ∙ before.long;
-            kinds = subst (λ (es : List Dep). AreOfOneKind es (k + 1)) (sym after) (kind_left_out others k (k + 1) p.dep nothing refl lt c.trivial_dependency.ensures.functional before.kinds);
             within = subst (λ (es : List Dep). All (IsDepWithin (below n)) es) (sym after) (All-set (IsDepWithin (below n)) others k nothing (c.trivial_dependency.ensures.within n) before.within);
             kept_within = subst (λ (ps : List PlacedDep). All (IsPlacedWithin (below n)) ps) (sym same_kept) before.kept_within;
             out = before.out ++ place_of p ∷ [];
             out_is = ap (λ (ps : List PlacedDep). places_of ps) pushed ∙ map_push place_of c.loop-k.gone.items p
                 ∙ ap (λ (ps : List Placed). ps ++ place_of p ∷ []) before.out_is ∙ append_assoc old before.out (place_of p ∷ []);
             parted =
-                subst (λ (es : List Dep). IsPartedTo n first first_kept list es c.if-is_implied.kept.items (before.out ++ place_of p ∷ []) (k + 1)) (sym after)
+                subst (λ (es : List Dep). IsPartedTo n first first_kept list es c.if-is_implied_by.kept.items (before.out ++ place_of p ∷ []) (k + 1)) (sym after)
                 (subst (λ (ps : List PlacedDep). IsPartedTo n first first_kept list without ps (before.out ++ place_of p ∷ []) (k + 1)) (sym same_kept)
-                (parted_gone n first first_kept list others kept before.out k p zero nothing refl low lt obeyed before.parted (k + 1) refl (tested.0 w.if-is_implied.true)));
+                (parted_gone n first first_kept list others kept before.out k p zero nothing refl low lt obeyed before.parted (k + 1) refl (tested.0 w.if-is_implied_by.true)));
           }
-      | else-is_implied+in_ok-push-2 w ↦
-          let after : c.if-is_implied.others.items ≡ set without k p.dep = ap (λ v. v.items) w.others-is in
-          let same : c.if-is_implied.others.items ≡ others = after ∙ set-set_back others k p.dep nothing (sym at) in
-          let pushed : c.if-is_implied.kept.items ≡ kept ++ p ∷ [] = ap (λ v. v.items) w.kept-is ∙ w.in_ok-push-2.ensures.items in
-          let same_gone : c.if-is_implied.gone.items ≡ c.loop-k.gone.items = ap (λ v. v.items) w.gone-is in
+      | else-is_implied_by+in_ok-push-2 w ↦
+          let after : c.if-is_implied_by.others.items ≡ set without k p.dep = ap (λ v. v.items) w.others-is in
+          let same : c.if-is_implied_by.others.items ≡ others = after ∙ set-set_back others k p.dep nothing (sym at) in
+          let pushed : c.if-is_implied_by.kept.items ≡ kept ++ p ∷ [] = ap (λ v. v.items) w.kept-is ∙ w.in_ok-push-2.ensures.items in
+          let same_gone : c.if-is_implied_by.gone.items ≡ c.loop-k.gone.items = ap (λ v. v.items) w.gone-is in
           record {
             long = ap (λ (es : List Dep). length es) same ∙ before.long;
-            kinds = subst (λ (es : List Dep). AreOfOneKind es (k + 1)) (sym same) (kind_kept others k (k + 1) p.dep refl lt before.kinds);
             within = subst (λ (es : List Dep). All (IsDepWithin (below n)) es) (sym same) before.within;
             kept_within = subst (λ (ps : List PlacedDep). All (IsPlacedWithin (below n)) ps) (sym pushed) (All-push (IsPlacedWithin (below n)) kept p before.kept_within (c.requires.within k zero low));
             out = before.out;
             out_is = ap (λ (ps : List PlacedDep). places_of ps) same_gone ∙ before.out_is;
             parted =
-                subst (λ (es : List Dep). IsPartedTo n first first_kept list es c.if-is_implied.kept.items before.out (k + 1)) (sym same)
+                subst (λ (es : List Dep). IsPartedTo n first first_kept list es c.if-is_implied_by.kept.items before.out (k + 1)) (sym same)
                 (subst (λ (ps : List PlacedDep). IsPartedTo n first first_kept list others ps before.out (k + 1)) (sym pushed)
                 (parted_kept n first first_kept list others kept before.out k p zero nothing refl low lt obeyed before.parted (k + 1) refl
-                (λ implied. false≢true (sym w.if-is_implied.false ∙ tested.1 implied))));
+                (λ implied. false≢true (sym w.if-is_implied_by.false ∙ tested.1 implied))));
           }
     ]
 

@@ -4,14 +4,13 @@ use Rattle.std.specs.Prelude.{All}
 use Rattle.attr_sets.specs.Attributes.{below}
 use Rattle.dep_model.specs.Deps.{IsDepWithin}
 use Rattle.cover_steps.specs.Steps.{Placed, places_of}
-use Rattle.cover_steps.specs.Gathering.{AreOfOneKind, IsPlacedWithin}
+use Rattle.cover_steps.specs.Gathering.{IsPlacedWithin}
 use Rattle.cover_steps.proofs.PartLemmas.{IsPartedTo}
 use Rattle.cover_steps.proofs.thinning.part_from.Given as goal
 
 abbrev pub invariant-loop-k : goal.invariant-loop-k
 invariant-loop-k l = record {
   long : length l.others.items ≡ length l.list;
-  kinds : AreOfOneKind l.others.items l.k;
   within : All (IsDepWithin (below l.width)) l.others.items;
   kept_within : All (IsPlacedWithin (below l.width)) l.kept.items;
   out : List Placed;

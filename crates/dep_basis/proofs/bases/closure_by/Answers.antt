@@ -1,10 +1,24 @@
--- What is left to prove of `closure_by`: its clause `closure`, by `rest_closed`.
-use Rattle.std.proofs.Common.{sym, ◌∙◌}
+-- What is left to prove of `closure_by`: its clause `closure`, where all are functional and, by
+-- `rest_closed`, where not.
+use Rattle.std.proofs.Common.{◌≡◌, ◌↔◌, ℕ, true, List, sym, subst, ◌∙◌}
 use Rattle.attr_sets.specs.Sets.{attributes}
+use Rattle.dep_model.specs.Dependencies.{Dependency}
 use Rattle.dep_model.specs.Deps.{dependencies_of}
+use Rattle.dep_model.specs.Keys.{InClosure}
 use Rattle.attr_sets.proofs.AttributesLemmas.{same_at}
 use Rattle.dep_basis.proofs.PieceLemmas.{rest_closed}
 use Rattle.dep_basis.proofs.bases.closure_by.Goals as goal
+
+pub returns-then-is_functional : goal.returns-then-is_functional
+returns-then-is_functional c =
+    let n = c.args.width in
+    let x = attributes c.args.lhs in
+    let closed = attributes c.functional_closure.result in
+    record {
+      closure = subst (λ (ds : List Dependency). (a : ℕ) → (closed a ≡ true) ↔ InClosure n ds x a)
+          (c.is_functional.ensures.functional.0 c.if-is_functional.true)
+          (c.functional_closure.ensures.closure n c.requires.deps c.requires.lhs);
+    }
 
 pub returns : goal.returns
 returns c = record {

@@ -25,8 +25,8 @@ loop-first-init c =
     let n = c.args.width in
     let ds = dependencies_of c.args.deps.now in
     let x = attributes c.args.lhs in
-    let more = attributes c.closure.result in
-    let between = closure_between n ds x more c.requires.lhs (c.closure.ensures.closure n c.requires.deps c.requires.lhs) in
+    let more = attributes c.functional_closure.result in
+    let between = closure_between n ds x more c.requires.lhs (c.functional_closure.ensures.closure n c.requires.deps c.requires.lhs) in
     record {
       within = λ k m. grind (arith, same_at c.difference-left.ensures.members k, m);
       closed = λ b in_y out. (

@@ -19,9 +19,9 @@ returns c =
     let n = c.args.width in
     let deps = c.args.deps.now in
     let x = attributes c.args.lhs in
-    let more = attributes c.closure.result in
+    let more = attributes c.functional_closure.result in
     let w = attributes c.difference-outside.result in
-    let between = closure_between n (dependencies_of deps) x more c.requires.lhs (c.closure.ensures.closure n c.requires.deps c.requires.lhs) in
+    let between = closure_between n (dependencies_of deps) x more c.requires.lhs (c.functional_closure.ensures.closure n c.requires.deps c.requires.lhs) in
     let is : w ≡ difference (below n) more = fun_ext (λ k. grind (arith, same_at c.difference-outside.ensures.members k, same_at c.full.ensures.members k)) in
     record {
       pieces = all_refined n deps x more w c.refine.new.found _ between.0 between.2 is (first_refined n deps more w c.requires.deps between.1 is) refl

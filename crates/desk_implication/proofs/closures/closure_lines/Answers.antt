@@ -13,7 +13,7 @@ returns c =
     let s = c.args.schema.now in
     let x = attributes c.args.start in
     let found = c.in_ok-found in
-    let closed = attributes c.closure_of-closed.result in
+    let closed = attributes c.closure-closed.result in
     let beside = c.in_ok-beside.beside.items in
     let rest : attributes c.difference.result ≡ difference closed (reached x (steps_of found.found.steps.items)) =
     c.difference.ensures.members ∙ ap (λ (y : Attributes). difference closed y) found.ensures.reached in
@@ -22,7 +22,7 @@ returns c =
         steps = steps_of found.found.steps.items;
         are_steps = found.ensures.steps;
         closed = closed;
-        is_closure = c.closure_of-closed.ensures.closure;
+        is_closure = c.closure-closed.ensures.closure;
         beside = beside;
         is_beside = subst (λ (y : Attributes). IsBesideText (printed_names_of s) y beside) rest c.in_ok-beside.ensures.text;
         reads = c.in_ok-text.ensures.text

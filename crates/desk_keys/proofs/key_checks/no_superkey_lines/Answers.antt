@@ -20,7 +20,7 @@ returns c =
     let s = c.args.schema.now in
     let n = width_of s in
     let x = attributes c.args.set in
-    let closed = attributes c.closure_of.result in
+    let closed = attributes c.closure.result in
     let agreement = attributes c.args.agreement in
     let missing : attributes c.difference-missing.result ≡ difference (universe_of s) closed =
     c.difference-missing.ensures.members ∙ ap (λ (y : Attributes). difference y closed) (c.full.ensures.members ∙ ap below c.width.ensures.count) in
@@ -28,7 +28,7 @@ returns c =
       text = record {
         no_superkey = λ superkey. c.requires.broken.breaks (fd_on-to n (theory_of s) (universe_of s) x (universe_of s) superkey (two_tuples n agreement) c.requires.broken.legal);
         closed = closed;
-        is_closure = c.closure_of.ensures.closure;
+        is_closure = c.closure.ensures.closure;
         agreement = agreement;
         broken = c.requires.broken;
         reads = c.in_ok-text.ensures.text

@@ -27,16 +27,16 @@ loop-rows-preserved c =
     let rows = c.in_ok-push.ensures.rows in
     let count : c.len-count.result ≡ length c.loop-rows.rows = c.len-count.ensures.count in
     let size : length c.push.new.self ≡ length c.loop-rows.rows + 1 = ap length rows
-    ∙ length-append c.loop-rows.rows (c.take_row.new.values ∷ []) in
+    ∙ length-append c.loop-rows.rows (c.take_fields.new.values ∷ []) in
     let fits : FitsRow c.args.most c.args.unclosed c.args.columns c.len-count.result (fields_of c.take_record.new.fields) = c.in-None.ensures.none refl in
-    let next : FitsRow c.args.most c.args.unclosed c.args.columns (length c.loop-rows.rows) c.take_row.new.values =
-    subst (λ (f : List (List ℕ)). FitsRow c.args.most c.args.unclosed c.args.columns (length c.loop-rows.rows) f) (sym c.in_ok-take_row.ensures.row)
+    let next : FitsRow c.args.most c.args.unclosed c.args.columns (length c.loop-rows.rows) c.take_fields.new.values =
+    subst (λ (f : List (List ℕ)). FitsRow c.args.most c.args.unclosed c.args.columns (length c.loop-rows.rows) f) (sym c.in_ok-take_fields.ensures.row)
     (subst (λ (i : ℕ). FitsRow c.args.most c.args.unclosed c.args.columns i (fields_of c.take_record.new.fields)) count fits) in
     record {
       within_limit = omega (arith, size, count, fits.2);
       fit = subst (λ (r : Relation). AreRows c.args.most c.args.unclosed c.args.columns r (length r)) (sym rows)
-          (fit_more c.args.most c.args.unclosed c.args.columns c.loop-rows.rows c.take_row.new.values c.loop-rows.invariant.fit next);
+          (fit_more c.args.most c.args.unclosed c.args.columns c.loop-rows.rows c.take_fields.new.values c.loop-rows.invariant.fit next);
       taken = λ rs left. rw rows
           (takes_row rs _ _ _ _ _ _ (c.loop-rows.invariant.taken rs left) c.in-Ok-true.field-0-test
-          c.in-Ok-true.ensures.record c.in_ok-take_row.ensures.row);
+          c.in-Ok-true.ensures.record c.in_ok-take_fields.ensures.row);
     }

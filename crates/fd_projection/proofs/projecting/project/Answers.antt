@@ -1,20 +1,20 @@
 -- What is left to prove of `project`: its clauses `cover` and `within`, and what `nonredundant_from`
 -- requires, by `ProjectionLemmas`.
-use Rattle.std.proofs.Common.{◌≡◌, ◌≤◌, true, List, [], length, inl, sym, subst, ◌∙◌, arith}
+use Rattle.std.proofs.Common.{◌≤◌, List, [], length, sym, subst, ◌∙◌, arith}
 use Rattle.std.proofs.lemmas.List.{length-map}
 use Rattle.std.proofs.lemmas.List.Elements.{All-weaker}
 use Rattle.std.specs.Prelude.{All}
 use Rattle.attr_sets.specs.Attributes.{below, IsSubset}
 use Rattle.attr_sets.specs.Sets.{attributes}
 use Rattle.dep_model.specs.declared.dep.Dep.{Dep}
-use Rattle.dep_model.specs.Dependencies.{Dependency, is_fd, IsWithin}
+use Rattle.dep_model.specs.Dependencies.{IsWithin}
 use Rattle.dep_model.specs.Deps.{dependency_of, dependencies_of}
 use Rattle.dep_model.specs.Schemas.{width_of, theory_of, deps_of}
 use Rattle.dep_model.proofs.DepLemmas.{dependencies_all-to}
 use Rattle.min_cover.specs.Covers.{IsThinned}
 use Rattle.fd_projection.specs.declared.refusal.TheConstants.{MOST_LISTED}
 use Rattle.fd_projection.specs.Projections.{IsMinimalFd, IsProjection, IsCoverWithin}
-use Rattle.fd_projection.proofs.ProjectionLemmas.{minimal_within_set, minimal_functional, projection_covers}
+use Rattle.fd_projection.proofs.ProjectionLemmas.{minimal_within_set, projection_covers}
 use Rattle.fd_projection.proofs.projecting.project.Goals as goal
 use Rattle.fd_projection.proofs.projecting.project.Goals.{In_ok-nonredundant_from}
 
@@ -27,15 +27,6 @@ nonredundant_from-requires-clause-within c =
     rw c.width.ensures.count (dependencies_all-to W c.in_ok-found.found.items
     (All-weaker (IsMinimalFd n (theory_of s) set) W
     (λ d minimal. let inside = minimal_within_set n (theory_of s) set d minimal in ((λ k m. c.requires.set k (inside.0 k m)), (λ k m. c.requires.set k (inside.1 k m))))
-    (dependencies_of c.in_ok-found.found.items) c.in_ok-found.ensures.found.each))
-
-pub nonredundant_from-requires-clause-kinds : goal.nonredundant_from-requires-clause-kinds
-nonredundant_from-requires-clause-kinds c =
-    let s = c.args.schema.now in
-    let n = width_of s in
-    let set = attributes c.args.set in
-    inl (dependencies_all-to (λ (d : Dependency). is_fd d ≡ true) c.in_ok-found.found.items
-    (All-weaker (IsMinimalFd n (theory_of s) set) (λ (d : Dependency). is_fd d ≡ true) (λ d minimal. minimal_functional n (theory_of s) set d minimal)
     (dependencies_of c.in_ok-found.found.items) c.in_ok-found.ensures.found.each))
 
 -- what is answered is the projection, and covers the set

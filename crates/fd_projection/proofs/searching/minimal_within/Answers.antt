@@ -14,9 +14,9 @@ use Rattle.dep_model.specs.Schemas.{width_of, theory_of, deps_of}
 use Rattle.dep_model.proofs.DepLemmas.{dependencies_all-to}
 use Rattle.fd_closure.specs.LeftSides.{InLeftSide}
 use Rattle.fd_closure.proofs.LeftSideLemmas.{left_sides_each}
-use Rattle.fd_projection.specs.declared.closures.KnownClosure.{KnownClosure}
+use Rattle.fd_closure.specs.declared.known.KnownClosure.{KnownClosure}
 use Rattle.fd_projection.specs.declared.refusal.TheConstants.{MOST_LISTED}
-use Rattle.fd_projection.specs.Closures.{IsKnown}
+use Rattle.fd_closure.specs.Closures.{IsKnownClosure}
 use Rattle.fd_projection.specs.Projections.{IsMinimalWithin}
 use Rattle.fd_projection.proofs.MinimalLemmas.{left_within}
 use Rattle.fd_projection.proofs.FoundLemmas.{IsWalked, walk_at, walk_on, walk_end, walk_cut}
@@ -35,14 +35,14 @@ lefts_in : (c : After-intersection-whole) → (v : Attributes) (b : ℕ) → IsM
 lefts_in c v b minimal =
     let s = c.args.schema.now in
     let lefts = attributes c.left_attributes.result in
-    let members = subst (λ (es : List Dep). (a : ℕ) → (lefts a ≡ true) ↔ InLeftSide (dependencies_of es) a) c.deps-2.ensures.deps c.left_attributes.ensures.members in
+    let members = subst (λ (es : List Dep). (a : ℕ) → (lefts a ≡ true) ↔ InLeftSide (dependencies_of es) a) c.deps.ensures.deps c.left_attributes.ensures.members in
     let each = dependencies_all-to (λ (d : Dependency). IsSubset (left_of d) lefts) (deps_of s) (left_sides_each (theory_of s) lefts (λ a h. (members a).1 h)) in
     left_within (width_of s) (deps_of s) (attributes c.args.set) lefts (attributes c.intersection-whole.result) v b s.valid.names_within_limit s.valid.deps_within c.requires.set each
     c.intersection-whole.ensures.members minimal
 
 pub closed_by_parts-given-requires-clause-table : goal.closed_by_parts-given-requires-clause-table
 closed_by_parts-given-requires-clause-table c =
-    subst (λ (xs : List KnownClosure). All (IsKnown c.args.schema.now) xs) (sym c.deref.ensures.value) c.loop-next.invariant.known
+    subst (λ (xs : List KnownClosure). All (IsKnownClosure (width_of c.args.schema.now) (theory_of c.args.schema.now)) xs) (sym c.deref.ensures.value) c.loop-next.invariant.known
 
 pub returns-then-len-gt-MOST_LISTED : goal.returns-then-len-gt-MOST_LISTED
 returns-then-len-gt-MOST_LISTED c =
@@ -61,8 +61,8 @@ loop-next-preserved c =
     let walked = at_hand (goal.at.loop-next-preserved c).In-Some in
     let known : KnownClosure = record { of = lhs; closed = c.closed_beyond-closed.result } in
     record {
-      known = subst (λ (xs : List KnownClosure). All (IsKnown s) xs) (sym c.in_ok-push.ensures.items)
-          (All-push (IsKnown s) c.loop-next.table.items known c.loop-next.invariant.known c.closed_beyond-closed.ensures.closure);
+      known = subst (λ (xs : List KnownClosure). All (IsKnownClosure (width_of s) (theory_of s)) xs) (sym c.in_ok-push.ensures.items)
+          (All-push (IsKnownClosure (width_of s) (theory_of s)) c.loop-next.table.items known c.loop-next.invariant.known c.closed_beyond-closed.ensures.closure);
       walked = walk_on (width_of s) (theory_of s) (attributes c.args.set) whole lhs c.next_subset-next.result (dependencies_of c.add_minimal.new.found.items)
           (λ k m. c.requires.set k (grind (arith, same_at c.intersection-whole.ensures.members k, m))) walked.within
           (lefts_in (goal.at.loop-next-preserved c).After-intersection-whole)

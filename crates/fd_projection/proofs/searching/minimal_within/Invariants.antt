@@ -5,13 +5,13 @@ use Rattle.attr_sets.specs.Sets.{attributes}
 use Rattle.dep_model.specs.Deps.{dependencies_of}
 use Rattle.dep_model.specs.Schemas.{width_of, theory_of}
 use Rattle.normal_forms.proofs.SearchLemmas.{subsets_left}
-use Rattle.fd_projection.specs.Closures.{IsKnown}
+use Rattle.fd_closure.specs.Closures.{IsKnownClosure}
 use Rattle.fd_projection.proofs.FoundLemmas.{IsWalked}
 use Rattle.fd_projection.proofs.searching.minimal_within.Given as goal
 
 abbrev pub invariant-loop-next : goal.invariant-loop-next
 invariant-loop-next l = record {
-  known : All (IsKnown l.schema) l.table.items;
+  known : All (IsKnownClosure (width_of l.schema) (theory_of l.schema)) l.table.items;
   walked : IsWalked (width_of l.schema) (theory_of l.schema) (attributes l.set) (attributes l.whole) l.next (dependencies_of l.found.items);
 }
 

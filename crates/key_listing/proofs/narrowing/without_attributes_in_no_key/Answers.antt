@@ -17,12 +17,12 @@ returns c =
     let n = width_of s in
     let scheme = attributes c.args.scheme in
     let used = attributes c.left_attributes-used.result in
-    let determined = attributes c.closure_of-determined.result in
+    let determined = attributes c.closure-determined.result in
     let rest = attributes c.difference-2.result in
     let sides : (a : ℕ) → (used a ≡ true) ↔ InLeftSide (theory_of s) a =
     subst (λ (ds : List Dep). (a : ℕ) → (used a ≡ true) ↔ InLeftSide (dependencies_of ds) a) c.deps.ensures.deps c.left_attributes-used.ensures.members in
     let closed : (a : ℕ) → (determined a ≡ true) ↔ InClosure n (theory_of s) (intersection scheme used) a =
-    subst (λ (x : Attributes). (a : ℕ) → (determined a ≡ true) ↔ InClosure n (theory_of s) x a) c.intersection.ensures.members c.closure_of-determined.ensures.closure in
+    subst (λ (x : Attributes). (a : ℕ) → (determined a ≡ true) ↔ InClosure n (theory_of s) x a) c.intersection.ensures.members c.closure-determined.ensures.closure in
     let left : rest ≡ difference scheme (difference determined used) =
     subst (λ (x : Attributes). rest ≡ difference scheme x) c.difference.ensures.members c.difference-2.ensures.members in
     record { rest = without_attributes_in_no_key-is n (deps_of s) s.valid.names_within_limit s.valid.deps_within scheme c.requires.scheme used determined rest sides closed left }

@@ -1,13 +1,29 @@
--- What is left to prove of `least_multivalued_pair`: its clause `pair` and what `rests_beside` and
--- `first_missing` require, by `PartLemmas`.
-use Rattle.std.proofs.Common.{◌≡◌, ◌<◌, ℕ, Some, None, length, ap, subst, sym, ◌∙◌}
+-- What is left to prove of `least_multivalued_pair`: its clause `pair` and what `part_counts`, `rests_beside`
+-- and `first_missing` require, by `PartLemmas`.
+use Rattle.std.proofs.Common.{◌≡◌, ◌<◌, ◌^◌, ℕ, List, Some, None, length, ap, subst, sym, ◌∙◌, arith}
 use Rattle.attr_sets.specs.Sets.{attributes}
 use Rattle.dep_model.specs.Tuples.{Relation}
 use Rattle.csv_rows.specs.Interning.{groups_of, firsts_of}
-use Rattle.csv_rows.specs.Numberings.{number_at}
+use Rattle.csv_rows.specs.Numberings.{AreFirsts, number_at}
+use Rattle.legality.proofs.CountLemmas.{few_firsts}
 use Rattle.legality.proofs.PartLemmas.{Grouping, grouping, none_short, first_short, below_firsts, short_known, beside_known, missing_known}
 use Rattle.legality.proofs.multivalued.least_multivalued_pair.Goals as goal
 use Rattle.legality.proofs.multivalued.least_multivalued_pair.Goals.{In_ok-all}
+
+-- there are fewer than 2 ^ 32 rows, so as few parts
+few_parts : (r : Relation) (numbers firsts : List ℕ) (count : ℕ) → length numbers ≡ length r → count ≡ length r → count < 2 ^ 32
+    → AreFirsts numbers firsts → length firsts < 2 ^ 32
+few_parts r numbers firsts count one_each all few are = omega (arith, few_firsts numbers firsts are, one_each, all, few)
+
+pub part_counts-requires-clause-fits_u32 : goal.part_counts-requires-clause-fits_u32
+part_counts-requires-clause-fits_u32 c =
+    few_parts c.args.rows.now _ _ _ (c.in_ok-rests.ensures.groups c.args.width c.args.rows.now c.requires.codes).one_each
+    c.requires.codes.count c.args.codes.now.fits_u32 (c.in_ok-rests.ensures.firsts c.args.width c.args.rows.now c.requires.codes)
+
+pub part_counts-requires-2-clause-fits_u32 : goal.part_counts-requires-2-clause-fits_u32
+part_counts-requires-2-clause-fits_u32 c =
+    few_parts c.args.rows.now _ _ _ (c.in_ok-all.ensures.groups c.args.width c.args.rows.now c.requires.codes).one_each
+    c.requires.codes.count c.args.codes.now.fits_u32 (c.in_ok-all.ensures.firsts c.args.width c.args.rows.now c.requires.codes)
 
 pub part_counts-requires-2-clause-same_length : goal.part_counts-requires-2-clause-same_length
 part_counts-requires-2-clause-same_length c =

@@ -1,6 +1,6 @@
 -- What is left to prove of `minimal_cover`: its clauses `fixed`, `minimal` and `within` and what
 -- `nonredundant_from` requires, by `fixed_is_minimal`.
-use Rattle.std.proofs.Common.{[], inl, arith}
+use Rattle.std.proofs.Common.{[], arith}
 use Rattle.std.proofs.lemmas.Result.{IfOk-weaker}
 use Rattle.attr_sets.specs.Attributes.{below}
 use Rattle.dep_model.specs.Dependencies.{IsWithin}
@@ -16,9 +16,6 @@ nonredundant_from-requires-clause-width c = omega (arith, c.width.ensures.count,
 
 pub nonredundant_from-requires-clause-within : goal.nonredundant_from-requires-clause-within
 nonredundant_from-requires-clause-within c = rw c.width.ensures.count c.in_ok-members.ensures.left_reduced.within
-
-pub nonredundant_from-requires-clause-kinds : goal.nonredundant_from-requires-clause-kinds
-nonredundant_from-requires-clause-kinds c = inl c.in_ok-members.ensures.left_reduced.functional
 
 pub returns-clause-fixed : goal.returns-clause-fixed
 returns-clause-fixed c =

@@ -1,6 +1,6 @@
 -- What is left to prove of `whole_cover`: its clauses `fixed`, `whole_cover`, `minimal` and
 -- `within` and what `nonredundant_from` requires, by `CoverLemmas` and `ThinningLemmas`.
-use Rattle.std.proofs.Common.{◌≡◌, ℕ, List, ◌++◌, length, take, drop, sym, ap, subst, arith}
+use Rattle.std.proofs.Common.{◌≡◌, List, ◌++◌, length, take, drop, sym, ap, subst, arith}
 use Rattle.std.proofs.lemmas.List.{length-take}
 use Rattle.std.proofs.lemmas.Result.{IfOk-weaker}
 use Rattle.std.specs.Prelude.{All}
@@ -11,7 +11,7 @@ use Rattle.dep_model.specs.Schemas.{width_of, theory_of, deps_of}
 use Rattle.dep_model.specs.Deps.{dependencies_of, IsDepWithin}
 use Rattle.dep_model.proofs.DepLemmas.{dependencies_all-from}
 use Rattle.min_cover.specs.Covers.{IsThinned, IsFixedWholeCover, IsMinimalCover, IsWholeCover, multivalued_part}
-use Rattle.min_cover.proofs.ThinningLemmas.{AreOfAKind, added_later, added_kinds, thinned_after}
+use Rattle.min_cover.proofs.ThinningLemmas.{added_later, thinned_after}
 use Rattle.min_cover.proofs.CoverLemmas.{fixed_is_whole, whole_is_minimal}
 use Rattle.min_cover.proofs.covering.whole_cover.Goals as goal
 
@@ -29,13 +29,6 @@ nonredundant_from-requires-clause-within c =
     let n = width_of c.args.schema.now in
     let deps_in : All (IsDepWithin (below n)) c.deps.result.now = subst (λ (ds : List Dep). All (IsDepWithin (below n)) ds) (sym c.deps.ensures.deps) c.args.schema.now.valid.deps_within in
     rw c.width.ensures.count (c.in_ok-add_multivalued.ensures.within n c.in_ok-cover.ensures.within deps_in)
-
-pub nonredundant_from-requires-clause-kinds : goal.nonredundant_from-requires-clause-kinds
-nonredundant_from-requires-clause-kinds c =
-    let cover = c.in_ok-cover.cover.items in
-    let others = c.add_multivalued.new.others.items in
-    let from_is : length cover ≡ c.len-from.result = omega (arith, c.len-from.ensures, c.in_ok-cover.cover.ok.0) in
-    subst (λ (k : ℕ). AreOfAKind others k) from_is (added_kinds cover others (dependencies_of c.deps.result.now) c.in_ok-add_multivalued.ensures.added)
 
 pub returns-clause-fixed : goal.returns-clause-fixed
 returns-clause-fixed c =

@@ -34,6 +34,6 @@ returns-in-Third c =
     let y = attributes c.difference.result in
     let is = is_bcnf c.args.form c.requires.form c.in-Third.is in
     let b : Breaks n ds Bcnf scheme x = subst (λ (f : Form). Breaks n ds f scheme x) is c.requires.breaks in
-    let right = right_side_at n ds scheme x (attributes c.closure_of.result) (attributes c.intersection.result) y c.requires.scheme c.requires.lhs c.closure_of.ensures.closure c.intersection.ensures.members c.difference.ensures.members in
+    let right = right_side_at n ds scheme x (attributes c.closure.result) (attributes c.intersection.result) y c.requires.scheme c.requires.lhs c.closure.ensures.closure c.intersection.ensures.members c.difference.ensures.members in
     let violated : ViolatesBcnf n ds scheme x y = bcnf_violated n ds scheme x y b right in
     record { violates = subst (λ (f : Form). Violates n ds f scheme x y) (sym is) violated }

@@ -8,7 +8,7 @@ use Rattle.dep_model.specs.Deps.{dependencies_of}
 use Rattle.dep_model.specs.Schemas.{width_of, theory_of, deps_of}
 use Rattle.attr_sets.proofs.AttributesLemmas.{same_at}
 use Rattle.fd_closure.specs.LeftSides.{InLeftSideWithin}
-use Rattle.fd_closure.proofs.SchemaLemmas.{closure_of_schema}
+use Rattle.fd_closure.proofs.SchemaLemmas.{functional_closure_of_schema}
 use Rattle.fd_closure.proofs.LeftSideLemmas.{within_each}
 use Rattle.normal_forms.proofs.AddedLemmas.{functional_side, functional_twice, functional_within, added_functional}
 use Rattle.normal_forms.proofs.narrowing.functionally_searched_attributes.Goals as goal
@@ -19,9 +19,9 @@ returns c =
     let n = width_of s in
     let fs = functional_part (theory_of s) in
     let scheme = attributes c.args.scheme in
-    let reach = attributes c.closure-reach.result in
+    let reach = attributes c.functional_closure-reach.result in
     let lefts = attributes c.functional_left_attributes.result in
-    let closed = closure_of_schema s c.deps.result.now c.deps.ensures.deps scheme reach c.requires.scheme c.closure-reach.ensures.closure in
+    let closed = functional_closure_of_schema s c.deps.result.now c.deps.ensures.deps scheme reach c.requires.scheme c.functional_closure-reach.ensures.closure in
     let members = subst (λ (es : List Dep). (a : ℕ) → (lefts a ≡ true) ↔ InLeftSideWithin reach (functional_part (dependencies_of es)) a) c.deps-2.ensures.deps
     c.functional_left_attributes.ensures.members in
     let each = within_each fs reach lefts (λ a h. (members a).1 h) in

@@ -9,8 +9,8 @@ returns-then-is_subset c =
     let s = c.args.schema.now in
     record {
       none = λ _ x between b.
-          superkey_between (width_of s) (theory_of s) (attributes c.args.scheme) (attributes c.args.least) (attributes c.args.most) c.requires.scheme c.requires.most (attributes c.closure_of.result)
-          c.requires.least c.closure_of.ensures.closure (c.is_subset.ensures.subset.0 c.if-is_subset.true) x between b.0;
+          superkey_between (width_of s) (theory_of s) (attributes c.args.scheme) (attributes c.args.least) (attributes c.args.most) c.requires.scheme c.requires.most (attributes c.closure.result)
+          c.requires.least c.closure.ensures.closure (c.is_subset.ensures.subset.0 c.if-is_subset.true) x between b.0;
     }
 
 pub returns-then-has_no_parts_about : goal.returns-then-has_no_parts_about

@@ -12,10 +12,10 @@ pub returns-clause-known : goal.returns-clause-known
 returns-clause-known c =
     let s = c.args.schema.now in
     let part = attributes c.args.part in
-    let all = attributes c.closure_with.result in
+    let all = attributes c.functional_closure_with.result in
     let exact : (a : ℕ) → (all a ≡ true) ↔ InClosure (width_of s) (functional_part (theory_of s)) part a =
     closure_over s c.deps.result.now part all c.deps.ensures.deps
-    (λ k m. c.requires.scheme k (c.requires.part k m)) c.closure_with.ensures.closure in
+    (λ k m. c.requires.scheme k (c.requires.part k m)) c.functional_closure_with.ensures.closure in
     record {
       universe = c.requires.scheme;
       within = c.requires.part;

@@ -11,7 +11,8 @@ use Rattle.csv_rows.proofs.NumberingLemmas.{difference_within, same_groups, unio
 use Rattle.legality.specs.Parts.{AreBelow}
 use Rattle.row_measures.specs.ByClass.{AreLargestBelow, AreOutside}
 use Rattle.row_measures.proofs.ChosenLemmas.{are_chosen, leaders_first, two_classes}
-use Rattle.row_measures.proofs.OrderLemmas.{counts_known, few_firsts, firsts_in, mapped, owners_below}
+use Rattle.legality.proofs.CountLemmas.{few_firsts}
+use Rattle.row_measures.proofs.OrderLemmas.{counts_known, firsts_in, mapped, owners_below}
 use Rattle.row_measures.proofs.by_class.sort_by_class.Goals as goal
 use Rattle.row_measures.proofs.by_class.sort_by_class.Goals.{In_ok-classes, In_ok-chosen}
 

@@ -14,7 +14,8 @@ use Rattle.dep_model.specs.Tuples.{Relation}
 use Rattle.legality.proofs.PartLemmas.{Grouping, grouping}
 use Rattle.row_measures.specs.ByPart.{AreShort, shortage}
 use Rattle.row_measures.proofs.MissingLemmas.{enough, lacking_groups, missing_known}
-use Rattle.row_measures.proofs.OrderLemmas.{few_firsts, firsts_in, mapped, owners_below}
+use Rattle.legality.proofs.CountLemmas.{few_firsts}
+use Rattle.row_measures.proofs.OrderLemmas.{firsts_in, mapped, owners_below}
 use Rattle.row_measures.proofs.by_part.sort_by_part.Goals as goal
 use Rattle.row_measures.proofs.by_part.sort_by_part.Goals.{In_ok-all, In_ok-groups, In_ok-left_groups, In_ok-lefts}
 
@@ -119,7 +120,7 @@ part_counts-requires-2-clause-parts c = (grouped (goal.at.part_counts-requires-2
 pub part_counts-requires-clause-fits_u32 : goal.part_counts-requires-clause-fits_u32
 part_counts-requires-clause-fits_u32 c =
     let k = grouped (goal.at.part_counts-requires-clause-fits_u32 c).In_ok-all in
-    omega (arith, k.rest.one_each, c.requires.codes.count, c.args.codes.now.fits_u32)
+    omega (arith, few_firsts _ _ k.rest_firsts, k.rest.one_each, c.requires.codes.count, c.args.codes.now.fits_u32)
 
 pub part_counts-requires-2-clause-same_length : goal.part_counts-requires-2-clause-same_length
 part_counts-requires-2-clause-same_length c =
@@ -129,7 +130,7 @@ part_counts-requires-2-clause-same_length c =
 pub part_counts-requires-2-clause-fits_u32 : goal.part_counts-requires-2-clause-fits_u32
 part_counts-requires-2-clause-fits_u32 c =
     let k = grouped (goal.at.part_counts-requires-2-clause-fits_u32 c).In_ok-all in
-    omega (arith, k.all.one_each, c.requires.codes.count, c.args.codes.now.fits_u32)
+    omega (arith, few_firsts _ _ k.all_firsts, k.all.one_each, c.requires.codes.count, c.args.codes.now.fits_u32)
 
 pub numbers_of-requires : goal.numbers_of-requires
 numbers_of-requires c =

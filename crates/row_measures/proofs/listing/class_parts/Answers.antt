@@ -8,7 +8,8 @@ use Rattle.csv_rows.specs.Numberings.{AreFirsts, number_at}
 use Rattle.row_measures.specs.Broken.{in_flagged}
 use Rattle.row_measures.specs.ByClass.{part_by}
 use Rattle.row_measures.proofs.ChosenLemmas.{leaders_are_firsts}
-use Rattle.row_measures.proofs.OrderLemmas.{few_firsts, firsts_in, mapped}
+use Rattle.legality.proofs.CountLemmas.{few_firsts}
+use Rattle.row_measures.proofs.OrderLemmas.{firsts_in, mapped}
 use Rattle.row_measures.proofs.SortedLemmas.{few_flags}
 use Rattle.row_measures.proofs.listing.class_parts.Goals as goal
 use Rattle.row_measures.proofs.listing.class_parts.Goals.{In_ok-owners, In_ok-leaders}

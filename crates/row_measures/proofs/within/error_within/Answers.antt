@@ -21,7 +21,8 @@ use Rattle.row_measures.specs.Broken.{AreChosen, rows_outside}
 use Rattle.row_measures.specs.ByClass.{AreLargestBelow}
 use Rattle.row_measures.proofs.ChosenLemmas.{are_chosen, leaders_first}
 use Rattle.row_measures.proofs.LawLemmas.{count_all}
-use Rattle.row_measures.proofs.OrderLemmas.{counts_known, few_firsts, firsts_in, mapped, owners_below}
+use Rattle.legality.proofs.CountLemmas.{few_firsts}
+use Rattle.row_measures.proofs.OrderLemmas.{counts_known, firsts_in, mapped, owners_below}
 use Rattle.row_measures.proofs.within.error_within.Goals as goal
 use Rattle.row_measures.proofs.within.error_within.Goals.{In_ok-classes, In_ok-chosen}
 

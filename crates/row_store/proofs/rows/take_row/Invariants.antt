@@ -1,6 +1,7 @@
 use Rattle.std.proofs.Common.{◌≡◌, take}
+use Rattle.row_store.specs.Rows.{row_at}
 use Rattle.row_store.proofs.rows.take_row.Given as goal
 
 -- the values so far
 abbrev pub invariant-loop-i : goal.invariant-loop-i
-invariant-loop-i l = record { values : l.values ≡ take l.i l.row }
+invariant-loop-i l = record { values : l.values ≡ take l.i (row_at l.rows l.row) }

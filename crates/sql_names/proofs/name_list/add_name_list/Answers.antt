@@ -4,8 +4,9 @@ use Rattle.std.proofs.Common.{◌≡◌, ◌++◌, ◌<◌, false, List, [], ℕ
 use Rattle.attr_sets.specs.Sets.{attributes}
 use Rattle.dep_model.specs.Schemas.{names_of}
 use Rattle.schema_printer.specs.Printing.{members_from}
+use Rattle.schema_printer.proofs.MemberLemmas.{names_inside, names_outside}
 use Rattle.sql_names.specs.Names.{quoted_name, comma_list}
-use Rattle.sql_names.proofs.NameLemmas.{names_inside, names_outside, comma_list-next, not_empty_more, name_is}
+use Rattle.sql_names.proofs.NameLemmas.{comma_list-next, not_empty_more, name_is}
 use Rattle.sql_names.proofs.name_list.add_name_list.Goals as goal
 use Rattle.sql_names.proofs.name_list.add_name_list.Goals.{then-contains+in_ok-add_listed_name, else-contains}
 

@@ -1,15 +1,16 @@
 -- What is left to prove of `Counts::count`: what it requires of what it calls, its clause `counts`, and that a round of
 -- its loop keeps the invariant, by `TableLemmas`.
-use Rattle.std.proofs.Common.{◌≡◌, ◌+◌, ◌<◌, ◌≤◌, ◌^◌, ◌++◌, ◌∷◌, [], ℕ, List, length, ap, sym, subst, ◌∙◌, arith}
+use Rattle.std.proofs.Common.{◌≡◌, ◌+◌, ◌<◌, ◌≤◌, ◌^◌, ◌++◌, ◌∷◌, [], ℕ, length, ap, sym, subst, ◌∙◌, arith}
 use Rattle.std.proofs.lemmas.List.{length-append}
 use Rattle.attr_sets.specs.Attributes.{Attributes, IsSubset, below}
 use Rattle.attr_sets.specs.Sets.{attributes}
 use Rattle.csv_rows.specs.Interning.{firsts_of, groups_of}
-use Rattle.csv_rows.specs.Numberings.{AreFirsts, AreGroups, number_at}
+use Rattle.csv_rows.specs.Numberings.{AreFirsts, AreGroups}
 use Rattle.mvd_discovery.specs.Counting.{set_of}
 use Rattle.mvd_discovery.proofs.CountLemmas.{few_sets, more_sets}
 use Rattle.mvd_discovery.proofs.NumberLemmas.{within_from_number}
-use Rattle.mvd_discovery.proofs.TableLemmas.{different_rows, firsts_few, sizes_by_groups, sizes_more}
+use Rattle.legality.proofs.CountLemmas.{few_firsts}
+use Rattle.mvd_discovery.proofs.TableLemmas.{different_rows, sizes_by_groups, sizes_more}
 use Rattle.mvd_discovery.proofs.counts.Counts.count.Goals as goal
 
 pub by_agreement-requires-in-loop-number : goal.by_agreement-requires-in-loop-number
@@ -43,7 +44,7 @@ sizes_by-requires-clause-fits_u32 c =
     (c.in_ok-different.ensures.groups c.args.width c.args.rows.now c.in_ok-codes.ensures.codes) in
     let first : AreFirsts (groups_of c.in_ok-different.different) (firsts_of c.in_ok-different.different) =
     c.in_ok-different.ensures.firsts c.args.width c.args.rows.now c.in_ok-codes.ensures.codes in
-    omega (arith, firsts_few _ _ first, all.one_each, c.requires.fits_u32)
+    omega (arith, few_firsts _ _ first, all.one_each, c.requires.fits_u32)
 
 pub loop-number-preserved : goal.loop-number-preserved
 loop-number-preserved c =
