@@ -4,7 +4,7 @@ use Rattle.std.specs.List.{flat_map}
 use Rattle.attr_sets.specs.Attributes.{only}
 use Rattle.cover_check.specs.CoverDiagnostics.{AreCoverDiagnostics}
 use Rattle.cover_check.specs.declared.diagnostic.CoverDiagnostic.{CoverDiagnostic}
-use Rattle.cover_check.specs.declared.diagnostic.CoverDiagnostic.TheVariants.{WideRight, NotNeeded, Follows}
+use Rattle.cover_check.specs.declared.diagnostic.CoverDiagnostic.TheVariants.{SeveralOnRight, NotNeeded, Follows}
 use Rattle.dep_model.specs.Dependencies.{Dependency}
 use Rattle.dep_model.specs.Implication.{IsLegal, Implies}
 use Rattle.dep_model.specs.Schemas.{width_of, theory_of, lines_of}
@@ -53,7 +53,7 @@ module _ (s : Schema) (f : Frame s) where
 
   diagnostic_text_moved : (w : CoverDiagnostic) → diagnostic_text s w ≡ diagnostic_text built w
   unfolding printed_names_of
-  diagnostic_text_moved (WideRight k) =
+  diagnostic_text_moved (SeveralOnRight k) =
       ap (λ (text : List ℕ). line (text ++ codes " has more than one attribute on the right")) (placed_moved k)
   diagnostic_text_moved (NotNeeded k a) =
       ap (λ (text : List ℕ).

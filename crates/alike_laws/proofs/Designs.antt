@@ -6,14 +6,14 @@ use Rattle.std.specs.declared.alloc.Global.{Global}
 use Rattle.attr_sets.specs.Attributes.{Attributes, difference}
 use Rattle.attr_sets.specs.Sets.{attributes, is_disjoint}
 use Rattle.attr_sets.specs.declared.set.AttrSet.{AttrSet}
-use Rattle.check_laws.specs.Holding.{Holds}
-use Rattle.check_laws.specs.Telling.{NoBreachShown, NothingShown, RulesHold, ShowsNothing}
+use Rattle.check_laws.specs.HeldRelations.{Holds}
+use Rattle.check_laws.specs.CheckedRules.{NoBreachShown, NothingShown, RulesHold, ShowsNothing}
 use Rattle.check_queries.specs.Columns.{name_at, type_at}
 use Rattle.check_queries.specs.Checks.{check_query, missing_among, missing_query, required_of, values_query, groups_of_several, count_of_several, counts_query, three_counts, groups_of_unpaired, count_of_unpaired}
 use Rattle.ddl_text.specs.Ddl.{column_element, column_type, comment, ddl_text, sql_type, element_lines, is_empty, key_comment, key_element, key_elements, keys_elements, left_out_line, unique_element, reference_element, reference_elements, table_text}
 use Rattle.primary_keys.specs.PrimaryKeys.{IsPrimaryKey}
 use Rattle.ddl_text.specs.Designs.{AreOtherKeys, IsDesign, IsTableOf, known_keys, without_key}
-use Rattle.ddl_text.specs.Holding.{KeyHolds, ReferenceHolds}
+use Rattle.ddl_text.specs.KeysAndReferences.{KeyHolds, ReferenceHolds}
 use Rattle.ddl_text.specs.Laws.{KeysHold, OtherKeysHold, ReferencesHold, rows_on}
 use Rattle.ddl_text.specs.declared.table.TableDesign.{TableDesign}
 use Rattle.dep_model.specs.Dependencies.{Dependency}
@@ -37,10 +37,10 @@ use Rattle.missing_values.specs.Missing.{FindsMissing, NeverMissing}
 use Rattle.missing_values.specs.Refusals.{missing_text as refused_text, refusal_text}
 use Rattle.missing_values.specs.declared.refusal.MissingRefusal.{MissingRefusal}
 use Rattle.missing_values.specs.declared.refusal.MissingRefusal.TheVariants.{InKey, InTwo}
-use Rattle.fd_closure.specs.LeftSides.{IsWide}
+use Rattle.fd_closure.specs.LeftSides.{IsWideScheme}
 use Rattle.key_listing.specs.Listing.{AreAllKeys, AreManyKeys}
 use Rattle.key_listing.specs.declared.refusal.TheConstants.{MOST_KEYS}
-use Rattle.normal_forms.specs.declared.forms.Form.{Form}
+use Rattle.normal_forms.specs.declared.form.Form.{Form}
 use Rattle.schema_printer.specs.Printing.{dependency_text}
 use Rattle.schema_printer.specs.Spelling.{printed_names_of}
 use Rattle.sql_evaluation.specs.Cells.{Cell, is_none}
@@ -53,7 +53,7 @@ use Rattle.migrate_queries.specs.Script.{copy_name, view_name, copy_query, fill_
 use Rattle.migrate_laws.specs.Moved.{HasMoved}
 use Rattle.sql_names.specs.Names.{quoted_name}
 use Rattle.sql_syntax.specs.Syntax.{Query, attribute}
-use Rattle.sql_syntax.specs.Statements.{Element, column_of, unique_key, Statement, remark, begin, commit, create_table, create_from, create_view, script_text}
+use Rattle.sql_syntax.specs.Statements.{Element, column_definition, unique_key, Statement, remark, begin, commit, create_table, create_from, create_view, script_text}
 use Rattle.table_drawing.specs.Drawing.{node_head, drawing_text, edge_text, node_text, row_text}
 use Rattle.table_queries.specs.Meanings.{IsGiven, GivesNone}
 use Rattle.table_queries.specs.Queries.{breaches_of, rows_of}
@@ -62,7 +62,7 @@ use Rattle.table_scripts.specs.Migrating.{FillsTables, ViewIs, ViewIsTable, migr
 use Rattle.table_names.specs.TableNames.{GivenNames}
 use Rattle.table_scripts.specs.Naming.{met_name, quoted_table}
 use Rattle.alike_laws.proofs.Derivations.{said, said_back}
-use Rattle.alike_laws.proofs.Keys.{wide_back}
+use Rattle.alike_laws.proofs.Keys.{wide_scheme_back}
 use Rattle.alike_laws.proofs.Plans.{with_plan_moved, without_loss_moved}
 use Rattle.alike_laws.proofs.Rebuilt.{Frame, rebuilt}
 
@@ -75,13 +75,13 @@ module _ (s : Schema) (f : Frame s) where
       → AreOtherKeys built scheme key others
   other_keys_moved scheme key None (not_empty, beyond) = (
     not_empty,
-    said s f (λ ds. IsWide ds scheme ⊎ ((found : List AttrSet) × AreManyKeys (width_of s) ds scheme found)) beyond,
+    said s f (λ ds. IsWideScheme ds scheme ⊎ ((found : List AttrSet) × AreManyKeys (width_of s) ds scheme found)) beyond,
   )
   other_keys_moved scheme key (Some keys) (inl alone) = inl alone
   other_keys_moved scheme key (Some keys) (inr listed) =
       inr (record {
         not_empty = listed.not_empty;
-        narrow = λ wide. listed.narrow (wide_back s f scheme wide);
+        narrow = λ wide. listed.narrow (wide_scheme_back s f scheme wide);
         all = said s f (λ ds. (all : List AttrSet) × AreAllKeys (width_of s) ds scheme all × (length all ≤ MOST_KEYS)
             × (keys.items ≡ without_key key all)) listed.all;
       })
@@ -440,7 +440,7 @@ module _ (s : Schema) (f : Frame s) where
   -- the statements
   column_made_moved : (k : ℕ) → column_made s k ≡ column_made built k
   column_made_moved k =
-      ap (λ (nullable : Attributes). column_of (attribute (name_at s k)) (sql_type (type_at s k)) (nullable k)) f.nullable
+      ap (λ (nullable : Attributes). column_definition (attribute (name_at s k)) (sql_type (type_at s k)) (nullable k)) f.nullable
 
   keys_made_moved : (table : TableDesign) → keys_made s table ≡ keys_made built table
   keys_made_moved table =

@@ -8,7 +8,7 @@ use Rattle.attr_sets.specs.declared.set.TheConstants.{MOST_ATTRIBUTES}
 use Rattle.armstrong_rel.specs.Exhibits.{IsExhibit, IsArmstrong}
 use Rattle.armstrong_rel.specs.Refusals.{IsFirstMvd, IsFunctional, IsTooWideToExhibit, AreTooMany}
 use Rattle.armstrong_rel.specs.declared.refusal.TheConstants.{WIDEST_EXHIBITED}
-use Rattle.closure_steps.specs.Steps.{Step, AreClosureSteps}
+use Rattle.closure_steps.specs.Steps.{ClosureStepValue, AreClosureSteps}
 use Rattle.closure_steps.specs.Without.{AreClosuresWithout}
 use Rattle.dep_basis.specs.Decisions.{IsBrokenBy}
 use Rattle.dep_model.specs.Dependencies.{fd, functional_part, is_fd}
@@ -22,7 +22,7 @@ use Rattle.desk_keys.specs.Keys.{EndsKeys, HasKeys, IsListed, KeyedScheme, Lists
 use Rattle.desk_responses.specs.Lines.{line_number_text}
 use Rattle.desk_responses.specs.ResponseValues.{IsFirstFailing, ResponseValue}
 use Rattle.desk_texts.specs.Texts.{set_line}
-use Rattle.fd_closure.specs.LeftSides.{IsWide, left_sides}
+use Rattle.fd_closure.specs.LeftSides.{IsWideScheme, left_sides}
 use Rattle.key_listing.specs.Listing.{AreAllKeys, AreManyKeys}
 use Rattle.key_listing.specs.Refusals.{IsTooWide}
 use Rattle.schema_printer.specs.Spelling.{printed_names_of}
@@ -48,7 +48,7 @@ module _ (s : Schema) (f : Frame s) where
   built = rebuilt s f
 
   -- ---- `closure`
-  step_text_moved : (step : Step) → step_text s step ≡ step_text built step
+  step_text_moved : (step : ClosureStepValue) → step_text s step ≡ step_text built step
   unfolding printed_names_of
   step_text_moved step =
       ap (λ (text : List ℕ).
@@ -56,11 +56,11 @@ module _ (s : Schema) (f : Frame s) where
       ++ codes " adds ") (printed_names_of s) step.added)
       (dep_text_moved s f (printed_names_of s) step.position)
 
-  closure_text_moved : (x : Attributes) (steps : List Step) (beside : List ℕ) (closed : Attributes)
+  closure_text_moved : (x : Attributes) (steps : List ClosureStepValue) (beside : List ℕ) (closed : Attributes)
       → closure_text s x steps beside closed ≡ closure_text built x steps beside closed
   unfolding printed_names_of
   closure_text_moved x steps beside closed =
-      ap (λ (text : Step → List ℕ).
+      ap (λ (text : ClosureStepValue → List ℕ).
       set_line (codes "start ") (printed_names_of s) x ++ flat_map text steps ++ beside
       ++ set_line (codes "closure ") (printed_names_of s) closed) (λ i step. step_text_moved step i)
 
@@ -134,11 +134,11 @@ module _ (s : Schema) (f : Frame s) where
   -- ---- `keys`
   too_wide_moved : IsTooWide s → IsTooWide built
   too_wide_moved is =
-      said s f (λ ds. Any (λ d. is_fd d ≡ false) ds × IsWide ds (universe_of s)) is
+      said s f (λ ds. Any (λ d. is_fd d ≡ false) ds × IsWideScheme ds (universe_of s)) is
 
   too_wide_back : IsTooWide built → IsTooWide s
   too_wide_back is =
-      said_back s f (λ ds. Any (λ d. is_fd d ≡ false) ds × IsWide ds (universe_of s)) is
+      said_back s f (λ ds. Any (λ d. is_fd d ≡ false) ds × IsWideScheme ds (universe_of s)) is
 
   pub keys_moved : (response : ResponseValue) → ListsKeys s response → ListsKeys built response
   unfolding printed_names_of
@@ -159,15 +159,15 @@ module _ (s : Schema) (f : Frame s) where
       ))
 
   -- ---- `keys` of a plan
-  pub wide_moved : (scheme : Attributes) → IsWide (theory_of s) scheme → IsWide (theory_of built) scheme
-  wide_moved scheme = said s f (λ ds. IsWide ds scheme)
+  pub wide_scheme_moved : (scheme : Attributes) → IsWideScheme (theory_of s) scheme → IsWideScheme (theory_of built) scheme
+  wide_scheme_moved scheme = said s f (λ ds. IsWideScheme ds scheme)
 
-  pub wide_back : (scheme : Attributes) → IsWide (theory_of built) scheme → IsWide (theory_of s) scheme
-  wide_back scheme = said_back s f (λ ds. IsWide ds scheme)
+  pub wide_scheme_back : (scheme : Attributes) → IsWideScheme (theory_of built) scheme → IsWideScheme (theory_of s) scheme
+  wide_scheme_back scheme = said_back s f (λ ds. IsWideScheme ds scheme)
 
   has_keys_moved : (keyed : KeyedScheme) → HasKeys s keyed → HasKeys built keyed
   has_keys_moved keyed has = record {
-    narrow = λ wide. has.narrow (wide_back keyed.scheme wide);
+    narrow = λ wide. has.narrow (wide_scheme_back keyed.scheme wide);
     keys = said s f (λ ds. AreAllKeys (width_of s) ds keyed.scheme keyed.keys) has.keys;
     within_limit = has.within_limit;
   }
@@ -181,10 +181,10 @@ module _ (s : Schema) (f : Frame s) where
   keys_end_moved : (scheme : Attributes) (response : ResponseValue) → EndsKeys s scheme response
       → EndsKeys built scheme response
   unfolding printed_names_of
-  keys_end_moved scheme response (inl (wide, says)) = inl (wide_moved scheme wide, says)
+  keys_end_moved scheme response (inl (wide, says)) = inl (wide_scheme_moved scheme wide, says)
   keys_end_moved scheme response (inr (narrow, (found, many, says))) =
       inr (
-        λ wide. narrow (wide_back scheme wide),
+        λ wide. narrow (wide_scheme_back scheme wide),
         (found, said s f (λ ds. AreManyKeys (width_of s) ds scheme found) many, says),
       )
 

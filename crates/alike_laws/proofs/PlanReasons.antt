@@ -9,8 +9,8 @@ use Rattle.desk_designs.specs.Synthesis.{Synthesizes}
 use Rattle.desk_reasons.specs.SplitReasons.{AreSplitReasons, ExplainsSplit}
 use Rattle.desk_reasons.specs.SynthesisReasons.{AreSynthesisReasons, ExplainsSynthesis}
 use Rattle.desk_responses.specs.ResponseValues.{ResponseValue}
-use Rattle.normal_forms.specs.declared.forms.Form.{Form}
-use Rattle.normal_forms.specs.declared.forms.Form.TheVariants.{Third, Bcnf, Fourth}
+use Rattle.normal_forms.specs.declared.form.Form.{Form}
+use Rattle.normal_forms.specs.declared.form.Form.TheVariants.{Third, Bcnf, Fourth}
 use Rattle.schema_printer.specs.Spelling.{printed_names_of}
 use Rattle.split_forms.specs.Steps.{AreSplitSteps}
 use Rattle.synthesis_3nf.specs.GroupedPlans.{AreSynthesisSteps}

@@ -25,18 +25,18 @@ use Rattle.desk_responses.specs.ResponseValues.{Allowed, ResponseValue, Says, te
 use Rattle.desk_responses.specs.declared.status.Status.TheVariants.{Yes, No}
 use Rattle.desk_texts.specs.Texts.{line}
 use Rattle.normal_forms.specs.Chosen.{IsInForm, IsChosenViolation}
-use Rattle.normal_forms.specs.declared.forms.Form.{Form}
-use Rattle.normal_forms.specs.declared.forms.Form.TheVariants.{Third, Bcnf, Fourth}
+use Rattle.normal_forms.specs.declared.form.Form.{Form}
+use Rattle.normal_forms.specs.declared.form.Form.TheVariants.{Third, Bcnf, Fourth}
 use Rattle.preservation.specs.Keeping.{LossesOf}
 use Rattle.preservation.specs.declared.losing.Loss.{Loss}
 use Rattle.schema_printer.specs.Spelling.{printed_names_of}
 use Rattle.split_forms.specs.Refusals.{IsWithinLimits}
 use Rattle.split_forms.specs.Splitting.{IsSplitPlan, IsTooWideAt, HasTooManySchemes}
 use Rattle.synthesis_3nf.specs.GroupedPlans.{IsGroupedPlan}
-use Rattle.wide_bcnf.specs.WideSplits.{IsWidePlan}
+use Rattle.wide_bcnf.specs.WideSplits.{IsWideSplitPlan}
 use Rattle.alike_laws.proofs.Derivations.{said, said_back}
 use Rattle.alike_laws.proofs.Implication.{dep_text_moved}
-use Rattle.alike_laws.proofs.Keys.{first_failing_moved, wide_moved, wide_back}
+use Rattle.alike_laws.proofs.Keys.{first_failing_moved, wide_scheme_moved, wide_scheme_back}
 use Rattle.alike_laws.proofs.Rebuilt.{Frame, rebuilt}
 use Rattle.alike_laws.proofs.Values.{fits_moved}
 use Rattle.shown_rows.specs.Shown.{shown_relation}
@@ -106,7 +106,7 @@ module _ (s : Schema) (f : Frame s) where
   wide_split_moved response (plan, is, says) = (
     plan,
     record {
-      split = said s f (λ ds. IsWidePlan (width_of s) ds plan) is.split;
+      split = said s f (λ ds. IsWideSplitPlan (width_of s) ds plan) is.split;
       lossless = said s f (λ ds. IsLossless (width_of s) ds (schemes_of plan)) is.lossless;
       bcnf = said s f (λ ds. All (IsBcnf (width_of s) ds) (schemes_of plan)) is.bcnf;
       within_limit = is.within_limit;
@@ -117,7 +117,7 @@ module _ (s : Schema) (f : Frame s) where
   -- ---- `check form`
   passes_moved : (form : Form) (scheme : Attributes) → PassesForm s form scheme → PassesForm built form scheme
   passes_moved form scheme passes = record {
-    narrow = λ wide. passes.narrow (wide_back s f scheme wide);
+    narrow = λ wide. passes.narrow (wide_scheme_back s f scheme wide);
     in_form = said s f (λ ds. IsInForm (width_of s) ds form scheme) passes.in_form;
   }
 
@@ -127,10 +127,10 @@ module _ (s : Schema) (f : Frame s) where
   form_ends_moved : (form : Form) (scheme : Attributes) (response : ResponseValue) → EndsForm s form scheme response
       → EndsForm built form scheme response
   unfolding printed_names_of
-  form_ends_moved form scheme response (inl (wide, says)) = inl (wide_moved s f scheme wide, says)
+  form_ends_moved form scheme response (inl (wide, says)) = inl (wide_scheme_moved s f scheme wide, says)
   form_ends_moved form scheme response (inr (narrow, (x, y, violates, says))) =
       inr (
-        λ wide. narrow (wide_back s f scheme wide),
+        λ wide. narrow (wide_scheme_back s f scheme wide),
         (x, y, said s f (λ ds. IsChosenViolation (width_of s) ds form scheme x y) violates, says),
       )
 

@@ -8,7 +8,7 @@ use Rattle.desk_implication.specs.Projections.{IsProjected, ProjectsSet, Project
 use Rattle.desk_texts.specs.Texts.{overlong_text}
 use Rattle.desk_responses.specs.ResponseValues.{ResponseValue, text_only}
 use Rattle.desk_responses.specs.declared.status.Status.TheVariants.{Yes}
-use Rattle.fd_closure.specs.LeftSides.{IsWide}
+use Rattle.fd_closure.specs.LeftSides.{IsWideScheme}
 use Rattle.fd_projection.specs.Projections.{IsProjection, IsCoverWithin}
 use Rattle.fd_projection.specs.Refusals.{AreTooMany}
 use Rattle.schema_parts.specs.Parts.{part_declared_text, rules_text}
@@ -33,7 +33,7 @@ module _ (s : Schema) (f : Frame s) where
   projected_moved : (x : Attributes) (rules : List Dependency) → IsProjected s x rules → IsProjected built x rules
   projected_moved x rules is = record {
     not_empty = is.not_empty;
-    narrow = λ wide. is.narrow (said_back s f (λ ds. IsWide ds x) wide);
+    narrow = λ wide. is.narrow (said_back s f (λ ds. IsWideScheme ds x) wide);
     projection = said s f (λ ds. IsProjection (width_of s) ds x rules) is.projection;
     cover = said s f (λ ds. IsCoverWithin (width_of s) ds x rules) is.cover;
   }
@@ -41,13 +41,13 @@ module _ (s : Schema) (f : Frame s) where
   told_moved : (x : Attributes) (response : ResponseValue) → ProjectsSet s x response → ProjectsSet built x response
   unfolding printed_names_of
   told_moved x response (inl (empty, says)) = inl (empty, says)
-  told_moved x response (inr (inl (some, inl (wide, says)))) = inr (inl (some, inl (said s f (λ ds. IsWide ds x) wide, says)))
+  told_moved x response (inr (inl (some, inl (wide, says)))) = inr (inl (some, inl (said s f (λ ds. IsWideScheme ds x) wide, says)))
   told_moved x response (inr (inl (some, inr ((narrow, many), says)))) =
       inr (inl (
         some,
         inr (
           (
-            (λ wide. narrow (said_back s f (λ ds. IsWide ds x) wide)),
+            (λ wide. narrow (said_back s f (λ ds. IsWideScheme ds x) wide)),
             said s f (λ ds. (found : List Dependency) × AreTooMany (width_of s) ds x found) many,
           ),
           says,

@@ -12,7 +12,7 @@ use Rattle.dep_model.specs.Schemas.{theory_of, width_of}
 use Rattle.dep_model.specs.Tuples.{Tuple, Relation, value_at}
 use Rattle.dep_model.specs.declared.schema.Schema.{Schema}
 use Rattle.legality.specs.Parts.{flag_at}
-use Rattle.row_measures.specs.Answers.{AreKept}
+use Rattle.row_measures.specs.Answers.{AreKeptFlags}
 use Rattle.row_store.specs.Rows.{row_at}
 use Rattle.schema_printer.specs.Spelling.{printed_names_of}
 use Rattle.desk_responses.specs.ResponseValues.{ResponseValue}
@@ -165,7 +165,7 @@ module _ (s : Schema) (f : Frame s) where
   kept_rows_moved rows kept is = record {
     functional = said s f (λ ds. functional_part ds ≡ ds) is.functional;
     flags = is.flags;
-    are = said s f (λ ds. AreKept ds rows is.flags) is.are;
+    are = said s f (λ ds. AreKeptFlags ds rows is.flags) is.are;
     rest = is.rest;
     legal = said s f (λ ds. IsLegal (width_of s) ds kept) is.legal;
   }

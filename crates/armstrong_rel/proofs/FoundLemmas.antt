@@ -23,7 +23,7 @@ use Rattle.armstrong_rel.specs.declared.refusal.TheConstants.{MOST_EXHIBITED_ROW
 use Rattle.armstrong_rel.specs.ClosedSets.{IsIrreducible, AreIrreducible}
 use Rattle.fd_closure.specs.Closures.{IsClosureOf}
 use Rattle.armstrong_rel.specs.Parts.{IsClosedPart, IsLacking, in_no_left_side, filled_but}
-use Rattle.armstrong_rel.specs.Searching.{AreFound, AreFoundSets, HasPartBefore, HasPartUpTo}
+use Rattle.armstrong_rel.specs.Searching.{AreTriedIrreducible, AreFoundSets, HasPartBefore, HasPartUpTo}
 use Rattle.armstrong_rel.specs.Refusals.{AreTooMany}
 use Rattle.armstrong_rel.proofs.ClosedLemmas.{closure_member, closure_holds}
 use Rattle.dep_model.proofs.PermutationLemmas.{AllPairs-permutation, Any-permutation, Any-map}
@@ -32,8 +32,8 @@ use Rattle.armstrong_rel.proofs.PartLemmas.{left_sides_low, filled_part, filled_
 -- ---- sets that were found of those that were tried
 -- none yet, where none was tried
 pub found_none : (n : ℕ) (ds : List Dependency) (T : Attributes → Type 0) (found : List AttrSet) → found ≡ []
-    → ((c : Attributes) → T c → ⊥) → AreFound n ds T found
-found_none n ds T found none not = subst (AreFound n ds T) (sym none) (record {
+    → ((c : Attributes) → T c → ⊥) → AreTriedIrreducible n ds T found
+found_none n ds T found none not = subst (AreTriedIrreducible n ds T) (sym none) (record {
   each = All-nil (λ (s : AttrSet). IsIrreducible n ds (attributes s));
   tried = All-nil (λ (s : AttrSet). T (attributes s));
   differ = λ i j d before l. absurd (omega (arith, l));
@@ -44,7 +44,7 @@ found_none n ds T found none not = subst (AreFound n ds T) (sym none) (record {
 
 -- more were tried, and no more are irreducible
 pub found_same : (n : ℕ) (ds : List Dependency) (T U : Attributes → Type 0) (found : List AttrSet) → ((c : Attributes) → T c → U c)
-    → ((c : Attributes) → IsIrreducible n ds c → U c → T c) → AreFound n ds T found → AreFound n ds U found
+    → ((c : Attributes) → IsIrreducible n ds c → U c → T c) → AreTriedIrreducible n ds T found → AreTriedIrreducible n ds U found
 found_same n ds T U found more back before = record {
   each = before.each;
   tried = All-weaker (λ (s : AttrSet). T (attributes s)) (λ (s : AttrSet). U (attributes s)) (λ s t. more (attributes s) t) found before.tried;
@@ -56,13 +56,13 @@ found_same n ds T U found more back before = record {
 
 -- more were tried, of which one is irreducible; it is added where there is room
 pub found_added : (n : ℕ) (ds : List Dependency) (T U : Attributes → Type 0) (old new : List AttrSet) (s : AttrSet)
-    → s.0 < 2 ^ MOST_ATTRIBUTES → AreFound n ds T old → IsIrreducible n ds (attributes s) → (T (attributes s) → ⊥)
+    → s.0 < 2 ^ MOST_ATTRIBUTES → AreTriedIrreducible n ds T old → IsIrreducible n ds (attributes s) → (T (attributes s) → ⊥)
     → ((c : Attributes) → T c → U c) → U (attributes s)
     → ((c : Attributes) → IsIrreducible n ds c → U c → T c ⊎ (c ≡ attributes s))
     → (length old < MOST_EXHIBITED_ROWS → new ≡ old ++ s ∷ []) → (MOST_EXHIBITED_ROWS ≤ length old → new ≡ old)
-    → AreFound n ds U new
+    → AreTriedIrreducible n ds U new
 found_added n ds T U old new s fits before is not more now back room full = ⊎_elim
-    (λ (few : length old < MOST_EXHIBITED_ROWS). subst (AreFound n ds U) (sym (room few)) (record {
+    (λ (few : length old < MOST_EXHIBITED_ROWS). subst (AreTriedIrreducible n ds U) (sym (room few)) (record {
       each = All-push (λ (t : AttrSet). IsIrreducible n ds (attributes t)) old s before.each is;
       tried = All-push (λ (t : AttrSet). U (attributes t)) old s old_tried now;
       differ = all_pairs_push (λ (t u : AttrSet). attributes t ≡ attributes u → ⊥) old s before.differ
@@ -74,7 +74,7 @@ found_added n ds T U old new s fits before is not more now back room full = ⊎_
           (λ (same : c ≡ attributes s). Any-from (λ (t : AttrSet). attributes t ≡ c) (old ++ s ∷ []) s (Contains-push old s) (sym same))
           (back c irreducible tried);
     }))
-    (λ (many : MOST_EXHIBITED_ROWS ≤ length old). subst (AreFound n ds U) (sym (full many)) (record {
+    (λ (many : MOST_EXHIBITED_ROWS ≤ length old). subst (AreTriedIrreducible n ds U) (sym (full many)) (record {
       each = before.each;
       tried = old_tried;
       differ = before.differ;
@@ -120,7 +120,7 @@ module _ (n : ℕ) (ds : List Dependency) (within : All (IsWithin (below n)) ds)
 
   -- a part that determines more of the left sides is that of none
   pub part_not_closed : (t : Attributes) (found : List AttrSet) → IsClosureOf n ds z t → (intersection t (left_sides ds) ≡ z → ⊥)
-      → AreFound n ds (HasPartBefore ds z) found → AreFound n ds (HasPartUpTo ds z) found
+      → AreTriedIrreducible n ds (HasPartBefore ds z) found → AreTriedIrreducible n ds (HasPartUpTo ds z) found
   part_not_closed t found closure other before =
       found_same n ds (HasPartBefore ds z) (HasPartUpTo ds z) found (λ c earlier. inl earlier)
       (λ c is up_to. ⊎_elim
@@ -146,7 +146,7 @@ module _ (n : ℕ) (ds : List Dependency) (within : All (IsWithin (below n)) ds)
       let both : intersection t (left_sides ds) k ≡ true = grind (arith, in_t, used) in
       sym (same_at is k) ∙ both
 
-  pub lacking_start : (found : List AttrSet) → AreFound n ds (HasPartBefore ds z) found → AreFound n ds (IsTriedBelow n ds z 0) found
+  pub lacking_start : (found : List AttrSet) → AreTriedIrreducible n ds (HasPartBefore ds z) found → AreTriedIrreducible n ds (IsTriedBelow n ds z 0) found
   lacking_start found before =
       found_same n ds (HasPartBefore ds z) (IsTriedBelow n ds z 0) found (λ c earlier. inl earlier)
       (λ c is tried. ⊎_elim (λ earlier. earlier) (λ lacks. let low = lacks.low in absurd (omega (arith, low))) tried) before
@@ -195,7 +195,7 @@ module _ (n : ℕ) (ds : List Dependency) (within : All (IsWithin (below n)) ds)
 
   -- attribute a is not one that is in no left side and lacking
   pub lacking_pass : (a : ℕ) (found : List AttrSet) → (in_no_left_side n ds a ≡ true → IsLacking n ds z a → ⊥)
-      → AreFound n ds (IsTriedBelow n ds z a) found → AreFound n ds (IsTriedBelow n ds z (a + 1)) found
+      → AreTriedIrreducible n ds (IsTriedBelow n ds z a) found → AreTriedIrreducible n ds (IsTriedBelow n ds z (a + 1)) found
   lacking_pass a found not before =
       found_same n ds (IsTriedBelow n ds z a) (IsTriedBelow n ds z (a + 1)) found (below_more a)
       (λ c is tried. ⊎_elim (λ earlier. earlier) (λ fact. absurd (not fact.0 fact.1)) (below_back a c is tried)) before
@@ -204,7 +204,7 @@ module _ (n : ℕ) (ds : List Dependency) (within : All (IsWithin (below n)) ds)
   pub lacking_push : (a : ℕ) (old new : List AttrSet) (s : AttrSet) → IsClosedPart n ds z → s.0 < 2 ^ MOST_ATTRIBUTES
       → in_no_left_side n ds a ≡ true → IsLacking n ds z a → attributes s ≡ filled_but n ds z a
       → (length old < MOST_EXHIBITED_ROWS → new ≡ old ++ s ∷ []) → (MOST_EXHIBITED_ROWS ≤ length old → new ≡ old)
-      → AreFound n ds (IsTriedBelow n ds z a) old → AreFound n ds (IsTriedBelow n ds z (a + 1)) new
+      → AreTriedIrreducible n ds (IsTriedBelow n ds z a) old → AreTriedIrreducible n ds (IsTriedBelow n ds z (a + 1)) new
   lacking_push a old new s closed fits rest lacking is room full before =
       let x = attributes s in
       let part : intersection x (left_sides ds) ≡ z = ap (λ (c : Attributes). intersection c (left_sides ds)) is ∙ filled_part n ds within same z a z_in (lacking_out a lacking) in
@@ -263,7 +263,7 @@ module _ (n : ℕ) (ds : List Dependency) (within : All (IsWithin (below n)) ds)
 
   -- no attribute of the left sides is lacking
   pub last_pass : (found : List AttrSet) → ((b : ℕ) → left_sides ds b ≡ true → IsLacking n ds z b → ⊥)
-      → AreFound n ds (IsTriedBelow n ds z n) found → AreFound n ds (HasPartUpTo ds z) found
+      → AreTriedIrreducible n ds (IsTriedBelow n ds z n) found → AreTriedIrreducible n ds (HasPartUpTo ds z) found
   last_pass found not before =
       found_same n ds (IsTriedBelow n ds z n) (HasPartUpTo ds z) found below_up_to
       (λ c is up_to. ⊎_elim (λ earlier. earlier) (λ fact. absurd (not fact.0 fact.1 fact.2)) (up_to_back c is up_to)) before
@@ -272,7 +272,7 @@ module _ (n : ℕ) (ds : List Dependency) (within : All (IsWithin (below n)) ds)
   pub last_push : (b : ℕ) (old new : List AttrSet) (s : AttrSet) → IsClosedPart n ds z → s.0 < 2 ^ MOST_ATTRIBUTES
       → left_sides ds b ≡ true → IsLacking n ds z b → attributes s ≡ union z (in_no_left_side n ds)
       → (length old < MOST_EXHIBITED_ROWS → new ≡ old ++ s ∷ []) → (MOST_EXHIBITED_ROWS ≤ length old → new ≡ old)
-      → AreFound n ds (IsTriedBelow n ds z n) old → AreFound n ds (HasPartUpTo ds z) new
+      → AreTriedIrreducible n ds (IsTriedBelow n ds z n) old → AreTriedIrreducible n ds (HasPartUpTo ds z) new
   last_push b old new s closed fits used lacking is room full before =
       let x = attributes s in
       let out_z = lacking_out b lacking in
@@ -304,7 +304,7 @@ IsPassedPart ds None c = Unit {0}
 
 pub record IsWalk (n : ℕ) (ds : List Dependency) (next : Option AttrSet) (found : List AttrSet) : Type 0 where
   pub within : IfSome next (λ set. IsSubset (attributes set) (left_sides ds))
-  pub passed : AreFound n ds (IsPassedPart ds next) found
+  pub passed : AreTriedIrreducible n ds (IsPassedPart ds next) found
 
 pub walk_start : (n : ℕ) (ds : List Dependency) (set : AttrSet) (found : List AttrSet) → attributes set ≡ none → found ≡ []
     → IsWalk n ds (Some set) found
@@ -317,7 +317,7 @@ walk_start n ds set found empty nothing = record {
 pub walk_on : (n : ℕ) (ds : List Dependency) (set : AttrSet) (next : Option AttrSet) (found : List AttrSet) → All (IsWithin (below n)) ds
     → IsSubset (attributes set) (left_sides ds)
     → (IsNone next → attributes set ≡ left_sides ds) → IfSome next (λ y. IsNextSubset (left_sides ds) (attributes set) (attributes y))
-    → AreFound n ds (HasPartUpTo ds (attributes set)) found → IsWalk n ds next found
+    → AreTriedIrreducible n ds (HasPartUpTo ds (attributes set)) found → IsWalk n ds next found
 walk_on n ds set None found within set_in last is before = record {
   within = tt;
   passed = found_same n ds (HasPartUpTo ds (attributes set)) (IsPassedPart ds None) found (λ c _. tt)
@@ -371,7 +371,7 @@ parts_left-less set now next is fits more = subst (λ (o : Option AttrSet). part
 pub found_sorted : (n : ℕ) (ds : List Dependency) (next : Option AttrSet) (found sorted : List AttrSet) → next ≡ None → IsWalk n ds next found
     → IsPermutation found sorted → IsSorted (λ (s t : AttrSet). nat_cmp s.0 t.0) sorted → AreFoundSets n ds sorted
 found_sorted n ds next found sorted end walk moved in_order =
-    let all : AreFound n ds (IsPassedPart ds None) found = subst (λ (o : Option AttrSet). AreFound n ds (IsPassedPart ds o) found) end walk.passed in
+    let all : AreTriedIrreducible n ds (IsPassedPart ds None) found = subst (λ (o : Option AttrSet). AreTriedIrreducible n ds (IsPassedPart ds o) found) end walk.passed in
     let long = length_permutation found sorted moved in
     let differ = AllPairs-permutation (λ (s t : AttrSet). attributes s ≡ attributes t → ⊥) (λ s t other same. other (sym same)) found sorted moved all.differ in
     record {

@@ -20,7 +20,8 @@ HasPartUpTo ds z c = HasPartBefore ds z c ⊎ (intersection c (left_sides ds) �
 
 -- different irreducible closed sets of those that were tried: all, unless they are as many as a relation
 -- has no rows for
-pub record AreFound (n : ℕ) (ds : List Dependency) (IsTried : Attributes → Type 0) (found : List AttrSet) : Type 0 where
+pub record AreTriedIrreducible (n : ℕ) (ds : List Dependency) (IsTried : Attributes → Type 0)
+    (found : List AttrSet) : Type 0 where
   pub each : All (λ s. IsIrreducible n ds (attributes s)) found
   pub tried : All (λ s. IsTried (attributes s)) found
   pub differ : AllPairs (λ s t. attributes s ≡ attributes t → ⊥) found

@@ -7,7 +7,7 @@ ghost use Rattle.armstrong_rel.specs.declared.refusal.TheConstants.{MOST_EXHIBIT
 ghost use Rattle.fd_closure.specs.Closures.{IsKnownClosure};
 ghost use Rattle.armstrong_rel.specs.Parts.{IsClosedPart, IsSharedBeyond, IsLacking};
 ghost use Rattle.armstrong_rel.specs.Refusals.{IsFunctional};
-ghost use Rattle.armstrong_rel.specs.Searching.{AreFound, AreFoundSets, HasPartBefore, HasPartUpTo};
+ghost use Rattle.armstrong_rel.specs.Searching.{AreTriedIrreducible, AreFoundSets, HasPartBefore, HasPartUpTo};
 
 use crate::closures::{closed_at, closures};
 use crate::refusal::MOST_EXHIBITED_ROWS;
@@ -54,9 +54,9 @@ fn add_sets_with(
     requires used { attributes used ≡ left_sides (theory_of schema.now) }
     requires table { All (IsKnownClosure (width_of schema.now) (theory_of schema.now)) table.now }
     requires part { IsSubset (attributes part) (left_sides (theory_of schema.now)) }
-    requires found { AreFound (width_of schema.now) (theory_of schema.now)
+    requires found { AreTriedIrreducible (width_of schema.now) (theory_of schema.now)
         (HasPartBefore (theory_of schema.now) (attributes part)) found.old.items }
-    ensures found { OnOk result (AreFound (width_of schema.now) (theory_of schema.now)
+    ensures found { OnOk result (AreTriedIrreducible (width_of schema.now) (theory_of schema.now)
         (HasPartUpTo (theory_of schema.now) (attributes part)) found.new.items) }
 {
     let closed = closed_at(schema, table, part, position);
@@ -112,9 +112,9 @@ fn add_lacking(
     requires closed { IsClosedPart (width_of schema.now) (theory_of schema.now) (attributes part) }
     requires lacking { (a : ℕ) → (attributes lacking a ≡ true)
         ↔ IsLacking (width_of schema.now) (theory_of schema.now) (attributes part) a }
-    requires found { AreFound (width_of schema.now) (theory_of schema.now)
+    requires found { AreTriedIrreducible (width_of schema.now) (theory_of schema.now)
         (HasPartBefore (theory_of schema.now) (attributes part)) found.old.items }
-    ensures found { OnOk result (AreFound (width_of schema.now) (theory_of schema.now)
+    ensures found { OnOk result (AreTriedIrreducible (width_of schema.now) (theory_of schema.now)
         (HasPartUpTo (theory_of schema.now) (attributes part)) found.new.items) }
 {
     let rest = AttrSet::full(schema.width()).difference(used);

@@ -8,7 +8,7 @@ use Rattle.attr_sets.specs.Attributes.{Attributes, IsSubset, below, none, only, 
 use Rattle.attr_sets.proofs.AttributesLemmas.{count_below-none, count_below-within, same_at, same_from_within, tell_subset}
 use Rattle.dep_model.proofs.ListLemmas.{Contains-head}
 use Rattle.candidate_laws.specs.Standing.{AreCandidates, IsCandidate, Stands}
-use Rattle.candidate_laws.specs.Steps.{IsGrown, IsHit, IsKept, IsNew, IsStep}
+use Rattle.candidate_laws.specs.Steps.{IsGrown, IsHit, IsNotHit, IsNew, IsCandidateStep}
 use Rattle.candidate_laws.proofs.StandingLemmas.{Contains-nil, candidate_alone, candidate_within, stands_larger, stands_less, stands_more}
 
 -- ---- no evidence, and evidence with the right side
@@ -122,7 +122,7 @@ module _ (n most : ℕ) (es : List Attributes) (a : ℕ) (e : Attributes) (xs : 
     apart_now : (x : Attributes) → Stands (e ∷ es) a x → IsSubset x e → ⊥
     apart_now x stands inside = stands e (Contains-head e es) lacks inside
 
-    pub kept_candidate : (x : Attributes) → IsKept xs e x → IsCandidate n most (e ∷ es) a x
+    pub kept_candidate : (x : Attributes) → IsNotHit xs e x → IsCandidate n most (e ∷ es) a x
     kept_candidate x kept =
         let old : IsCandidate n most es a x = listed_candidate x kept.0 in
         record {
@@ -217,7 +217,7 @@ module _ (n most : ℕ) (es : List Attributes) (a : ℕ) (e : Attributes) (xs : 
 
     -- a candidate of the evidence with the rest is kept or new
     module _ (x : Attributes) (is : IsCandidate n most (e ∷ es) a x) where
-      kept_or_new : IsKept xs e x ⊎ IsNew n most a e xs x
+      kept_or_new : IsNotHit xs e x ⊎ IsNew n most a e xs x
       kept_or_new =
           let found = candidate_within n most es x a is.within is.outside is.within_limit
           (stands_less es a e x is.minimal.stands) in
@@ -227,7 +227,7 @@ module _ (n most : ℕ) (es : List Attributes) (a : ℕ) (e : Attributes) (xs : 
                 let away : IsSubset found.0 e → ⊥ = λ inside. true≢false (sym (inside apart.0 apart.2) ∙ apart.3) in
                 let same : found.0 ≡ x = same_from_within found.0 x found.1
                 (is.minimal.minimal found.0 found.1 (stands_apart found.0 found.2.minimal.stands away)) in
-                inl (subst (λ (v : Attributes). IsKept xs e v) same (listed, away))
+                inl (subst (λ (v : Attributes). IsNotHit xs e v) same (listed, away))
             | inr inside ↦ elim (tell_subset n x e is.within) [
               | inr within ↦ absurd (apart_now x is.minimal.stands within)
               | inl apart ↦ inr (new_from found.0 listed found.1 found.2 inside apart.0 apart.1 apart.2 apart.3)
@@ -268,9 +268,9 @@ module _ (n most : ℕ) (es : List Attributes) (a : ℕ) (e : Attributes) (xs : 
               back : IsSubset x (union w (only b))
               back = is.minimal.minimal (union w (only b)) there grown_stands
 
-    pub step_candidates : (ys : List Attributes) → IsStep n most a e xs ys → AreCandidates n most (e ∷ es) a ys
+    pub step_candidates : (ys : List Attributes) → IsCandidateStep n most a e xs ys → AreCandidates n most (e ∷ es) a ys
     step_candidates ys step = record {
-      each = All-weaker (λ y. IsKept xs e y ⊎ IsNew n most a e xs y) (IsCandidate n most (e ∷ es) a)
+      each = All-weaker (λ y. IsNotHit xs e y ⊎ IsNew n most a e xs y) (IsCandidate n most (e ∷ es) a)
           (λ y h. elim h [ inl kept ↦ kept_candidate y kept | inr new ↦ new_candidate y new ]) ys step.each;
       all = λ x is. elim (kept_or_new x is) [ inl kept ↦ step.kept x kept | inr new ↦ step.new x new ];
       ascending = step.ascending;

@@ -5,7 +5,8 @@ use Rattle.attr_sets.specs.Attributes.{Attributes, below, IsSubset, IsBefore, co
 use Rattle.dep_model.specs.Tuples.{Relation}
 use Rattle.candidate_laws.specs.Evidence.{AreEvidence}
 
--- no evidence without attribute a holds x: so no two rows were seen that agree on x and differ on a
+-- x stands as a left side of attribute a against evidence: none without a holds x. So no two rows were seen that
+-- agree on x and differ on a
 abbrev pub Stands : List Attributes → ℕ → Attributes → Type 0
 Stands es a x = (e : Attributes) → Contains es e → e a ≡ false → IsSubset x e → ⊥
 

@@ -3,8 +3,8 @@ use Rattle.std.specs.Prelude.{◌≡◌, ◌≢◌, ℕ, ◌<◌, ◌≤◌, ◌
 use Rattle.attr_sets.specs.Attributes.{Attributes, only, union, IsSubset, IsBefore, count_below}
 
 -- a listed set that the evidence does not hold: it stays
-abbrev pub IsKept : List Attributes → Attributes → Attributes → Type 0
-IsKept xs e x = Contains xs x × (IsSubset x e → ⊥)
+abbrev pub IsNotHit : List Attributes → Attributes → Attributes → Type 0
+IsNotHit xs e x = Contains xs x × (IsSubset x e → ⊥)
 
 -- a listed set that the evidence holds: it stands no more
 abbrev pub IsHit : List Attributes → Attributes → Attributes → Type 0
@@ -25,11 +25,11 @@ pub record IsNew (n most a : ℕ) (e : Attributes) (xs : List Attributes) (y : A
   pub by : ℕ
   pub grown : IsGrown n a e hit by y
   pub within_limit : count_below y n ≤ most
-  pub holds_none : (x : Attributes) → IsKept xs e x → IsSubset x y → ⊥
+  pub holds_none : (x : Attributes) → IsNotHit xs e x → IsSubset x y → ⊥
 
 -- from listed candidates to the kept ones and the new ones, in the order of sets
-pub record IsStep (n most a : ℕ) (e : Attributes) (xs ys : List Attributes) : Type 0 where
-  pub each : All (λ y. IsKept xs e y ⊎ IsNew n most a e xs y) ys
-  pub kept : (y : Attributes) → IsKept xs e y → Contains ys y
+pub record IsCandidateStep (n most a : ℕ) (e : Attributes) (xs ys : List Attributes) : Type 0 where
+  pub each : All (λ y. IsNotHit xs e y ⊎ IsNew n most a e xs y) ys
+  pub kept : (y : Attributes) → IsNotHit xs e y → Contains ys y
   pub new : (y : Attributes) → IsNew n most a e xs y → Contains ys y
   pub ascending : AllPairs IsBefore ys

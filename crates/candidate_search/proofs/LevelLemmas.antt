@@ -4,7 +4,7 @@ use Rattle.std.proofs.lemmas.List.{get_or-map, length-map}
 use Rattle.attr_sets.specs.Attributes.{Attributes}
 use Rattle.csv_rows.specs.Numberings.{AreFirsts, AreGroups, number_at}
 use Rattle.dep_model.specs.Tuples.{Relation}
-use Rattle.fd_discovery.specs.Leaders.{AreLeaders}
+use Rattle.fd_discovery.specs.Leaders.{AreLeadersOn}
 use Rattle.fd_discovery.specs.declared.table.CodeColumns.{CodeColumns}
 use Rattle.candidate_search.specs.Levels.{AreTabled}
 use Rattle.candidate_search.specs.Sides.{AreCoded}
@@ -15,7 +15,7 @@ tabled_coded n r table are = record { over = are.over; interned = are.table.code
 
 -- the first row of each group leads it
 pub firsts_lead : (r : Relation) (x : Attributes) (groups firsts leaders : List ℕ) → AreGroups r x groups
-    → AreFirsts groups firsts → leaders ≡ map (number_at firsts) groups → AreLeaders r x leaders
+    → AreFirsts groups firsts → leaders ≡ map (number_at firsts) groups → AreLeadersOn r x leaders
 firsts_lead r x groups firsts leaders grouped first are = record {
   one_each = size;
   within = within;

@@ -13,7 +13,7 @@ use Rattle.dep_model.specs.Tuples.{Relation, value_at}
 use Rattle.row_store.specs.Rows.{row_at}
 use Rattle.candidate_laws.specs.Evidence.{agreement}
 use Rattle.candidate_laws.proofs.EvidenceLemmas.{agreement-from, agreement-to}
-use Rattle.fd_discovery.specs.Leaders.{AreLeaders}
+use Rattle.fd_discovery.specs.Leaders.{AreLeadersOn}
 use Rattle.fd_discovery.proofs.LeaderLemmas.{led_obeys}
 use Rattle.candidate_search.specs.Pairs.{IsBroken, same_codes}
 
@@ -79,7 +79,7 @@ agreement_is n r t i j coded i_in j_in = same_from_within (same_codes t i j n) (
 -- ---- whether rows obey a dependency
 -- where each row has the number of its leader
 pub obeyed_by : (n : ℕ) (r : Relation) (t : Interned) (x : Attributes) (a : ℕ) (leaders : List ℕ) → IsInterned n r t → a < n
-    → AreLeaders r x leaders
+    → AreLeadersOn r x leaders
     → ((j : ℕ) → j < length r → number_at (codes_at t a) (number_at leaders j) ≡ number_at (codes_at t a) j)
     → ObeysFd x (only a) r
 obeyed_by n r t x a leaders coded a_in led same =
@@ -87,7 +87,7 @@ obeyed_by n r t x a leaders coded a_in led same =
 
 -- a row that has another number than its leader
 pub broken_by : (n : ℕ) (r : Relation) (t : Interned) (x : Attributes) (a : ℕ) (leaders : List ℕ) (i j : ℕ)
-    → IsInterned n r t → a < n → AreLeaders r x leaders → j < length r → i ≡ number_at leaders j
+    → IsInterned n r t → a < n → AreLeadersOn r x leaders → j < length r → i ≡ number_at leaders j
     → (number_at (codes_at t a) i ≡ number_at (codes_at t a) j → ⊥) → IsBroken r x a i j
 broken_by n r t x a leaders i j coded a_in led j_in is other =
     let low : i < length r = subst (λ (k : ℕ). k < length r) (sym is) (led.within j j_in) in

@@ -2,7 +2,7 @@
 use Rattle.std.specs.Prelude.{ℕ}
 use Rattle.attr_sets.specs.Sets.{attributes}
 use Rattle.dep_model.specs.Tuples.{Relation, IsOver}
-use Rattle.fd_discovery.specs.Leaders.{AreLeaders, IsTableOfRows}
+use Rattle.fd_discovery.specs.Leaders.{AreLeadersOn, IsTableOfRows}
 use Rattle.fd_discovery.specs.declared.table.CodeColumns.{CodeColumns}
 use Rattle.candidate_search.specs.declared.levels.Level.{Level}
 
@@ -13,4 +13,4 @@ pub record AreTabled (n : ℕ) (r : Relation) (t : CodeColumns) : Type 0 where
 
 -- the leaders of the rows on the set of a level
 abbrev pub IsLevel : Relation → Level → Type 0
-IsLevel r level = AreLeaders r (attributes level.set) level.leaders.items
+IsLevel r level = AreLeadersOn r (attributes level.set) level.leaders.items

@@ -1,5 +1,5 @@
 -- The left sides of each right side, from the first candidates to the minimal ones. For
--- `minimal_left_sides` and the functions below it, and for the refusal of `discover` (`IsExceeded`).
+-- `minimal_left_sides` and the functions below it, and for the refusal of `discover` (`IsTooManyLeftSides`).
 use Rattle.std.specs.Prelude.{◌≡◌, ℕ, ◌<◌, ◌≤◌, ◌⊎◌, ◌↔◌, false, List, length, map, All, AllPairs, Contains}
 use Rattle.attr_sets.specs.Attributes.{Attributes, only, IsSubset, IsBefore, count_below}
 use Rattle.candidate_laws.specs.Evidence.{AreEvidence}
@@ -73,6 +73,6 @@ pub record HasMinimal (n most : ℕ) (r : Relation) (side : Side) : Type 0 where
   pub minimal : AreMinimalLeftSides n most r side.right (lefts_of side)
 
 -- some evidence of rows has too many candidates for the attribute that is named
-pub record IsExceeded (n most : ℕ) (r : Relation) (refusal : TooManyLeftSides) : Type 0 where
+pub record IsTooManyLeftSides (n most : ℕ) (r : Relation) (refusal : TooManyLeftSides) : Type 0 where
   pub right : refusal.right < n
   pub exceeds : ExceedsCandidates n most r refusal.right MOST_CANDIDATES

@@ -4,7 +4,7 @@ ghost use Rattle.attr_sets.specs.declared.set.TheConstants.{MOST_ATTRIBUTES};
 ghost use Rattle.candidate_laws.specs.Evidence.{AreEvidence};
 ghost use Rattle.candidate_laws.specs.Standing.{AreCandidates, ExceedsCandidates};
 ghost use Rattle.candidate_sets.specs.declared.refusal.TheConstants.{MOST_CANDIDATES};
-ghost use Rattle.candidate_search.specs.Sides.{HasCandidates, IsAnsweredAt, IsExceeded, IsTested, lefts_of, rights_of};
+ghost use Rattle.candidate_search.specs.Sides.{HasCandidates, IsAnsweredAt, IsTooManyLeftSides, IsTested, lefts_of, rights_of};
 ghost use Rattle.dep_model.specs.Failures.{RefusesAs};
 ghost use Rattle.dep_model.specs.Plans.{schemes_of};
 ghost use Rattle.dep_model.specs.Tuples.{Relation};
@@ -35,7 +35,7 @@ pub fn sides_after(
         → IfOk result (λ next. All (IsTested width most r (size + 1)) next.items) }
     ensures refusal { (r : Relation) (size : ℕ) → All (IsTested width most r size) sides.now
         → AreEvidence width r (schemes_of found.now)
-        → IfErr result (RefusesAs (IsExceeded width most r)) }
+        → IfErr result (RefusesAs (IsTooManyLeftSides width most r)) }
     ensures named { IfErr result (RefusesAs (λ refusal. Contains (rights_of sides.now) refusal.right)) }
 {
     let mut next = Vec::new(alloc);
@@ -64,7 +64,7 @@ fn side_after(
         AreCandidates width most (schemes_of found.now ++ es) side.now.right (lefts_of next)) }
     ensures refusal { (r : Relation) (size : ℕ) → IsTested width most r size side.now
         → AreEvidence width r (schemes_of found.now)
-        → IfErr result (RefusesAs (IsExceeded width most r)) }
+        → IfErr result (RefusesAs (IsTooManyLeftSides width most r)) }
     ensures named { IfErr result (RefusesAs (λ refusal. refusal.right ≡ side.now.right)) }
 {
     let right = side.right;

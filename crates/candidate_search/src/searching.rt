@@ -2,7 +2,7 @@ ghost use Rattle.std.specs.Prelude.{◌≡◌, ◌<◌, ◌≤◌, All, Contains
 ghost use Rattle.attr_sets.specs.declared.set.TheConstants.{MOST_ATTRIBUTES};
 ghost use Rattle.candidate_laws.specs.Evidence.{AreEvidence};
 ghost use Rattle.candidate_search.specs.Levels.{AreTabled};
-ghost use Rattle.candidate_search.specs.Sides.{HasMinimal, IsExceeded, rights_of};
+ghost use Rattle.candidate_search.specs.Sides.{HasMinimal, IsTooManyLeftSides, rights_of};
 ghost use Rattle.dep_model.specs.Failures.{RefusesAs};
 ghost use Rattle.dep_model.specs.Plans.{schemes_of};
 ghost use Rattle.dep_model.specs.Tuples.{Relation};
@@ -40,7 +40,7 @@ pub fn minimal_left_sides(
     ensures minimal { (r : Relation) → AreTabled width r table.now → AreEvidence width r (schemes_of seen.now)
         → IfOk result (λ sides. All (HasMinimal width most r) sides.items) }
     ensures refusal { (r : Relation) → AreTabled width r table.now → AreEvidence width r (schemes_of seen.now)
-        → IfErr result (RefusesAs (IsExceeded width most r)) }
+        → IfErr result (RefusesAs (IsTooManyLeftSides width most r)) }
     ensures named { IfErr result (RefusesAs (λ refusal. Contains rights.now refusal.right)) }
 {
     let begun = first_evidence(alloc, &table.codes, width, seen)?;

@@ -20,7 +20,7 @@ use Rattle.dep_model.proofs.DistinctLemmas.{filter-keeps, filter-member}
 use Rattle.dep_model.proofs.ListLemmas.{Contains-map, map-member}
 use Rattle.dep_model.proofs.PermutationLemmas.{AllPairs-permutation}
 use Rattle.candidate_laws.specs.Standing.{AreCandidates, HasMoreCandidates, IsCandidate}
-use Rattle.candidate_laws.specs.Steps.{IsKept, IsNew, IsStep}
+use Rattle.candidate_laws.specs.Steps.{IsNotHit, IsNew, IsCandidateStep}
 use Rattle.candidate_laws.proofs.StepLemmas.{kept_candidate, new_candidate, step_candidates}
 use Rattle.candidate_sets.specs.Cuts.{Ascend}
 use Rattle.candidate_sets.specs.Growing.{AreDifferent, AreFresh, HasManyFresh, HasWithin, IsFreshFrom, can_grow, is_apart}
@@ -163,12 +163,12 @@ module _ (n most a : ℕ) (e : Attributes) (candidates : List AttrSet) (es : Lis
         absurd (true≢false (sym (inside k member) ∙ (column_to n a e columns k columns_is has).1))
   ]
 
-  kept_to : (s : AttrSet) → Contains kept s → IsKept xs e (attributes s)
+  kept_to : (s : AttrSet) → Contains kept s → IsNotHit xs e (attributes s)
   kept_to s listed =
       let both = filter-member (is_apart e) candidates s (subst (λ (sets : List AttrSet). Contains sets s) kept_is listed) in
       (Contains-map attributes candidates s both.0, apart_to e s both.1)
 
-  kept_from : (x : Attributes) → IsKept xs e x → (s : AttrSet) × Contains kept s × (attributes s ≡ x)
+  kept_from : (x : Attributes) → IsNotHit xs e x → (s : AttrSet) × Contains kept s × (attributes s ≡ x)
   kept_from x is =
       let found = map-member attributes candidates x is.0 in (
         found.0,
@@ -178,7 +178,7 @@ module _ (n most a : ℕ) (e : Attributes) (candidates : List AttrSet) (es : Lis
         found.2,
       )
 
-  holds_kept : (x y : Attributes) → IsKept xs e x → IsSubset x y → HasWithin kept y
+  holds_kept : (x y : Attributes) → IsNotHit xs e x → IsSubset x y → HasWithin kept y
   holds_kept x y is inside =
       let found = kept_from x is in
       (found.1.0, found.0, found.1.1, found.1.2, subst (λ (v : Attributes). IsSubset v y) (sym found.2) inside)
@@ -254,7 +254,7 @@ module _ (n most a : ℕ) (e : Attributes) (candidates : List AttrSet) (es : Lis
         Contains-map attributes sorted s (Contains-permutation (kept ++ new) sorted s moved listed)
 
     each_stepped : (s : AttrSet) → Contains sorted s
-        → IsKept xs e (attributes s) ⊎ IsNew n most a e xs (attributes s)
+        → IsNotHit xs e (attributes s) ⊎ IsNew n most a e xs (attributes s)
     each_stepped s listed = elim (Contains-append_cases kept new s
         (Contains-permutation sorted (kept ++ new) s (IsPermutation-sym (kept ++ new) sorted moved) listed)) [
           | inl here ↦ inl (kept_to s here)
@@ -268,15 +268,15 @@ module _ (n most a : ℕ) (e : Attributes) (candidates : List AttrSet) (es : Lis
         subst (λ (v : Attributes). Contains (schemes_of sorted) v) found.2
         (in_sorted found.0 (Contains-append_right kept new found.0 found.1))
 
-    kept_sorted : (y : Attributes) → IsKept xs e y → Contains (schemes_of sorted) y
+    kept_sorted : (y : Attributes) → IsNotHit xs e y → Contains (schemes_of sorted) y
     kept_sorted y is =
         let found = kept_from y is in
         subst (λ (v : Attributes). Contains (schemes_of sorted) v) found.2
         (in_sorted found.0 (Contains-append_left kept new found.0 found.1))
 
-    is_step : IsStep n most a e xs (schemes_of sorted)
+    is_step : IsCandidateStep n most a e xs (schemes_of sorted)
     is_step = record {
-      each = All-map (λ (y : Attributes). IsKept xs e y ⊎ IsNew n most a e xs y) attributes sorted
+      each = All-map (λ (y : Attributes). IsNotHit xs e y ⊎ IsNew n most a e xs y) attributes sorted
           (λ i d l. each_stepped (get_or sorted i d) (Contains-get_or sorted i d l));
       kept = kept_sorted;
       new = new_sorted;

@@ -23,7 +23,7 @@ use Rattle.dep_model.proofs.ListLemmas.{map-member, Contains-map, Contains-head,
 use Rattle.dep_model.proofs.TwoTupleLemmas.{length-all_zeros, value_at-all_zeros}
 use Rattle.dep_model.proofs.NumeralLemmas.{decimal_zero, decimal_integer}
 use Rattle.chase_laws.specs.Tableaux.{SymbolRow, Tableau, symbol_at, SymbolsAgree, distinguished_row}
-use Rattle.chase_laws.specs.Steps.{exchange_rows, IsClosed, IsFunctionallyClosed}
+use Rattle.chase_laws.specs.Steps.{exchange_rows, IsClosed, HasNoFunctionalStep}
 use Rattle.chase_laws.specs.Rounds.{ReachesTableau}
 use Rattle.chase_laws.specs.Answers.{texts_of, IsGaining}
 use Rattle.chase_laws.proofs.TableauLemmas.{same_rows, symbol_at_past, length-distinguished_row, symbol_at-distinguished_row, length-exchange_rows, symbol_at-exchange_rows, tell_row, Same-refl}
@@ -41,7 +41,7 @@ value_at-texts_past : (row : SymbolRow) (k : ℕ) → length row ≤ k → value
 value_at-texts_past row k past = get_or_past (map decimal row) k [] (omega (arith, length-texts row, past))
 
 -- ---- closed tableaux
-closed_functionally : (n : ℕ) (ds : List Dependency) (s : Tableau) → IsClosed n ds s → IsFunctionallyClosed ds s
+closed_functionally : (n : ℕ) (ds : List Dependency) (s : Tableau) → IsClosed n ds s → HasNoFunctionalStep ds s
 closed_functionally n ds s closed u step = closed u (inl step)
 
 pub closed_exchanged : (n : ℕ) (ds : List Dependency) (s : Tableau) (x y : Attributes) (p q : SymbolRow) → IsClosed n ds s → Contains ds (mvd x y) → Contains s p → Contains s q → SymbolsAgree x p q

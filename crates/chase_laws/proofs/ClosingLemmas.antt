@@ -10,7 +10,7 @@ use Rattle.dep_model.specs.Dependencies.{Dependency, fd, mvd, is_fd, functional_
 use Rattle.dep_model.proofs.DistinctLemmas.{filter-keeps, filter-member}
 use Rattle.dep_model.proofs.ListLemmas.{Contains-map, Contains-later}
 use Rattle.chase_laws.specs.Tableaux.{SymbolRow, Tableau, SameTableau, symbol_at, SymbolsAgree, plan_tableau}
-use Rattle.chase_laws.specs.Steps.{replace_in_row, replace_symbol, exchange_rows, IsFdStep, IsMvdStep, IsFunctionalStep, IsStep, IsClosed, IsFunctionallyClosed, LeadsIn, LeadsTo}
+use Rattle.chase_laws.specs.Steps.{replace_in_row, replace_symbol, exchange_rows, IsFdStep, IsMvdStep, IsFunctionalStep, IsChaseStep, IsClosed, HasNoFunctionalStep, LeadsIn, LeadsTo}
 use Rattle.chase_laws.specs.Rounds.{ReachesTableau, ClosesFunctionallyTo}
 use Rattle.chase_laws.proofs.TableauLemmas.{same_rows, symbol_at_past, length-exchange_rows, symbol_at-exchange_rows, length-replace_in_row, symbol_after, symbol_after-hit, symbol_after-miss, symbol_after-other, symbol_at-replace_in_row, cons_cases, Same-refl, Same-trans}
 use Rattle.chase_laws.proofs.InvariantLemmas.{Each, HasLength, over-leads, plan_over, fd_attribute_low, fd_came}
@@ -266,7 +266,7 @@ module _ (n : ℕ) (ds : List Dependency) (t m s : Tableau) (f : ℕ → ℕ →
 
 -- ---- any number of steps
 step_renamed : (n : ℕ) (ds : List Dependency) (t m s : Tableau) → Each (HasLength n) m → (f : ℕ → ℕ → ℕ)
-    → IsRenamingOf n ds t m f → IsStep n ds m s → (h : ℕ → ℕ → ℕ) × IsRenamingOf n ds t s h
+    → IsRenamingOf n ds t m f → IsChaseStep n ds m s → (h : ℕ → ℕ → ℕ) × IsRenamingOf n ds t s h
 step_renamed n ds t m s over f before (inl step) = (
   (λ k v. next n ds t m s over f before step.lhs step.rhs step.given step.step k (f k v)),
   functional_renamed n ds t m s over f before step.lhs step.rhs step.given step.step,
@@ -275,7 +275,7 @@ step_renamed n ds t m s over f before (inr step) =
     (f, multivalued_renamed n ds t m s f before step.lhs step.rhs step.given step.step)
 
 leads_renamed : (n : ℕ) (ds : List Dependency) (count : ℕ) (t s : Tableau) → Each (HasLength n) t
-    → LeadsIn (IsStep n ds) count t s → (f : ℕ → ℕ → ℕ) × IsRenamingOf n ds t s f
+    → LeadsIn (IsChaseStep n ds) count t s → (f : ℕ → ℕ → ℕ) × IsRenamingOf n ds t s f
 leads_renamed n ds zero t s over same = ((λ k v. v), none_renamed n ds t s over same)
 leads_renamed n ds (suc count) t s over leads =
     let f = leads_renamed n ds count t leads.0 over leads.1 in
@@ -299,9 +299,9 @@ leads_start Step (suc count) t t' s same leads = (leads.0, leads_start Step coun
 
 -- equal tableaux have one closed tableau that steps lead to
 closed_from : (n : ℕ) (ds : List Dependency) (t t' s u : Tableau) → Each (HasLength n) t → SameTableau t t'
-    → LeadsTo (IsStep n ds) t s → IsClosed n ds s → LeadsTo (IsStep n ds) t' u → IsClosed n ds u → SameTableau s u
+    → LeadsTo (IsChaseStep n ds) t s → IsClosed n ds s → LeadsTo (IsChaseStep n ds) t' u → IsClosed n ds u → SameTableau s u
 closed_from n ds t t' s u over same one s_closed other u_closed =
-    let leads = leads_start (IsStep n ds) other.0 t t' u same other.1 in
+    let leads = leads_start (IsChaseStep n ds) other.0 t t' u same other.1 in
     let f = leads_renamed n ds one.0 t s over one.1 in
     let g = leads_renamed n ds other.0 t u over leads in
     let f_forced = f.1.forced u u_closed g.0 g.1.from in
@@ -326,7 +326,7 @@ closing_unique n ds plan s u =
 
 -- ---- to close functionally is to close by the functional dependencies alone
 functional_steps : (n : ℕ) (ds : List Dependency) (count : ℕ) (t s : Tableau) → LeadsIn (IsFunctionalStep ds) count t s
-    → LeadsIn (IsStep n (functional_part ds)) count t s
+    → LeadsIn (IsChaseStep n (functional_part ds)) count t s
 functional_steps n ds zero t s same = same
 functional_steps n ds (suc count) t s leads =
     let step = leads.2 in (
@@ -340,7 +340,7 @@ functional_steps n ds (suc count) t s leads =
       }),
     )
 
-functional_closed : (n : ℕ) (ds : List Dependency) (t : Tableau) → IsFunctionallyClosed ds t
+functional_closed : (n : ℕ) (ds : List Dependency) (t : Tableau) → HasNoFunctionalStep ds t
     → IsClosed n (functional_part ds) t
 functional_closed n ds t functionally_closed s (inl step) = functionally_closed s (record {
   lhs = step.lhs;

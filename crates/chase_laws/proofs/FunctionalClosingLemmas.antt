@@ -6,11 +6,11 @@ use Rattle.std.specs.Prelude.{Contains}
 use Rattle.attr_sets.specs.Attributes.{Attributes}
 use Rattle.dep_model.specs.Dependencies.{Dependency, fd}
 use Rattle.chase_laws.specs.Tableaux.{SymbolRow, Tableau, SameTableau, symbol_at, SymbolsAgree}
-use Rattle.chase_laws.specs.Steps.{replace_symbol, IsFunctionallyClosed}
+use Rattle.chase_laws.specs.Steps.{replace_symbol, HasNoFunctionalStep}
 use Rattle.chase_laws.proofs.TableauLemmas.{Same-refl}
 
 -- ---- a functionally closed tableau obeys each functional dependency
-pub functionally_closed_agrees : (ds : List Dependency) (t : Tableau) (x y : Attributes) (p q : SymbolRow) → IsFunctionallyClosed ds t → Contains ds (fd x y) → Contains t p → Contains t q → SymbolsAgree x p q → SymbolsAgree y p q
+pub functionally_closed_agrees : (ds : List Dependency) (t : Tableau) (x y : Attributes) (p q : SymbolRow) → HasNoFunctionalStep ds t → Contains ds (fd x y) → Contains t p → Contains t q → SymbolsAgree x p q → SymbolsAgree y p q
 functionally_closed_agrees ds t x y p q functionally_closed given p_in q_in agree k m = elim (cases_order (symbol_at p k) (symbol_at q k)) [
   | inl same ↦ same
   | inr differ ↦ elim differ [
@@ -30,11 +30,11 @@ functionally_closed_agrees ds t x y p q functionally_closed given p_in q_in agre
 ]
 
 -- and one that obeys each is functionally closed
-pub functionally_closed_from : (ds : List Dependency) (t : Tableau) → ((x y : Attributes) (p q : SymbolRow) → Contains ds (fd x y) → Contains t p → Contains t q → SymbolsAgree x p q → SymbolsAgree y p q) → IsFunctionallyClosed ds t
+pub functionally_closed_from : (ds : List Dependency) (t : Tableau) → ((x y : Attributes) (p q : SymbolRow) → Contains ds (fd x y) → Contains t p → Contains t q → SymbolsAgree x p q → SymbolsAgree y p q) → HasNoFunctionalStep ds t
 functionally_closed_from ds t obeys s step =
     let same = obeys step.lhs step.rhs step.step.first step.step.second step.given step.step.first_in step.step.second_in step.step.agree step.step.attribute step.step.member in
     absurd (omega (arith, same, step.step.differ))
 
 -- equal tableaux are functionally closed alike
-pub functionally_closed-same : (ds : List Dependency) (t s : Tableau) → SameTableau t s → IsFunctionallyClosed ds t → IsFunctionallyClosed ds s
+pub functionally_closed-same : (ds : List Dependency) (t s : Tableau) → SameTableau t s → HasNoFunctionalStep ds t → HasNoFunctionalStep ds s
 functionally_closed-same ds t s same functionally_closed = functionally_closed_from ds s (λ x y p q given p_in q_in agree. functionally_closed_agrees ds t x y p q functionally_closed given ((same p).1 p_in) ((same q).1 q_in) agree)

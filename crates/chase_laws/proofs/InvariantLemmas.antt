@@ -6,7 +6,7 @@ use Rattle.attr_sets.specs.Attributes.{Attributes, union}
 use Rattle.dep_model.specs.Dependencies.{Dependency}
 use Rattle.dep_model.proofs.ListLemmas.{map-member, Contains-map, Contains-head, Contains-later}
 use Rattle.chase_laws.specs.Tableaux.{SymbolRow, Tableau, SameTableau, symbol_at, scheme_row, scheme_rows, plan_tableau}
-use Rattle.chase_laws.specs.Steps.{replace_in_row, exchange_rows, IsFdStep, IsMvdStep, IsFunctionalStep, IsStep, LeadsIn}
+use Rattle.chase_laws.specs.Steps.{replace_in_row, exchange_rows, IsFdStep, IsMvdStep, IsFunctionalStep, IsChaseStep, LeadsIn}
 use Rattle.chase_laws.specs.Rounds.{ReachesTableau}
 use Rattle.chase_laws.proofs.TableauLemmas.{symbol_at_past, length-scheme_row, symbol_at-scheme_row, length-exchange_rows, symbol_at-exchange_rows, length-replace_in_row, replaced_le, symbol_after, symbol_at-replace_in_row, cons_cases}
 
@@ -43,15 +43,15 @@ over_fd n ds t s step each =
     Each-fd (HasLength n) step.lhs step.rhs t s step.step
     (λ p p_in. length-replace_in_row step.step.attribute (symbol_at step.step.second step.step.attribute) (symbol_at step.step.first step.step.attribute) p ∙ each p p_in)
 
-over_step : (n : ℕ) (ds : List Dependency) (t s : Tableau) → IsStep n ds t s → Each (HasLength n) t → Each (HasLength n) s
+over_step : (n : ℕ) (ds : List Dependency) (t s : Tableau) → IsChaseStep n ds t s → Each (HasLength n) t → Each (HasLength n) s
 over_step n ds t s (inl step) each = over_fd n ds t s step each
 over_step n ds t s (inr step) each = Each-mvd (HasLength n) n step.lhs step.rhs t s step.step each (length-exchange_rows n (union step.lhs step.rhs) step.step.first step.step.second)
 
 pub over-functional : (n : ℕ) (ds : List Dependency) (count : ℕ) (t s : Tableau) → LeadsIn (IsFunctionalStep ds) count t s → Each (HasLength n) t → Each (HasLength n) s
 over-functional n ds = holds_after_steps (IsFunctionalStep ds) (Each (HasLength n)) (Each-same (HasLength n)) (over_fd n ds)
 
-pub over-leads : (n : ℕ) (ds : List Dependency) (count : ℕ) (t s : Tableau) → LeadsIn (IsStep n ds) count t s → Each (HasLength n) t → Each (HasLength n) s
-over-leads n ds = holds_after_steps (IsStep n ds) (Each (HasLength n)) (Each-same (HasLength n)) (over_step n ds)
+pub over-leads : (n : ℕ) (ds : List Dependency) (count : ℕ) (t s : Tableau) → LeadsIn (IsChaseStep n ds) count t s → Each (HasLength n) t → Each (HasLength n) s
+over-leads n ds = holds_after_steps (IsChaseStep n ds) (Each (HasLength n)) (Each-same (HasLength n)) (over_step n ds)
 
 -- ---- a step by a functional dependency
 module _ (n : ℕ) (x y : Attributes) (t s : Tableau) (over : Each (HasLength n) t) (step : IsFdStep x y t s) where
@@ -88,7 +88,7 @@ most_fd most ds t s step each =
     Each-fd (HasAtMost most) step.lhs step.rhs t s step.step (λ p p_in k.
     omega (arith, each p p_in k, replaced_le step.step.attribute (symbol_at step.step.second step.step.attribute) (symbol_at step.step.first step.step.attribute) p k (omega (arith, step.step.differ))))
 
-most_step : (n most : ℕ) (ds : List Dependency) (t s : Tableau) → IsStep n ds t s → Each (HasAtMost most) t → Each (HasAtMost most) s
+most_step : (n most : ℕ) (ds : List Dependency) (t s : Tableau) → IsChaseStep n ds t s → Each (HasAtMost most) t → Each (HasAtMost most) s
 most_step n most ds t s (inl step) each = most_fd most ds t s step each
 most_step n most ds t s (inr step) each =
     Each-mvd (HasAtMost most) n step.lhs step.rhs t s step.step each
@@ -97,8 +97,8 @@ most_step n most ds t s (inr step) each =
 pub most-functional : (most : ℕ) (ds : List Dependency) (count : ℕ) (t s : Tableau) → LeadsIn (IsFunctionalStep ds) count t s → Each (HasAtMost most) t → Each (HasAtMost most) s
 most-functional most ds = holds_after_steps (IsFunctionalStep ds) (Each (HasAtMost most)) (Each-same (HasAtMost most)) (most_fd most ds)
 
-pub most-leads : (n most : ℕ) (ds : List Dependency) (count : ℕ) (t s : Tableau) → LeadsIn (IsStep n ds) count t s → Each (HasAtMost most) t → Each (HasAtMost most) s
-most-leads n most ds = holds_after_steps (IsStep n ds) (Each (HasAtMost most)) (Each-same (HasAtMost most)) (most_step n most ds)
+pub most-leads : (n most : ℕ) (ds : List Dependency) (count : ℕ) (t s : Tableau) → LeadsIn (IsChaseStep n ds) count t s → Each (HasAtMost most) t → Each (HasAtMost most) s
+most-leads n most ds = holds_after_steps (IsChaseStep n ds) (Each (HasAtMost most)) (Each-same (HasAtMost most)) (most_step n most ds)
 
 -- ---- the tableau of a plan
 pub plan_over : (n i : ℕ) (plan : List Attributes) → Each (HasLength n) (scheme_rows n i plan)
@@ -134,7 +134,7 @@ HasZerosOn scheme t = (row : SymbolRow) × Contains t row × ((k : ℕ) → sche
 zeros_same : (scheme : Attributes) (t s : Tableau) → SameTableau t s → HasZerosOn scheme t → HasZerosOn scheme s
 zeros_same scheme t s same h = (h.0, (same h.0).0 h.1, h.2)
 
-zeros_step : (n : ℕ) (ds : List Dependency) (scheme : Attributes) (t s : Tableau) → IsStep n ds t s → HasZerosOn scheme t → HasZerosOn scheme s
+zeros_step : (n : ℕ) (ds : List Dependency) (scheme : Attributes) (t s : Tableau) → IsChaseStep n ds t s → HasZerosOn scheme t → HasZerosOn scheme s
 zeros_step n ds scheme t s (inl step) h =
     let a = step.step.attribute in
     let former = symbol_at step.step.second a in
@@ -167,4 +167,4 @@ plan_zeros n i (first ∷ plan) scheme h = ⊎_elim
 
 pub reached-zeros : (n : ℕ) (ds : List Dependency) (plan : List Attributes) (t : Tableau) → ReachesTableau n ds plan t → (scheme : Attributes) → Contains plan scheme → HasZerosOn scheme t
 reached-zeros n ds plan t reached scheme given =
-    holds_after_steps (IsStep n ds) (HasZerosOn scheme) (zeros_same scheme) (zeros_step n ds scheme) reached.0 (plan_tableau n plan) t reached.1 (plan_zeros n 1 plan scheme given)
+    holds_after_steps (IsChaseStep n ds) (HasZerosOn scheme) (zeros_same scheme) (zeros_step n ds scheme) reached.0 (plan_tableau n plan) t reached.1 (plan_zeros n 1 plan scheme given)

@@ -7,7 +7,7 @@ use Rattle.attr_sets.specs.Attributes.{Attributes, union}
 use Rattle.attr_sets.proofs.AttributesLemmas.{tell_member}
 use Rattle.dep_model.specs.Dependencies.{Dependency, fd, mvd}
 use Rattle.chase_laws.specs.Tableaux.{SymbolRow, Tableau, SameTableau, symbol_at, SymbolsAgree, distinguished_row, plan_tableau, scheme_rows}
-use Rattle.chase_laws.specs.Steps.{exchange_rows, replace_symbol, IsFunctionalStep, IsMultivaluedStep, IsStep, IsClosed, IsFunctionallyClosed, LeadsIn, LeadsTo}
+use Rattle.chase_laws.specs.Steps.{exchange_rows, replace_symbol, IsFunctionalStep, IsMultivaluedStep, IsChaseStep, IsClosed, HasNoFunctionalStep, LeadsIn, LeadsTo}
 use Rattle.chase_laws.specs.Rounds.{ClosesFunctionallyTo, IsMadeOf, IsNext, EndsRounds, InRounds, HasMoreThan, RoundsExceed}
 use Rattle.chase_laws.proofs.TableauLemmas.{rows_tell, symbol_at_past, cons_cases, Same-refl, Same-sym, Same-trans, Same-replace_symbol, Same-cons, length-exchange_rows}
 use Rattle.chase_laws.proofs.InvariantLemmas.{Each, HasLength, Each-same, over-functional, plan_over}
@@ -57,7 +57,7 @@ multivalued_between n ds t s u v start end step =
       };
     }
 
-step_between : (n : ℕ) (ds : List Dependency) (t s u v : Tableau) → SameTableau t s → SameTableau u v → IsStep n ds s u → IsStep n ds t v
+step_between : (n : ℕ) (ds : List Dependency) (t s u v : Tableau) → SameTableau t s → SameTableau u v → IsChaseStep n ds s u → IsChaseStep n ds t v
 step_between n ds t s u v start end (inl step) = inl (functional_between ds t s u v start end step)
 step_between n ds t s u v start end (inr step) = inr (multivalued_between n ds t s u v start end step)
 
@@ -160,7 +160,7 @@ no_more limit t s same within_limit more =
     absurd (omega (arith, within_limit, more.many, differ_le more.rows s more.differ (λ (k : ℕ) (d : SymbolRow) l. (same (get_or more.rows k d)).0 (more.each k d l))))
 
 -- ---- without a multivalued dependency
-pub functional_closed : (n : ℕ) (ds : List Dependency) (t : Tableau) → ((x y : Attributes) → Contains ds (mvd x y) → ⊥) → IsFunctionallyClosed ds t → IsClosed n ds t
+pub functional_closed : (n : ℕ) (ds : List Dependency) (t : Tableau) → ((x y : Attributes) → Contains ds (mvd x y) → ⊥) → HasNoFunctionalStep ds t → IsClosed n ds t
 functional_closed n ds t none functionally_closed s (inl step) = functionally_closed s step
 functional_closed n ds t none functionally_closed s (inr step) = none step.lhs step.rhs step.given
 
@@ -288,8 +288,8 @@ leads_end Step end (suc count) t s u leads same = (leads.0, leads.1, end leads.0
 pub functional_leads_end : (ds : List Dependency) (count : ℕ) (t s u : Tableau) → LeadsIn (IsFunctionalStep ds) count t s → SameTableau s u → LeadsIn (IsFunctionalStep ds) count t u
 functional_leads_end ds count t s u = leads_end (IsFunctionalStep ds) (λ a b d step same. functional_between ds a a b d (Same-refl a) same step) count t s u
 
-pub step_leads_end : (n : ℕ) (ds : List Dependency) (count : ℕ) (t s u : Tableau) → LeadsIn (IsStep n ds) count t s → SameTableau s u → LeadsIn (IsStep n ds) count t u
-step_leads_end n ds count t s u = leads_end (IsStep n ds) (λ a b d step same. step_between n ds a a b d (Same-refl a) same step) count t s u
+pub step_leads_end : (n : ℕ) (ds : List Dependency) (count : ℕ) (t s u : Tableau) → LeadsIn (IsChaseStep n ds) count t s → SameTableau s u → LeadsIn (IsChaseStep n ds) count t u
+step_leads_end n ds count t s u = leads_end (IsChaseStep n ds) (λ a b d step same. step_between n ds a a b d (Same-refl a) same step) count t s u
 
 -- one step or more, after any number
 pub functional_leads_join : (ds : List Dependency) (more : ℕ) (t m s : Tableau) (count : ℕ) → LeadsIn (IsFunctionalStep ds) count t m → LeadsIn (IsFunctionalStep ds) (suc more) m s
@@ -305,7 +305,7 @@ functional_leads ds zero t m s count one other = (count, functional_leads_end ds
 functional_leads ds (suc more) t m s count one other = let w = functional_leads_join ds more t m s count one other in (suc w.0, w.1)
 
 -- steps by functional dependencies are steps
-pub reaches_functionally_closed : (n : ℕ) (ds : List Dependency) (more count : ℕ) (t m s : Tableau) → LeadsIn (IsStep n ds) count t m → LeadsIn (IsFunctionalStep ds) more m s → LeadsTo (IsStep n ds) t s
+pub reaches_functionally_closed : (n : ℕ) (ds : List Dependency) (more count : ℕ) (t m s : Tableau) → LeadsIn (IsChaseStep n ds) count t m → LeadsIn (IsFunctionalStep ds) more m s → LeadsTo (IsChaseStep n ds) t s
 reaches_functionally_closed n ds zero count t m s one other = (count, step_leads_end n ds count t m s one other)
 reaches_functionally_closed n ds (suc more) count t m s one other =
     let w = reaches_functionally_closed n ds more count t m other.0 one other.1 in

@@ -17,7 +17,7 @@ use Rattle.dep_model.proofs.ListLemmas.{map-member}
 use Rattle.dep_model.proofs.SchemeLemmas.{value_in-project_tuple}
 use Rattle.dep_model.proofs.TupleLemmas.{same_tuple-Contains}
 use Rattle.chase_laws.specs.Tableaux.{SymbolRow, Tableau, symbol_at, SymbolsAgree, distinguished_row, scheme_row, scheme_rows, plan_tableau}
-use Rattle.chase_laws.specs.Steps.{replace_in_row, exchange_rows, IsFunctionalStep, IsMultivaluedStep, IsStep}
+use Rattle.chase_laws.specs.Steps.{replace_in_row, exchange_rows, IsFunctionalStep, IsMultivaluedStep, IsChaseStep}
 use Rattle.chase_laws.specs.Rounds.{ReachesTableau}
 use Rattle.chase_laws.proofs.TableauLemmas.{symbol_at_past, symbol_at-distinguished_row, length-scheme_row, symbol_at-scheme_row, symbol_at-exchange_rows, length-exchange_rows, length-replace_in_row, replaced_image, cons_cases}
 use Rattle.chase_laws.proofs.InvariantLemmas.{holds_after_steps, Each, Each-same, Each-fd, Each-mvd}
@@ -93,7 +93,7 @@ image_mvd n ds v r legal t s multivalued each =
     exchanged_value n v z p q w.0 w.2 w.3 k l ∙ ap (λ (s : ℕ). v k s) (sym (symbol_at-exchange_rows n z p q k l)) ∙ sym (value_at-image n v (exchange_rows n z p q) k l)) in
     Each-mvd (HasImage n v r) n multivalued.lhs multivalued.rhs t s step each (length-exchange_rows n z p q, subst (λ (u : Tuple). Contains r u) same w.1)
 
-image_step : (n : ℕ) (ds : List Dependency) (v : ℕ → ℕ → List ℕ) (r : Relation) → IsLegal n ds r → (t s : Tableau) → IsStep n ds t s → Each (HasImage n v r) t → Each (HasImage n v r) s
+image_step : (n : ℕ) (ds : List Dependency) (v : ℕ → ℕ → List ℕ) (r : Relation) → IsLegal n ds r → (t s : Tableau) → IsChaseStep n ds t s → Each (HasImage n v r) t → Each (HasImage n v r) s
 image_step n ds v r legal t s (inl step) each = image_fd n ds v r legal t s step each
 image_step n ds v r legal t s (inr step) each = image_mvd n ds v r legal t s step each
 
@@ -156,7 +156,7 @@ gained_in n ds plan s reached given r legal t joined =
     let us = StandsFor-all r t plan joined.in_each in
     let v = valuation t us.0 in
     let start = start_images n v ds r t legal (valuation-zero t us.0) 1 plan us.0 (λ (j k : ℕ). let next : 1 + j ≡ suc j = omega arith in ap (λ (i : ℕ). v k i) next ∙ valuation-scheme t us.0 k j) us.1 in
-    let all = holds_after_steps (IsStep n ds) (Each (HasImage n v r)) (Each-same (HasImage n v r)) (image_step n ds v r legal) reached.0 (plan_tableau n plan) s reached.1 start in
+    let all = holds_after_steps (IsChaseStep n ds) (Each (HasImage n v r)) (Each-same (HasImage n v r)) (image_step n ds v r legal) reached.0 (plan_tableau n plan) s reached.1 start in
     let same : image n v (distinguished_row n) ≡ t = same_tuple-Contains n (image n v (distinguished_row n)) t (length-image n v (distinguished_row n)) joined.over (λ (k : ℕ) l.
     value_at-image n v (distinguished_row n) k l ∙ ap (λ (i : ℕ). v k i) (symbol_at-distinguished_row n k l) ∙ valuation-zero t us.0 k) in
     subst (λ (u : Tuple). Contains r u) same (all (distinguished_row n) given).1

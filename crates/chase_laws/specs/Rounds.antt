@@ -4,16 +4,16 @@ use Rattle.std.specs.Prelude.{◌≡◌, ℕ, ◌<◌, ◌↔◌, ◌⊎◌, zer
 use Rattle.attr_sets.specs.Attributes.{Attributes, union}
 use Rattle.dep_model.specs.Dependencies.{Dependency, mvd}
 use Rattle.chase_laws.specs.Tableaux.{SymbolRow, Tableau, SameTableau, SymbolsAgree, distinguished_row, plan_tableau}
-use Rattle.chase_laws.specs.Steps.{exchange_rows, IsFunctionalStep, IsStep, IsClosed, IsFunctionallyClosed, LeadsTo}
+use Rattle.chase_laws.specs.Steps.{exchange_rows, IsFunctionalStep, IsChaseStep, IsClosed, HasNoFunctionalStep, LeadsTo}
 
 -- a tableau that comes from the plan's by any number of steps in any order
 abbrev pub ReachesTableau : ℕ → List Dependency → List Attributes → Tableau → Type 0
-ReachesTableau n ds plan t = LeadsTo (IsStep n ds) (plan_tableau n plan) t
+ReachesTableau n ds plan t = LeadsTo (IsChaseStep n ds) (plan_tableau n plan) t
 
 -- steps by functional dependencies lead from one tableau to the other, and none changes that
 pub record ClosesFunctionallyTo (ds : List Dependency) (t s : Tableau) : Type 0 where
   pub leads : LeadsTo (IsFunctionalStep ds) t s
-  pub functionally_closed : IsFunctionallyClosed ds s
+  pub functionally_closed : HasNoFunctionalStep ds s
 
 -- a row that one step by a multivalued dependency makes of two rows
 pub record IsMadeOf (n : ℕ) (ds : List Dependency) (t : Tableau) (row : SymbolRow) : Type 0 where

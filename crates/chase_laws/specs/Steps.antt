@@ -57,16 +57,16 @@ pub record IsMultivaluedStep (n : ℕ) (ds : List Dependency) (t s : Tableau) : 
   pub step : IsMvdStep n lhs rhs t s
 
 -- a step of either kind
-abbrev pub IsStep : ℕ → List Dependency → Tableau → Tableau → Type 0
-IsStep n ds t s = IsFunctionalStep ds t s ⊎ IsMultivaluedStep n ds t s
+abbrev pub IsChaseStep : ℕ → List Dependency → Tableau → Tableau → Type 0
+IsChaseStep n ds t s = IsFunctionalStep ds t s ⊎ IsMultivaluedStep n ds t s
 
 -- no step changes the tableau
 abbrev pub IsClosed : ℕ → List Dependency → Tableau → Type 0
-IsClosed n ds t = (s : Tableau) → IsStep n ds t s → ⊥
+IsClosed n ds t = (s : Tableau) → IsChaseStep n ds t s → ⊥
 
 -- no step by a functional dependency changes the tableau
-abbrev pub IsFunctionallyClosed : List Dependency → Tableau → Type 0
-IsFunctionallyClosed ds t = (s : Tableau) → IsFunctionalStep ds t s → ⊥
+abbrev pub HasNoFunctionalStep : List Dependency → Tableau → Type 0
+HasNoFunctionalStep ds t = (s : Tableau) → IsFunctionalStep ds t s → ⊥
 
 -- so many steps of a kind lead from one tableau to the other
 abbrev pub LeadsIn : (Tableau → Tableau → Type 0) → ℕ → Tableau → Tableau → Type 0

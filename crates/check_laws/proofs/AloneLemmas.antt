@@ -22,7 +22,7 @@ use Rattle.check_queries.specs.Checks.{line_item, values_query, count_name, coun
 use Rattle.sql_evaluation.specs.Cells.{Cell, missing, number, same_row, multiplied, subtracted}
 use Rattle.sql_evaluation.specs.Values.{each, of_both, Look, look_at, View, sum_of, holds}
 use Rattle.sql_evaluation.specs.Evaluation.{Engine, key_cell, row_view, item_name, item_value, with_items, selected, evaluate}
-use Rattle.check_laws.specs.Holding.{compared_cell, Holds}
+use Rattle.check_laws.specs.HeldRelations.{compared_cell, Holds}
 use Rattle.check_laws.proofs.CellLemmas.{same_row-decides}
 use Rattle.check_laws.proofs.ValuesLemmas.{cells_on, values_of, values-known}
 use Rattle.check_laws.proofs.GroupLemmas.{Cells, look, looks_of, pick, value-row, row-value, class_of}

@@ -22,7 +22,7 @@ use Rattle.check_queries.specs.Checks.{first_count, second_count, count_of_both,
 use Rattle.sql_evaluation.specs.Cells.{Cell, number}
 use Rattle.sql_evaluation.specs.Values.{each, bytes_of, named_cell, Look, View}
 use Rattle.sql_evaluation.specs.Evaluation.{Engine, in_group, group_view, having_true, item_name, item_value, with_items, selected, evaluate}
-use Rattle.check_laws.specs.Holding.{compared_cell, Holds}
+use Rattle.check_laws.specs.HeldRelations.{compared_cell, Holds}
 use Rattle.check_laws.proofs.EachLemmas.{each-known, each-map, map-map}
 use Rattle.check_laws.proofs.ColumnLemmas.{bytes_same, bytes_self, NamesApart}
 use Rattle.check_laws.proofs.CellLemmas.{member_of}

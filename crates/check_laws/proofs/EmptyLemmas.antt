@@ -8,8 +8,8 @@ use Rattle.dep_model.specs.Tuples.{Relation, value_at}
 use Rattle.check_queries.specs.Checks.{required_of}
 use Rattle.sql_evaluation.specs.Cells.{Cell, missing, text, number, text_of, is_none}
 use Rattle.sql_evaluation.specs.Evaluation.{Engine}
-use Rattle.check_laws.specs.Holding.{AreApart, Holds, CastsIntegers, held_text, cell_of}
-use Rattle.check_laws.specs.Telling.{NoneMissing}
+use Rattle.check_laws.specs.HeldRelations.{AreApart, Holds, CastsIntegers, held_text, cell_of}
+use Rattle.check_laws.specs.CheckedRules.{NoneMissing}
 use Rattle.check_laws.proofs.WitnessLemmas.{some_engine_holds}
 
 -- the text of a value, the empty one where it is missing

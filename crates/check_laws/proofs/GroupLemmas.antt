@@ -18,7 +18,7 @@ use Rattle.check_queries.specs.Columns.{name_at, column_at, columns_on, items_on
 use Rattle.sql_evaluation.specs.Cells.{Cell, missing, same_row}
 use Rattle.sql_evaluation.specs.Values.{each, Look, look_at}
 use Rattle.sql_evaluation.specs.Evaluation.{key_cell, is_key, in_group, group_view, group_views, item_value, taken}
-use Rattle.check_laws.specs.Holding.{compared_cell}
+use Rattle.check_laws.specs.HeldRelations.{compared_cell}
 use Rattle.check_laws.proofs.EachLemmas.{each-known, each-map, map-known, map-map, filter-known, filter-map}
 use Rattle.check_laws.proofs.ColumnLemmas.{named_cell-member, key_cell-member}
 use Rattle.check_laws.proofs.CellLemmas.{same_row-decides, member_of, is_member_of, place_low, names_on_apart}

@@ -13,8 +13,8 @@ use Rattle.check_queries.specs.Checks.{integer_query}
 use Rattle.sql_evaluation.specs.Cells.{Cell, missing, text, number, integer_text, text_of, integer_of, differ}
 use Rattle.sql_evaluation.specs.Values.{of_both, holds}
 use Rattle.sql_evaluation.specs.Evaluation.{Engine}
-use Rattle.check_laws.specs.Holding.{IsHeld, Holds, CastsIntegers}
-use Rattle.check_laws.specs.Telling.{GivesNoRow, IsIntegerCell, AreIntegers, ShowsIntegers}
+use Rattle.check_laws.specs.HeldRelations.{IsHeld, Holds, CastsIntegers}
+use Rattle.check_laws.specs.CheckedRules.{GivesNoRow, IsIntegerCell, AreIntegers, ShowsIntegers}
 use Rattle.check_laws.proofs.ColumnLemmas.{bytes_same, bytes_self}
 use Rattle.check_laws.proofs.GroupLemmas.{Cells}
 use Rattle.check_laws.proofs.RowLemmas.{row-tuple, tuple-row, row_look, none_is_not_some, some_is, none-of_table}

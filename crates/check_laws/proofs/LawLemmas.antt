@@ -23,8 +23,8 @@ use Rattle.table_queries.proofs.BreachLemmas.{breaches_tell}
 use Rattle.check_queries.specs.Columns.{column_at, group_at}
 use Rattle.check_queries.specs.Checks.{has_members, several_query, unpaired_query, rules_of, check_query}
 use Rattle.sql_evaluation.specs.Evaluation.{Rows, Engine}
-use Rattle.check_laws.specs.Holding.{Holds}
-use Rattle.check_laws.specs.Telling.{GivesNoRowWhere, Tells, ShowsNothing, TellsDependency, TellsDependencies, NoBreachShown}
+use Rattle.check_laws.specs.HeldRelations.{Holds}
+use Rattle.check_laws.specs.CheckedRules.{GivesNoRowWhere, Tells, ShowsNothing, TellsDependency, TellsDependencies, NoBreachShown}
 use Rattle.check_laws.proofs.GroupLemmas.{Cells}
 use Rattle.check_laws.proofs.SeveralLemmas.{shows_none, after_line, several-known, several-none}
 use Rattle.check_laws.proofs.UnpairedLemmas.{unpaired-known, unpaired-none}

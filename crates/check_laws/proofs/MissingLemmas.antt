@@ -15,8 +15,8 @@ use Rattle.check_queries.specs.Checks.{required_of, some_missing, missing_query,
 use Rattle.sql_evaluation.specs.Cells.{Cell, is_none}
 use Rattle.sql_evaluation.specs.Values.{each, of_both, View, holds}
 use Rattle.sql_evaluation.specs.Evaluation.{Engine, item_value, with_items}
-use Rattle.check_laws.specs.Holding.{IsHeld, Holds}
-use Rattle.check_laws.specs.Telling.{GivesNoRowWhere, Tells, NoneMissing}
+use Rattle.check_laws.specs.HeldRelations.{IsHeld, Holds}
+use Rattle.check_laws.specs.CheckedRules.{GivesNoRowWhere, Tells, NoneMissing}
 use Rattle.check_laws.proofs.CellLemmas.{member_of, is_member_of}
 use Rattle.check_laws.proofs.EachLemmas.{each-known, each-map, taken-known}
 use Rattle.check_laws.proofs.GroupLemmas.{Cells}

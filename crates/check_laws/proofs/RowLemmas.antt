@@ -8,8 +8,8 @@ use Rattle.sql_syntax.specs.Syntax.{Condition, Item, rows_where, stored, select}
 use Rattle.sql_evaluation.specs.Cells.{Cell}
 use Rattle.sql_evaluation.specs.Values.{each, look_at, View, holds}
 use Rattle.sql_evaluation.specs.Evaluation.{Engine, Rows, taken, row_view, item_value, with_items, selected, evaluate}
-use Rattle.check_laws.specs.Holding.{IsHeld, AreHeld}
-use Rattle.check_laws.specs.Telling.{GivesNoRow}
+use Rattle.check_laws.specs.HeldRelations.{IsHeld, AreHeld}
+use Rattle.check_laws.specs.CheckedRules.{GivesNoRow}
 use Rattle.check_laws.proofs.EachLemmas.{taken-known}
 use Rattle.check_laws.proofs.GroupLemmas.{Cells}
 use Rattle.check_laws.proofs.SeveralLemmas.{shows_none}

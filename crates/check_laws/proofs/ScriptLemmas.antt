@@ -6,8 +6,8 @@ use Rattle.dep_model.specs.Schemas.{width_of}
 use Rattle.dep_model.specs.Tuples.{Relation, IsOver}
 use Rattle.check_queries.specs.Checks.{required_query}
 use Rattle.sql_evaluation.specs.Evaluation.{Engine}
-use Rattle.check_laws.specs.Holding.{Holds, CastsIntegers}
-use Rattle.check_laws.specs.Telling.{NoneMissing, RulesHold, NothingShown}
+use Rattle.check_laws.specs.HeldRelations.{Holds, CastsIntegers}
+use Rattle.check_laws.specs.CheckedRules.{NoneMissing, RulesHold, NothingShown}
 use Rattle.check_laws.proofs.GroupLemmas.{Cells}
 use Rattle.check_laws.proofs.IntegerLemmas.{integers_told}
 use Rattle.check_laws.proofs.LawLemmas.{shown_none, none_shown, legal_told}

@@ -25,7 +25,7 @@ use Rattle.check_queries.specs.Checks.{line_item, groups_of_several}
 use Rattle.sql_evaluation.specs.Cells.{Cell, missing, number, same_row}
 use Rattle.sql_evaluation.specs.Values.{each, Look, View, holds}
 use Rattle.sql_evaluation.specs.Evaluation.{Engine, group_view, having_true, item_name, item_value, with_items, selected, evaluate}
-use Rattle.check_laws.specs.Holding.{compared_cell, Holds}
+use Rattle.check_laws.specs.HeldRelations.{compared_cell, Holds}
 use Rattle.check_laws.proofs.EachLemmas.{each-known, each-map, taken-known, map-known}
 use Rattle.check_laws.proofs.CellLemmas.{same_row-decides, member_of, place_low}
 use Rattle.check_laws.proofs.ValuesLemmas.{cells_on, values_of, values-known}

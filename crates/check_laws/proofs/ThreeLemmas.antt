@@ -22,7 +22,7 @@ use Rattle.check_queries.specs.Checks.{first_count, second_count, count_of_both,
 use Rattle.sql_evaluation.specs.Cells.{Cell, number, same_row, total}
 use Rattle.sql_evaluation.specs.Values.{each, named_cell, Look, look_at}
 use Rattle.sql_evaluation.specs.Evaluation.{Rows, Engine, is_key, in_group, group_view, group_views, appended, evaluate}
-use Rattle.check_laws.specs.Holding.{compared_cell, Holds}
+use Rattle.check_laws.specs.HeldRelations.{compared_cell, Holds}
 use Rattle.check_laws.proofs.EachLemmas.{each-known, each-map, map-map, filter-known, filter-map}
 use Rattle.check_laws.proofs.CellLemmas.{same_row-decides}
 use Rattle.check_laws.proofs.ValuesLemmas.{cells_on, values_of}

@@ -27,7 +27,7 @@ use Rattle.check_queries.specs.Checks.{line_item, sum_column, product_of_counts,
 use Rattle.sql_evaluation.specs.Cells.{Cell, number, same_row, multiplied, differ, total}
 use Rattle.sql_evaluation.specs.Values.{each, of_both, named_cell, Look, look_at, View, sum_of, holds}
 use Rattle.sql_evaluation.specs.Evaluation.{Engine, group_view, group_views, having_true, item_name, item_value, with_items, selected, evaluate}
-use Rattle.check_laws.specs.Holding.{compared_cell, Holds}
+use Rattle.check_laws.specs.HeldRelations.{compared_cell, Holds}
 use Rattle.check_laws.proofs.EachLemmas.{each-known, each-map, map-map, taken-known, filter-known}
 use Rattle.check_laws.proofs.ColumnLemmas.{key_cell-member}
 use Rattle.check_laws.proofs.CellLemmas.{same_row-decides}

@@ -16,7 +16,7 @@ use Rattle.check_queries.specs.Checks.{values_query}
 use Rattle.sql_evaluation.specs.Cells.{Cell, missing, text, number, integer_text, text_of, followed_by, same_row}
 use Rattle.sql_evaluation.specs.Values.{each, bytes_of, named_cell, look_at}
 use Rattle.sql_evaluation.specs.Evaluation.{Engine, row_view, item_name, item_value, with_items, selected, evaluate}
-use Rattle.check_laws.specs.Holding.{IsHeld, AreHeld, compared_cell, Holds}
+use Rattle.check_laws.specs.HeldRelations.{IsHeld, AreHeld, compared_cell, Holds}
 use Rattle.check_laws.proofs.EachLemmas.{each-known, each-map, map-known, map-map}
 
 -- the values of a tuple on a set, as they are compared

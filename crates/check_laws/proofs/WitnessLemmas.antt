@@ -8,7 +8,7 @@ use Rattle.std.specs.Prelude.{ℤ, pos, negsuc, nat_eq, nat_lt, if◌then◌else
 use Rattle.std.specs.Str.{bytes_eq}
 use Rattle.std.specs.Str.Parse.{digits_value}
 use Rattle.dep_model.specs.declared.schema.Schema.{Schema}
-use Rattle.dep_model.specs.Integers.{IsNumeral, IsIntegerText}
+use Rattle.dep_model.specs.Integers.{IsPositiveNumeral, IsIntegerText}
 use Rattle.dep_model.specs.Projections.{members_below}
 use Rattle.dep_model.specs.Schemas.{width_of, universe_of}
 use Rattle.dep_model.specs.Tuples.{Tuple, Relation, value_at}
@@ -16,7 +16,7 @@ use Rattle.dep_model.proofs.NumeralLemmas.{decimal_zero, decimal_numeral_model, 
 use Rattle.check_queries.specs.Columns.{name_at}
 use Rattle.sql_evaluation.specs.Cells.{Cell, text, integer_text}
 use Rattle.sql_evaluation.specs.Evaluation.{Rows, Engine}
-use Rattle.check_laws.specs.Holding.{AreHeld, AreApart, Holds, CastsIntegers}
+use Rattle.check_laws.specs.HeldRelations.{AreHeld, AreApart, Holds, CastsIntegers}
 use Rattle.check_laws.proofs.CellLemmas.{is_member_of, names_on_apart}
 use Rattle.check_laws.proofs.ColumnLemmas.{bytes_same, bytes_self, named_cell-member}
 use Rattle.check_laws.proofs.GroupLemmas.{Cells}
@@ -110,19 +110,19 @@ range_text (negsuc n) low =
       },
     ))
 
-numeral_text : (most : ℕ) (ds : List ℕ) → most < 2 ^ 64 → IsNumeral most ds → decimal (digits_value 10 ds) ≡ ds
+numeral_text : (most : ℕ) (ds : List ℕ) → most < 2 ^ 64 → IsPositiveNumeral most ds → decimal (digits_value 10 ds) ≡ ds
 numeral_text most ds fits numeral =
     let value = numeral.value in
     decimal-digits_value decimal_numeral_model ds numeral.digits numeral.not_empty (λ (e : get_or ds 0 0 ≡ 48). absurd (numeral.first e)) (omega (arith, value, fits))
 
-numeral_positive : (most : ℕ) (ds : List ℕ) → most < 2 ^ 64 → IsNumeral most ds → 0 < digits_value 10 ds
+numeral_positive : (most : ℕ) (ds : List ℕ) → most < 2 ^ 64 → IsPositiveNumeral most ds → 0 < digits_value 10 ds
 numeral_positive most ds fits numeral = elim (cases_eq (digits_value 10 ds) 0) [
   | inl none ↦ absurd (numeral.first (ap (λ (t : List ℕ). get_or t 0 0) (sym (numeral_text most ds fits numeral) ∙ ap decimal none ∙ decimal_zero)))
   | inr some ↦ omega (arith, some)
 ]
 
 -- the first sign of a numeral is a digit
-value_of_numeral : (most : ℕ) (ds : List ℕ) → IsNumeral most ds → value_of ds ≡ pos (digits_value 10 ds)
+value_of_numeral : (most : ℕ) (ds : List ℕ) → IsPositiveNumeral most ds → value_of ds ≡ pos (digits_value 10 ds)
 unfolding value_of
 value_of_numeral most [] numeral = let there = numeral.not_empty in absurd (omega (arith, there))
 value_of_numeral most (c ∷ cs) numeral =
@@ -137,7 +137,7 @@ casts_integers = record { exact = to; within = from }
     cast_is : (t : List ℕ) (n : ℤ) → value_of t ≡ n → in_range n ≡ true → integer_text n ≡ t → (m : ℤ) × (cast_of t ≡ Some m) × (integer_text m ≡ t)
     cast_is t n is low same = (n, ap (exactly t) is ∙ exact_is t n low same, same)
 
-    minus : (ds : List ℕ) (v : ℕ) → v ≡ digits_value 10 ds → IsNumeral (2 ^ 63) ds → (m : ℤ) × (cast_of (45 ∷ ds) ≡ Some m) × (integer_text m ≡ 45 ∷ ds)
+    minus : (ds : List ℕ) (v : ℕ) → v ≡ digits_value 10 ds → IsPositiveNumeral (2 ^ 63) ds → (m : ℤ) × (cast_of (45 ∷ ds) ≡ Some m) × (integer_text m ≡ 45 ∷ ds)
     minus ds zero is numeral = let more = numeral_positive (2 ^ 63) ds (omega arith) numeral in absurd (omega (arith, is, more))
     minus ds (suc n) is numeral =
         let most = numeral.value in

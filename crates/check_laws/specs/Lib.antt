@@ -1,4 +1,4 @@
 -- The definitions of check_laws: tables that hold relations, and what
 -- queries tell of these.
-pub mod Holding
-pub mod Telling
+pub mod HeldRelations
+pub mod CheckedRules

@@ -139,7 +139,7 @@ unpaired_query s table line x y z =
 
 -- ---- terms
 -- the query of a term that breaks the dependency of a line; the other terms are of plans
-abbrev pub query_of : Schema → List ℕ → ℕ → terms.Query → Option Query
+abbrev pub query_of : Schema → List ℕ → ℕ → terms.TableQuery → Option Query
 query_of s table line (several x w) = Some (several_query s table line x w)
 query_of s table line (unpaired x y z) = Some (unpaired_query s table line x y z)
 query_of s table line term = None

@@ -16,7 +16,7 @@ use Rattle.dep_model.proofs.RuleLemmas.{reflexivity_obeyed, transitivity_obeyed,
 use Rattle.fd_closure.specs.FunctionallyClosed.{IsFunctionallyClosed}
 use Rattle.fd_closure.proofs.ClosedSets.{closed-from}
 use Rattle.fd_closure.proofs.ClosureLemmas.{fd_each-to, fd_added}
-use Rattle.closure_steps.specs.Steps.{Step, Adds, IsStep, reached, AreSteps, AreClosureSteps}
+use Rattle.closure_steps.specs.Steps.{ClosureStepValue, Adds, IsClosureStep, reached, AreSteps, AreClosureSteps}
 
 -- ---- a fact of each member, at a member that is read
 pub All-read : (P : Dependency → Type 0) (ds : List Dependency) (k : ℕ) (d : Dependency) → All P ds → slice_get ds k ≡ Some d → P d
@@ -29,17 +29,17 @@ read-contained ds k d read =
     (Contains-get_or ds k d (slice_get_within ds k d read))
 
 -- ---- one step more
-pub AreSteps-push : (ds : List Dependency) (c : Attributes) (steps : List Step) (step : Step) → AreSteps ds c steps → IsStep ds (reached c steps) step → AreSteps ds c (steps ++ step ∷ [])
+pub AreSteps-push : (ds : List Dependency) (c : Attributes) (steps : List ClosureStepValue) (step : ClosureStepValue) → AreSteps ds c steps → IsClosureStep ds (reached c steps) step → AreSteps ds c (steps ++ step ∷ [])
 AreSteps-push ds c [] step before next = (next, tt)
 AreSteps-push ds c (first ∷ later) step before next =
     (before.0, AreSteps-push ds (union c first.added) later step before.1 next)
 
-pub reached-push : (c : Attributes) (steps : List Step) (step : Step) → reached c (steps ++ step ∷ []) ≡ union (reached c steps) step.added
+pub reached-push : (c : Attributes) (steps : List ClosureStepValue) (step : ClosureStepValue) → reached c (steps ++ step ∷ []) ≡ union (reached c steps) step.added
 reached-push c [] step = refl
 reached-push c (first ∷ later) step = reached-push (union c first.added) later step
 
 -- ---- what is there follows from the set
-added_follows : (n : ℕ) (ds : List Dependency) (c : Attributes) (step : Step) → IsStep ds c step → Implies n (functional_part ds) (fd c (union c step.added))
+added_follows : (n : ℕ) (ds : List Dependency) (c : Attributes) (step : ClosureStepValue) → IsClosureStep ds c step → Implies n (functional_part ds) (fd c (union c step.added))
 added_follows n ds c step is r legal =
     let d = is.dependency in
     let given = filter-keeps is_fd ds d (read-contained ds step.position d is.given) is.adds.functional in
@@ -48,7 +48,7 @@ added_follows n ds c step is r legal =
     (λ k m. grind (arith, m, ap (λ (x : Attributes). x k) is.added))
     (fd_added (left_of d) (right_of d) c r is.adds.leads_out.inside obeys)
 
-pub reached_follows : (n : ℕ) (ds : List Dependency) (c : Attributes) (steps : List Step) → AreSteps ds c steps → Implies n (functional_part ds) (fd c (reached c steps))
+pub reached_follows : (n : ℕ) (ds : List Dependency) (c : Attributes) (steps : List ClosureStepValue) → AreSteps ds c steps → Implies n (functional_part ds) (fd c (reached c steps))
 reached_follows n ds c [] are r legal = reflexivity_obeyed c c r (λ k m. m)
 reached_follows n ds c (step ∷ later) are r legal =
     transitivity_obeyed c (union c step.added) (reached (union c step.added) later) r
@@ -56,16 +56,16 @@ reached_follows n ds c (step ∷ later) are r legal =
     (reached_follows n ds (union c step.added) later are.1 r legal)
 
 -- ---- it grows, and stays within the universe
-reached-grows : (c : Attributes) (steps : List Step) → IsSubset c (reached c steps)
+reached-grows : (c : Attributes) (steps : List ClosureStepValue) → IsSubset c (reached c steps)
 reached-grows c [] k m = m
 reached-grows c (step ∷ later) k m = reached-grows (union c step.added) later k (grind (arith, m))
 
-added_within : (n : ℕ) (ds : List Dependency) (c : Attributes) (step : Step) → All (IsWithin (below n)) ds → IsStep ds c step → IsSubset step.added (below n)
+added_within : (n : ℕ) (ds : List Dependency) (c : Attributes) (step : ClosureStepValue) → All (IsWithin (below n)) ds → IsClosureStep ds c step → IsSubset step.added (below n)
 added_within n ds c step within is k m =
     (All-read (IsWithin (below n)) ds step.position is.dependency within is.given).1 k
     (grind (arith, m, ap (λ (x : Attributes). x k) is.added))
 
-reached_within : (n : ℕ) (ds : List Dependency) (c : Attributes) (steps : List Step) → All (IsWithin (below n)) ds → IsSubset c (below n) → AreSteps ds c steps → IsSubset (reached c steps) (below n)
+reached_within : (n : ℕ) (ds : List Dependency) (c : Attributes) (steps : List ClosureStepValue) → All (IsWithin (below n)) ds → IsSubset c (below n) → AreSteps ds c steps → IsSubset (reached c steps) (below n)
 reached_within n ds c [] within c_in are = c_in
 reached_within n ds c (step ∷ later) within c_in are =
     reached_within n ds (union c step.added) later within
@@ -89,7 +89,7 @@ functional_twice (fd x y ∷ ds) = ap (λ (es : List Dependency). fd x y ∷ es)
 functional_twice (mvd x y ∷ ds) = functional_twice ds
 
 -- ---- the steps reach the closure
-closure_reached : (n : ℕ) (ds : List Dependency) (x : Attributes) (steps : List Step) (a : ℕ) → All (IsWithin (below n)) ds → IsSubset x (below n) → AreClosureSteps ds x steps
+closure_reached : (n : ℕ) (ds : List Dependency) (x : Attributes) (steps : List ClosureStepValue) (a : ℕ) → All (IsWithin (below n)) ds → IsSubset x (below n) → AreClosureSteps ds x steps
     → InClosure n (functional_part ds) x a → reached x steps a ≡ true
 closure_reached n ds x steps a within x_in are h =
     let c = reached x steps in
@@ -97,7 +97,7 @@ closure_reached n ds x steps a within x_in are h =
     (reached_within n ds x steps within x_in are.each) (done_closed n ds c within are.done) a
     (h.0, λ r legal. fd_weaker_obeyed x (only a) c (only a) r (reached-grows x steps) (λ k m. m) (h.1 r legal))
 
-pub reached_is_closure : (n : ℕ) (ds : List Dependency) (x : Attributes) (steps : List Step) (a : ℕ) → All (IsWithin (below n)) ds → IsSubset x (below n) → AreClosureSteps ds x steps
+pub reached_is_closure : (n : ℕ) (ds : List Dependency) (x : Attributes) (steps : List ClosureStepValue) (a : ℕ) → All (IsWithin (below n)) ds → IsSubset x (below n) → AreClosureSteps ds x steps
     → (reached x steps a ≡ true) ↔ InClosure n (functional_part ds) x a
 reached_is_closure n ds x steps a within x_in are = (
   (λ m. (
@@ -108,7 +108,7 @@ reached_is_closure n ds x steps a within x_in are = (
 )
 
 -- ---- there is one step at most from a set
-not_earlier : (ds : List Dependency) (c : Attributes) (one other : Step) → IsStep ds c one → IsStep ds c other → one.position < other.position → ⊥
+not_earlier : (ds : List Dependency) (c : Attributes) (one other : ClosureStepValue) → IsClosureStep ds c one → IsClosureStep ds c other → one.position < other.position → ⊥
 not_earlier ds c one other is is_other less =
     let i = one.position in
     let d = is.dependency in
@@ -116,10 +116,10 @@ not_earlier ds c one other is is_other less =
     let same : get_or (take other.position ds) i d ≡ d = get_or-take other.position ds i d less ∙ get_or_from_slice_get ds i d d is.given in
     subst (λ (e : Dependency). Adds c e → ⊥) same (is_other.first i d short) is.adds
 
-same_step : (one other : Step) → one.position ≡ other.position → one.added ≡ other.added → one ≡ other
+same_step : (one other : ClosureStepValue) → one.position ≡ other.position → one.added ≡ other.added → one ≡ other
 same_step one other at adds = λ i. record { position = at i; added = adds i }
 
-one_step : (ds : List Dependency) (c : Attributes) (one other : Step) → IsStep ds c one → IsStep ds c other → one ≡ other
+one_step : (ds : List Dependency) (c : Attributes) (one other : ClosureStepValue) → IsClosureStep ds c one → IsClosureStep ds c other → one ≡ other
 one_step ds c one other is is_other =
     ⊎_elim
     (λ (same : one.position ≡ other.position).
@@ -132,22 +132,22 @@ one_step ds c one other is is_other =
     (cases_order one.position other.position)
 
 -- and none where nothing adds anything
-no_step : (ds : List Dependency) (c : Attributes) (step : Step) → All (λ d. Adds c d → ⊥) ds → IsStep ds c step → ⊥
+no_step : (ds : List Dependency) (c : Attributes) (step : ClosureStepValue) → All (λ d. Adds c d → ⊥) ds → IsClosureStep ds c step → ⊥
 no_step ds c step done is = All-read (λ (d : Dependency). Adds c d → ⊥) ds step.position is.dependency done is.given is.adds
 
-pub one_list : (ds : List Dependency) (x : Attributes) (steps others : List Step) → AreClosureSteps ds x steps → AreClosureSteps ds x others → steps ≡ others
+pub one_list : (ds : List Dependency) (x : Attributes) (steps others : List ClosureStepValue) → AreClosureSteps ds x steps → AreClosureSteps ds x others → steps ≡ others
 one_list ds x [] [] are are_others = refl
 one_list ds x [] (other ∷ later) are are_others = absurd (no_step ds x other are.done are_others.each.0)
 one_list ds x (step ∷ later) [] are are_others = absurd (no_step ds x step are_others.done are.each.0)
 one_list ds x (step ∷ later) (other ∷ others) are are_others =
     let first = one_step ds x step other are.each.0 are_others.each.0 in
-    let same : union x other.added ≡ union x step.added = ap (λ (s : Step). union x s.added) (sym first) in
+    let same : union x other.added ≡ union x step.added = ap (λ (s : ClosureStepValue). union x s.added) (sym first) in
     let rest = one_list ds (union x step.added) later others (record { each = are.each.1; done = are.done })
     (subst (λ (c : Attributes). AreClosureSteps ds c others) same (record { each = are_others.each.1; done = are_others.done })) in
-    ap (λ (s : Step). s ∷ later) first ∙ ap (λ (more : List Step). other ∷ more) rest
+    ap (λ (s : ClosureStepValue). s ∷ later) first ∙ ap (λ (more : List ClosureStepValue). other ∷ more) rest
 
 -- ---- a step adds something
-pub adds_beyond : (ds : List Dependency) (c : Attributes) (step : Step) → IsStep ds c step → IsSubset step.added c → ⊥
+pub adds_beyond : (ds : List Dependency) (c : Attributes) (step : ClosureStepValue) → IsClosureStep ds c step → IsSubset step.added c → ⊥
 adds_beyond ds c step is inside =
     is.adds.leads_out.beyond (λ k m. beyond k m (inside k))
   where

@@ -6,8 +6,8 @@ use Rattle.attr_sets.specs.Sets.{attributes}
 use Rattle.dep_model.specs.Dependencies.{Dependency, is_fd, right_of, LeadsOut}
 use Rattle.closure_steps.specs.declared.steps.ClosureStep.{ClosureStep}
 
--- the dependency at this position of a list, from 0, adds these attributes
-pub record Step : Type 0 where
+-- a `ClosureStep` as sets: the dependency at this position of a list, from 0, adds these attributes
+pub record ClosureStepValue : Type 0 where
   pub position : ℕ
   pub added : Attributes
 
@@ -17,7 +17,7 @@ pub record Adds (c : Attributes) (d : Dependency) : Type 0 where
   pub leads_out : LeadsOut c d
 
 -- the first dependency of a list that adds something to a set, with what is new of its right side
-pub record IsStep (ds : List Dependency) (c : Attributes) (step : Step) : Type 0 where
+pub record IsClosureStep (ds : List Dependency) (c : Attributes) (step : ClosureStepValue) : Type 0 where
   pub dependency : Dependency
   pub given : slice_get ds step.position ≡ Some dependency
   pub adds : Adds c dependency
@@ -25,23 +25,23 @@ pub record IsStep (ds : List Dependency) (c : Attributes) (step : Step) : Type 0
   pub first : All (λ d. Adds c d → ⊥) (take step.position ds)
 
 -- what is there after steps from a set on
-abbrev pub reached : Attributes → List Step → Attributes
+abbrev pub reached : Attributes → List ClosureStepValue → Attributes
 reached c [] = c
 reached c (step ∷ later) = reached (union c step.added) later
 
 -- each is a step from what is there by then
-abbrev pub AreSteps : List Dependency → Attributes → List Step → Type 0
+abbrev pub AreSteps : List Dependency → Attributes → List ClosureStepValue → Type 0
 AreSteps ds c [] = ⊤
-AreSteps ds c (step ∷ later) = IsStep ds c step × AreSteps ds (union c step.added) later
+AreSteps ds c (step ∷ later) = IsClosureStep ds c step × AreSteps ds (union c step.added) later
 
 -- the steps by which a set is closed: after the last, no functional dependency adds anything
-pub record AreClosureSteps (ds : List Dependency) (x : Attributes) (steps : List Step) : Type 0 where
+pub record AreClosureSteps (ds : List Dependency) (x : Attributes) (steps : List ClosureStepValue) : Type 0 where
   pub each : AreSteps ds x steps
   pub done : All (λ d. Adds (reached x steps) d → ⊥) ds
 
 -- a step of the code
-abbrev pub step_of : ClosureStep → Step
-step_of step = record { position = step.dep; added = attributes step.added }
+abbrev pub closure_step_value : ClosureStep → ClosureStepValue
+closure_step_value step = record { position = step.dep; added = attributes step.added }
 
-abbrev pub steps_of : List ClosureStep → List Step
-steps_of steps = map step_of steps
+abbrev pub closure_step_values : List ClosureStep → List ClosureStepValue
+closure_step_values steps = map closure_step_value steps

@@ -4,7 +4,7 @@ ghost use Rattle.attr_sets.specs.Sets.{attributes};
 ghost use Rattle.dep_model.specs.Dependencies.{right_of};
 ghost use Rattle.dep_model.specs.Deps.{dependency_of};
 ghost use Rattle.dep_model.specs.Schemas.{theory_of, universe_of};
-ghost use Rattle.closure_steps.specs.Steps.{Adds, IsStep, AreClosureSteps, reached, step_of, steps_of};
+ghost use Rattle.closure_steps.specs.Steps.{Adds, IsClosureStep, AreClosureSteps, reached, closure_step_value, closure_step_values};
 
 use attr_sets::AttrSet;
 use dep_model::{Dep, OutOfMemory, Schema};
@@ -32,9 +32,9 @@ pub fn closure_steps(
     set: AttrSet,
 ) -> Result<ClosureSteps, OutOfMemory>
     ensures steps { IfOk result (λ found.
-        AreClosureSteps (theory_of schema.now) (attributes set) (steps_of found.steps.items)) }
+        AreClosureSteps (theory_of schema.now) (attributes set) (closure_step_values found.steps.items)) }
     ensures reached { IfOk result (λ found.
-        attributes found.reached ≡ reached (attributes set) (steps_of found.steps.items)) }
+        attributes found.reached ≡ reached (attributes set) (closure_step_values found.steps.items)) }
     ensures within { IfOk result (λ found.
         All (λ step. IsSubset (attributes step.added) (universe_of schema.now)) found.steps.items) }
 {
@@ -52,7 +52,7 @@ fn next_step(schema: &Schema, closed: AttrSet) -> Option<ClosureStep>
     ensures none { IsNone result
         → All (λ d. Adds (attributes closed) d → ⊥) (theory_of schema.now) }
     ensures step { IfSome result
-        (λ step. IsStep (theory_of schema.now) (attributes closed) (step_of step)) }
+        (λ step. IsClosureStep (theory_of schema.now) (attributes closed) (closure_step_value step)) }
     ensures within { IfSome result
         (λ step. IsSubset (attributes step.added) (universe_of schema.now)) }
 {

@@ -4,7 +4,7 @@ ghost use Rattle.column_values.specs.Values.{IsValueOf, FitsColumn};
 use crate::calendar::{is_date_text, is_timestamp_text};
 use crate::decimals::is_decimal_text;
 use crate::uuids::is_uuid_text;
-use dep_model::{ColumnType, integer_text};
+use dep_model::{ColumnType, is_integer_text};
 
 /// Whether bytes are a value of a type.
 pub fn is_value_of(column: &ColumnType, bytes: &[u8]) -> bool
@@ -12,7 +12,7 @@ pub fn is_value_of(column: &ColumnType, bytes: &[u8]) -> bool
 {
     match column {
         ColumnType::Text => true,
-        ColumnType::Integer => integer_text(bytes),
+        ColumnType::Integer => is_integer_text(bytes),
         ColumnType::Date => is_date_text(bytes),
         ColumnType::Timestamp => is_timestamp_text(bytes),
         ColumnType::Decimal(scale) => is_decimal_text(*scale, bytes),

@@ -17,8 +17,8 @@ use Rattle.dep_model.specs.Implication.{Implies}
 use Rattle.dep_model.proofs.DistinctLemmas.{filter-keeps}
 use Rattle.min_cover.specs.Covers.{HaveSameLegal, IsSingle, IsMinimalCover, IsWholeCover}
 use Rattle.cover_check.specs.declared.diagnostic.CoverDiagnostic.{CoverDiagnostic}
-use Rattle.cover_check.specs.declared.diagnostic.CoverDiagnostic.TheVariants.{WideRight, NotNeeded, Follows}
-use Rattle.cover_check.specs.CoverDiagnostics.{FollowsFrom, HasWideRight, IsNotNeeded, IsCoverDiagnostic}
+use Rattle.cover_check.specs.declared.diagnostic.CoverDiagnostic.TheVariants.{SeveralOnRight, NotNeeded, Follows}
+use Rattle.cover_check.specs.CoverDiagnostics.{FollowsFrom, HasSeveralOnRight, IsNotNeeded, IsCoverDiagnostic}
 
 -- ---- a list without a member
 pub remove_map : (ds : List Dep) (k : ℕ) → dependencies_of (remove ds k) ≡ remove (dependencies_of ds) k
@@ -56,13 +56,13 @@ few_members a many = ⊎_elim
     none_of : MOST_ATTRIBUTES ≤ a → count_below (only a) MOST_ATTRIBUTES ≡ 0
     none_of high = count_below-none MOST_ATTRIBUTES (only a) (λ k low. grind (arith, low, high))
 
-single_right : (d : Dependency) → IsSingle d → HasWideRight d → ⊥
+single_right : (d : Dependency) → IsSingle d → HasSeveralOnRight d → ⊥
 single_right (fd x y) single many = few_members single.1 (subst (λ (z : Attributes). 1 < count_below z MOST_ATTRIBUTES) (ap right_of single.2) many)
 single_right (mvd x y) single many = absurd many
 
-no_wide : (n : ℕ) (ds whole : List Dependency) (d : Dependency) → IsMinimalCover n ds (functional_part whole) → Contains whole d → HasWideRight d → ⊥
-no_wide n ds whole (mvd x y) minimal given many = absurd many
-no_wide n ds whole (fd x y) minimal given many =
+no_several : (n : ℕ) (ds whole : List Dependency) (d : Dependency) → IsMinimalCover n ds (functional_part whole) → Contains whole d → HasSeveralOnRight d → ⊥
+no_several n ds whole (mvd x y) minimal given many = absurd many
+no_several n ds whole (fd x y) minimal given many =
     single_right (fd x y) (All-contains IsSingle (functional_part whole) (fd x y) minimal.single (filter-keeps is_fd whole (fd x y) given refl)) many
 
 all_needed : (n : ℕ) (ds whole : List Dependency) (d : Dependency) (a : ℕ) → IsMinimalCover n ds (functional_part whole) → Contains whole d → IsNotNeeded n whole d a → ⊥
@@ -84,6 +84,6 @@ none_follows n ds whole k (mvd x y) minimal cover read follows =
     cover.needed (take k whole) (drop (suc k) whole) (mvd x y) (parted whole k (mvd x y) read) refl follows
 
 pub no_diagnostic : (n : ℕ) (ds whole : List Dependency) (one : CoverDiagnostic) → IsMinimalCover n ds (functional_part whole) → IsWholeCover n ds whole → IsCoverDiagnostic n whole one → ⊥
-no_diagnostic n ds whole (WideRight k) minimal cover is = no_wide n ds whole is.0 minimal (contained whole k is.0 is.1) is.2
+no_diagnostic n ds whole (SeveralOnRight k) minimal cover is = no_several n ds whole is.0 minimal (contained whole k is.0 is.1) is.2
 no_diagnostic n ds whole (NotNeeded k a) minimal cover is = all_needed n ds whole is.0 a minimal (contained whole k is.0 is.1) is.2
 no_diagnostic n ds whole (Follows k) minimal cover is = none_follows n ds whole k is.0 minimal cover is.1 is.2

@@ -15,8 +15,8 @@ use Rattle.dep_model.specs.declared.dep.Dep.{Dep}
 use Rattle.dep_model.specs.declared.schema.Schema.{Schema}
 use Rattle.dep_model.proofs.DepLemmas.{dependencies_all-from}
 use Rattle.cover_check.specs.declared.diagnostic.CoverDiagnostic.{CoverDiagnostic}
-use Rattle.cover_check.specs.declared.diagnostic.CoverDiagnostic.TheVariants.{WideRight, NotNeeded, Follows}
-use Rattle.cover_check.specs.CoverDiagnostics.{FollowsFrom, HasWideRight, IsNotNeeded, IsCoverDiagnostic, IsBeforePlace, NamesAttribute, AreCoverDiagnostics, position_of, rank_of}
+use Rattle.cover_check.specs.declared.diagnostic.CoverDiagnostic.TheVariants.{SeveralOnRight, NotNeeded, Follows}
+use Rattle.cover_check.specs.CoverDiagnostics.{FollowsFrom, HasSeveralOnRight, IsNotNeeded, IsCoverDiagnostic, IsBeforePlace, NamesAttribute, AreCoverDiagnostics, position_of, rank_of}
 use Rattle.cover_check.specs.Gathering.{AreCoverDiagnosticsBefore}
 
 -- ---- the attribute of a diagnostic is one
@@ -33,27 +33,27 @@ attribute_low n ds k a most within is =
     omega (arith, most, not_needed_low n ds is.0 a (read_within n ds k is.0 within is.1) is.2)
 
 pub rank_low : (n : ℕ) (ds : List Dependency) (one : CoverDiagnostic) → n ≤ MOST_ATTRIBUTES → All (IsWithin (below n)) ds → IsCoverDiagnostic n ds one → rank_of one < 2 + MOST_ATTRIBUTES
-rank_low n ds (WideRight k) most within is = omega arith
+rank_low n ds (SeveralOnRight k) most within is = omega arith
 rank_low n ds (NotNeeded k a) most within is = omega (arith, attribute_low n ds k a most within is)
 rank_low n ds (Follows k) most within is = omega arith
 
 pub names_attribute : (n : ℕ) (ds : List Dependency) (one : CoverDiagnostic) → n ≤ MOST_ATTRIBUTES → All (IsWithin (below n)) ds → IsCoverDiagnostic n ds one → NamesAttribute one
-names_attribute n ds (WideRight k) most within is = tt
+names_attribute n ds (SeveralOnRight k) most within is = tt
 names_attribute n ds (NotNeeded k a) most within is = attribute_low n ds k a most within is
 names_attribute n ds (Follows k) most within is = tt
 
 -- ---- one diagnostic at most stands at a place
 pub same_diagnostic : (n : ℕ) (ds : List Dependency) (one other : CoverDiagnostic) → n ≤ MOST_ATTRIBUTES → All (IsWithin (below n)) ds → IsCoverDiagnostic n ds one → IsCoverDiagnostic n ds other
     → position_of one ≡ position_of other → rank_of one ≡ rank_of other → one ≡ other
-same_diagnostic n ds (WideRight j) (WideRight k) most within is is_other at rank = ap WideRight at
-same_diagnostic n ds (WideRight j) (NotNeeded k b) most within is is_other at rank = absurd (omega (arith, rank))
-same_diagnostic n ds (WideRight j) (Follows k) most within is is_other at rank = absurd (omega (arith, rank))
-same_diagnostic n ds (NotNeeded j a) (WideRight k) most within is is_other at rank = absurd (omega (arith, rank))
+same_diagnostic n ds (SeveralOnRight j) (SeveralOnRight k) most within is is_other at rank = ap SeveralOnRight at
+same_diagnostic n ds (SeveralOnRight j) (NotNeeded k b) most within is is_other at rank = absurd (omega (arith, rank))
+same_diagnostic n ds (SeveralOnRight j) (Follows k) most within is is_other at rank = absurd (omega (arith, rank))
+same_diagnostic n ds (NotNeeded j a) (SeveralOnRight k) most within is is_other at rank = absurd (omega (arith, rank))
 same_diagnostic n ds (NotNeeded j a) (NotNeeded k b) most within is is_other at rank =
     let attribute : a ≡ b = omega (arith, rank) in
     ap (λ (i : ℕ). NotNeeded i a) at ∙ ap (λ (c : ℕ). NotNeeded k c) attribute
 same_diagnostic n ds (NotNeeded j a) (Follows k) most within is is_other at rank = absurd (omega (arith, rank, attribute_low n ds j a most within is))
-same_diagnostic n ds (Follows j) (WideRight k) most within is is_other at rank = absurd (omega (arith, rank))
+same_diagnostic n ds (Follows j) (SeveralOnRight k) most within is is_other at rank = absurd (omega (arith, rank))
 same_diagnostic n ds (Follows j) (NotNeeded k b) most within is is_other at rank = absurd (omega (arith, rank, attribute_low n ds k b most within is_other))
 same_diagnostic n ds (Follows j) (Follows k) most within is is_other at rank = ap Follows at
 
@@ -136,7 +136,7 @@ gather_none n ds = record {
 
 -- past the last dependency all are had
 position_low : (n : ℕ) (ds : List Dependency) (one : CoverDiagnostic) → IsCoverDiagnostic n ds one → position_of one < length ds
-position_low n ds (WideRight k) is = slice_get_within ds k is.0 is.1
+position_low n ds (SeveralOnRight k) is = slice_get_within ds k is.0 is.1
 position_low n ds (NotNeeded k a) is = slice_get_within ds k is.0 is.1
 position_low n ds (Follows k) is = slice_get_within ds k is.0 is.1
 
@@ -165,16 +165,16 @@ within_at s deps k e same short =
     subst (λ (ds : List Dep). IsDepWithin (universe_of s) (get_or ds k e)) (sym same) (s.valid.deps_within k e short)
 
 -- ---- where a diagnostic is none
-pub no_wide_right : (n : ℕ) (ds : List Dependency) (k : ℕ) (d : Dependency) → slice_get ds k ≡ Some d → (HasWideRight d → ⊥)
+pub no_several_on_right : (n : ℕ) (ds : List Dependency) (k : ℕ) (d : Dependency) → slice_get ds k ≡ Some d → (HasSeveralOnRight d → ⊥)
     → (one : CoverDiagnostic) → IsCoverDiagnostic n ds one → position_of one ≡ k → rank_of one ≡ 0 → ⊥
-no_wide_right n ds k d read none (WideRight j) is at rank =
-    none (subst HasWideRight (same_Some is.0 d (sym is.1 ∙ ap (λ (i : ℕ). slice_get ds i) at ∙ read)) is.2)
-no_wide_right n ds k d read none (NotNeeded j a) is at rank = omega (arith, rank)
-no_wide_right n ds k d read none (Follows j) is at rank = omega (arith, rank)
+no_several_on_right n ds k d read none (SeveralOnRight j) is at rank =
+    none (subst HasSeveralOnRight (same_Some is.0 d (sym is.1 ∙ ap (λ (i : ℕ). slice_get ds i) at ∙ read)) is.2)
+no_several_on_right n ds k d read none (NotNeeded j a) is at rank = omega (arith, rank)
+no_several_on_right n ds k d read none (Follows j) is at rank = omega (arith, rank)
 
 pub no_such_left : (n : ℕ) (ds : List Dependency) (k a : ℕ) (d : Dependency) → a < MOST_ATTRIBUTES → slice_get ds k ≡ Some d → (IsNotNeeded n ds d a → ⊥)
     → (one : CoverDiagnostic) → IsCoverDiagnostic n ds one → position_of one ≡ k → rank_of one ≡ 1 + a → ⊥
-no_such_left n ds k a d low read none (WideRight j) is at rank = omega (arith, rank)
+no_such_left n ds k a d low read none (SeveralOnRight j) is at rank = omega (arith, rank)
 no_such_left n ds k a d low read none (NotNeeded j b) is at rank =
     let same : b ≡ a = omega (arith, rank) in
     none (subst (λ (c : ℕ). IsNotNeeded n ds d c) same
@@ -183,7 +183,7 @@ no_such_left n ds k a d low read none (Follows j) is at rank = omega (arith, ran
 
 pub no_following : (n : ℕ) (ds : List Dependency) (k : ℕ) (d : Dependency) → n ≤ MOST_ATTRIBUTES → All (IsWithin (below n)) ds → slice_get ds k ≡ Some d → (FollowsFrom n (remove ds k) d → ⊥)
     → (one : CoverDiagnostic) → IsCoverDiagnostic n ds one → position_of one ≡ k → rank_of one ≡ 1 + MOST_ATTRIBUTES → ⊥
-no_following n ds k d most within read none (WideRight j) is at rank = omega (arith, rank)
+no_following n ds k d most within read none (SeveralOnRight j) is at rank = omega (arith, rank)
 no_following n ds k d most within read none (NotNeeded j a) is at rank = omega (arith, rank, attribute_low n ds j a most within is)
 no_following n ds k d most within read none (Follows j) is at rank =
     none (subst (λ (i : ℕ). FollowsFrom n (remove ds i) d) at

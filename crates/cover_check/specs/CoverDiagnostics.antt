@@ -7,12 +7,12 @@ use Rattle.attr_sets.specs.declared.set.TheConstants.{MOST_ATTRIBUTES}
 use Rattle.dep_model.specs.Dependencies.{Dependency, fd, mvd, functional_part}
 use Rattle.dep_model.specs.Implication.{Implies}
 use Rattle.cover_check.specs.declared.diagnostic.CoverDiagnostic.{CoverDiagnostic}
-use Rattle.cover_check.specs.declared.diagnostic.CoverDiagnostic.TheVariants.{WideRight, NotNeeded, Follows}
+use Rattle.cover_check.specs.declared.diagnostic.CoverDiagnostic.TheVariants.{SeveralOnRight, NotNeeded, Follows}
 
 -- a functional dependency has more than one attribute on the right
-abbrev pub HasWideRight : Dependency → Type 0
-HasWideRight (fd x y) = 1 < count_below y MOST_ATTRIBUTES
-HasWideRight (mvd x y) = ⊥
+abbrev pub HasSeveralOnRight : Dependency → Type 0
+HasSeveralOnRight (fd x y) = 1 < count_below y MOST_ATTRIBUTES
+HasSeveralOnRight (mvd x y) = ⊥
 
 -- an attribute is not needed on the left of a functional dependency: the others of its left side
 -- determine the right side by the functional dependencies of the list
@@ -27,25 +27,25 @@ FollowsFrom n ds (mvd x y) = Implies n ds (mvd x y)
 
 -- a diagnostic of a list, over n attributes: what it says holds of the dependency at its position
 abbrev pub IsCoverDiagnostic : ℕ → List Dependency → CoverDiagnostic → Type 0
-IsCoverDiagnostic n ds (WideRight k) = (d : Dependency) × (slice_get ds k ≡ Some d) × HasWideRight d
+IsCoverDiagnostic n ds (SeveralOnRight k) = (d : Dependency) × (slice_get ds k ≡ Some d) × HasSeveralOnRight d
 IsCoverDiagnostic n ds (NotNeeded k a) = (d : Dependency) × (slice_get ds k ≡ Some d) × IsNotNeeded n ds d a
 IsCoverDiagnostic n ds (Follows k) = (d : Dependency) × (slice_get ds k ≡ Some d) × FollowsFrom n (remove ds k) d
 
 -- the attribute that a diagnostic names, if it names one, is below the most
 abbrev pub NamesAttribute : CoverDiagnostic → Type 0
-NamesAttribute (WideRight k) = ⊤
+NamesAttribute (SeveralOnRight k) = ⊤
 NamesAttribute (NotNeeded k a) = a < MOST_ATTRIBUTES
 NamesAttribute (Follows k) = ⊤
 
 -- the position of the dependency that a diagnostic is of
 abbrev pub position_of : CoverDiagnostic → ℕ
-position_of (WideRight k) = k
+position_of (SeveralOnRight k) = k
 position_of (NotNeeded k a) = k
 position_of (Follows k) = k
 
 -- the place of a diagnostic among those of one dependency
 abbrev pub rank_of : CoverDiagnostic → ℕ
-rank_of (WideRight k) = 0
+rank_of (SeveralOnRight k) = 0
 rank_of (NotNeeded k a) = 1 + a
 rank_of (Follows k) = 1 + MOST_ATTRIBUTES
 

@@ -5,7 +5,7 @@ ghost use Rattle.attr_sets.specs.declared.set.TheConstants.{MOST_ATTRIBUTES};
 ghost use Rattle.dep_model.specs.Dependencies.{Dependency};
 ghost use Rattle.dep_model.specs.Deps.{dependency_of, dependencies_of, IsDepWithin};
 ghost use Rattle.dep_model.specs.Schemas.{deps_of, width_of, universe_of, theory_of};
-ghost use Rattle.cover_check.specs.CoverDiagnostics.{AreCoverDiagnostics, FollowsFrom, HasWideRight, IsNotNeeded, NamesAttribute};
+ghost use Rattle.cover_check.specs.CoverDiagnostics.{AreCoverDiagnostics, FollowsFrom, HasSeveralOnRight, IsNotNeeded, NamesAttribute};
 ghost use Rattle.cover_check.specs.Gathering.{AreCoverDiagnosticsBefore};
 
 use crate::diagnostic::CoverDiagnostic;
@@ -26,7 +26,7 @@ pub fn diagnostics(alloc: Global, schema: &Schema) -> Result<Vec<CoverDiagnostic
 {
     let mut found = Vec::new(alloc);
     for k in 0..schema.deps().len() {
-        add_wide_right(schema, k, &mut found)?;
+        add_several_on_right(schema, k, &mut found)?;
         add_not_needed(schema, k, &mut found)?;
         add_following(alloc, schema, k, &mut found)?;
     }
@@ -34,7 +34,7 @@ pub fn diagnostics(alloc: Global, schema: &Schema) -> Result<Vec<CoverDiagnostic
 }
 
 // Adds the diagnostic that a dependency has more than one attribute on the right.
-fn add_wide_right(
+fn add_several_on_right(
     schema: &Schema,
     k: usize,
     found: &mut Vec<CoverDiagnostic>,
@@ -45,10 +45,10 @@ fn add_wide_right(
     ensures before { IfOk result (λ _. AreCoverDiagnosticsBefore (width_of schema.now) (theory_of schema.now)
         k 1 found.new.items) }
 {
-    if !has_wide_right(schema.deps()[k]) {
+    if !has_several_on_right(schema.deps()[k]) {
         return Ok(());
     }
-    found.push(CoverDiagnostic::WideRight { dep: k as u16 })?;
+    found.push(CoverDiagnostic::SeveralOnRight { dep: k as u16 })?;
     Ok(())
 }
 
@@ -97,8 +97,8 @@ fn add_following(
 }
 
 // Whether a functional dependency has more than one attribute on the right.
-fn has_wide_right(dep: Dep) -> bool
-    ensures wide { IsTrue result ↔ HasWideRight (dependency_of dep) }
+fn has_several_on_right(dep: Dep) -> bool
+    ensures wide { IsTrue result ↔ HasSeveralOnRight (dependency_of dep) }
 {
     match dep {
         Dep::Fd { rhs, .. } => rhs.len() > 1,

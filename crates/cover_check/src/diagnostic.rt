@@ -3,7 +3,7 @@
 #[derive(Clone, Copy, Debug, PartialEq, Eq)]
 pub enum CoverDiagnostic {
     /// A functional dependency has more than one attribute on the right.
-    WideRight { dep: u16 },
+    SeveralOnRight { dep: u16 },
     /// An attribute of the left side of a functional dependency is not needed: the others determine
     /// the right side by all functional dependencies, this one too.
     NotNeeded { dep: u16, attribute: u8 },

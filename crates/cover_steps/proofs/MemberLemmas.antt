@@ -14,7 +14,7 @@ use Rattle.dep_model.specs.Dependencies.{Dependency, fd, functional_part, left_o
 use Rattle.dep_model.specs.Implication.{Implies}
 use Rattle.min_cover.specs.Members.{kept_beside, IsLeftReduced, IsLeftReducedDependency}
 use Rattle.min_cover.specs.Covers.{IsFixedWholeCover, IsThinned}
-use Rattle.cover_steps.specs.Steps.{Placed, Shortened, AreShortMembers, AreCoverSteps, IsParted, without_positions, whole_of, short_of}
+use Rattle.cover_steps.specs.Steps.{Placed, Shortened, AreShortMembers, AreCoverSteps, IsThinnedInto, without_positions, whole_of, short_of}
 use Rattle.cover_steps.proofs.PlaceLemmas.{all_members_alone, multivalued_alone}
 use Rattle.cover_steps.proofs.PartLemmas.{parted_is_thinned, one_parting}
 
@@ -126,7 +126,7 @@ module _ (n : ℕ) (ds : List Dependency) (members others : List Shortened) (gon
   pub one_account_gone : gone ≡ rest
   one_account_gone =
       let stage = one_parting n [] (map short_of others) first.cover second.cover first.gone_members second.gone_members
-      (subst (λ (ms : List Shortened). IsParted n [] (map short_of ms) first.cover first.gone_members) one_account_members first.thinned) second.thinned in
+      (subst (λ (ms : List Shortened). IsThinnedInto n [] (map short_of ms) first.cover first.gone_members) one_account_members first.thinned) second.thinned in
       let last = one_parting n second.cover _ first.whole second.whole first.gone_later second.gone_later
-      (subst (λ (cover : List Placed). IsParted n cover _ first.whole first.gone_later) stage.0 first.multivalued) second.multivalued in
+      (subst (λ (cover : List Placed). IsThinnedInto n cover _ first.whole first.gone_later) stage.0 first.multivalued) second.multivalued in
       first.all ∙ ap (λ (l : List Placed). l ++ first.gone_later) stage.1 ∙ ap (λ (l : List Placed). second.gone_members ++ l) last.1 ∙ sym second.all

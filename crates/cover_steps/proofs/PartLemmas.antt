@@ -15,7 +15,7 @@ use Rattle.min_cover.specs.Covers.{IsThinned}
 use Rattle.min_cover.proofs.ListLemmas.{All-left, All-right}
 use Rattle.min_cover.proofs.ThinningLemmas.{ObeysEach}
 use Rattle.cover_steps.specs.declared.thinning.PlacedDep.{PlacedDep}
-use Rattle.cover_steps.specs.Steps.{Placed, IsParted, place_of, places_of, without_positions}
+use Rattle.cover_steps.specs.Steps.{Placed, IsThinnedInto, place_of, places_of, without_positions}
 use Rattle.cover_steps.specs.Gathering.{deps_of_places}
 use Rattle.cover_steps.proofs.PlaceLemmas.{positions_gone}
 
@@ -24,8 +24,8 @@ use Rattle.cover_steps.proofs.PlaceLemmas.{positions_gone}
 pub record IsPartedTo (n : ℕ) (first first_kept list : List PlacedDep) (others : List Dep) (kept : List PlacedDep) (out : List Placed) (k : ℕ) : Type 0 where
   pub same : (r : Relation) → ObeysEach n r (take k others) ↔ ObeysEach n r (deps_of_places kept)
   pub rest : drop k others ≡ deps_of_places (drop k list)
-  pub onward : (left gone : List Placed) → IsParted n (places_of kept) (places_of (drop k list)) left gone
-      → IsParted n (places_of first_kept) (places_of first) left (out ++ gone)
+  pub onward : (left gone : List Placed) → IsThinnedInto n (places_of kept) (places_of (drop k list)) left gone
+      → IsThinnedInto n (places_of first_kept) (places_of first) left (out ++ gone)
 
 -- nothing was tried
 pub parted_none : (n : ℕ) (list : List PlacedDep) (others : List Dep) (from : ℕ) → others ≡ deps_of_places list
@@ -44,12 +44,12 @@ parted_none n list others from are =
 
 -- what is left once all were tried
 pub parted_done : (n : ℕ) (first first_kept list : List PlacedDep) (others : List Dep) (kept : List PlacedDep) (out : List Placed) (k : ℕ) → length list ≤ k
-    → IsPartedTo n first first_kept list others kept out k → IsParted n (places_of first_kept) (places_of first) (places_of kept) out
+    → IsPartedTo n first first_kept list others kept out k → IsThinnedInto n (places_of first_kept) (places_of first) (places_of kept) out
 parted_done n first first_kept list others kept out k done parted =
     let over : drop k list ≡ [] = drop_all k list done in
-    subst (λ (gone : List Placed). IsParted n (places_of first_kept) (places_of first) (places_of kept) gone) (append-nil out)
+    subst (λ (gone : List Placed). IsThinnedInto n (places_of first_kept) (places_of first) (places_of kept) gone) (append-nil out)
     (parted.onward (places_of kept) []
-    (subst (λ (l : List PlacedDep). IsParted n (places_of kept) (places_of l) (places_of kept) []) (sym over) (refl, refl)))
+    (subst (λ (l : List PlacedDep). IsThinnedInto n (places_of kept) (places_of l) (places_of kept) []) (sym over) (refl, refl)))
 
 module _ (n : ℕ) (first first_kept list : List PlacedDep) (others : List Dep) (kept : List PlacedDep) (out : List Placed) (k : ℕ) (p zero : PlacedDep) (nothing : Dep)
     (at : p ≡ get_or list k zero) (low : k < length list) (lt : k < length others) (obeyed : (r : Relation) → Obeys n (dependency_of nothing) r)
@@ -119,9 +119,9 @@ module _ (n : ℕ) (first first_kept list : List PlacedDep) (others : List Dep) 
         );
     rest = drop-set-lt (k + 1) others k nothing (omega arith) ∙ next_parts.1;
     onward = λ left gone parted.
-        subst (λ (all : List Placed). IsParted n (places_of first_kept) (places_of first) left all) (sym (append_assoc out (place_of p ∷ []) gone))
+        subst (λ (all : List Placed). IsThinnedInto n (places_of first_kept) (places_of first) left all) (sym (append_assoc out (place_of p ∷ []) gone))
         (before.onward left (place_of p ∷ gone)
-        (subst (λ (l : List PlacedDep). IsParted n (places_of kept) (places_of l) left (place_of p ∷ gone)) (sym next_list)
+        (subst (λ (l : List PlacedDep). IsThinnedInto n (places_of kept) (places_of l) left (place_of p ∷ gone)) (sym next_list)
         (inl (implied_to (dependency_of p.dep) implied, (gone, refl, parted)))));
   })
 
@@ -143,15 +143,15 @@ module _ (n : ℕ) (first first_kept list : List PlacedDep) (others : List Dep) 
         );
     rest = next_parts.1;
     onward = λ left gone parted.
-        let then : IsParted n (places_of kept ++ place_of p ∷ []) (places_of later) left gone =
-        subst (λ (ps : List Placed). IsParted n ps (places_of later) left gone) (map_push place_of kept p) parted in
+        let then : IsThinnedInto n (places_of kept ++ place_of p ∷ []) (places_of later) left gone =
+        subst (λ (ps : List Placed). IsThinnedInto n ps (places_of later) left gone) (map_push place_of kept p) parted in
         before.onward left gone
-        (subst (λ (l : List PlacedDep). IsParted n (places_of kept) (places_of l) left gone) (sym next_list)
+        (subst (λ (l : List PlacedDep). IsThinnedInto n (places_of kept) (places_of l) left gone) (sym next_list)
         (inr ((λ implied. fails (implied_from (dependency_of p.dep) implied)), then)));
   })
 
 -- ---- what is left is what `IsThinned` says, and there is one
-pub parted_is_thinned : (n : ℕ) (kept list rest gone : List Placed) → IsParted n kept list rest gone
+pub parted_is_thinned : (n : ℕ) (kept list rest gone : List Placed) → IsThinnedInto n kept list rest gone
     → IsThinned n (without_positions kept) (without_positions list) (without_positions rest)
 parted_is_thinned n kept [] rest gone parted = ap (λ (ps : List Placed). without_positions ps) parted.0
 parted_is_thinned n kept (p ∷ list) rest gone (inl (implied, (more, is, parted))) =
@@ -163,7 +163,7 @@ parted_is_thinned n kept (p ∷ list) rest gone (inr (fails, parted)) =
           (map_push (λ (q : Placed). q.dependency) kept p) (parted_is_thinned n (kept ++ p ∷ []) list rest gone parted),
     )
 
-pub one_parting : (n : ℕ) (kept list rest other gone also : List Placed) → IsParted n kept list rest gone → IsParted n kept list other also
+pub one_parting : (n : ℕ) (kept list rest other gone also : List Placed) → IsThinnedInto n kept list rest gone → IsThinnedInto n kept list other also
     → (rest ≡ other) × (gone ≡ also)
 one_parting n kept [] rest other gone also first second = (first.0 ∙ sym second.0, first.1 ∙ sym second.1)
 one_parting n kept (p ∷ list) rest other gone also (inl (implied, (more, is, parted))) (inl (again, (others, are, apart))) =

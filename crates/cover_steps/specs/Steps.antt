@@ -60,13 +60,13 @@ pub record AreShortMembers (n : ℕ) (ds : List Dependency) (firsts : List Place
 -- ---- dependencies that go
 -- where, from the first to the last, each goes exactly where those kept before it and all after it imply
 -- it: what is left, and what goes
-abbrev pub IsParted : ℕ → List Placed → List Placed → List Placed → List Placed → Type 0
-IsParted n kept [] rest gone = (rest ≡ kept) × (gone ≡ [])
-IsParted n kept (p ∷ later) rest gone =
+abbrev pub IsThinnedInto : ℕ → List Placed → List Placed → List Placed → List Placed → Type 0
+IsThinnedInto n kept [] rest gone = (rest ≡ kept) × (gone ≡ [])
+IsThinnedInto n kept (p ∷ later) rest gone =
     (Implies n (without_positions kept ++ without_positions later) p.dependency
-    × ((more : List Placed) × (gone ≡ p ∷ more) × IsParted n kept later rest more))
+    × ((more : List Placed) × (gone ≡ p ∷ more) × IsThinnedInto n kept later rest more))
     ⊎ ((Implies n (without_positions kept ++ without_positions later) p.dependency → ⊥)
-    × IsParted n (kept ++ p ∷ []) later rest gone)
+    × IsThinnedInto n (kept ++ p ∷ []) later rest gone)
 
 -- the members of the functional dependencies, shortened; then what goes: of the members, and after that of
 -- the multivalued dependencies beside the members that are left
@@ -75,10 +75,10 @@ pub record AreCoverSteps (n : ℕ) (ds : List Dependency) (members : List Shorte
   pub shortened : AreShortMembers n ds (flat_map (placed_members n) (placed_from 0 ds)) members
   pub cover : List Placed
   pub gone_members : List Placed
-  pub thinned : IsParted n [] (map short_of members) cover gone_members
+  pub thinned : IsThinnedInto n [] (map short_of members) cover gone_members
   pub whole : List Placed
   pub gone_later : List Placed
-  pub multivalued : IsParted n cover (filter is_multivalued (placed_from 0 ds)) whole gone_later
+  pub multivalued : IsThinnedInto n cover (filter is_multivalued (placed_from 0 ds)) whole gone_later
   pub all : gone ≡ gone_members ++ gone_later
 
 -- ---- those of the code

@@ -3,7 +3,7 @@ ghost use Rattle.dep_model.specs.Dependencies.{functional_part};
 ghost use Rattle.dep_model.specs.Deps.{dependencies_of, IsDepWithin};
 ghost use Rattle.dep_model.specs.Schemas.{width_of, theory_of, universe_of};
 ghost use Rattle.min_cover.specs.Covers.{IsFixedWholeCover, IsMinimalCover, IsWholeCover};
-ghost use Rattle.cover_steps.specs.Steps.{AreCoverSteps, IsParted, Placed, places_of, short_of, shortened_list};
+ghost use Rattle.cover_steps.specs.Steps.{AreCoverSteps, IsThinnedInto, Placed, places_of, short_of, shortened_list};
 ghost use Rattle.cover_steps.specs.Gathering.{IsMemberWithin, IsPlacedWithin, short_dep};
 
 use crate::shortening::{ShortMember, short_members};
@@ -58,7 +58,7 @@ fn thinned_members(
     requires within { All (IsMemberWithin (universe_of schema.now)) members.now }
     ensures parted { IfOk result (λ kept. (out : List Placed)
         × (places_of gone.new.items ≡ places_of gone.old.items ++ out)
-        × IsParted (width_of schema.now) [] (map short_of (shortened_list members.now))
+        × IsThinnedInto (width_of schema.now) [] (map short_of (shortened_list members.now))
         (places_of kept.items) out) }
     ensures within { IfOk result (λ kept. All (IsPlacedWithin (universe_of schema.now)) kept.items) }
 {

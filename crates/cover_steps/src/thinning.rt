@@ -2,7 +2,7 @@ ghost use Rattle.std.specs.Prelude.{◌≡◌, ◌≤◌, ℕ, List, ◌++◌, l
 ghost use Rattle.attr_sets.specs.Attributes.{below};
 ghost use Rattle.attr_sets.specs.declared.set.TheConstants.{MOST_ATTRIBUTES};
 ghost use Rattle.dep_model.specs.Schemas.{theory_of, universe_of};
-ghost use Rattle.cover_steps.specs.Steps.{Placed, IsParted, placed_from, places_of, is_multivalued};
+ghost use Rattle.cover_steps.specs.Steps.{Placed, IsThinnedInto, placed_from, places_of, is_multivalued};
 ghost use Rattle.cover_steps.specs.Gathering.{IsPlacedWithin, deps_of_places};
 
 use dep_basis::is_implied_by;
@@ -63,7 +63,7 @@ pub fn part_from(
     requires within { All (IsPlacedWithin (below width)) list.now }
     ensures parted { IfOk result (λ kept. (out : List Placed)
         × (places_of gone.new.items ≡ places_of gone.old.items ++ out)
-        × IsParted width (places_of (take from list.now)) (places_of (drop from list.now))
+        × IsThinnedInto width (places_of (take from list.now)) (places_of (drop from list.now))
         (places_of kept.items) out) }
     ensures within { IfOk result (λ kept. All (IsPlacedWithin (below width)) kept.items) }
 {

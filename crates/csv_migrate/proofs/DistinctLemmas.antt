@@ -10,7 +10,7 @@ use Rattle.dep_model.specs.Tuples.{Tuple, Relation, same_tuple, distinct_tuples}
 use Rattle.dep_model.proofs.DistinctLemmas.{same_tuple-decides}
 use Rattle.csv_rows.specs.Numberings.{number_at, AreInOrder, AreFirsts}
 use Rattle.row_store.specs.Rows.{row_at}
-use Rattle.csv_rows.proofs.NumberingLemmas.{same_default}
+use Rattle.dep_model.proofs.ListLemmas.{same_default}
 
 -- ---- one tuple more
 abbrev differs_from : Tuple → Tuple → Bool

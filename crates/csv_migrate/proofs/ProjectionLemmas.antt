@@ -15,7 +15,7 @@ use Rattle.schema_printer.specs.Printing.{members_from}
 use Rattle.schema_printer.proofs.MemberLemmas.{names_inside, names_outside}
 use Rattle.csv_rows.specs.Numberings.{number_at, AreGroups, AreFirsts}
 use Rattle.row_store.specs.Rows.{row_at}
-use Rattle.csv_rows.proofs.NumberingLemmas.{same_default}
+use Rattle.dep_model.proofs.ListLemmas.{same_default}
 use Rattle.csv_migrate.proofs.DistinctLemmas.{AreClasses, distinct_values}
 
 -- ---- rows by the groups of a scheme

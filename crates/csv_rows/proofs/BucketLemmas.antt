@@ -14,8 +14,9 @@ use Rattle.dep_model.proofs.SchemeLemmas.{length-members_below, members_below-at
 use Rattle.csv_rows.specs.Buckets.{IsBucket, IsLeader, bucket_of_bytes, bucket_of_pair, mixed}
 use Rattle.csv_rows.specs.declared.buckets.TheConstants.{BUCKETS, FACTOR}
 use Rattle.csv_rows.specs.Numberings.{number_at, AreFirsts, AreInOrder, AreNumbered}
-use Rattle.csv_rows.proofs.NumberingLemmas.{same_default, some_inj}
-use Rattle.csv_rows.proofs.ReadingLemmas.{member_at}
+use Rattle.csv_rows.proofs.NumberingLemmas.{some_inj}
+use Rattle.dep_model.proofs.ListLemmas.{same_default}
+use Rattle.dep_model.proofs.SchemeLemmas.{member_at}
 
 -- ---- the bucket of a value
 mixed-low : (sum : ℕ) (bytes : List ℕ) → sum < 2 ^ 32 → mixed sum bytes < 2 ^ 32

@@ -14,7 +14,7 @@ use Rattle.dep_model.specs.Schemas.{attribute_named}
 use Rattle.csv_rows.specs.declared.header.ColumnOfAttribute.{ColumnOfAttribute}
 use Rattle.csv_rows.specs.declared.refusal.RowRefusal.{RowRefusal}
 use Rattle.csv_rows.specs.declared.refusal.RowRefusal.TheVariants as refusal
-use Rattle.csv_rows.specs.Columns.{with_columns, column_of, columns_of_header, columns_from, attribute_with_column, order_of, ◌>>=◌}
+use Rattle.csv_rows.specs.Columns.{with_columns, attribute_of_column, columns_of_header, columns_from, attribute_with_column, order_of, ◌>>=◌}
 
 -- an attribute after others
 pub named_after : (columns : List ℕ) (a : ℕ) → with_columns (columns ++ a ∷ []) ≡ union (with_columns columns) (only a)
@@ -25,33 +25,33 @@ named_after columns a = fun_ext (λ k. list_any-append (nat_eq k) columns (a ∷
     or_false false = refl
 
 -- a column looks at the members of a set alone
-pub column_of-same : (column : ℕ) (x y : Attributes) (o : Option ℕ) → x ≡ y → column_of column x o ≡ column_of column y o
-column_of-same column x y None e = refl
-column_of-same column x y (Some a) e = ap (λ (b : Bool). if b then Err (refusal.DoubleColumn column) else Ok a) (same_at e a)
+pub attribute_of_column-same : (column : ℕ) (x y : Attributes) (o : Option ℕ) → x ≡ y → attribute_of_column column x o ≡ attribute_of_column column y o
+attribute_of_column-same column x y None e = refl
+attribute_of_column-same column x y (Some a) e = ap (λ (b : Bool). if b then Err (refusal.DoubleColumn column) else Ok a) (same_at e a)
 
 -- the fields from a position on are one and those after it
 columns_step : (names : List (List ℕ)) (before : List ℕ) (fields : List (List ℕ)) (i : ℕ) → i < length fields
     → columns_from names before (drop i fields)
-    ≡ (column_of (length before + 1) (with_columns before) (attribute_named names (slice_index_or fields i [])) >>= (λ a. columns_from names (before ++ a ∷ []) (drop (i + 1) fields)))
+    ≡ (attribute_of_column (length before + 1) (with_columns before) (attribute_named names (slice_index_or fields i [])) >>= (λ a. columns_from names (before ++ a ∷ []) (drop (i + 1) fields)))
 unfolding columns_from
 columns_step names before fields i h =
     let next : suc i ≡ i + 1 = omega arith in
     ap (columns_from names before) (drop-cons fields i [] h)
-    ∙ ap (λ (j : ℕ). column_of (length before + 1) (with_columns before) (attribute_named names (slice_index_or fields i [])) >>= (λ a. columns_from names (before ++ a ∷ []) (drop j fields))) next
+    ∙ ap (λ (j : ℕ). attribute_of_column (length before + 1) (with_columns before) (attribute_named names (slice_index_or fields i [])) >>= (λ a. columns_from names (before ++ a ∷ []) (drop j fields))) next
 
 pub columns_next : (names : List (List ℕ)) (before : List ℕ) (fields : List (List ℕ)) (i a : ℕ) (x : Attributes) → i < length fields → x ≡ with_columns before
-    → column_of (length before + 1) x (attribute_named names (slice_index_or fields i [])) ≡ Ok a
+    → attribute_of_column (length before + 1) x (attribute_named names (slice_index_or fields i [])) ≡ Ok a
     → columns_from names before (drop i fields) ≡ columns_from names (before ++ a ∷ []) (drop (i + 1) fields)
 columns_next names before fields i a x h same e =
     columns_step names before fields i h
-    ∙ ap (λ (r : Result ℕ RowRefusal). r >>= (λ b. columns_from names (before ++ b ∷ []) (drop (i + 1) fields))) (sym (column_of-same _ x (with_columns before) _ same) ∙ e)
+    ∙ ap (λ (r : Result ℕ RowRefusal). r >>= (λ b. columns_from names (before ++ b ∷ []) (drop (i + 1) fields))) (sym (attribute_of_column-same _ x (with_columns before) _ same) ∙ e)
 
 pub columns_refused : (names : List (List ℕ)) (before : List ℕ) (fields : List (List ℕ)) (i : ℕ) (x : Attributes) (e : RowRefusal) → i < length fields → x ≡ with_columns before
-    → column_of (length before + 1) x (attribute_named names (slice_index_or fields i [])) ≡ Err e
+    → attribute_of_column (length before + 1) x (attribute_named names (slice_index_or fields i [])) ≡ Err e
     → columns_from names before (drop i fields) ≡ Err e
 columns_refused names before fields i x e h same r =
     columns_step names before fields i h
-    ∙ ap (λ (r : Result ℕ RowRefusal). r >>= (λ b. columns_from names (before ++ b ∷ []) (drop (i + 1) fields))) (sym (column_of-same _ x (with_columns before) _ same) ∙ r)
+    ∙ ap (λ (r : Result ℕ RowRefusal). r >>= (λ b. columns_from names (before ++ b ∷ []) (drop (i + 1) fields))) (sym (attribute_of_column-same _ x (with_columns before) _ same) ∙ r)
 
 pub columns_all : (names : List (List ℕ)) (before : List ℕ) (fields : List (List ℕ)) → columns_from names before (drop (length fields) fields) ≡ Ok before
 unfolding columns_from
@@ -59,7 +59,7 @@ columns_all names before [] = refl
 columns_all names before (f ∷ fs) = columns_all names before fs
 
 -- an attribute that gets a column had none
-pub was_unused : (column a : ℕ) (x : Attributes) (o : Option ℕ) → column_of column x o ≡ Ok a → x a ≡ false
+pub was_unused : (column a : ℕ) (x : Attributes) (o : Option ℕ) → attribute_of_column column x o ≡ Ok a → x a ≡ false
 was_unused column a x None e = cc
 was_unused column a x (Some b) e = by (x b) refl e
   where
@@ -120,12 +120,12 @@ no_columns names fields columns x e same = subst (λ (l : List ℕ). ReadsColumn
 
 -- what the next field gives, as the code looks at it
 column_at : (names : List (List ℕ)) (fields : List (List ℕ)) (i n : ℕ) (columns field : List ℕ) (x : Attributes) (r : Result ℕ RowRefusal)
-    → n ≡ length columns → field ≡ slice_index_or fields i [] → r ≡ column_of (n + 1) x (attribute_named names field)
-    → column_of (length columns + 1) x (attribute_named names (slice_index_or fields i [])) ≡ r
+    → n ≡ length columns → field ≡ slice_index_or fields i [] → r ≡ attribute_of_column (n + 1) x (attribute_named names field)
+    → attribute_of_column (length columns + 1) x (attribute_named names (slice_index_or fields i [])) ≡ r
 column_at names fields i n columns field x r count is e = rw (← count, ← is) (sym e)
 
 pub one_column : (names fields : List (List ℕ)) (i n : ℕ) (columns field : List ℕ) (x y : Attributes) (a : ℕ) → ReadsColumns names fields i columns x → i < length fields → a < 128
-    → n ≡ length columns → field ≡ slice_index_or fields i [] → Ok a ≡ column_of (n + 1) x (attribute_named names field) → y ≡ union x (only a)
+    → n ≡ length columns → field ≡ slice_index_or fields i [] → Ok a ≡ attribute_of_column (n + 1) x (attribute_named names field) → y ≡ union x (only a)
     → ReadsColumns names fields (i + 1) (columns ++ a ∷ []) y
 one_column names fields i n columns field x y a r h small count is e more =
     let given = column_at names fields i n columns field x (Ok a) count is e in
@@ -136,7 +136,7 @@ one_column names fields i n columns field x y a r h small count is e more =
     }
 
 pub refused_column : (names fields : List (List ℕ)) (i n : ℕ) (columns field : List ℕ) (x : Attributes) (e : RowRefusal) → ReadsColumns names fields i columns x → i < length fields
-    → n ≡ length columns → field ≡ slice_index_or fields i [] → Err e ≡ column_of (n + 1) x (attribute_named names field)
+    → n ≡ length columns → field ≡ slice_index_or fields i [] → Err e ≡ attribute_of_column (n + 1) x (attribute_named names field)
     → columns_of_header names fields ≡ Err e
 refused_column names fields i n columns field x e r h count is given =
     r.reads ∙ columns_refused names columns fields i x e h r.same (column_at names fields i n columns field x (Err e) count is given)

@@ -19,6 +19,7 @@ use Rattle.row_store.specs.Rows.{row_at}
 use Rattle.dep_model.proofs.TwoRowLemmas.{AgreeOn-union, AgreeOn-left, AgreeOn-right}
 use Rattle.std.specs.Prelude.{Contains}
 use Rattle.attr_sets.proofs.AttributesLemmas.{same_at}
+use Rattle.dep_model.proofs.ListLemmas.{same_default}
 
 pub some_inj : {X : Type 0} (v w : X) → Some v ≡ Some w → v ≡ w
 some_inj {X} v w e = ap (λ (o : Option X). unwrap_or o v) e
@@ -197,11 +198,6 @@ same_groups rows x y groups same g = record {
   );
   in_order = g.in_order;
 }
-
-pub same_default : {X : Type 0} (xs : List X) (i : ℕ) (d e : X) → i < length xs → get_or xs i d ≡ get_or xs i e
-same_default [] i d e l = absurd (omega (arith, l))
-same_default (x ∷ xs) zero d e l = refl
-same_default (x ∷ xs) (suc i) d e l = same_default xs i d e (omega (arith, l))
 
 -- one value more
 pub value_step : (value : ℕ → List ℕ) (n : ℕ) (keys after : List (Bor (List ℕ))) (key : Bor (List ℕ)) (numbers items : List ℕ) (r : ℕ)

@@ -5,13 +5,13 @@ use Rattle.std.proofs.lemmas.Bool.{cases_lt}
 use Rattle.std.proofs.lemmas.List.{length-append}
 use Rattle.std.proofs.lemmas.Option.{slice_get_within}
 use Rattle.csv_rows.specs.Numberings.{number_at, AreNumbered, AreInOrder}
-use Rattle.csv_rows.specs.Pairs.{AreKept, Gets, IsKept}
+use Rattle.csv_rows.specs.Pairs.{AreKeptPairs, Gets, IsKeptPair}
 use Rattle.csv_rows.proofs.NumberingLemmas.{some_inj, get_or-front, get_or-last, get_or-either, at_front, at_last, numbered_more}
 
 -- ---- a pair whose first half is new
-pub lead_new : (seen leads leads' others : List (ℕ × ℕ)) (ns : List ℕ) (p : ℕ × ℕ) (count : ℕ) → AreKept seen leads others ns
+pub lead_new : (seen leads leads' others : List (ℕ × ℕ)) (ns : List ℕ) (p : ℕ × ℕ) (count : ℕ) → AreKeptPairs seen leads others ns
     → count ≡ length seen → p.0 ≡ length leads → leads' ≡ leads ++ (p.1, count) ∷ []
-    → (after : List (ℕ × ℕ)) × Gets p seen after count × AreKept after leads' others ns
+    → (after : List (ℕ × ℕ)) × Gets p seen after count × AreKeptPairs after leads' others ns
 lead_new seen leads leads' others ns p count kept counted new is = (
   seen ++ p ∷ [],
   record { number = inr (refl, counted, λ m at. fresh (kept.all m p at)) },
@@ -23,7 +23,7 @@ lead_new seen leads leads' others ns p count kept counted new is = (
     other = λ k q at. get_or-front seen (p ∷ []) _ q (kept.other k q at);
     all = λ m q at. elim (get_or-either seen p q m at) [
       | inl old ↦ grown q (kept.all m q old)
-      | inr last ↦ subst (IsKept leads' others) last.1 (
+      | inr last ↦ subst (IsKeptPair leads' others) last.1 (
         (p.1, count),
         subst (λ (ls : List (ℕ × ℕ)). slice_get ls p.0 ≡ Some (p.1, count)) (sym is)
             (subst (λ (g : ℕ). slice_get (leads ++ (p.1, count) ∷ []) g ≡ Some (p.1, count)) (sym new) (get_or-last leads (p.1, count))),
@@ -33,33 +33,33 @@ lead_new seen leads leads' others ns p count kept counted new is = (
   },
 )
   where
-    fresh : IsKept leads others p → ⊥
+    fresh : IsKeptPair leads others p → ⊥
     fresh (lead, at, either) = omega (arith, slice_get_within leads p.0 lead at, new)
 
     here : (g : ℕ) → p.0 ≡ g → slice_get (seen ++ p ∷ []) count ≡ Some (g, p.1)
     here g e = ap (slice_get (seen ++ p ∷ [])) counted ∙ get_or-last seen p ∙ ap (λ (h : ℕ). Some (h, p.1)) e
 
-    grown : (q : ℕ × ℕ) → IsKept leads others q → IsKept leads' others q
+    grown : (q : ℕ × ℕ) → IsKeptPair leads others q → IsKeptPair leads' others q
     grown q (lead, at, either) =
         (lead, subst (λ (ls : List (ℕ × ℕ)). slice_get ls q.0 ≡ Some lead) (sym is) (get_or-front leads ((p.1, count) ∷ []) q.0 lead at), either)
 
 -- ---- the first pair of its first half
-pub lead_same : (seen leads others : List (ℕ × ℕ)) (ns : List ℕ) (p : ℕ × ℕ) (r : ℕ) → AreKept seen leads others ns
-    → slice_get leads p.0 ≡ Some (p.1, r) → (after : List (ℕ × ℕ)) × Gets p seen after r × AreKept after leads others ns
+pub lead_same : (seen leads others : List (ℕ × ℕ)) (ns : List ℕ) (p : ℕ × ℕ) (r : ℕ) → AreKeptPairs seen leads others ns
+    → slice_get leads p.0 ≡ Some (p.1, r) → (after : List (ℕ × ℕ)) × Gets p seen after r × AreKeptPairs after leads others ns
 lead_same seen leads others ns p r kept at = (seen, record { number = inl (refl, kept.lead p.0 (p.1, r) at) }, kept)
 
 -- ---- another pair
-pub other_pair : (seen leads others others' : List (ℕ × ℕ)) (ns ns' : List ℕ) (p lead : ℕ × ℕ) (count k r : ℕ) → AreKept seen leads others ns
+pub other_pair : (seen leads others others' : List (ℕ × ℕ)) (ns ns' : List ℕ) (p lead : ℕ × ℕ) (count k r : ℕ) → AreKeptPairs seen leads others ns
     → count ≡ length seen → length ns ≡ length others → slice_get leads p.0 ≡ Some lead → (lead.0 ≡ p.1 → ⊥) → Gets p others others' k
     → ((k ≡ length ns) × (ns' ≡ ns ++ count ∷ [])) ⊎ ((k ≢ length ns) × (ns' ≡ ns)) → r ≡ number_at ns' k
-    → (after : List (ℕ × ℕ)) × Gets p seen after r × AreKept after leads others' ns'
+    → (after : List (ℕ × ℕ)) × Gets p seen after r × AreKeptPairs after leads others' ns'
 other_pair seen leads others others' ns ns' p lead count k r kept counted even led differs gets grows is = elim gets.number [
   | inl found ↦ elim grows [
     | inl over ↦ absurd (omega (arith, slice_get_within others k p found.1, over.0, even))
     | inr stays ↦ (
       seen,
       record { number = inl (refl, ap (slice_get seen) (is ∙ ap (λ (l : List ℕ). number_at l k) stays.1) ∙ kept.other k p found.1) },
-      subst (λ (os : List (ℕ × ℕ)). AreKept seen leads os ns') (sym found.0) (subst (AreKept seen leads others) (sym stays.1) kept),
+      subst (λ (os : List (ℕ × ℕ)). AreKeptPairs seen leads os ns') (sym found.0) (subst (AreKeptPairs seen leads others) (sym stays.1) kept),
     )
   ]
   | inr new ↦ elim grows [
@@ -67,16 +67,16 @@ other_pair seen leads others others' ns ns' p lead count k r kept counted even l
     | inl grown ↦ (
       seen ++ p ∷ [],
       record { number = inr (refl, is ∙ ap (λ (l : List ℕ). number_at l k) grown.1 ∙ ap (number_at (ns ++ count ∷ [])) grown.0 ∙ at_last ns (length ns) count refl ∙ counted, λ m at. fresh new.2 (kept.all m p at)) },
-      subst (λ (os : List (ℕ × ℕ)). AreKept (seen ++ p ∷ []) leads os ns') (sym new.0) (subst (AreKept (seen ++ p ∷ []) leads (others ++ p ∷ [])) (sym grown.1) more),
+      subst (λ (os : List (ℕ × ℕ)). AreKeptPairs (seen ++ p ∷ []) leads os ns') (sym new.0) (subst (AreKeptPairs (seen ++ p ∷ []) leads (others ++ p ∷ [])) (sym grown.1) more),
     )
   ]
 ]
   where
-    fresh : ((g : ℕ) → slice_get others g ≡ Some p → ⊥) → IsKept leads others p → ⊥
+    fresh : ((g : ℕ) → slice_get others g ≡ Some p → ⊥) → IsKeptPair leads others p → ⊥
     fresh none (other, at, inl same) = differs (ap (λ (l : ℕ × ℕ). l.0) (some_inj lead other (sym led ∙ at)) ∙ same)
     fresh none (other, at, inr (g, there)) = none g there
 
-    more : AreKept (seen ++ p ∷ []) leads (others ++ p ∷ []) (ns ++ count ∷ [])
+    more : AreKeptPairs (seen ++ p ∷ []) leads (others ++ p ∷ []) (ns ++ count ∷ [])
     more = record {
       lead = λ g l at. get_or-front seen (p ∷ []) l.1 (g, l.0) (kept.lead g l at);
       other = λ j q at. elim (get_or-either others p q j at) [
@@ -85,11 +85,11 @@ other_pair seen leads others others' ns ns' p lead count k r kept counted even l
       ];
       all = λ m q at. elim (get_or-either seen p q m at) [
         | inl old ↦ longer q (kept.all m q old)
-        | inr last ↦ subst (IsKept leads (others ++ p ∷ [])) last.1 (lead, led, inr (length others, get_or-last others p))
+        | inr last ↦ subst (IsKeptPair leads (others ++ p ∷ [])) last.1 (lead, led, inr (length others, get_or-last others p))
       ];
     }
       where
-        longer : (q : ℕ × ℕ) → IsKept leads others q → IsKept leads (others ++ p ∷ []) q
+        longer : (q : ℕ × ℕ) → IsKeptPair leads others q → IsKeptPair leads (others ++ p ∷ []) q
         longer q (l, at, inl same) = (l, at, inl same)
         longer q (l, at, inr (j, there)) = (l, at, inr (j, get_or-front others (p ∷ []) j q there))
 
@@ -97,7 +97,7 @@ other_pair seen leads others others' ns ns' p lead count k r kept counted even l
 pub record Numbers (first second : List ℕ) (n : ℕ) (leads others : List (ℕ × ℕ)) (ns : List ℕ) (count : ℕ) (numbers : List ℕ) : Type 0 where
   pub seen : List (ℕ × ℕ)
   pub counted : count ≡ length seen
-  pub kept : AreKept seen leads others ns
+  pub kept : AreKeptPairs seen leads others ns
   pub numbered : AreNumbered (λ i. (number_at first i, number_at second i)) n seen numbers
   pub led : (j : ℕ) → j < n → number_at first j < length leads
 
@@ -124,8 +124,8 @@ count_after p seen after count count' r gets counted steps = elim gets.number [
 -- one pair more
 pub one_pair_more : (first second : List ℕ) (n : ℕ) (leads leads' others others' : List (ℕ × ℕ)) (ns ns' : List ℕ) (count count' r : ℕ) (numbers items : List ℕ)
     → AreInOrder first → n < length first → Numbers first second n leads others ns count numbers
-    → ((seen : List (ℕ × ℕ)) → AreKept seen leads others ns → count ≡ length seen → number_at first n ≤ length leads
-    → (after : List (ℕ × ℕ)) × Gets (number_at first n, number_at second n) seen after r × AreKept after leads' others' ns')
+    → ((seen : List (ℕ × ℕ)) → AreKeptPairs seen leads others ns → count ≡ length seen → number_at first n ≤ length leads
+    → (after : List (ℕ × ℕ)) × Gets (number_at first n, number_at second n) seen after r × AreKeptPairs after leads' others' ns')
     → length leads ≤ length leads' → (number_at first n ≤ length leads → number_at first n < length leads')
     → items ≡ numbers ++ r ∷ [] → ((r ≡ count) × (count' ≡ count + 1)) ⊎ ((r ≢ count) × (count' ≡ count))
     → Numbers first second (n + 1) leads' others' ns' count' items

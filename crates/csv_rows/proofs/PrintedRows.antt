@@ -26,10 +26,10 @@ use Rattle.dep_model.specs.declared.schema.Schema.{Schema}
 use Rattle.dep_model.proofs.SchemeLemmas.{length-members_below, members_below-at}
 use Rattle.dep_model.proofs.NameLemmas.{attribute_named-append}
 use Rattle.csv_rows.proofs.HeaderLemmas.{named_after}
-use Rattle.csv_rows.proofs.NumberingLemmas.{same_default}
+use Rattle.dep_model.proofs.ListLemmas.{same_default}
 use Rattle.csv_rows.proofs.ReadingLemmas.{whole_count}
 use Rattle.csv_rows.proofs.RecordLemmas.{one_more, no_more}
-use Rattle.csv_rows.specs.Columns.{with_columns, column_of, columns_of_header, columns_from, IsHeaderOf, ◌>>=◌}
+use Rattle.csv_rows.specs.Columns.{with_columns, attribute_of_column, columns_of_header, columns_from, IsHeaderOf, ◌>>=◌}
 use Rattle.csv_rows.specs.Reading.{value_of, tuple_of, ClosedRowOf, AreFirstRows, RowsOf, TableOf}
 use Rattle.csv_rows.specs.Quotes.{next_place, is_quoted, ends_within_quotes, open_record}
 use Rattle.csv_rows.specs.declared.quotes.Place.{Place}
@@ -162,7 +162,7 @@ named_range (suc n) k =
     ap (λ (l : List ℕ). with_columns l k) (range_more n) ∙ same_at (named_after (range_with_len 0 n) n) k
     ∙ ap (λ (b : Bool). b || (k == n)) (named_range n k) ∙ grind (arith, nat_tests)
 
-pub own_column : (column m : ℕ) (x : Attributes) (o : Option ℕ) → o ≡ Some m → x m ≡ false → column_of column x o ≡ Ok m
+pub own_column : (column m : ℕ) (x : Attributes) (o : Option ℕ) → o ≡ Some m → x m ≡ false → attribute_of_column column x o ≡ Ok m
 own_column column m x o e f = rw (e, f) refl
 
 get_or-append : (before : List (List ℕ)) (name : List ℕ) (after : List (List ℕ)) (d : List ℕ)
@@ -196,7 +196,7 @@ own_columns_from before (name ∷ after) differ =
     let none : All (λ b. same_name b name ≡ false) before = λ k d h. other_name before name after k d h differ in
     let lookup : attribute_named names name ≡ Some m = attribute_named-append before name after none in
     let unused : with_columns (range_with_len 0 m) m ≡ false = named_range m m ∙ grind (arith, nat_tests) in
-    let column : column_of (length (range_with_len 0 m) + 1) (with_columns (range_with_len 0 m))
+    let column : attribute_of_column (length (range_with_len 0 m) + 1) (with_columns (range_with_len 0 m))
     (attribute_named names name) ≡ Ok m =
     own_column _ m _ _ lookup unused in
     let columns : range_with_len 0 m ++ m ∷ [] ≡ range_with_len 0 (length (before ++ name ∷ [])) =

@@ -1,10 +1,10 @@
 -- What a header and the records below it give, field by field and record by record.
-use Rattle.std.proofs.Common.{inl, inr, ◌≡◌, ◌+◌, ◌<◌, ◌≤◌, ℕ, zero, suc, Bool, true, false, if◌then◌else◌, not, ◌&&◌, nat_lt, nat_eq, List, [], ◌∷◌, ◌++◌, length, map, take, Option, Some, None, Result, Ok, Err, IfOk, IfErr, slice_index_or, get_or, add-one, refl, sym, ap, subst, ◌∙◌, arith}
+use Rattle.std.proofs.Common.{inl, inr, ◌≡◌, ◌+◌, ◌<◌, ◌≤◌, ℕ, Bool, true, false, if◌then◌else◌, not, ◌&&◌, nat_lt, nat_eq, List, [], ◌∷◌, ◌++◌, length, map, take, Option, Some, None, Result, Ok, Err, IfOk, IfErr, slice_index_or, get_or, add-one, refl, sym, ap, subst, ◌∙◌, arith}
 use Rattle.std.specs.Borrow.{Bor}
 use Rattle.std.specs.List.{slice_get, position_or_len}
 use Rattle.std.proofs.Math.ListN.{get_or-map}
 use Rattle.std.proofs.Math.Seq.{take-suc, get_or-append_seam}
-use Rattle.std.proofs.lemmas.Bool.{cases_Bool, cases_lt}
+use Rattle.std.proofs.lemmas.Bool.{cases_lt}
 use Rattle.std.proofs.lemmas.List.{append-nil, length-append, length-map, map-append, take_all, append_assoc, get_or_append_left}
 use Rattle.std.proofs.lemmas.Option.{slice_get_within}
 use Rattle.attr_sets.specs.Attributes.{Attributes, IsSubset, IsEmpty, below, difference, IsFirstFrom, count_below}
@@ -23,15 +23,16 @@ use Rattle.dep_model.specs.declared.schema.Schema.{Schema}
 use Rattle.dep_model.proofs.SchemeLemmas.{length-members_below, members_below-at}
 use Rattle.attr_sets.specs.Sets.{attributes}
 use Rattle.attr_sets.specs.declared.set.TheConstants.{MOST_ATTRIBUTES}
-use Rattle.csv_rows.proofs.NumberingLemmas.{same_default}
+use Rattle.dep_model.proofs.ListLemmas.{same_default}
 use Rattle.csv_rows.specs.declared.header.Header.{Header}
 use Rattle.csv_rows.specs.declared.header.ColumnOfAttribute.{ColumnOfAttribute}
 use Rattle.csv_rows.specs.declared.refusal.RowRefusal.{RowRefusal}
 use Rattle.csv_rows.specs.declared.refusal.RowRefusal.TheVariants as refusal
 use Rattle.csv_rows.specs.Records.{HasLeft, TakesRecord, records_of}
-use Rattle.csv_rows.specs.Columns.{with_columns, attribute_with_column, order_of, column_of, columns_from, columns_of_header, ◌>>=◌, IsHeader, IsHeaderOf}
+use Rattle.csv_rows.specs.Columns.{with_columns, attribute_with_column, order_of, attribute_of_column, columns_from, columns_of_header, ◌>>=◌, IsHeader, IsHeaderOf}
 use Rattle.csv_rows.specs.Quotes.{open_record, is_open}
 use Rattle.csv_rows.specs.Reading.{value_of, FitsAt, ClosedRowOf, RowOf, HeaderOf, RowAt, AreFirstRows, RowsUnder, TableOf, RowsOf, PartOf, ReadsHeader, RefusesHeader}
+use Rattle.dep_model.proofs.SchemeLemmas.{member_at}
 
 -- the first record is the header
 pub header_read : (s : Schema) (unclosed : Option ℕ) (old new : Reader (Bor (List ℕ))) (fields : List (List ℕ)) (b : Bool) (r : Result Header (Failure RowRefusal)) (rs : List (List (List ℕ)))
@@ -78,7 +79,7 @@ never_missing names before (f ∷ fs) a h = by (attribute_named names f) h (λ (
     tested true b g later = cc
     tested false b g later = later g
 
-    by : (o : Option ℕ) → (column_of (length before + 1) (with_columns before) o >>= (λ c. columns_from names (before ++ c ∷ []) fs)) ≡ Err (refusal.MissingColumn a)
+    by : (o : Option ℕ) → (attribute_of_column (length before + 1) (with_columns before) o >>= (λ c. columns_from names (before ++ c ∷ []) fs)) ≡ Err (refusal.MissingColumn a)
         → ((b : ℕ) → columns_from names (before ++ b ∷ []) fs ≡ Err (refusal.MissingColumn a) → ⊥) → ⊥
     by None g later = cc
     by (Some b) g later = tested (with_columns before b) b g (later b)
@@ -157,30 +158,6 @@ pub part_rows : (s : Schema) (unclosed : Option ℕ) (rs : List (List (List ℕ)
 part_rows s unclosed rs reader h result read rows =
     subst (λ (l : List (List (List ℕ))). TableOf s (λ header columns. columns ≡ columns_of_header (names_of s) header) unclosed l result) (sym read.all)
     (Ok read.columns, closed_header _ (λ columns. columns ≡ columns_of_header (names_of s) read.fields) _ read.closed (sym read.means), rows)
-
--- the members of a set in their order
-pub member_at : (n : ℕ) (x : Attributes) (i a : ℕ) → i < length (members_below n x) → a ≡ get_or (members_below n x) i a → (a < n) × (x a ≡ true) × (i ≡ count_below x a)
-unfolding members_below
-member_at zero x i a l h = absurd (omega arith)
-member_at (suc n) x i a l h = elim (cases_Bool (x n)) [
-  | inl has ↦
-      let list : members_below (suc n) x ≡ members_below n x ++ n ∷ [] = ap (λ (b : Bool). members_below n x ++ (if b then n ∷ [] else [])) has in
-      elim (cases_lt i (length (members_below n x))) [
-        | inl front ↦
-            let old = member_at n x i a front (h ∙ ap (λ (l : List ℕ). get_or l i a) list ∙ get_or_append_left (members_below n x) (n ∷ []) a i front) in
-            (omega (arith, old.0), old.1, old.2)
-        | inr last ↦
-            let size : length (members_below (suc n) x) ≡ length (members_below n x) + 1 = ap length list ∙ length-append (members_below n x) (n ∷ []) in
-            let at : i ≡ length (members_below n x) = omega (arith, l, size, last) in
-            let is : a ≡ n = h ∙ ap (λ (l : List ℕ). get_or l i a) list ∙ ap (λ (j : ℕ). get_or (members_below n x ++ n ∷ []) j a) at ∙ get_or-append_seam (members_below n x) n [] a in
-            (omega (arith, is), ap x is ∙ has, at ∙ length-members_below n x ∙ ap (count_below x) (sym is))
-      ]
-  | inr lacks ↦
-      let list : members_below (suc n) x ≡ members_below n x = ap (λ (b : Bool). members_below n x ++ (if b then n ∷ [] else [])) lacks ∙ append-nil _ in
-      let size : length (members_below (suc n) x) ≡ length (members_below n x) = ap length list in
-      let old = member_at n x i a (omega (arith, l, size)) (h ∙ ap (λ (l : List ℕ). get_or l i a) list) in
-      (omega (arith, old.0), old.1, old.2)
-]
 
 -- an entry of the order of a header
 pub record IsColumnOfAttribute (n : ℕ) (columns : List ℕ) (i : ℕ) (p : ColumnOfAttribute) : Type 0 where

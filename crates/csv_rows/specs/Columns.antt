@@ -21,15 +21,15 @@ Ok a >>= f = f a
 Err e >>= f = Err e
 
 -- the attribute of a column, where the columns before it have those of a set
-abbrev pub column_of : ℕ → Attributes → Option ℕ → Result ℕ RowRefusal
-column_of column before None = Err (refusal.UnknownColumn column)
-column_of column before (Some a) = if before a then Err (refusal.DoubleColumn column) else Ok a
+abbrev pub attribute_of_column : ℕ → Attributes → Option ℕ → Result ℕ RowRefusal
+attribute_of_column column before None = Err (refusal.UnknownColumn column)
+attribute_of_column column before (Some a) = if before a then Err (refusal.DoubleColumn column) else Ok a
 
 -- the attributes of these fields of a header, from left to right, after those of the fields before
 unfoldable pub columns_from : List (List ℕ) → List ℕ → List (List ℕ) → Result (List ℕ) RowRefusal
 columns_from names before [] = Ok before
 columns_from names before (field ∷ fields) = do
-  a ← column_of (length before + 1) (with_columns before) (attribute_named names field)
+  a ← attribute_of_column (length before + 1) (with_columns before) (attribute_named names field)
   columns_from names (before ++ a ∷ []) fields
 
 -- the attribute of each column of a header: its fields are different names

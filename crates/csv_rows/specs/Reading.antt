@@ -35,18 +35,18 @@ FitsAt s columns fields a =
     → FitsColumn column (nullable_of s a) (value_of columns fields a)
 
 -- a record of as many fields as the header, among the most rows that a file may have
-abbrev pub Fits : List ℕ → ℕ → List (List ℕ) → Type 0
-Fits columns row fields = (length fields ≡ length columns) × (row ≤ MOST_ROWS)
+abbrev pub FitsHeader : List ℕ → ℕ → List (List ℕ) → Type 0
+FitsHeader columns row fields = (length fields ≡ length columns) × (row ≤ MOST_ROWS)
 
 -- what a record gives that stands in this row, from 1, and whose quotes are closed
 abbrev pub ClosedRowOf : Schema → List ℕ → ℕ → List (List ℕ) → Result Tuple RowRefusal → Type 0
 ClosedRowOf s columns row fields (Ok t) =
-    Fits columns row fields × (t ≡ tuple_of (width_of s) columns fields)
+    FitsHeader columns row fields × (t ≡ tuple_of (width_of s) columns fields)
     × ((a : ℕ) → with_columns columns a ≡ true → FitsAt s columns fields a)
 ClosedRowOf s columns row fields (Err (refusal.UnevenRow r)) = (r ≡ row) × (length fields ≢ length columns)
 ClosedRowOf s columns row fields (Err refusal.TooManyRows) = (length fields ≡ length columns) × (MOST_ROWS < row)
 ClosedRowOf s columns row fields (Err (refusal.NotOfType r a)) =
-    Fits columns row fields × (r ≡ row) × (with_columns columns a ≡ true)
+    FitsHeader columns row fields × (r ≡ row) × (with_columns columns a ≡ true)
     × (FitsAt s columns fields a → ⊥)
     × ((b : ℕ) → b < a → with_columns columns b ≡ true → FitsAt s columns fields b)
 ClosedRowOf s columns row fields (Err refusal.NoHeader) = ⊥

@@ -3,7 +3,7 @@ ghost use Rattle.attr_sets.specs.Attributes.{Attributes, IsSubset, below, only, 
 ghost use Rattle.attr_sets.specs.Sets.{attributes};
 ghost use Rattle.csv_rows.specs.Interning.{IsInterned, count_of, firsts_of, groups_of, width_of_rows};
 ghost use Rattle.csv_rows.specs.Numberings.{AreFirsts, AreGroups, AreInOrder, AreNumbered, number_at};
-ghost use Rattle.csv_rows.specs.Pairs.{AreKept, Gets};
+ghost use Rattle.csv_rows.specs.Pairs.{AreKeptPairs, Gets};
 ghost use Rattle.dep_model.specs.Tuples.{Relation};
 
 use crate::Interned;
@@ -227,10 +227,10 @@ fn pair_number(
     ensures has_lead { OnOk result
         (pair.0 ≤ length leads.old.items → pair.0 < length leads.new.items) }
     ensures kept { (seen : List (ℕ × ℕ))
-        → AreKept seen leads.old.items others.old.keys other_numbers.old.items
+        → AreKeptPairs seen leads.old.items others.old.keys other_numbers.old.items
         → count ≡ length seen → pair.0 ≤ length leads.old.items
         → IfOk result (λ number. (after : List (ℕ × ℕ)) × Gets pair seen after number
-        × AreKept after leads.new.items others.new.keys other_numbers.new.items) }
+        × AreKeptPairs after leads.new.items others.new.keys other_numbers.new.items) }
 {
     if pair.0 as usize == leads.len() {
         leads.push((pair.1, count))?;

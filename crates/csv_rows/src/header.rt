@@ -3,7 +3,7 @@ ghost use Rattle.attr_sets.specs.Attributes.{count_below};
 ghost use Rattle.attr_sets.specs.Sets.{attributes};
 ghost use Rattle.attr_sets.specs.declared.set.TheConstants.{MOST_ATTRIBUTES};
 ghost use Rattle.csv.specs.Records.{fields_of};
-ghost use Rattle.csv_rows.specs.Columns.{column_of, columns_of_header, order_of, IsHeader};
+ghost use Rattle.csv_rows.specs.Columns.{attribute_of_column, columns_of_header, order_of, IsHeader};
 ghost use Rattle.dep_model.specs.Failures.{RefusesAs};
 ghost use Rattle.dep_model.specs.Schemas.{names_of, attribute_named, width_of};
 
@@ -71,7 +71,7 @@ fn attribute_of(
     column: u32,
 ) -> Result<u8, RowRefusal>
     ensures attribute { result
-        ≡ column_of column (attributes before) (attribute_named (names_of schema.now) field.now) }
+        ≡ attribute_of_column column (attributes before) (attribute_named (names_of schema.now) field.now) }
     ensures within { IfOk result (λ a. a < width_of schema.now) }
 {
     match schema.attribute_named(field) {
@@ -91,7 +91,7 @@ fn columns_in_order(
 {
     let mut order = Vec::new(alloc);
     for attribute in 0..width {
-        match column_of(columns, attribute) {
+        match first_column_of(columns, attribute) {
             Some(column) => order.push(ColumnOfAttribute { attribute, column })?,
             None => {}
         }
@@ -100,7 +100,7 @@ fn columns_in_order(
 }
 
 // The first column of an attribute.
-fn column_of(columns: &[u8], attribute: u8) -> Option<usize>
+fn first_column_of(columns: &[u8], attribute: u8) -> Option<usize>
     ensures column { result ≡ position (nat_eq attribute) columns.now }
 {
     columns.iter().position(|a| attribute == *a)

@@ -30,7 +30,7 @@ pub fn print_rows(alloc: Global, schema: &Schema, rows: &Rows) -> Result<Vec<u8>
 }
 
 // The fields become the declared names.
-#[tactic(auto, using(crate::proofs::RowLemmas::take_next))]
+#[tactic(auto, using(dep_model::proofs::ListLemmas::take_next))]
 fn take_names(fields: &mut ByteRecord, schema: &Schema) -> Result<(), OutOfMemory>
     ensures names { OnOk result (fields_of fields.new ≡ names_of schema.now) }
 {

@@ -17,14 +17,14 @@ use Rattle.sql_lexemes.specs.declared.dialect.Dialect.{Dialect}
 use Rattle.ddl_text.specs.Ddl.{is_empty, is_never_missing}
 use Rattle.ddl_text.specs.Designs.{known_keys}
 use Rattle.ddl_text.specs.declared.table.TableDesign.{TableDesign}
-use Rattle.ddl_pieces.specs.Pieces.{TextPiece, blank, column_pieces, columns_pieces, create_pieces, elements_pieces, gap, is_sound_type, key_pieces, keys_pieces, lines_after, lines_pieces, list_pieces, mark, name_pieces, names_after, not_null, quoted_piece, reference_pieces, references_pieces, referred, text_of, type_pieces, unique_pieces, word}
+use Rattle.ddl_pieces.specs.Pieces.{TextPiece, blank, column_pieces, columns_pieces, create_pieces, elements_pieces, gap, is_sound_type, key_pieces, keys_pieces, lines_after, lines_pieces, list_pieces, mark, name_pieces, names_after, not_null, quoted_name_piece, reference_pieces, references_pieces, referred, text_of, type_pieces, unique_pieces, word}
 use Rattle.ddl_pieces.proofs.Cutting.{AreRight, depth_append, depth_past, right_append}
-use Rattle.ddl_pieces.proofs.Fronts.{IsParted, closes, name_then, opens, parts, quoted_right, word_right, word_then}
+use Rattle.ddl_pieces.proofs.Fronts.{IsEmptyOrParting, closes, name_then, opens, parts, quoted_right, word_right, word_then}
 use Rattle.ddl_pieces.proofs.Types.{IsSound, type_depth, type_right}
 
 -- pieces stand right before what parts lexemes, and close the brackets that they open
 pub record IsElement (d : Dialect) (ps : List TextPiece) : Type 0 where
-  pub right : (rest : List ℕ) → IsParted rest → AreRight d ps rest
+  pub right : (rest : List ℕ) → IsEmptyOrParting rest → AreRight d ps rest
   pub depth : (n : ℕ) → depth_past n ps ≡ n
 
 -- all types of columns are sound
@@ -48,15 +48,15 @@ type_at d s k sound = ⊎_elim
 abbrev missing : Bool → List TextPiece
 missing nullable = if nullable then [] else not_null
 
-missing_right : (d : Dialect) (nullable : Bool) (rest : List ℕ) → IsParted rest
+missing_right : (d : Dialect) (nullable : Bool) (rest : List ℕ) → IsEmptyOrParting rest
     → AreRight d (missing nullable) rest
 missing_right d true rest parted = tt
 missing_right d false rest parted =
     let last = word_right d (codes "NULL") rest refl parted in
     (refl, word_then d (codes "NOT") (word (codes "NULL") ∷ []) rest refl (last, tt))
 
-missing_parted : (nullable : Bool) (rest : List ℕ) → IsParted rest
-    → IsParted (text_of (missing nullable) ++ rest)
+missing_parted : (nullable : Bool) (rest : List ℕ) → IsEmptyOrParting rest
+    → IsEmptyOrParting (text_of (missing nullable) ++ rest)
 missing_parted true rest parted = parted
 missing_parted false rest parted = refl
 
@@ -85,12 +85,12 @@ column_is d s sound k = record {
     is = type_at d s k sound
 
 -- ---- lists of names
-after_parted : (names : List (List ℕ)) (rest : List ℕ) → IsParted rest
-    → IsParted (text_of (names_after names) ++ rest)
+after_parted : (names : List (List ℕ)) (rest : List ℕ) → IsEmptyOrParting rest
+    → IsEmptyOrParting (text_of (names_after names) ++ rest)
 after_parted [] rest parted = parted
 after_parted (name ∷ names) rest parted = refl
 
-after_right : (d : Dialect) (names : List (List ℕ)) (rest : List ℕ) → IsParted rest
+after_right : (d : Dialect) (names : List (List ℕ)) (rest : List ℕ) → IsEmptyOrParting rest
     → AreRight d (names_after names) rest
 after_right d [] rest parted = tt
 after_right d (name ∷ names) rest parted =
@@ -101,7 +101,7 @@ after_depth : (names : List (List ℕ)) (n : ℕ) → depth_past n (names_after 
 after_depth [] n = refl
 after_depth (name ∷ names) n = after_depth names n
 
-names_right : (d : Dialect) (names : List (List ℕ)) (rest : List ℕ) → IsParted rest
+names_right : (d : Dialect) (names : List (List ℕ)) (rest : List ℕ) → IsEmptyOrParting rest
     → AreRight d (name_pieces names) rest
 names_right d [] rest parted = tt
 names_right d (name ∷ names) rest parted =
@@ -146,7 +146,7 @@ unique_is d s key = record {
 -- what follows the names of a reference, with the blank before it
 abbrev pub target : Schema → TableDesign → List TextPiece
 target s other =
-    blank ∷ word (codes "REFERENCES") ∷ blank ∷ quoted_piece other.name ∷ blank
+    blank ∷ word (codes "REFERENCES") ∷ blank ∷ quoted_name_piece other.name ∷ blank
     ∷ list_pieces s (attributes other.key)
 
 target_right : (d : Dialect) (s : Schema) (other : TableDesign) (rest : List ℕ)
@@ -154,7 +154,7 @@ target_right : (d : Dialect) (s : Schema) (other : TableDesign) (rest : List ℕ
 target_right d s other rest =
     let key = list_pieces s (attributes other.key) in (
       refl,
-      word_then d (codes "REFERENCES") (quoted_piece other.name ∷ blank ∷ key) rest refl
+      word_then d (codes "REFERENCES") (quoted_name_piece other.name ∷ blank ∷ key) rest refl
           (name_then d other.name key rest (list_right d s (attributes other.key) rest)),
     )
 
@@ -217,14 +217,14 @@ elements_are d s tables table sound =
     table.refs.items)
 
 -- ---- lines
-further_parted : (elements : List (List TextPiece)) (rest : List ℕ) → IsParted rest
-    → IsParted (text_of (lines_after elements) ++ rest)
+further_parted : (elements : List (List TextPiece)) (rest : List ℕ) → IsEmptyOrParting rest
+    → IsEmptyOrParting (text_of (lines_after elements) ++ rest)
 further_parted [] rest parted = parted
 further_parted (element ∷ elements) rest parted = refl
 
 further_right : (d : Dialect) (elements : List (List TextPiece)) (rest : List ℕ)
     → All (IsElement d) elements
-    → IsParted rest → AreRight d (lines_after elements) rest
+    → IsEmptyOrParting rest → AreRight d (lines_after elements) rest
 further_right d [] rest are parted = tt
 further_right d (element ∷ elements) rest are parted =
     let this = All-head (IsElement d) element elements are in
@@ -248,7 +248,7 @@ further_depth d (element ∷ elements) n are =
 
 lines_right : (d : Dialect) (elements : List (List TextPiece)) (rest : List ℕ)
     → All (IsElement d) elements
-    → IsParted rest → AreRight d (lines_pieces elements) rest
+    → IsEmptyOrParting rest → AreRight d (lines_pieces elements) rest
 lines_right d [] rest are parted = tt
 lines_right d (element ∷ elements) rest are parted =
     let this = All-head (IsElement d) element elements are in
@@ -271,9 +271,9 @@ last = gap (10 ∷ []) ∷ mark 41 ∷ []
 pub create_right : (d : Dialect) (s : Schema) (tables : List TableDesign) (table : TableDesign)
     (rest : List ℕ) → AreSound d s → AreRight d (create_pieces s tables table) rest
 create_right d s tables table rest sound =
-    word_then d (codes "CREATE") (word (codes "TABLE") ∷ blank ∷ quoted_piece table.name ∷ blank ∷ bracketed)
+    word_then d (codes "CREATE") (word (codes "TABLE") ∷ blank ∷ quoted_name_piece table.name ∷ blank ∷ bracketed)
     rest refl
-    (word_then d (codes "TABLE") (quoted_piece table.name ∷ blank ∷ bracketed) rest refl
+    (word_then d (codes "TABLE") (quoted_name_piece table.name ∷ blank ∷ bracketed) rest refl
     (name_then d table.name bracketed rest (opens d _, (refl, within))))
   where
     lines : List TextPiece

@@ -19,7 +19,7 @@ use Rattle.sql_lexemes.specs.declared.lexeme.LexemeKind.TheVariants as kind
 use Rattle.sql_lexemes.specs.declared.piece.Before.{Before}
 use Rattle.sql_lexemes.specs.declared.piece.Piece.TheVariants as piece
 use Rattle.sql_lexemes.specs.declared.scan.Within.TheVariants.{Inside, AfterQuote}
-use Rattle.ddl_pieces.specs.Pieces.{TextPiece, blank, is_unquoted, quoted_piece, text_of, word}
+use Rattle.ddl_pieces.specs.Pieces.{TextPiece, blank, is_unquoted, quoted_name_piece, text_of, word}
 use Rattle.ddl_pieces.proofs.Cutting.{AreRight, IsLexemeBefore}
 
 -- ---- bytes that part lexemes
@@ -31,9 +31,9 @@ abbrev parts_lexemes : ℕ → Bool
 parts_lexemes b = list_any (λ other. b == other) parting
 
 -- a text is at its end or begins with such a byte
-abbrev pub IsParted : List ℕ → Type 0
-IsParted [] = Unit {0}
-IsParted (b ∷ bs) = parts_lexemes b ≡ true
+abbrev pub IsEmptyOrParting : List ℕ → Type 0
+IsEmptyOrParting [] = Unit {0}
+IsEmptyOrParting (b ∷ bs) = parts_lexemes b ≡ true
 
 fails_among : (test : ℕ → Bool) (b : ℕ) (bytes : List ℕ)
     → list_all (λ other. not (test other)) bytes ≡ true
@@ -49,7 +49,7 @@ fails_among test b (other ∷ bytes) fail among =
 
 pub stops_parted : (test : ℕ → Bool) (rest : List ℕ)
     → list_all (λ other. not (test other)) parting ≡ true
-    → IsParted rest → prefix_len test rest ≡ 0
+    → IsEmptyOrParting rest → prefix_len test rest ≡ 0
 stops_parted test [] fail parted = refl
 stops_parted test (b ∷ rest) fail parted =
     ap (λ (t : Bool). cond t (1 + prefix_len test rest) 0) (fails_among test b parting fail parted)
@@ -115,7 +115,7 @@ abbrev pub is_word_text : List ℕ → Bool
 is_word_text [] = false
 is_word_text (b ∷ bytes) = begins_word b && list_all is_word_byte bytes
 
-pub word_right : (d : Dialect) (bytes rest : List ℕ) → is_word_text bytes ≡ true → IsParted rest
+pub word_right : (d : Dialect) (bytes rest : List ℕ) → is_word_text bytes ≡ true → IsEmptyOrParting rest
     → IsLexemeBefore d kind.Word bytes rest
 word_right d [] rest word parted = absurd (true≢false (sym word))
 word_right d (b ∷ bytes) rest word parted =
@@ -158,7 +158,7 @@ abbrev pub is_number_text : List ℕ → Bool
 is_number_text [] = false
 is_number_text (b ∷ bytes) = is_ascii_digit b && list_all is_number_byte bytes
 
-pub number_right : (d : Dialect) (bytes rest : List ℕ) → is_number_text bytes ≡ true → IsParted rest
+pub number_right : (d : Dialect) (bytes rest : List ℕ) → is_number_text bytes ≡ true → IsEmptyOrParting rest
     → IsLexemeBefore d kind.Number bytes rest
 number_right d [] rest number parted = absurd (true≢false (sym number))
 number_right d (b ∷ bytes) rest number parted =
@@ -173,14 +173,14 @@ number_right d (b ∷ bytes) rest number parted =
     }
 
 -- ---- quoted names
-closes_parted : (rest : List ℕ) (passed : ℕ) → IsParted rest
+closes_parted : (rest : List ℕ) (passed : ℕ) → IsEmptyOrParting rest
     → quote_end 34 false AfterQuote passed rest ≡ Some passed
 unfolding quote_end
 closes_parted [] passed parted = refl
 closes_parted (b ∷ rest) passed parted = rw (fails_among (λ a. a == 34) b parting refl parted) refl
 
 -- the quote that closes is the one after the name
-name_ends : (name rest : List ℕ) (passed : ℕ) → IsParted rest
+name_ends : (name rest : List ℕ) (passed : ℕ) → IsEmptyOrParting rest
     → quote_end 34 false Inside passed (quotes_doubled name ++ 34 ∷ rest)
     ≡ Some (passed + (length (quotes_doubled name) + 1))
 unfolding quote_end quotes_doubled
@@ -201,7 +201,7 @@ quote_front : (d : Dialect) (before : Before) (text : List ℕ)
 unfolding front_piece
 quote_front d before text = refl
 
-pub quoted_right : (d : Dialect) (name rest : List ℕ) → IsParted rest
+pub quoted_right : (d : Dialect) (name rest : List ℕ) → IsEmptyOrParting rest
     → IsLexemeBefore d kind.Quoted (quoted_name name) rest
 quoted_right d name rest parted = record {
   more = length (quotes_doubled name) + 1;
@@ -217,7 +217,7 @@ quoted_right d name rest parted = record {
 
 -- a quoted name and a blank before pieces
 pub name_then : (d : Dialect) (name : List ℕ) (ps : List TextPiece) (rest : List ℕ) → AreRight d ps rest
-    → AreRight d (quoted_piece name ∷ blank ∷ ps) rest
+    → AreRight d (quoted_name_piece name ∷ blank ∷ ps) rest
 name_then d name ps rest right = (quoted_right d name (32 ∷ (text_of ps ++ rest)) refl, (refl, right))
 
 -- ---- marks

@@ -19,7 +19,7 @@ use Rattle.sql_lexemes.specs.declared.lexeme.LexemeKind.TheVariants as kind
 use Rattle.ddl_text.specs.Ddl.{sql_type}
 use Rattle.ddl_pieces.specs.Pieces.{are_paired, blank, is_own_type, is_sound_type, is_unquoted, kind_in_type, mark, more_in_type, number, pieces_in_type, text_of, type_pieces}
 use Rattle.ddl_pieces.proofs.Cutting.{AreRight, IsRight, depth_of, depth_past}
-use Rattle.ddl_pieces.proofs.Fronts.{IsParted, closes, is_number_text, mark_right, number_front, number_right, opens, parts, run_right, stops_parted, word_front, word_right}
+use Rattle.ddl_pieces.proofs.Fronts.{IsEmptyOrParting, closes, is_number_text, mark_right, number_front, number_right, opens, parts, run_right, stops_parted, word_front, word_right}
 
 -- ---- the text of the pieces
 rest_text : (skip : ℕ) (bytes : List ℕ) → text_of (pieces_in_type skip bytes) ≡ drop skip bytes
@@ -65,7 +65,7 @@ begins b = elim (cases_Bool (b == 32)) [
 -- ---- pieces stand right
 front_right : (d : Dialect) (b : ℕ) (bytes rest after : List ℕ) (begun : Option LexemeKind)
     → Begins b begun
-    → is_type_byte b ≡ true → is_unquoted d b ≡ true → IsParted rest
+    → is_type_byte b ≡ true → is_unquoted d b ≡ true → IsEmptyOrParting rest
     → after ≡ drop (more_in_type begun bytes) bytes ++ rest
     → IsRight d begun (b ∷ take (more_in_type begun bytes) bytes) after
 front_right d b bytes rest after None is known unquoted parted same = rw is refl
@@ -82,7 +82,7 @@ front_right d b bytes rest after (Some kind.Quoted) is known unquoted parted sam
 front_right d b bytes rest after (Some kind.Text) is known unquoted parted same = absurd is
 
 rest_right : (d : Dialect) (skip : ℕ) (bytes rest : List ℕ) → list_all is_type_byte bytes ≡ true
-    → list_all (is_unquoted d) bytes ≡ true → IsParted rest
+    → list_all (is_unquoted d) bytes ≡ true → IsEmptyOrParting rest
     → AreRight d (pieces_in_type skip bytes) rest
 unfolding pieces_in_type
 rest_right d skip [] rest known unquoted parted = tt
@@ -239,7 +239,7 @@ scale_right : (d : Dialect) (scale : ℕ) (rest : List ℕ) → is_number_text (
 scale_right d scale rest is =
     (parts d _, (refl, (number_right d (decimal scale) _ is refl, (closes d rest, tt))))
 
-pub type_right : (d : Dialect) (column : ColumnType) (rest : List ℕ) → IsSound d column → IsParted rest
+pub type_right : (d : Dialect) (column : ColumnType) (rest : List ℕ) → IsSound d column → IsEmptyOrParting rest
     → AreRight d (type_pieces column) rest
 type_right d type.Text rest is parted = (word_right d (codes "TEXT") rest refl parted, tt)
 type_right d type.Integer rest is parted = (word_right d (codes "BIGINT") rest refl parted, tt)

@@ -37,8 +37,8 @@ word bytes = record { kind = Some kind.Word; bytes = bytes }
 abbrev pub number : List ℕ → TextPiece
 number bytes = record { kind = Some kind.Number; bytes = bytes }
 
-abbrev pub quoted_piece : List ℕ → TextPiece
-quoted_piece name = record { kind = Some kind.Quoted; bytes = quoted_name name }
+abbrev pub quoted_name_piece : List ℕ → TextPiece
+quoted_name_piece name = record { kind = Some kind.Quoted; bytes = quoted_name name }
 
 abbrev pub mark : ℕ → TextPiece
 mark b = record { kind = Some kind.Mark; bytes = b ∷ [] }
@@ -128,16 +128,16 @@ not_null = blank ∷ word (codes "NOT") ∷ blank ∷ word (codes "NULL") ∷ []
 -- the column of an attribute
 abbrev pub column_pieces : Schema → ℕ → List TextPiece
 column_pieces s k =
-    quoted_piece (slice_index_or (names_of s) k []) ∷ blank
+    quoted_name_piece (slice_index_or (names_of s) k []) ∷ blank
     ∷ (type_pieces (slice_index_or (types_of s) k type.Text) ++ (if nullable_of s k then [] else not_null))
 
 -- names, with a comma and a blank between two
 abbrev pub names_after : List (List ℕ) → List TextPiece
-names_after names = flat_map (λ name. mark 44 ∷ blank ∷ quoted_piece name ∷ []) names
+names_after names = flat_map (λ name. mark 44 ∷ blank ∷ quoted_name_piece name ∷ []) names
 
 abbrev pub name_pieces : List (List ℕ) → List TextPiece
 name_pieces [] = []
-name_pieces (name ∷ names) = quoted_piece name ∷ names_after names
+name_pieces (name ∷ names) = quoted_name_piece name ∷ names_after names
 
 -- names of attributes in round brackets
 abbrev pub list_pieces : Schema → Attributes → List TextPiece
@@ -153,7 +153,7 @@ unique_pieces s key = word (codes "UNIQUE") ∷ blank ∷ list_pieces s key
 abbrev pub reference_pieces : Schema → TableDesign → List TextPiece
 reference_pieces s other =
     word (codes "FOREIGN") ∷ blank ∷ word (codes "KEY") ∷ blank ∷ (list_pieces s (attributes other.key)
-    ++ blank ∷ word (codes "REFERENCES") ∷ blank ∷ quoted_piece other.name ∷ blank
+    ++ blank ∷ word (codes "REFERENCES") ∷ blank ∷ quoted_name_piece other.name ∷ blank
     ∷ list_pieces s (attributes other.key))
 
 -- the columns of a table
@@ -190,7 +190,7 @@ lines_pieces (element ∷ elements) = gap (codes "  ") ∷ (element ++ lines_aft
 -- what the statement that creates a table has, but for what stands before it and the semicolon that ends it
 abbrev pub create_pieces : Schema → List TableDesign → TableDesign → List TextPiece
 create_pieces s tables table =
-    word (codes "CREATE") ∷ blank ∷ word (codes "TABLE") ∷ blank ∷ quoted_piece table.name ∷ blank ∷ mark 40
+    word (codes "CREATE") ∷ blank ∷ word (codes "TABLE") ∷ blank ∷ quoted_name_piece table.name ∷ blank ∷ mark 40
     ∷ gap (10 ∷ []) ∷ (lines_pieces (elements_pieces s tables table) ++ gap (10 ∷ []) ∷ mark 41 ∷ [])
 
 -- the lexemes of the statement that creates a table, the first of which stands at a place

@@ -22,7 +22,7 @@ use Rattle.table_names.specs.TableNames.{GivenNames}
 use Rattle.ddl_text.specs.declared.table.TableDesign.{TableDesign}
 use Rattle.ddl_text.specs.Designs.{RefersTo, AreReferences, AreOtherKeys, known_keys, IsTableOf, IsDesign, ReferToEarlier}
 use Rattle.ddl_text.specs.Laws.{KeysHold, OtherKeysHold, ReferencesHold}
-use Rattle.ddl_text.proofs.HoldingLemmas.{key_holds, is_key_holds, reference_holds}
+use Rattle.ddl_text.proofs.KeyReferenceLemmas.{key_holds, is_key_holds, reference_holds}
 
 -- ---- lists
 get_in_front : {X : Type 0} (xs ys : List X) (j : ℕ) → j < length xs → slice_get (xs ++ ys) j ≡ slice_get xs j

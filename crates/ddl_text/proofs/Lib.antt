@@ -1,3 +1,3 @@
 mod DesignLemmas
-mod HoldingLemmas
+mod KeyReferenceLemmas
 pub mod TextLemmas

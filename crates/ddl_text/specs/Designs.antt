@@ -8,7 +8,7 @@ use Rattle.attr_sets.specs.declared.set.AttrSet.{AttrSet}
 use Rattle.dep_model.specs.Plans.{schemes_of}
 use Rattle.dep_model.specs.Schemas.{width_of, theory_of, nullable_of}
 use Rattle.dep_model.specs.declared.schema.Schema.{Schema}
-use Rattle.fd_closure.specs.LeftSides.{IsWide}
+use Rattle.fd_closure.specs.LeftSides.{IsWideScheme}
 use Rattle.key_listing.specs.declared.refusal.TheConstants.{MOST_KEYS}
 use Rattle.key_listing.specs.Listing.{AreAllKeys, AreManyKeys}
 use Rattle.primary_keys.specs.PrimaryKeys.{IsPrimaryKey}
@@ -32,14 +32,14 @@ without_key key keys = filter (λ k. not (is_same (attributes k) key)) keys
 -- all keys of a scheme but for one, ascending, where they are within the limits of what is listed
 pub record AreListedBeside (s : Schema) (scheme key : Attributes) (keys : List AttrSet) : Type 0 where
   pub not_empty : IsEmpty key → ⊥
-  pub narrow : IsWide (theory_of s) scheme → ⊥
+  pub narrow : IsWideScheme (theory_of s) scheme → ⊥
   pub all : (all : List AttrSet) × AreAllKeys (width_of s) (theory_of s) scheme all × (length all ≤ MOST_KEYS)
       × (keys ≡ without_key key all)
 
 -- a scheme is beyond these limits: it is too wide, or it has too many keys
 abbrev pub IsBeyondListing : Schema → Attributes → Type 0
 IsBeyondListing s scheme =
-    IsWide (theory_of s) scheme ⊎ ((found : List AttrSet) × AreManyKeys (width_of s) (theory_of s) scheme found)
+    IsWideScheme (theory_of s) scheme ⊎ ((found : List AttrSet) × AreManyKeys (width_of s) (theory_of s) scheme found)
 
 -- the keys of a scheme beside one: an empty key is the only one; they are not looked for where the
 -- scheme is beyond the limits

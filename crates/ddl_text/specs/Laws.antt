@@ -9,7 +9,7 @@ use Rattle.dep_model.specs.Schemas.{LegalFor}
 use Rattle.dep_model.specs.declared.schema.Schema.{Schema}
 use Rattle.ddl_text.specs.declared.table.TableDesign.{TableDesign}
 use Rattle.ddl_text.specs.Designs.{known_keys}
-use Rattle.ddl_text.specs.Holding.{KeyHolds, ReferenceHolds}
+use Rattle.ddl_text.specs.KeysAndReferences.{KeyHolds, ReferenceHolds}
 
 -- the rows of a table: the ordered projection of a relation on its scheme
 abbrev pub rows_on : TableDesign → Relation → Relation

@@ -17,7 +17,7 @@ use Rattle.dep_model.specs.Dependencies.{Dependency, fd, mvd, ObeysFd, ObeysMvd,
 use Rattle.dep_model.specs.Implication.{IsLegal, Implies}
 use Rattle.dep_model.specs.Deps.{dependencies_of, IsDepWithin}
 use Rattle.dep_model.specs.OnSchemes.{ImpliedOn}
-use Rattle.dep_model.specs.Keys.{InClosure, IsBlock, IsBlockOn}
+use Rattle.dep_model.specs.Keys.{InClosure, IsBlock, IsPartOn}
 use Rattle.dep_model.specs.TwoTuples.{two_tuples, all_zeros, zeros_on}
 use Rattle.dep_model.proofs.RuleLemmas.{reflexivity_obeyed, mvd_union_obeyed, mreflexivity_obeyed, transitivity_obeyed}
 use Rattle.dep_model.proofs.DepLemmas.{functional_legal-weaker}
@@ -285,13 +285,13 @@ module _ (n : ℕ) (ds : List Dep) (scheme x : Attributes) (found : Blocks) (wit
   ]
 
   -- a listed trace is a part
-  part_trace : (p : Attributes) → Any (λ q. attributes q ≡ p) (blocks_of found) → IsBlockOn n (dependencies_of ds) scheme x p
+  part_trace : (p : Attributes) → Any (λ q. attributes q ≡ p) (blocks_of found) → IsPartOn n (dependencies_of ds) scheme x p
   part_trace p one =
       let q = one.1 in
       let listed : Contains (blocks_of found) q = (one.0, one.2, one.3) in
       let trace = All-contains (λ (s : AttrSet). IsTrace n (dependencies_of ds) scheme x (attributes s)) (blocks_of found) q traces.each listed in
       let apart = block_disjoint n (dependencies_of ds) x trace.block trace.is_block in
-      let made : IsBlockOn n (dependencies_of ds) scheme x (attributes q) = record {
+      let made : IsPartOn n (dependencies_of ds) scheme x (attributes q) = record {
         outside = λ k m. apart k (grind (arith, same_at trace.trace k, m));
         not_empty = trace.not_empty;
         implied = (traces_decide (attributes q) (trace_in (attributes q) trace)).1 (trace_alone (attributes q) trace);
@@ -300,10 +300,10 @@ module _ (n : ℕ) (ds : List Dep) (scheme x : Attributes) (found : Blocks) (wit
             (λ none. absurd (not_empty none))
             (tell_empty n y (λ (k : ℕ) m. scheme_in k (implied.within.1 k m)));
       } in
-      subst (λ (s : Attributes). IsBlockOn n (dependencies_of ds) scheme x s) one.4 made
+      subst (λ (s : Attributes). IsPartOn n (dependencies_of ds) scheme x s) one.4 made
 
   -- so is a determined attribute outside x
-  part_closed : (a : ℕ) → attributes found.closed a ≡ true → x a ≡ false → IsBlockOn n (dependencies_of ds) scheme x (only a)
+  part_closed : (a : ℕ) → attributes found.closed a ≡ true → x a ≡ false → IsPartOn n (dependencies_of ds) scheme x (only a)
   part_closed a closed out =
       let only_in : IsSubset (only a) scheme = λ (k : ℕ) e. grind (arith, nat_tests, e, ((traces.closed a).0 closed).0) in
       record {
@@ -317,7 +317,7 @@ module _ (n : ℕ) (ds : List Dep) (scheme x : Attributes) (found : Blocks) (wit
       }
 
   -- there is no other part
-  part_listed : (p : Attributes) → IsBlockOn n (dependencies_of ds) scheme x p → IsListedPart x found p
+  part_listed : (p : Attributes) → IsPartOn n (dependencies_of ds) scheme x p → IsListedPart x found p
   part_listed p part =
       let p_in = part.implied.within.1 in
       let splits = (traces_decide p p_in).0 part.implied in
@@ -354,7 +354,7 @@ module _ (n : ℕ) (ds : List Dep) (scheme x : Attributes) (found : Blocks) (wit
       part_listed p,
       (λ listed. ⊎_elim
           (λ one. part_trace p one)
-          (λ (a, closed, out, is). subst (λ (q : Attributes). IsBlockOn n (dependencies_of ds) scheme x q) (sym is) (part_closed a closed out))
+          (λ (a, closed, out, is). subst (λ (q : Attributes). IsPartOn n (dependencies_of ds) scheme x q) (sym is) (part_closed a closed out))
           listed),
     );
   }

@@ -7,7 +7,7 @@ use Rattle.dep_model.specs.declared.dep.Dep.{Dep}
 use Rattle.dep_model.specs.Dependencies.{Dependency, fd, mvd}
 use Rattle.dep_model.specs.Deps.{dependency_of}
 use Rattle.dep_basis.specs.Refining.{LeavesWhole}
-use Rattle.dep_basis.specs.CutProofs.{IsCutting, IsBestCut, IsBetterCut, count_left}
+use Rattle.dep_basis.specs.Cuts.{IsCutting, IsBestCut, IsBetterCut, count_left}
 use Rattle.dep_basis.specs.declared.cutting.Cut.{Cut}
 
 -- a dependency that cuts a part does not leave it whole

@@ -9,7 +9,7 @@ use Rattle.dep_model.specs.Tuples.{Relation}
 use Rattle.dep_model.specs.Dependencies.{Dependency, fd, mvd, ObeysMvd}
 use Rattle.dep_model.specs.Deps.{dependencies_of}
 use Rattle.dep_model.specs.Implication.{Implies}
-use Rattle.dep_model.specs.Keys.{IsBlockOn}
+use Rattle.dep_model.specs.Keys.{IsPartOn}
 use Rattle.dep_model.specs.TwoTuples.{two_tuples}
 use Rattle.dep_model.proofs.RuleLemmas.{replication_obeyed}
 use Rattle.dep_model.proofs.SchemeLemmas.{mvd_in-to, mvd_in-from}
@@ -121,7 +121,7 @@ module _ (n : ℕ) (ds : List Dep) (scheme x beyond : Attributes) (scheme_in : I
       true≢false (sym (subst (λ (m : ℕ). two.rhs m ≡ true) same two.not_empty.2) ∙ grind (arith, two.rest.2))
 
 -- ---- two parts that differ
-pub parts_two : (n : ℕ) (ds : List Dependency) (scheme x p q : Attributes) → IsSubset scheme (below n) → IsBlockOn n ds scheme x p → IsBlockOn n ds scheme x q → (IsSubset q p → ⊥) → HasTwoParts n ds scheme x
+pub parts_two : (n : ℕ) (ds : List Dependency) (scheme x p q : Attributes) → IsSubset scheme (below n) → IsPartOn n ds scheme x p → IsPartOn n ds scheme x q → (IsSubset q p → ⊥) → HasTwoParts n ds scheme x
 parts_two n ds scheme x p q scheme_in first second differ =
     let q_in = second.implied.within.1 in
     let p_in = first.implied.within.1 in

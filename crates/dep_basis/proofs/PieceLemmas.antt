@@ -20,7 +20,7 @@ use Rattle.dep_model.proofs.RuleLemmas.{reflexivity_obeyed, complementation_obey
 use Rattle.dep_model.proofs.DepLemmas.{legal-to}
 use Rattle.dep_model.proofs.ListLemmas.{Any-left}
 use Rattle.dep_basis.specs.Refining.{LeavesWhole}
-use Rattle.dep_basis.specs.CutProofs.{IsCutting}
+use Rattle.dep_basis.specs.Cuts.{IsCutting}
 use Rattle.dep_basis.specs.declared.pieces.Pieces.{Pieces}
 use Rattle.dep_basis.specs.Pieces.{found_blocks, IsDeterminedOrIn, ArePieces, CanRefine, IsRefined, IsPieceWith}
 use Rattle.dep_basis.proofs.RefiningLemmas.{replication_implied, split_inside, split_outside, moves}

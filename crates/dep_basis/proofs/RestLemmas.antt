@@ -19,7 +19,7 @@ use Rattle.dep_model.specs.TwoTuples.{two_tuples}
 use Rattle.dep_model.proofs.RuleLemmas.{reflexivity_obeyed, transitivity_obeyed}
 use Rattle.dep_model.proofs.DepLemmas.{legal-to, dependencies_all-from}
 use Rattle.dep_basis.specs.Refining.{LeavesWhole}
-use Rattle.dep_basis.specs.CutProofs.{IsCutting}
+use Rattle.dep_basis.specs.Cuts.{IsCutting}
 use Rattle.dep_basis.specs.Pieces.{CanRefine}
 use Rattle.dep_basis.proofs.RefiningLemmas.{replication_implied, moves, LeavesWhole-intersects}
 use Rattle.dep_basis.proofs.BlockLemmas.{outside_of, whole_legal, block_whole, block_disjoint, blocks_same, candidate_block}

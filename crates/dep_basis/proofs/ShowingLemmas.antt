@@ -1,9 +1,9 @@
 -- Derivations for parts: a cut keeps them small beside what was cut off.
-use Rattle.std.proofs.Common.{◌≡◌, ℕ, ◌+◌, ◌*◌, ◌<◌, ◌≤◌, true, false, Option, Some, Result, Ok, Err, List, length, get_or, refl, sym, subst, ◌∙◌, ⊎_elim, arith}
+use Rattle.std.proofs.Common.{◌≡◌, ℕ, ◌+◌, ◌*◌, ◌<◌, ◌≤◌, true, false, Option, Some, List, length, get_or, refl, sym, subst, ◌∙◌, ⊎_elim, arith}
 use Rattle.std.proofs.lemmas.Bool.{true≢false, cases_Bool, ltb-true}
 use Rattle.std.proofs.lemmas.Option.{slice_get-get_or, slice_get_within}
 use Rattle.std.proofs.lemmas.Bool.Decides.{nat_tests}
-use Rattle.std.specs.Prelude.{All, slice_get, IfOk}
+use Rattle.std.specs.Prelude.{All, slice_get}
 use Rattle.attr_sets.specs.Attributes.{Attributes, below, intersection, difference, IsSubset, Disjoint, count_below}
 use Rattle.attr_sets.specs.Sets.{attributes}
 use Rattle.attr_sets.specs.declared.set.TheConstants.{MOST_ATTRIBUTES}
@@ -23,7 +23,8 @@ use Rattle.dep_model.specs.Keys.{IsBlock}
 use Rattle.dep_basis.specs.Refining.{LeavesWhole}
 use Rattle.dep_model.proofs.DepLemmas.{legal-to}
 use Rattle.dep_basis.specs.declared.showing.PartProof.{PartProof}
-use Rattle.dep_basis.specs.CutProofs.{IsCutting, HasSize, IsPartProof, CanCut, IsNextPart}
+use Rattle.dep_basis.specs.CutProofs.{HasSize, IsPartProof, CanCut, IsNextPart}
+use Rattle.dep_basis.specs.Cuts.{IsCutting}
 use Rattle.dep_basis.proofs.RefiningLemmas.{implied_as_mvd, candidate_first, candidate_inside, candidate_outside}
 use Rattle.dep_basis.proofs.BlockLemmas.{whole_legal, candidate_block}
 
@@ -118,11 +119,6 @@ size_grows t n m p q more_nodes more_levels size = record { node_bound = omega (
 
 pub part_size : (s : Schema) (x : Attributes) (a : ℕ) (w : Attributes) (t : Tree) → IsPartProof s x a w t → HasSize t (8 * MOST_ATTRIBUTES + 2) (5 * MOST_ATTRIBUTES + 2)
 part_size s x a w t part = record { node_bound = omega (arith, part.node_bound); level_bound = omega (arith, part.level_bound) }
-
--- two facts of the value of an outcome
-pub IfOk_both : {A E : Type 0} {P Q R : A → Type 0} (r : Result A E) → IfOk r P → IfOk r Q → ((x : A) → P x → Q x → R x) → IfOk r R
-IfOk_both (Ok x) first second both = both x first second
-IfOk_both (Err e) first second both = tt
 
 -- ---- the first part, and the last
 pub part_first : (s : Schema) (x : Attributes) (a : ℕ) (w : Attributes) (t : Tree) → a < width_of s → x a ≡ false → w ≡ difference (universe_of s) x → Proves s t (mvd x (difference (universe_of s) x)) → HasSize t 2 2 → IsPartProof s x a w t

@@ -7,7 +7,7 @@ use Rattle.attr_sets.specs.Sets.{attributes}
 use Rattle.dep_model.specs.Dependencies.{Dependency, fd, mvd}
 use Rattle.dep_model.specs.Implication.{Implies}
 use Rattle.dep_model.specs.OnSchemes.{ImpliedOn}
-use Rattle.dep_model.specs.Keys.{InClosure, IsBlock, IsBlockOn}
+use Rattle.dep_model.specs.Keys.{InClosure, IsBlock, IsPartOn}
 use Rattle.dep_basis.specs.declared.gathering.Blocks.{Blocks}
 use Rattle.dep_basis.specs.Traces.{IsTrace, blocks_of, AreListed, AreTraces}
 
@@ -43,4 +43,4 @@ pub record IsTraceBasis (n : ℕ) (ds : List Dependency) (scheme x : Attributes)
   pub multivalued : (y : Attributes) → IsSubset y scheme
       → ImpliedOn n ds scheme (mvd x y) ↔ SplitsNone scheme y (blocks_of found)
   pub all : (q : Attributes) → IsTrace n ds scheme x q → Any (λ p. attributes p ≡ q) (blocks_of found)
-  pub part : (p : Attributes) → IsBlockOn n ds scheme x p ↔ IsListedPart x found p
+  pub part : (p : Attributes) → IsPartOn n ds scheme x p ↔ IsListedPart x found p

@@ -9,6 +9,7 @@ pub mod Firsts
 pub mod Breaking
 pub mod Decisions
 pub mod CutProofs
+pub mod Cuts
 pub mod Leads
 pub mod JoinedProofs
 pub mod Proofs

@@ -4,7 +4,7 @@ ghost use Rattle.attr_sets.specs.declared.set.TheConstants.{MOST_ATTRIBUTES};
 ghost use Rattle.dep_model.specs.Deps.{dependency_of, dependencies_of};
 ghost use Rattle.dep_basis.specs.Refining.{LeavesWhole};
 ghost use Rattle.dep_model.specs.declared.dep.Dep.{Dep};
-ghost use Rattle.dep_basis.specs.CutProofs.{IsCutting, IsBestCut, IsBetterCut};
+ghost use Rattle.dep_basis.specs.Cuts.{IsCutting, IsBestCut, IsBetterCut};
 
 use crate::refining::cut_by;
 use attr_sets::AttrSet;

@@ -7,7 +7,7 @@ ghost use Rattle.attr_sets.specs.declared.set.TheConstants.{MOST_ATTRIBUTES};
 ghost use Rattle.dep_model.specs.declared.dep.Dep.{Dep};
 ghost use Rattle.dep_model.specs.Dependencies.{Dependency, functional_part, left_of, IsWithin};
 ghost use Rattle.dep_model.specs.Deps.{dependency_of, dependencies_of, IsDepWithin};
-ghost use Rattle.dep_model.specs.Keys.{InClosure, IsBlock, IsBlockOn};
+ghost use Rattle.dep_model.specs.Keys.{InClosure, IsBlock, IsPartOn};
 ghost use Rattle.dep_basis.specs.Decisions.{IsBrokenBy};
 ghost use Rattle.dep_basis.specs.Parts.{HasTwoParts};
 
@@ -55,6 +55,6 @@ pub fn adds_only_itself()
 /// A left side with two parts on a scheme, of which one is not within the other, has two parts.
 pub fn two_parts()
     ensures law { (n : ℕ) (ds : List Dependency) (scheme x p q : Attributes) → IsSubset scheme (below n)
-        → IsBlockOn n ds scheme x p → IsBlockOn n ds scheme x q → (IsSubset q p → ⊥)
+        → IsPartOn n ds scheme x p → IsPartOn n ds scheme x q → (IsSubset q p → ⊥)
         → HasTwoParts n ds scheme x }
 {}

@@ -7,7 +7,7 @@ ghost use Rattle.dep_model.specs.Deps.{dependency_of, dependencies_of, IsDepWith
 ghost use Rattle.dep_model.specs.Implication.{Implies};
 ghost use Rattle.dep_model.specs.Keys.{IsBlock};
 ghost use Rattle.dep_basis.specs.Refining.{IsCandidate, LeavesWhole};
-ghost use Rattle.dep_basis.specs.CutProofs.{side_with};
+ghost use Rattle.dep_basis.specs.Cuts.{side_with};
 
 use attr_sets::AttrSet;
 use dep_model::{Dep, sides};

@@ -1,8 +1,13 @@
 -- Membership in lists, and in the list of a function's values.
-use Rattle.std.proofs.Common.{◌≡◌, ℕ, ◌<◌, ◌⊎◌, inl, inr, zero, suc, List, [], ◌∷◌, length, map, get_or, refl, sym, ap, ◌∙◌, arith, ◌++◌, drop}
+use Rattle.std.proofs.Common.{◌≡◌, ℕ, ◌<◌, ◌⊎◌, inl, inr, zero, suc, List, [], ◌∷◌, length, map, get_or, refl, sym, ap, ◌∙◌, arith, ◌++◌, drop, ◌+◌, Some, take, add-one, ◌||◌, ◌&&◌, ◌==◌, ◌≢◌, ◌≤◌, ◌↔◌, if◌then◌else◌}
 use Rattle.std.proofs.Math.ListN.{get_or-map}
 use Rattle.std.proofs.lemmas.List.{length-map, length_push, get_or_append_left}
 use Rattle.std.specs.Prelude.{Contains, Any}
+use Rattle.std.specs.List.{slice_get}
+use Rattle.std.proofs.Math.Seq.{take-suc}
+use Rattle.std.proofs.lemmas.Option.{slice_get_within, get_or_from_slice_get}
+use mathlib.Core.Path.{fun_ext}
+use Rattle.attr_sets.specs.Attributes.{below}
 
 pub Contains-map : {X Y : Type 0} (f : X → Y) (xs : List X) (x : X) → Contains xs x → Contains (map f xs) (f x)
 Contains-map f xs x h =
@@ -48,3 +53,15 @@ Any-left P xs y h = (h.0, h.1, omega (arith, h.2, length_push xs y), get_or_appe
 -- two lists with a first element that are the same
 pub cons_parts : {X : Type 0} (x y : X) (xs ys : List X) → x ∷ xs ≡ y ∷ ys → (x ≡ y) × (xs ≡ ys)
 cons_parts {X = X} x y xs ys same = (ap (λ (l : List X). get_or l 0 x) same, ap (λ (l : List X). drop 1 l) same)
+
+-- the elements before a position and the one that is there
+pub take_next : {X : Type 0} (xs : List X) (i : ℕ) (x : X) → slice_get xs i ≡ Some x → take (i + 1) xs ≡ take i xs ++ x ∷ []
+take_next xs i x is_x =
+    rw add-one
+    (take-suc xs i x (slice_get_within xs i x is_x)
+    ∙ ap (λ y. take i xs ++ y ∷ []) (get_or_from_slice_get xs i x x is_x))
+
+pub same_default : {X : Type 0} (xs : List X) (i : ℕ) (d e : X) → i < length xs → get_or xs i d ≡ get_or xs i e
+same_default [] i d e l = absurd (omega (arith, l))
+same_default (x ∷ xs) zero d e l = refl
+same_default (x ∷ xs) (suc i) d e l = same_default xs i d e (omega (arith, l))

@@ -6,7 +6,7 @@ use Rattle.attr_sets.proofs.AttributesLemmas.{same_from_within}
 use Rattle.dep_model.specs.Tuples.{Relation}
 use Rattle.dep_model.specs.Dependencies.{Dependency, fd, mvd, ObeysMvd}
 use Rattle.dep_model.specs.OnSchemes.{ImpliedOn}
-use Rattle.dep_model.specs.Keys.{IsBlockOn}
+use Rattle.dep_model.specs.Keys.{IsPartOn}
 use Rattle.dep_model.proofs.RuleLemmas.{mvd_intersection_obeyed}
 use Rattle.dep_model.proofs.SchemeLemmas.{mvd_in-to, mvd_in-from}
 use Rattle.dep_model.proofs.KeyLemmas.{fd_on-to, fd_on-from}
@@ -49,7 +49,7 @@ intersection_on n ds scheme x y z first second = record {
       (mvd_in-to scheme x z r second.within.0 second.within.1 (second.obeyed r legal)));
 }
 
-part_within : (n : ℕ) (ds : List Dependency) (scheme x p q : Attributes) → IsBlockOn n ds scheme x p → IsBlockOn n ds scheme x q → Intersects p q → IsSubset p q
+part_within : (n : ℕ) (ds : List Dependency) (scheme x p q : Attributes) → IsPartOn n ds scheme x p → IsPartOn n ds scheme x q → Intersects p q → IsSubset p q
 part_within n ds scheme x p q first second common k m =
     let shared = first.minimal (intersection p q) (λ (j : ℕ) h. grind (arith, h))
     (λ empty. true≢false (sym (grind (arith, common.1, common.2)) ∙ empty common.0))
@@ -57,7 +57,7 @@ part_within n ds scheme x p q first second common k m =
     grind (arith, shared)
 
 -- two parts with a common attribute are one
-pub parts_same : (n : ℕ) (ds : List Dependency) (scheme x p q : Attributes) → IsBlockOn n ds scheme x p → IsBlockOn n ds scheme x q → Intersects p q → p ≡ q
+pub parts_same : (n : ℕ) (ds : List Dependency) (scheme x p q : Attributes) → IsPartOn n ds scheme x p → IsPartOn n ds scheme x q → Intersects p q → p ≡ q
 parts_same n ds scheme x p q first second common =
     same_from_within p q (part_within n ds scheme x p q first second common)
     (part_within n ds scheme x q p second first (common.0, common.2, common.1))

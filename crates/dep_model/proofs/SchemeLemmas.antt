@@ -1,5 +1,5 @@
 -- Projections on a scheme, attribute by attribute, and what they obey.
-use Rattle.std.proofs.Common.{◌≡◌, ℕ, ◌+◌, ◌<◌, zero, suc, true, false, List, [], ◌∷◌, ◌++◌, length, get_or, refl, sym, ap, subst, ◌∙◌, inl, inr, arith, length-append, append-nil}
+use Rattle.std.proofs.Common.{◌≡◌, ℕ, ◌+◌, ◌<◌, zero, suc, true, false, List, [], ◌∷◌, ◌++◌, length, get_or, refl, sym, ap, subst, ◌∙◌, inl, inr, arith, length-append, append-nil, ◌≤◌, Bool, if◌then◌else◌, ◌&&◌}
 use Rattle.std.proofs.lemmas.Bool.{cases_Bool, cases_lt}
 use Rattle.std.proofs.lemmas.Bool.Decides.{nat_tests}
 use Rattle.std.proofs.lemmas.List.{get_or_past, get_or-map, get_or_append_left, length-map, same_lists, get_or_default}
@@ -13,6 +13,7 @@ use Rattle.dep_model.specs.Dependencies.{Dependency, ObeysFd, ObeysMvd, fd, mvd}
 use Rattle.dep_model.specs.Projections.{members_below, project_tuple, projection, IsLossless}
 use Rattle.dep_model.specs.OnSchemes.{value_in, AgreeIn, ObeysIn}
 use Rattle.dep_model.proofs.ListLemmas.{Contains-map, map-member}
+use Rattle.attr_sets.specs.Sets.{attributes}
 
 -- ---- the members of a set, ascending
 -- one attribute more
@@ -167,3 +168,27 @@ members_below-one_more n m x e member = let next : m ≡ suc n = omega (arith, e
 pub members_below-no_more : (n m : ℕ) (x : Attributes) → m ≡ n + 1 → x n ≡ false → members_below m x ≡ members_below n x
 unfolding members_below
 members_below-no_more n m x e outside = let next : m ≡ suc n = omega (arith, e) in ap (λ (k : ℕ). members_below k x) next ∙ (rw outside (append-nil (members_below n x)))
+
+-- the members of a set in their order
+pub member_at : (n : ℕ) (x : Attributes) (i a : ℕ) → i < length (members_below n x) → a ≡ get_or (members_below n x) i a → (a < n) × (x a ≡ true) × (i ≡ count_below x a)
+unfolding members_below
+member_at zero x i a l h = absurd (omega arith)
+member_at (suc n) x i a l h = elim (cases_Bool (x n)) [
+  | inl has ↦
+      let list : members_below (suc n) x ≡ members_below n x ++ n ∷ [] = ap (λ (b : Bool). members_below n x ++ (if b then n ∷ [] else [])) has in
+      elim (cases_lt i (length (members_below n x))) [
+        | inl front ↦
+            let old = member_at n x i a front (h ∙ ap (λ (l : List ℕ). get_or l i a) list ∙ get_or_append_left (members_below n x) (n ∷ []) a i front) in
+            (omega (arith, old.0), old.1, old.2)
+        | inr last ↦
+            let size : length (members_below (suc n) x) ≡ length (members_below n x) + 1 = ap length list ∙ length-append (members_below n x) (n ∷ []) in
+            let at : i ≡ length (members_below n x) = omega (arith, l, size, last) in
+            let is : a ≡ n = h ∙ ap (λ (l : List ℕ). get_or l i a) list ∙ ap (λ (j : ℕ). get_or (members_below n x ++ n ∷ []) j a) at ∙ get_or-append_seam (members_below n x) n [] a in
+            (omega (arith, is), ap x is ∙ has, at ∙ length-members_below n x ∙ ap (count_below x) (sym is))
+      ]
+  | inr lacks ↦
+      let list : members_below (suc n) x ≡ members_below n x = ap (λ (b : Bool). members_below n x ++ (if b then n ∷ [] else [])) lacks ∙ append-nil _ in
+      let size : length (members_below (suc n) x) ≡ length (members_below n x) = ap length list in
+      let old = member_at n x i a (omega (arith, l, size)) (h ∙ ap (λ (l : List ℕ). get_or l i a) list) in
+      (omega (arith, old.0), old.1, old.2)
+]

@@ -5,7 +5,7 @@ use Rattle.std.specs.Char.{is_ascii_digit}
 use Rattle.std.specs.Str.Parse.{digits_value}
 
 -- one digit from 1 to 9 and then any digits, of a value of at most this
-pub record IsNumeral (most : ℕ) (bytes : List ℕ) : Type 0 where
+pub record IsPositiveNumeral (most : ℕ) (bytes : List ℕ) : Type 0 where
   pub not_empty : 0 < length bytes
   pub first : slice_index bytes 0 ≢ 48
   pub digits : IsTrue (list_all is_ascii_digit bytes)
@@ -15,5 +15,5 @@ pub record IsNumeral (most : ℕ) (bytes : List ℕ) : Type 0 where
 -- numeral that does not begin with `0`
 abbrev pub IsIntegerText : List ℕ → Type 0
 IsIntegerText bytes =
-    (bytes ≡ 48 ∷ []) ⊎ IsNumeral (2 ^ 63 - 1) bytes
-    ⊎ ((digits : List ℕ) × (bytes ≡ 45 ∷ digits) × IsNumeral (2 ^ 63) digits)
+    (bytes ≡ 48 ∷ []) ⊎ IsPositiveNumeral (2 ^ 63 - 1) bytes
+    ⊎ ((digits : List ℕ) × (bytes ≡ 45 ∷ digits) × IsPositiveNumeral (2 ^ 63) digits)

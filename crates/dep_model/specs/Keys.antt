@@ -42,8 +42,9 @@ pub record IsBlock (n : ℕ) (ds : List Dependency) (x p : Attributes) : Type 0 
   pub implied : Implies n ds (mvd x p)
   pub minimal : (q : Attributes) → IsSubset q p → (IsEmpty q → ⊥) → Implies n ds (mvd x q) → IsSubset p q
 
--- a block (or part) of x on a scheme: a minimal non-empty set outside x that x multidetermines on the scheme
-pub record IsBlockOn (n : ℕ) (ds : List Dependency) (scheme x p : Attributes) : Type 0 where
+-- a part of x on a scheme: a minimal non-empty set outside x that x multidetermines on the scheme. What a
+-- block of x has there is one, and so is each attribute that x determines, which is in no block
+pub record IsPartOn (n : ℕ) (ds : List Dependency) (scheme x p : Attributes) : Type 0 where
   pub outside : Disjoint p x
   pub not_empty : IsEmpty p → ⊥
   pub implied : ImpliedOn n ds scheme (mvd x p)

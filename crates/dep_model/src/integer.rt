@@ -1,9 +1,9 @@
 ghost use Rattle.std.specs.Prelude.{◌↔◌, IsTrue};
-ghost use Rattle.dep_model.specs.Integers.{IsNumeral, IsIntegerText};
+ghost use Rattle.dep_model.specs.Integers.{IsPositiveNumeral, IsIntegerText};
 
 /// Whether the bytes are an integer text: `0`, or an optional `-` and then digits of which the first
 /// is not `0`, of a value from -2^63 to 2^63 - 1. So equal numbers have equal texts.
-pub fn integer_text(bytes: &[u8]) -> bool
+pub fn is_integer_text(bytes: &[u8]) -> bool
     ensures integer { IsTrue result ↔ IsIntegerText bytes.now }
 {
     match bytes {
@@ -15,7 +15,7 @@ pub fn integer_text(bytes: &[u8]) -> bool
 
 // Whether the bytes are digits, the first of which is not `0`, of at most this value.
 fn is_numeral(digits: &[u8], most: u64) -> bool
-    ensures numeral { IsTrue result ↔ IsNumeral most digits.now }
+    ensures numeral { IsTrue result ↔ IsPositiveNumeral most digits.now }
 {
     if digits.is_empty() || digits[0] == b'0' {
         return false;

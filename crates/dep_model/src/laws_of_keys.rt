@@ -4,7 +4,7 @@ ghost use Rattle.std.specs.Prelude.{◌≡◌, ℕ, ◌↔◌, List};
 ghost use Rattle.attr_sets.specs.Attributes.{Attributes, below, only, union, intersection, IsSubset, Intersects};
 ghost use Rattle.dep_model.specs.Dependencies.{Dependency, fd, mvd, functional_part};
 ghost use Rattle.dep_model.specs.OnSchemes.{ImpliedOn};
-ghost use Rattle.dep_model.specs.Keys.{IsSuperkey, IsKey, IsPrime, IsBlockOn};
+ghost use Rattle.dep_model.specs.Keys.{IsSuperkey, IsKey, IsPrime, IsPartOn};
 ghost use Rattle.dep_model.specs.Forms.{IsThird, IsBcnf, IsFourth};
 ghost use Rattle.dep_model.specs.Address.{address};
 
@@ -40,8 +40,8 @@ pub fn multivalued_on_a_part()
 
 /// Two parts of a left side with a common attribute are one.
 pub fn parts_are_disjoint()
-    ensures law { (n : ℕ) (ds : List Dependency) (scheme x p q : Attributes) → IsBlockOn n ds scheme x p
-        → IsBlockOn n ds scheme x q → Intersects p q → p ≡ q }
+    ensures law { (n : ℕ) (ds : List Dependency) (scheme x p q : Attributes) → IsPartOn n ds scheme x p
+        → IsPartOn n ds scheme x q → Intersects p q → p ≡ q }
 {}
 
 /// Fourth normal form gives Boyce-Codd form (Fagin 1977).

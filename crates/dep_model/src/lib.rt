@@ -27,7 +27,7 @@ mod value;
 pub use column_type::{ColumnType, MOST_SCALE};
 pub use dep::{Dep, sides};
 pub use failure::Failure;
-pub use integer::integer_text;
+pub use integer::is_integer_text;
 pub use memory::OutOfMemory;
 pub use name::{MOST_BARE_NAME_BYTES, MOST_NAME_BYTES, Name, is_bare_name};
 pub use naming::Naming;

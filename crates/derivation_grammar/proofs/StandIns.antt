@@ -242,7 +242,7 @@ ends_same : (o : Option SchemaRefusal) (l : DerivationLine)
 ends_same None l = refl
 ends_same (Some e) l = refl
 
-line_after : (names : List (List ℕ)) (n : ℕ) (r : Rest)
+line_by_ten_after : (names : List (List ℕ)) (n : ℕ) (r : Rest)
     → (colon (rest_by_ten 2 r) >>= λ c. stated_dependency names c >>= λ d. colon d.1 >>= λ e. rule_name e
     >>= λ x. body names x.0 x.1
     >>= λ b. unless (refusal_at_end b.1) (record { number = n; stated = d.0; body = b.0 }))
@@ -250,7 +250,7 @@ line_after : (names : List (List ℕ)) (n : ℕ) (r : Rest)
     >>= λ x. derivation_body names x.0 x.1
     >>= λ b. unless (refusal_at_end b.1) (record { number = n; stated = d.0; body = b.0 }))
 unfolding after_ten ten_named ten_body
-line_after names n r =
+line_by_ten_after names n r =
     bind_map _ _ _ _ (colon r) (rest_by_ten 1) (colon_same 1 r) (λ c.
     bind_map _ _ _ _ (stated_dependency names c) (after_ten 1) (stated_same names 0 c) (λ d.
     bind_map _ _ _ _ (colon d.1) (rest_by_ten 0) (colon_same 0 d.1) (λ e.
@@ -274,7 +274,7 @@ line_same names r = by_cases r.marks r.stop
             ≡ map_ok line_by_ten (derivation_line names (rest_with r (of_kind k m ∷ ms) stop))
         by_kind token.Identifier = refl
         by_kind token.Quoted = refl
-        by_kind (token.Number v) = line_after names v (rest_after r m ms stop)
+        by_kind (token.Number v) = line_by_ten_after names v (rest_after r m ms stop)
         by_kind token.Colon = refl
         by_kind token.Arrow = refl
         by_kind token.DoubleArrow = refl

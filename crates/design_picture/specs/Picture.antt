@@ -81,21 +81,21 @@ frame_text place =
     ++ point_text (codes "\" width=\"") place.width (codes "\" height=\"") place.height ++ codes "\"/>\n"
 
 -- a name in a box, at a row, with what marks it
-unfoldable pub name_text : TablePlace → ℕ → List ℕ → List ℕ → List ℕ
-name_text place row mark name =
+unfoldable pub box_name_text : TablePlace → ℕ → List ℕ → List ℕ → List ℕ
+box_name_text place row mark name =
     point_text (codes "<text x=\"") (place.left + 8) (codes "\" y=\"") (place.top + (24 * row + 17))
     ++ codes "\"" ++ mark ++ codes ">" ++ html_text name ++ codes "</text>\n"
 
 -- an attribute in the box of its table, marked where it is in the key
 unfoldable pub attribute_text : Schema → TableDesign → TablePlace → ℕ → List ℕ
 attribute_text s table place k =
-    name_text place (row_of (attributes table.scheme) k) (key_mark (attributes table.key k))
+    box_name_text place (row_of (attributes table.scheme) k) (key_mark (attributes table.key k))
     (slice_index_or (names_of s) k [])
 
 -- the box of a table: its frame, its name, and its attributes, ascending
 unfoldable pub box_text : Schema → TableDesign → TablePlace → List ℕ
 box_text s table place =
-    frame_text place ++ name_text place 0 (codes " class=\"t\"") table.name
+    frame_text place ++ box_name_text place 0 (codes " class=\"t\"") table.name
     ++ flat_map (attribute_text s table place) (members_below (width_of s) (attributes table.scheme))
 
 -- the box of the table at a position

@@ -5,7 +5,7 @@ ghost use Rattle.std.specs.List.{flat_map};
 ghost use Rattle.attr_sets.specs.Sets.{attributes};
 ghost use Rattle.dep_model.specs.Projections.{members_below};
 ghost use Rattle.dep_model.specs.Schemas.{width_of};
-ghost use Rattle.design_picture.specs.Picture.{attribute_text, box_at, box_text, frame_text, key_mark, name_text, texts_below};
+ghost use Rattle.design_picture.specs.Picture.{attribute_text, box_at, box_text, frame_text, key_mark, box_name_text, texts_below};
 
 use crate::places::{TablePlace, place_at};
 use crate::points::add_point;
@@ -146,7 +146,7 @@ fn key_mark(in_key: bool) -> &'static [u8]
 }
 
 // Adds a name at a row, with what marks it.
-#[tactic(auto, unfolding(crate::specs::Picture::name_text))]
+#[tactic(auto, unfolding(crate::specs::Picture::box_name_text))]
 fn add_name(
     alloc: Global,
     text: &mut Vec<u8>,
@@ -155,7 +155,7 @@ fn add_name(
     mark: &[u8],
     name: &[u8],
 ) -> Result<(), OutOfMemory>
-    ensures added { OnOk result (text.new.items ≡ text.old.items ++ name_text place row mark.now name.now) }
+    ensures added { OnOk result (text.new.items ≡ text.old.items ++ box_name_text place row mark.now name.now) }
 {
     let below_top = sum(product(24, row)?, 17)?;
     add_point(

@@ -7,7 +7,7 @@ ghost use Rattle.dep_model.specs.Tuples.{IsOver};
 ghost use Rattle.named_plans.specs.NamedPlans.{named_schemes};
 ghost use Rattle.fd_discovery.specs.Headers.{IsColumnHeader};
 ghost use Rattle.fd_discovery.specs.Headings.{names_under, rows_under};
-ghost use Rattle.fd_discovery.specs.declared.headed_rows.TheConstants.{MOST_HEADED_ROWS};
+ghost use Rattle.fd_discovery.specs.declared.limits.TheConstants.{MOST_HEADED_ROWS};
 ghost use Rattle.plans.specs.Plans.{IsPlanOver, plan_of};
 ghost use Rattle.desk_words.specs.Commands.{plan_question, rows_question, rules_question, schema_question};
 ghost use Rattle.desk_cli.specs.Performs.{AnswersPlan, AnswersRows, AnswersRules, AnswersSchema};

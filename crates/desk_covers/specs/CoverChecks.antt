@@ -4,7 +4,7 @@ use Rattle.std.specs.List.{flat_map}
 use Rattle.attr_sets.specs.Attributes.{only}
 use Rattle.cover_check.specs.CoverDiagnostics.{AreCoverDiagnostics}
 use Rattle.cover_check.specs.declared.diagnostic.CoverDiagnostic.{CoverDiagnostic}
-use Rattle.cover_check.specs.declared.diagnostic.CoverDiagnostic.TheVariants.{WideRight, NotNeeded, Follows}
+use Rattle.cover_check.specs.declared.diagnostic.CoverDiagnostic.TheVariants.{SeveralOnRight, NotNeeded, Follows}
 use Rattle.dep_model.specs.Schemas.{deps_of, lines_of, width_of, theory_of}
 use Rattle.dep_model.specs.declared.schema.Schema.{Schema}
 use Rattle.schema_printer.specs.Printing.{set_text}
@@ -23,7 +23,7 @@ placed_dep_text schema k =
     ++ dep_text (printed_names_of schema) (slice_get (deps_of schema) k)
 
 abbrev pub diagnostic_text : Schema → CoverDiagnostic → List ℕ
-diagnostic_text schema (WideRight k) =
+diagnostic_text schema (SeveralOnRight k) =
     line (placed_dep_text schema k ++ codes " has more than one attribute on the right")
 diagnostic_text schema (NotNeeded k a) =
     line (placed_dep_text schema k ++ codes ": " ++ set_text (printed_names_of schema) (only a)

@@ -10,7 +10,7 @@ use Rattle.schema_match.specs.Columns.{IsDeclaredBy, SameNames, undeclared_attri
 use Rattle.schema_match.specs.Differences.{AreDifferences}
 use Rattle.desk_responses.specs.declared.status.Status.TheVariants.{Yes, No, Refused}
 use Rattle.desk_responses.specs.ResponseValues.{Allowed, Says, Unless}
-use Rattle.desk_responses.specs.Lines.{line_number_text, dep_text, name_text}
+use Rattle.desk_responses.specs.Lines.{line_number_text, dep_text, attribute_name}
 use Rattle.desk_texts.specs.Texts.{line}
 
 -- ---- texts
@@ -43,7 +43,7 @@ different_text schema other file other_file there back =
 abbrev pub LacksName : Schema → Schema → List ℕ → Allowed
 LacksName schema other other_file response =
     (a : ℕ) × IsFirstFrom (undeclared_attributes schema other) 0 a
-    × Says Refused (not_in_text (name_text (printed_names_of schema) a) other_file) response
+    × Says Refused (not_in_text (attribute_name (printed_names_of schema) a) other_file) response
 
 -- how the names of two schemas end a command: refused exactly where they are not the same, by the first
 -- schema's names, and then by the other's

@@ -90,7 +90,7 @@ fn diagnostic_line(
     ensures text { IfOk result (λ text. text.items ≡ diagnostic_text schema.now diagnostic) }
 {
     match diagnostic {
-        CoverDiagnostic::WideRight { dep } => {
+        CoverDiagnostic::SeveralOnRight { dep } => {
             let mut text = placed_dep(alloc, schema, dep)?;
             add(&mut text, b" has more than one attribute on the right\n")?;
             Ok(text)

@@ -4,7 +4,7 @@ ghost use Rattle.desk_responses.specs.Responses.{response_value, RespondsAs, Exi
 ghost use Rattle.desk_covers.specs.Sameness.{ChecksSame, Compares, IsDifferenceText, NameStops, SayTheSame, difference_text, differences_text, not_in_text};
 ghost use Rattle.schema_match.specs.Columns.{SameNames};
 ghost use Rattle.schema_printer.specs.Spelling.{printed_names_of};
-ghost use Rattle.desk_responses.specs.Lines.{name_text};
+ghost use Rattle.desk_responses.specs.Lines.{attribute_name};
 
 use dep_model::{OutOfMemory, Schema};
 use desk_outside::Argument;
@@ -55,7 +55,7 @@ pub fn test_names(
 // A file does not declare the name of an attribute of a schema.
 fn not_declared_exit(alloc: Global, schema: &Schema, attribute: u8, file: &Argument) -> EarlyExit
     ensures says { ExitsAs
-        (Says Status.Refused (not_in_text (name_text (printed_names_of schema.now) attribute) file.now)) result }
+        (Says Status.Refused (not_in_text (attribute_name (printed_names_of schema.now) attribute) file.now)) result }
 {
     EarlyExit::with_text(
         Status::Refused,
@@ -70,7 +70,7 @@ fn not_declared_line(
     file: &Argument,
 ) -> Result<Vec<u8>, OutOfMemory>
     ensures line { IfOk result
-        (λ text. text.items ≡ not_in_text (name_text (printed_names_of schema.now) attribute) file.now) }
+        (λ text. text.items ≡ not_in_text (attribute_name (printed_names_of schema.now) attribute) file.now) }
 {
     let mut text = Vec::new(alloc);
     add(&mut text, b"refused: ")?;

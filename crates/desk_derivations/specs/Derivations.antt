@@ -7,7 +7,7 @@ use Rattle.schema_printer.specs.Spelling.{printed_names_of}
 use Rattle.desk_responses.specs.declared.status.Status.TheVariants.{Yes, No}
 use Rattle.desk_responses.specs.ResponseValues.{Allowed, Says}
 use Rattle.desk_arguments.specs.Goals.{WithGoal}
-use Rattle.desk_texts.specs.ProofTexts.{checked_text, concludes_text}
+use Rattle.desk_texts.specs.Conclusions.{checked_text, concludes_text}
 
 -- yes exactly where the goal is what is derived, which is then implied; else no, with both
 abbrev pub DerivationChecked : Schema → Dependency → Dependency → Allowed

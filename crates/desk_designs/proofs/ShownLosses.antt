@@ -14,7 +14,7 @@ use Rattle.dep_model.specs.Tuples.{Relation}
 use Rattle.dep_model.specs.TwoTuples.{all_zeros}
 use Rattle.dep_model.specs.declared.schema.Schema.{Schema}
 use Rattle.dep_model.proofs.TwoTupleLemmas.{length-all_zeros}
-use Rattle.numeral_laws.proofs.HoldingLemmas.{tableau_holds}
+use Rattle.numeral_laws.proofs.HeldNumerals.{tableau_holds}
 use Rattle.shown_rows.specs.Shown.{shown_relation, shown_zeros}
 use Rattle.typed_rows.specs.Typed.{HoldsNumerals}
 use Rattle.typed_rows.proofs.NumeralLemmas.{zeros_are_numerals}

@@ -8,13 +8,13 @@ use Rattle.dep_model.specs.Projections.{IsLossless}
 use Rattle.dep_model.specs.Schemas.{width_of, theory_of}
 use Rattle.dep_model.specs.declared.schema.Schema.{Schema}
 use Rattle.schema_printer.specs.Spelling.{printed_names_of}
-use Rattle.normal_forms.specs.declared.forms.Form.{Form}
-use Rattle.normal_forms.specs.declared.forms.Form.TheVariants.{Third, Bcnf, Fourth}
+use Rattle.normal_forms.specs.declared.form.Form.{Form}
+use Rattle.normal_forms.specs.declared.form.Form.TheVariants.{Third, Bcnf, Fourth}
 use Rattle.normal_forms.specs.Chosen.{IsInForm}
 use Rattle.plans.specs.Printing.{plan_text}
 use Rattle.split_forms.specs.Refusals.{IsWithinLimits}
 use Rattle.split_forms.specs.Splitting.{IsSplitPlan, IsTooWideAt, HasTooManySchemes}
-use Rattle.wide_bcnf.specs.WideSplits.{IsWidePlan}
+use Rattle.wide_bcnf.specs.WideSplits.{IsWideSplitPlan}
 use Rattle.desk_designs.specs.declared.decomposition.TheConstants.{MOST_SPLIT_SCHEMES}
 use Rattle.desk_responses.specs.declared.status.Status.TheVariants.{Yes, Refused}
 use Rattle.desk_responses.specs.ResponseValues.{Allowed, Says, With}
@@ -26,8 +26,8 @@ use Rattle.desk_texts.specs.Texts.{line}
 abbrev pub too_many_schemes_text : List ℕ
 too_many_schemes_text = line (codes "refused: too many schemes")
 
-abbrev pub wide_text : List (List ℕ) → List Attributes → List ℕ
-wide_text names plan = line (codes "# a scheme in form may have been cut") ++ plan_text names plan
+abbrev pub wide_split_text : List (List ℕ) → List Attributes → List ℕ
+wide_split_text names plan = line (codes "# a scheme in form may have been cut") ++ plan_text names plan
 
 -- ---- plans
 -- the plan of the splitting, its finished list without contained schemes: no legal relation loses by
@@ -75,7 +75,7 @@ Splits schema form = WithPlanInForm schema form (ShowsPlan schema)
 -- a split by pairs: no legal relation loses by it, each scheme is in Boyce-Codd form for every left side
 -- within it, and there are no more schemes than attributes
 pub record IsWideSplit (schema : Schema) (plan : List AttrSet) : Type 0 where
-  pub split : IsWidePlan (width_of schema) (theory_of schema) plan
+  pub split : IsWideSplitPlan (width_of schema) (theory_of schema) plan
   pub lossless : IsLossless (width_of schema) (theory_of schema) (schemes_of plan)
   pub bcnf : All (IsBcnf (width_of schema) (theory_of schema)) (schemes_of plan)
   pub within_limit : length plan ≤ width_of schema
@@ -84,4 +84,4 @@ pub record IsWideSplit (schema : Schema) (plan : List AttrSet) : Type 0 where
 abbrev pub SplitsWide : Schema → Allowed
 SplitsWide schema response =
     (plan : List AttrSet) × IsWideSplit schema plan
-    × Says Yes (wide_text (printed_names_of schema) (schemes_of plan)) response
+    × Says Yes (wide_split_text (printed_names_of schema) (schemes_of plan)) response

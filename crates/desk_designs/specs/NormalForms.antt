@@ -4,9 +4,9 @@ use Rattle.attr_sets.specs.Attributes.{Attributes}
 use Rattle.dep_model.specs.Dependencies.{Dependency, fd, mvd}
 use Rattle.dep_model.specs.Schemas.{width_of, theory_of}
 use Rattle.dep_model.specs.declared.schema.Schema.{Schema}
-use Rattle.normal_forms.specs.declared.forms.Form.{Form}
-use Rattle.normal_forms.specs.declared.forms.Form.TheVariants.{Third, Bcnf, Fourth}
-use Rattle.fd_closure.specs.LeftSides.{IsWide}
+use Rattle.normal_forms.specs.declared.form.Form.{Form}
+use Rattle.normal_forms.specs.declared.form.Form.TheVariants.{Third, Bcnf, Fourth}
+use Rattle.fd_closure.specs.LeftSides.{IsWideScheme}
 use Rattle.normal_forms.specs.Chosen.{IsInForm, IsChosenViolation}
 use Rattle.schema_printer.specs.Printing.{set_text, dependency_text}
 use Rattle.schema_printer.specs.Spelling.{printed_names_of}
@@ -40,14 +40,14 @@ violated_text names form scheme x y =
 -- ---- answers
 -- a scheme does not end the test of a plan: it is narrow enough to be tested, and in the form
 pub record PassesForm (schema : Schema) (form : Form) (scheme : Attributes) : Type 0 where
-  pub narrow : IsWide (theory_of schema) scheme → ⊥
+  pub narrow : IsWideScheme (theory_of schema) scheme → ⊥
   pub in_form : IsInForm (width_of schema) (theory_of schema) form scheme
 
 -- a scheme ends the test: it is too wide, or narrow and violates the form
 abbrev pub EndsForm : Schema → Form → Attributes → Allowed
 EndsForm schema form scheme response =
-    (IsWide (theory_of schema) scheme × Says Refused (too_wide_text (printed_names_of schema) scheme) response)
-    ⊎ ((IsWide (theory_of schema) scheme → ⊥)
+    (IsWideScheme (theory_of schema) scheme × Says Refused (too_wide_text (printed_names_of schema) scheme) response)
+    ⊎ ((IsWideScheme (theory_of schema) scheme → ⊥)
     × ((x : Attributes) × (y : Attributes) × IsChosenViolation (width_of schema) (theory_of schema) form scheme x y
     × Says No (violated_text (printed_names_of schema) form scheme x y) response))
 

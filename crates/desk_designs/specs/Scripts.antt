@@ -8,15 +8,15 @@ use Rattle.dep_model.specs.Tuples.{Relation, IsOver}
 use Rattle.dep_model.specs.declared.schema.Schema.{Schema}
 use Rattle.table_names.specs.TableNames.{GivenNames}
 use Rattle.ddl_text.specs.declared.table.TableDesign.{TableDesign}
-use Rattle.normal_forms.specs.declared.forms.Form.{Form}
+use Rattle.normal_forms.specs.declared.form.Form.{Form}
 use Rattle.sql_evaluation.specs.Cells.{Cell}
 use Rattle.sql_evaluation.specs.Evaluation.{Engine}
 use Rattle.sql_evaluation.specs.Running.{State, Cast, Fails, engine_at, ended, stopped, outcome}
 use Rattle.migrate_queries.specs.Script.{migration}
 use Rattle.migrate_laws.specs.Moved.{HasMoved, LeavesOthers}
 use Rattle.ending_laws.specs.Ending.{IsSoundRun}
-use Rattle.check_laws.specs.Holding.{Holds, CastsIntegers}
-use Rattle.check_laws.specs.Telling.{NoBreachShown, RulesHold, NothingShown}
+use Rattle.check_laws.specs.HeldRelations.{Holds, CastsIntegers}
+use Rattle.check_laws.specs.CheckedRules.{NoBreachShown, RulesHold, NothingShown}
 use Rattle.table_scripts.specs.Checking.{check_text, NothingBreaks}
 use Rattle.table_scripts.specs.Migrating.{migrate_text, FillsTables, ViewIsTable}
 use Rattle.table_scripts.specs.Naming.{is_table_name, met_name, quoted_table}

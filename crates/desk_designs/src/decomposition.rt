@@ -3,9 +3,9 @@ ghost use Rattle.dep_model.specs.Schemas.{width_of, theory_of};
 ghost use Rattle.schema_printer.specs.Spelling.{printed_names_of};
 ghost use Rattle.split_forms.specs.Refusals.{IsRefusedSplit};
 ghost use Rattle.plans.specs.Plans.{IsPlanOver, plan_of, scheme_sets};
-ghost use Rattle.normal_forms.specs.declared.forms.Form.TheVariants as forms;
+ghost use Rattle.normal_forms.specs.declared.form.Form.TheVariants as forms;
 ghost use Rattle.desk_responses.specs.ResponseValues.{Says};
-ghost use Rattle.desk_designs.specs.Decompositions.{FormStops, IsPlanInForm, IsSplitInForm, ShowsPlan, SplitStops, Splits, SplitsWide, too_many_schemes_text, wide_text};
+ghost use Rattle.desk_designs.specs.Decompositions.{FormStops, IsPlanInForm, IsSplitInForm, ShowsPlan, SplitStops, Splits, SplitsWide, too_many_schemes_text, wide_split_text};
 ghost use Rattle.desk_responses.specs.Responses.{response_value, RespondsAs, ExitsAs};
 ghost use Rattle.desk_designs.specs.Synthesis.{IsThirdFormPlan};
 
@@ -109,19 +109,19 @@ fn response_of(alloc: Global, schema: &Schema, plan: &Plan) -> Result<Response, 
 pub fn split_by_pairs(alloc: Global, schema: &Schema) -> Result<Response, EarlyExit>
     ensures response { RespondsAs (SplitsWide schema.now) result }
 {
-    Ok(wide_plan_response(alloc, schema)?)
+    Ok(wide_split_response(alloc, schema)?)
 }
 
-fn wide_plan_response(alloc: Global, schema: &Schema) -> Result<Response, OutOfMemory>
+fn wide_split_response(alloc: Global, schema: &Schema) -> Result<Response, OutOfMemory>
     ensures response { IfOk result (λ response. SplitsWide schema.now (response_value response)) }
 {
     let plan = split_wide(alloc, schema)?;
-    Ok(Response::with_text(Status::Yes, wide_lines(alloc, schema, &plan)?))
+    Ok(Response::with_text(Status::Yes, wide_split_lines(alloc, schema, &plan)?))
 }
 
-fn wide_lines(alloc: Global, schema: &Schema, plan: &Plan) -> Result<Vec<u8>, OutOfMemory>
+fn wide_split_lines(alloc: Global, schema: &Schema, plan: &Plan) -> Result<Vec<u8>, OutOfMemory>
     requires universe { IsPlanOver schema.now plan.now }
-    ensures text { IfOk result (λ text. text.items ≡ wide_text (printed_names_of schema.now) (plan_of plan.now)) }
+    ensures text { IfOk result (λ text. text.items ≡ wide_split_text (printed_names_of schema.now) (plan_of plan.now)) }
 {
     let mut text = line_of(alloc, b"# a scheme in form may have been cut", b"", b"")?;
     add(&mut text, &print_plan(alloc, schema, plan)?)?;

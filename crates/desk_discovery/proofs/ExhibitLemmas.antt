@@ -10,7 +10,7 @@ use Rattle.dep_model.specs.Implication.{IsLegal}
 use Rattle.dep_model.specs.Schemas.{theory_of, types_of, width_of, LegalFor}
 use Rattle.dep_model.specs.Tuples.{Relation}
 use Rattle.dep_model.specs.declared.schema.Schema.{Schema}
-use Rattle.numeral_laws.proofs.HoldingLemmas.{exhibit_holds}
+use Rattle.numeral_laws.proofs.HeldNumerals.{exhibit_holds}
 use Rattle.shown_rows.specs.Shown.{shown_relation}
 use Rattle.typed_rows.specs.Typed.{HoldsNumerals, typed_tuple}
 use Rattle.typed_rows.proofs.RelationLemmas.{fits_schema, legal-to, made_up_for, obeys-from, obeys-to}

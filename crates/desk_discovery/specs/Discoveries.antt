@@ -2,7 +2,7 @@
 -- left sides.
 use Rattle.std.specs.Prelude.{◌≡◌, ◌<◌, ◌⊎◌, List, [], codes, length, map, replicate, slice_index_or, ℕ, ◌++◌, ◌↔◌, ◌∷◌}
 use Rattle.attr_sets.specs.Attributes.{Attributes, below, none, IsSubset}
-use Rattle.candidate_search.specs.Sides.{IsExceeded}
+use Rattle.candidate_search.specs.Sides.{IsTooManyLeftSides}
 use Rattle.candidate_search.specs.declared.side.TooManyLeftSides.{TooManyLeftSides}
 use Rattle.dep_model.specs.Dependencies.{Dependency, fd, ObeysFd}
 use Rattle.dep_model.specs.Implication.{Implies}
@@ -72,7 +72,7 @@ pub record AreRulesOf (n : ℕ) (rows : Relation) (ds : List Dependency) : Type 
 -- candidates of at most so many columns for the left sides of a column
 pub record HasTooManyLeftSides (most : ℕ) (headed : Headed) (refusal : TooManyLeftSides) : Type 0 where
   pub wide : WIDEST_TRIED < length (names_under headed)
-  pub exceeded : IsExceeded (length (names_under headed)) most (rows_under headed) refusal
+  pub exceeded : IsTooManyLeftSides (length (names_under headed)) most (rows_under headed) refusal
 
 -- yes, with these
 abbrev pub GivesRules : Headed → Allowed

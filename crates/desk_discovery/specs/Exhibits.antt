@@ -1,26 +1,21 @@
 -- A relation that obeys just the functional dependencies that follow from a schema: for `exhibit`.
-use Rattle.std.specs.Prelude.{◌≡◌, ◌⊎◌, ◌≤◌, ℕ, List, ◌++◌, codes, length, slice_get}
+use Rattle.std.specs.Prelude.{◌≡◌, ◌⊎◌, ◌≤◌, ℕ, List, ◌++◌, codes, length}
 use Rattle.armstrong_rel.specs.declared.refusal.ExhibitRefusal.TheVariants.{NotFunctional, TooWide, TooManyRows}
 use Rattle.armstrong_rel.specs.Exhibits.{IsExhibit, IsArmstrong}
 use Rattle.armstrong_rel.specs.Refusals.{IsFunctional, IsTooWideToExhibit, IsRefusedExhibit}
 use Rattle.armstrong_rel.specs.declared.refusal.TheConstants.{MOST_EXHIBITED_ROWS}
 use Rattle.column_values.specs.Values.{FitsColumns}
 use Rattle.csv_text.specs.Rows.{rows_text}
-use Rattle.dep_model.specs.Schemas.{names_of, width_of, theory_of, lines_of, universe_of, LegalFor}
+use Rattle.dep_model.specs.Schemas.{names_of, width_of, theory_of, universe_of, LegalFor}
 use Rattle.dep_model.specs.declared.schema.Schema.{Schema}
 use Rattle.dep_model.specs.Tuples.{Relation}
 use Rattle.schema_printer.specs.Spelling.{printed_names_of}
 use Rattle.shown_rows.specs.Shown.{shown_relation}
 use Rattle.desk_responses.specs.declared.status.Status.TheVariants.{Yes, Refused}
 use Rattle.desk_responses.specs.ResponseValues.{Allowed, Says}
-use Rattle.desk_responses.specs.Lines.{too_wide_text, line_number_text}
+use Rattle.desk_responses.specs.Lines.{too_wide_text}
 use Rattle.desk_texts.specs.Texts.{line}
-
--- a multivalued dependency is given
-abbrev pub multivalued_text : Schema → ℕ → List ℕ
-multivalued_text schema dep =
-    line (codes "refused: line " ++ line_number_text (slice_get (lines_of schema) dep)
-    ++ codes " is multivalued")
+use Rattle.desk_discovery.specs.Multivalued.{multivalued_text}
 
 -- the relation would have more rows than are printed
 abbrev pub too_many_rows_text : List ℕ

@@ -2,7 +2,7 @@ ghost use Rattle.std.specs.Prelude.{◌≤◌, ◌<◌, length};
 ghost use Rattle.dep_model.specs.Tuples.{IsOver};
 ghost use Rattle.fd_discovery.specs.Headers.{IsHeaderWithin};
 ghost use Rattle.fd_discovery.specs.Headings.{names_under, rows_under};
-ghost use Rattle.fd_discovery.specs.declared.headed_rows.TheConstants.{MOST_ROWS_WITH_ALL, WIDEST_WITH_ALL};
+ghost use Rattle.fd_discovery.specs.declared.limits.TheConstants.{MOST_ROWS_WITH_ALL, WIDEST_WITH_ALL};
 ghost use Rattle.desk_discovery.specs.AllDiscoveries.{FindsAllRules};
 ghost use Rattle.desk_responses.specs.Responses.{RespondsAs};
 

@@ -1,6 +1,6 @@
 ghost use Rattle.std.specs.Prelude.{◌≡◌, ◌≤◌, ◌<◌, ◌↔◌, ◌++◌, length, replicate, All, IfOk, IfErr, OnOk};
 ghost use Rattle.attr_sets.specs.Attributes.{Attributes, IsSubset, below};
-ghost use Rattle.candidate_search.specs.Sides.{IsExceeded};
+ghost use Rattle.candidate_search.specs.Sides.{IsTooManyLeftSides};
 ghost use Rattle.dep_model.specs.Dependencies.{fd, ObeysFd};
 ghost use Rattle.dep_model.specs.Deps.{dependencies_of, IsDepWithin};
 ghost use Rattle.dep_model.specs.Failures.{RefusesAs};
@@ -9,7 +9,7 @@ ghost use Rattle.dep_model.specs.Tuples.{IsOver};
 ghost use Rattle.fd_discovery.specs.Headers.{IsColumnHeader};
 ghost use Rattle.fd_discovery.specs.Headings.{names_under, rows_under};
 ghost use Rattle.fd_discovery.specs.Minimal.{AreAllMinimal};
-ghost use Rattle.fd_discovery.specs.declared.headed_rows.TheConstants.{MOST_HEADED_ROWS, WIDEST_HEADED};
+ghost use Rattle.fd_discovery.specs.declared.limits.TheConstants.{MOST_HEADED_ROWS, WIDEST_HEADED};
 ghost use Rattle.desk_discovery.specs.Discoveries.{FindsRules, HasTextColumns, column_text, found_text, left_sides_text, rules_text};
 ghost use Rattle.desk_responses.specs.ResponseValues.{Says};
 ghost use Rattle.desk_responses.specs.Responses.{response_value, ExitsAs, RespondsAs};
@@ -67,7 +67,7 @@ fn rules_of(
         Implies width (dependencies_of found.items) (fd x y) ↔ ObeysFd x y rows.now) }
     ensures within { IfOk result (λ found. All (IsDepWithin (below width)) found.items) }
     ensures wide { IfErr result (RefusesAs (λ _. WIDEST_TRIED < width)) }
-    ensures refusal { IfErr result (RefusesAs (IsExceeded width width rows.now)) }
+    ensures refusal { IfErr result (RefusesAs (IsTooManyLeftSides width width rows.now)) }
 {
     if width <= WIDEST_TRIED {
         return match discover(alloc, hashing, width, rows) {

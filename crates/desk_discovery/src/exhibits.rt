@@ -5,13 +5,14 @@ ghost use Rattle.csv_text.specs.Rows.{rows_text};
 ghost use Rattle.shown_rows.specs.Shown.{shown_relation};
 ghost use Rattle.typed_rows.specs.Typed.{HoldsNumerals};
 ghost use Rattle.desk_responses.specs.ResponseValues.{Says};
-ghost use Rattle.desk_discovery.specs.Exhibits.{Exhibits, multivalued_text, too_many_rows_text};
+ghost use Rattle.desk_discovery.specs.Exhibits.{Exhibits, too_many_rows_text};
 ghost use Rattle.desk_responses.specs.Responses.{response_value, RespondsAs, ExitsAs};
 
+use crate::multivalued::multivalued_exit;
 use armstrong_rel::{ExhibitRefusal, exhibit};
 use attr_sets::AttrSet;
 use dep_model::{Failure, OutOfMemory, Row, Schema};
-use desk_responses::{EarlyExit, Response, Status, put_line, too_wide_exit};
+use desk_responses::{EarlyExit, Response, Status, too_wide_exit};
 use schema_printer::add;
 use shown_rows::print_made_up;
 use std::alloc::Global;
@@ -44,24 +45,6 @@ fn response_of(alloc: Global, schema: &Schema, rows: &[Row]) -> Result<Response,
         (response_value response)) }
 {
     Ok(Response::with_text(Status::Yes, print_made_up(alloc, schema, rows)?))
-}
-
-/// A multivalued dependency is given.
-pub fn multivalued_exit(alloc: Global, schema: &Schema, dep: u16) -> EarlyExit
-    ensures says { ExitsAs (Says Status.Refused (multivalued_text schema.now dep)) result }
-{
-    EarlyExit::with_text(Status::Refused, multivalued_line(alloc, schema, dep))
-}
-
-fn multivalued_line(alloc: Global, schema: &Schema, dep: u16) -> Result<Vec<u8>, OutOfMemory>
-    ensures line { IfOk result (λ text. text.items ≡ multivalued_text schema.now dep) }
-{
-    let mut text = Vec::new(alloc);
-    add(&mut text, b"refused: line ")?;
-    put_line(alloc, &mut text, schema, dep as usize)?;
-    add(&mut text, b" is multivalued")?;
-    add(&mut text, b"\n")?;
-    Ok(text)
 }
 
 // The relation would have more rows than are printed.

@@ -4,7 +4,7 @@ ghost use Rattle.dep_model.specs.Plans.{schemes_of};
 ghost use Rattle.dep_model.specs.Tuples.{IsOver};
 ghost use Rattle.fd_discovery.specs.Headers.{IsColumnHeader};
 ghost use Rattle.fd_discovery.specs.Headings.{names_under, rows_under};
-ghost use Rattle.fd_discovery.specs.declared.headed_rows.TheConstants.{MOST_HEADED_ROWS};
+ghost use Rattle.fd_discovery.specs.declared.limits.TheConstants.{MOST_HEADED_ROWS};
 ghost use Rattle.schema_printer.specs.Printing.{set_text};
 ghost use Rattle.schema_printer.specs.Spelling.{printed_names_of};
 ghost use Rattle.desk_discovery.specs.KeyDiscoveries.{FindsRowKeys, row_keys_text, too_many_row_keys_text};

@@ -10,13 +10,15 @@
 mod all;
 mod discovering;
 mod exhibits;
+mod multivalued;
 mod keys;
 mod near;
 mod small;
 
 pub use all::discover_all_rules;
 pub use discovering::{WIDEST_TRIED, discover_rules};
-pub use exhibits::{exhibit_relation, multivalued_exit};
+pub use exhibits::exhibit_relation;
 pub use keys::discover_keys;
 pub use near::discover_near_rules;
 pub use small::discover_small_rules;
+pub use multivalued::multivalued_exit;

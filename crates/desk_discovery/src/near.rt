@@ -3,7 +3,7 @@ ghost use Rattle.dep_model.specs.Deps.{dependencies_of};
 ghost use Rattle.dep_model.specs.Tuples.{IsOver};
 ghost use Rattle.fd_discovery.specs.Headers.{IsColumnHeader};
 ghost use Rattle.fd_discovery.specs.Headings.{names_under, rows_under};
-ghost use Rattle.fd_discovery.specs.declared.headed_rows.TheConstants.{MOST_HEADED_ROWS};
+ghost use Rattle.fd_discovery.specs.declared.limits.TheConstants.{MOST_HEADED_ROWS};
 ghost use Rattle.schema_printer.specs.Printing.{lines_text};
 ghost use Rattle.schema_printer.specs.Spelling.{printed_names_of};
 ghost use Rattle.desk_discovery.specs.NearDiscoveries.{FindsNearRules, change_text, near_lines, near_text};

@@ -1,13 +1,13 @@
 ghost use Rattle.std.specs.Prelude.{◌≤◌, ◌<◌, length, All, IfOk, IfErr};
 ghost use Rattle.attr_sets.specs.Attributes.{below};
 ghost use Rattle.attr_sets.specs.declared.set.TheConstants.{MOST_ATTRIBUTES};
-ghost use Rattle.candidate_search.specs.Sides.{IsExceeded};
+ghost use Rattle.candidate_search.specs.Sides.{IsTooManyLeftSides};
 ghost use Rattle.dep_model.specs.Deps.{dependencies_of, IsDepWithin};
 ghost use Rattle.dep_model.specs.Failures.{RefusesAs};
 ghost use Rattle.dep_model.specs.Tuples.{IsOver};
 ghost use Rattle.fd_discovery.specs.Headers.{IsColumnHeader};
 ghost use Rattle.fd_discovery.specs.Headings.{names_under, rows_under};
-ghost use Rattle.fd_discovery.specs.declared.headed_rows.TheConstants.{MOST_HEADED_ROWS, WIDEST_HEADED};
+ghost use Rattle.fd_discovery.specs.declared.limits.TheConstants.{MOST_HEADED_ROWS, WIDEST_HEADED};
 ghost use Rattle.fd_search.specs.Small.{AreAllSmall};
 ghost use Rattle.desk_discovery.specs.Discoveries.{FindsSmallRules};
 ghost use Rattle.desk_discovery.specs.declared.discovering.TheConstants.{WIDEST_TRIED};
@@ -62,7 +62,7 @@ fn small_rules_of(
     ensures small { IfOk result (λ found. AreAllSmall width most rows.now (dependencies_of found.items)) }
     ensures within { IfOk result (λ found. All (IsDepWithin (below width)) found.items) }
     ensures wide { IfErr result (RefusesAs (λ _. WIDEST_TRIED < width)) }
-    ensures refusal { IfErr result (RefusesAs (IsExceeded width most rows.now)) }
+    ensures refusal { IfErr result (RefusesAs (IsTooManyLeftSides width most rows.now)) }
 {
     if width <= WIDEST_TRIED {
         let all = discover(alloc, hashing, width, rows)?;

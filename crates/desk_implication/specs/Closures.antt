@@ -2,7 +2,7 @@
 use Rattle.std.specs.Prelude.{◌≡◌, ◌⊎◌, ◌↔◌, ℕ, true, List, [], ◌++◌, codes, slice_get}
 use Rattle.std.specs.List.{flat_map}
 use Rattle.attr_sets.specs.Attributes.{Attributes, difference, IsEmpty}
-use Rattle.closure_steps.specs.Steps.{Step, AreClosureSteps, reached}
+use Rattle.closure_steps.specs.Steps.{ClosureStepValue, AreClosureSteps, reached}
 use Rattle.dep_model.specs.Keys.{InClosure}
 use Rattle.dep_model.specs.Schemas.{width_of, theory_of, deps_of, lines_of}
 use Rattle.dep_model.specs.declared.schema.Schema.{Schema}
@@ -15,13 +15,13 @@ use Rattle.desk_texts.specs.Texts.{set_line}
 
 -- ---- texts
 -- a step: a dependency of the file, with its line, and what it adds
-abbrev pub step_text : Schema → Step → List ℕ
+abbrev pub step_text : Schema → ClosureStepValue → List ℕ
 step_text schema step =
     set_line (codes "line " ++ line_number_text (slice_get (lines_of schema) step.position) ++ codes ": "
     ++ dep_text (printed_names_of schema) (slice_get (deps_of schema) step.position) ++ codes " adds ")
     (printed_names_of schema) step.added
 
-abbrev pub steps_text : Schema → List Step → List ℕ
+abbrev pub steps_text : Schema → List ClosureStepValue → List ℕ
 steps_text schema steps = flat_map (step_text schema) steps
 
 -- a line for what multivalued dependencies give beside, where that is something
@@ -31,7 +31,7 @@ IsBesideText names beside text =
     ⊎ ((IsEmpty beside → ⊥) × (text ≡ set_line (codes "by multivalued dependencies: ") names beside))
 
 -- the set, its steps, what is beside them, and the closed set
-abbrev pub closure_text : Schema → Attributes → List Step → List ℕ → Attributes → List ℕ
+abbrev pub closure_text : Schema → Attributes → List ClosureStepValue → List ℕ → Attributes → List ℕ
 closure_text schema x steps beside closed =
     set_line (codes "start ") (printed_names_of schema) x ++ steps_text schema steps ++ beside
     ++ set_line (codes "closure ") (printed_names_of schema) closed
@@ -40,7 +40,7 @@ closure_text schema x steps beside closed =
 -- the steps by which a set is closed under the functional dependencies, what it determines by all
 -- dependencies beside what they reach, and all that it determines
 pub record ComesAbout (schema : Schema) (x : Attributes) (text : List ℕ) : Type 0 where
-  pub steps : List Step
+  pub steps : List ClosureStepValue
   pub are_steps : AreClosureSteps (theory_of schema) x steps
   pub closed : Attributes
   pub is_closure : (a : ℕ) → (closed a ≡ true) ↔ InClosure (width_of schema) (theory_of schema) x a

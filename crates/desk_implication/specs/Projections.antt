@@ -4,7 +4,7 @@ use Rattle.attr_sets.specs.Attributes.{Attributes, IsEmpty}
 use Rattle.dep_model.specs.Dependencies.{Dependency}
 use Rattle.dep_model.specs.Schemas.{width_of, theory_of}
 use Rattle.dep_model.specs.declared.schema.Schema.{Schema}
-use Rattle.fd_closure.specs.LeftSides.{IsWide}
+use Rattle.fd_closure.specs.LeftSides.{IsWideScheme}
 use Rattle.fd_projection.specs.Projections.{IsProjection, IsCoverWithin}
 use Rattle.fd_projection.specs.Refusals.{IsRefusedProjection}
 use Rattle.fd_projection.specs.declared.refusal.ProjectionRefusal.TheVariants.{TooWide, TooMany}
@@ -34,7 +34,7 @@ projection_text schema set rules = overlong_text rules ++ part_text schema set r
 -- follows from them exactly where it follows from the schema, and nothing of them can be spared
 pub record IsProjected (schema : Schema) (set : Attributes) (rules : List Dependency) : Type 0 where
   pub not_empty : IsEmpty set → ⊥
-  pub narrow : IsWide (theory_of schema) set → ⊥
+  pub narrow : IsWideScheme (theory_of schema) set → ⊥
   pub projection : IsProjection (width_of schema) (theory_of schema) set rules
   pub cover : IsCoverWithin (width_of schema) (theory_of schema) set rules
 

@@ -1,7 +1,7 @@
 ghost use Rattle.std.specs.Prelude.{◌≡◌, ◌++◌, All, IfOk, OnOk};
 ghost use Rattle.attr_sets.specs.Attributes.{IsSubset};
 ghost use Rattle.attr_sets.specs.Sets.{attributes};
-ghost use Rattle.closure_steps.specs.Steps.{step_of, steps_of};
+ghost use Rattle.closure_steps.specs.Steps.{closure_step_value, closure_step_values};
 ghost use Rattle.dep_model.specs.Schemas.{universe_of};
 ghost use Rattle.schema_printer.specs.Spelling.{printed_names_of};
 ghost use Rattle.desk_implication.specs.Closures.{GivesClosure, TellsClosure, ComesAbout, IsBesideText, closure_text, step_text, steps_text};
@@ -76,7 +76,7 @@ fn print_closure(
     requires closed { IsSubset (attributes closed) (universe_of schema.now) }
     requires steps { All (λ step. IsSubset (attributes step.added) (universe_of schema.now)) steps.now }
     ensures text { IfOk result (λ text. text.items
-        ≡ closure_text schema.now (attributes start) (steps_of steps.now) beside.now (attributes closed)) }
+        ≡ closure_text schema.now (attributes start) (closure_step_values steps.now) beside.now (attributes closed)) }
 {
     let mut text = Vec::new(alloc);
     put_set_line(&mut text, schema, b"start ", start)?;
@@ -95,7 +95,7 @@ fn put_steps(
 ) -> Result<(), OutOfMemory>
     requires within { All (λ step. IsSubset (attributes step.added) (universe_of schema.now)) steps.now }
     ensures added { OnOk result (text.new.items
-        ≡ text.old.items ++ steps_text schema.now (steps_of steps.now)) }
+        ≡ text.old.items ++ steps_text schema.now (closure_step_values steps.now)) }
 {
     for step in steps {
         add(text, &step_line(alloc, schema, *step)?)?;
@@ -106,7 +106,7 @@ fn put_steps(
 // The dependency of a step, with its line, and what it adds.
 fn step_line(alloc: Global, schema: &Schema, step: ClosureStep) -> Result<Vec<u8>, OutOfMemory>
     requires within { IsSubset (attributes step.added) (universe_of schema.now) }
-    ensures text { IfOk result (λ text. text.items ≡ step_text schema.now (step_of step)) }
+    ensures text { IfOk result (λ text. text.items ≡ step_text schema.now (closure_step_value step)) }
 {
     let mut text = Vec::new(alloc);
     add(&mut text, b"line ")?;

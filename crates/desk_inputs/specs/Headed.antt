@@ -4,8 +4,8 @@ use Rattle.std.specs.Fmt.{decimal}
 use Rattle.attr_sets.specs.declared.set.TheConstants.{MOST_ATTRIBUTES}
 use Rattle.fd_discovery.specs.declared.headed_rows.Headed.{Headed}
 use Rattle.fd_discovery.specs.declared.headed_rows.Limits.{Limits}
-use Rattle.fd_discovery.specs.declared.headed_rows.TheConstants.{MOST_HEADED_ROWS, MOST_ROWS_WITH_ALL, WIDEST_WITH_ALL}
-use Rattle.fd_discovery.specs.declared.refusal.DiscoverRefusal.{DiscoverRefusal}
+use Rattle.fd_discovery.specs.declared.limits.TheConstants.{MOST_HEADED_ROWS, MOST_ROWS_WITH_ALL, WIDEST_WITH_ALL}
+use Rattle.fd_discovery.specs.declared.refusal.HeaderRefusal.{HeaderRefusal}
 use Rattle.fd_discovery.specs.Headings.{IsHeadedWithin, IsRefusedWithin, discovered}
 use Rattle.fd_discovery.specs.RefusalTexts.{headed_reason_text, headed_refusal_number}
 use Rattle.desk_inputs.specs.declared.headed.Purpose.{Purpose}
@@ -15,13 +15,13 @@ use Rattle.desk_inputs.specs.FileKinds.{FileKind}
 use Rattle.desk_texts.specs.Texts.{line}
 
 -- a refusal of a file of rows under names of its own, in a command of this word
-abbrev pub headed_refusal_text : List ℕ → List ℕ → DiscoverRefusal → List ℕ
+abbrev pub headed_refusal_text : List ℕ → List ℕ → HeaderRefusal → List ℕ
 headed_refusal_text command file why =
     line (codes "refused: " ++ command ++ codes " " ++ decimal (headed_refusal_number why) ++ codes " at " ++ file
     ++ codes ": " ++ headed_reason_text why)
 
 -- rows under names of their own, within these limits, for a command of this word
-abbrev pub headed_file_for : List ℕ → Limits → FileKind Headed DiscoverRefusal
+abbrev pub headed_file_for : List ℕ → Limits → FileKind Headed HeaderRefusal
 headed_file_for command limits = record {
   limit = MOST_CSV_BYTES;
   means = λ bytes headed. IsHeadedWithin limits bytes headed;
@@ -49,16 +49,16 @@ command_for purpose.Rules = codes "discover"
 command_for purpose.AllRules = codes "discover"
 command_for purpose.Schema = codes "import"
 
-abbrev pub file_for : Purpose → FileKind Headed DiscoverRefusal
+abbrev pub file_for : Purpose → FileKind Headed HeaderRefusal
 file_for wanted = headed_file_for (command_for wanted) (limits_for wanted)
 
 -- rows whose functional dependencies are looked for, rows of which all that they obey is, and rows whose columns are
 -- made a schema
-abbrev pub headed_file : FileKind Headed DiscoverRefusal
+abbrev pub headed_file : FileKind Headed HeaderRefusal
 headed_file = file_for purpose.Rules
 
-abbrev pub whole_file : FileKind Headed DiscoverRefusal
+abbrev pub whole_file : FileKind Headed HeaderRefusal
 whole_file = file_for purpose.AllRules
 
-abbrev pub imported_file : FileKind Headed DiscoverRefusal
+abbrev pub imported_file : FileKind Headed HeaderRefusal
 imported_file = file_for purpose.Schema

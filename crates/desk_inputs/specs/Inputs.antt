@@ -16,7 +16,7 @@ use Rattle.derivation_grammar.specs.Derivations.{Derives}
 use Rattle.derivation_grammar.specs.Refusals.{IsRefusedDerivation}
 use Rattle.desk_inputs.specs.FileKinds.{FileKind}
 use Rattle.desk_texts.specs.ProofTexts.{proof_refusal_text, derivation_refusal_text}
-use Rattle.desk_texts.specs.Texts.{refusal_text}
+use Rattle.desk_texts.specs.Refusals.{refusal_text}
 
 -- schemas
 abbrev pub schema_file : FileKind Schema SchemaRefusal

@@ -2,7 +2,7 @@ ghost use Rattle.std.specs.Prelude.{◌≡◌, ◌≤◌, ◌<◌, ◌∷◌, []
 ghost use Rattle.dep_model.specs.Tuples.{IsOver};
 ghost use Rattle.fd_discovery.specs.Headers.{IsHeaderWithin};
 ghost use Rattle.fd_discovery.specs.Headings.{names_under, rows_under};
-ghost use Rattle.fd_discovery.specs.declared.headed_rows.TheConstants.{MOST_HEADED_ROWS};
+ghost use Rattle.fd_discovery.specs.declared.limits.TheConstants.{MOST_HEADED_ROWS};
 ghost use Rattle.desk_outside.specs.Begun.{Begins};
 ghost use Rattle.desk_inputs.specs.FilesBegun.{BeginsFront};
 ghost use Rattle.desk_inputs.specs.FileKinds.{FileStops, IsFile};
@@ -19,7 +19,7 @@ use desk_outside::{Argument, FileSource};
 use desk_responses::{EarlyExit, Status};
 use desk_texts::add_displayed;
 use fd_discovery::{
-    DiscoverRefusal, Headed, Limits, MOST_HEADED_ROWS, MOST_ROWS_WITH_ALL, WIDEST_HEADED,
+    HeaderRefusal, Headed, Limits, MOST_HEADED_ROWS, MOST_ROWS_WITH_ALL, WIDEST_HEADED,
     WIDEST_WITH_ALL, read_headed,
 };
 use schema_printer::{add, add_number};
@@ -142,7 +142,7 @@ fn headed_refusal_exit(
     alloc: Global,
     command: &[u8],
     name: &[u8],
-    refusal: DiscoverRefusal,
+    refusal: HeaderRefusal,
 ) -> EarlyExit
     ensures says { ExitsAs (Says Status.Refused (headed_refusal_text command.now name.now refusal)) result }
 {
@@ -157,7 +157,7 @@ fn headed_refusal_line(
     alloc: Global,
     command: &[u8],
     name: &[u8],
-    refusal: DiscoverRefusal,
+    refusal: HeaderRefusal,
 ) -> Result<Vec<u8>, OutOfMemory>
     ensures text { IfOk result (λ text. text.items ≡ headed_refusal_text command.now name.now refusal) }
 {

@@ -7,7 +7,7 @@ ghost use Rattle.schema_printer.specs.Spelling.{printed_names_of};
 ghost use Rattle.named_plans.specs.NamedPlans.{named_schemes};
 ghost use Rattle.plans.specs.Plans.{plan_of, scheme_sets, IsPlanOver};
 ghost use Rattle.plan_grammar.specs.RefusalTexts.{plan_reason_text};
-ghost use Rattle.plan_grammar.specs.declared.refusal.TheConstants.{MOST_SCHEMES};
+ghost use Rattle.plan_grammar.specs.declared.bounds.TheConstants.{MOST_SCHEMES};
 ghost use Rattle.plan_grammar.specs.declared.refusal.PlanRefusal.TheVariants as refusals;
 ghost use Rattle.desk_responses.specs.ResponseValues.{Says};
 ghost use Rattle.desk_outside.specs.Begun.{Begins};

@@ -1,7 +1,7 @@
 ghost use Rattle.std.specs.Prelude.{◌≡◌, ◌++◌, codes, IfOk, OnOk};
 ghost use Rattle.std.specs.Fmt.{decimal};
 ghost use Rattle.schema_printer.specs.Spelling.{printed_names_of};
-ghost use Rattle.desk_responses.specs.Lines.{name_text};
+ghost use Rattle.desk_responses.specs.Lines.{attribute_name};
 ghost use Rattle.csv_rows.specs.RefusalTexts.{row_reason_text, type_of};
 ghost use Rattle.schema_printer.specs.Printing.{type_word};
 ghost use Rattle.desk_inputs.specs.Rows.{row_refusal_text};
@@ -82,7 +82,7 @@ fn put_before_number(
 /// An attribute that has no column, at the end of a text.
 fn put_missing_column(text: &mut Vec<u8>, schema: &Schema, attribute: u8) -> Result<(), OutOfMemory>
     ensures added { OnOk result (text.new.items
-        ≡ text.old.items ++ (codes "missing column " ++ name_text (printed_names_of schema.now) attribute)) }
+        ≡ text.old.items ++ (codes "missing column " ++ attribute_name (printed_names_of schema.now) attribute)) }
 {
     add(text, b"missing column ")?;
     put_name(text, schema, attribute)
@@ -98,7 +98,7 @@ fn put_not_of_type(
 ) -> Result<(), OutOfMemory>
     ensures added { OnOk result (text.new.items
         ≡ text.old.items ++ (codes "row " ++ decimal row ++ codes ": "
-        ++ name_text (printed_names_of schema.now) attribute ++ codes " is no "
+        ++ attribute_name (printed_names_of schema.now) attribute ++ codes " is no "
         ++ type_word (type_of schema.now attribute))) }
 {
     let mut reason = Vec::new(alloc);

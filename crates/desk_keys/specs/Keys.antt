@@ -8,7 +8,7 @@ use Rattle.dep_model.specs.Schemas.{width_of, theory_of, universe_of}
 use Rattle.dep_model.specs.declared.schema.Schema.{Schema}
 use Rattle.schema_printer.specs.Printing.{set_text}
 use Rattle.schema_printer.specs.Spelling.{printed_names_of}
-use Rattle.fd_closure.specs.LeftSides.{IsWide}
+use Rattle.fd_closure.specs.LeftSides.{IsWideScheme}
 use Rattle.key_listing.specs.declared.refusal.TheConstants.{MOST_KEYS}
 use Rattle.key_listing.specs.Listing.{AreAllKeys, AreManyKeys}
 use Rattle.key_listing.specs.Refusals.{IsTooWide}
@@ -61,7 +61,7 @@ keyed_text names keyed = set_line (codes "scheme ") names keyed.scheme ++ keys_t
 -- exactly all keys of a scheme, ascending; it is narrow enough to be searched, and has no more than are
 -- listed
 pub record HasKeys (schema : Schema) (keyed : KeyedScheme) : Type 0 where
-  pub narrow : IsWide (theory_of schema) keyed.scheme → ⊥
+  pub narrow : IsWideScheme (theory_of schema) keyed.scheme → ⊥
   pub keys : AreAllKeys (width_of schema) (theory_of schema) keyed.scheme keyed.keys
   pub within_limit : length keyed.keys ≤ MOST_KEYS
 
@@ -76,8 +76,8 @@ too_many_scheme_keys_text names scheme = line (codes "refused: too many keys: sc
 -- a scheme ends the command: it is too wide, or narrow with more keys than are listed
 abbrev pub EndsKeys : Schema → Attributes → Allowed
 EndsKeys schema scheme response =
-    (IsWide (theory_of schema) scheme × Says Refused (too_wide_text (printed_names_of schema) scheme) response)
-    ⊎ ((IsWide (theory_of schema) scheme → ⊥)
+    (IsWideScheme (theory_of schema) scheme × Says Refused (too_wide_text (printed_names_of schema) scheme) response)
+    ⊎ ((IsWideScheme (theory_of schema) scheme → ⊥)
     × ((found : List AttrSet) × AreManyKeys (width_of schema) (theory_of schema) scheme found
     × Says Refused (too_many_scheme_keys_text (printed_names_of schema) scheme) response))
 

@@ -31,7 +31,7 @@ use Rattle.plan_grammar.specs.Diagnostics.{RefusesPlan}
 use Rattle.plan_grammar.proofs.ExactLaws.{plan_one_meaning, plan_never_both}
 use Rattle.plan_reader.specs.declared.reading.TheConstants.{MOST_PLAN_BYTES}
 use Rattle.key_listing.specs.Listing.{AreManyKeys}
-use Rattle.fd_closure.specs.LeftSides.{IsWide}
+use Rattle.fd_closure.specs.LeftSides.{IsWideScheme}
 use Rattle.key_listing.specs.Refusals.{IsTooWide}
 use Rattle.chase_laws.specs.Rounds.{RoundsExceed}
 use Rattle.named_plans.specs.NamedPlans.{NamedSchemes}
@@ -364,7 +364,7 @@ synthesize_answered files name schema file looks response answered =
 
 pub narrow_same : (s r : Schema) → AreSame s r → (IsTooWide s → ⊥) → IsTooWide r → ⊥
 narrow_same s r same narrow wide =
-    narrow (subst (λ (d : Declarations). Any (λ e. is_fd e ≡ false) d.deps × IsWide d.deps (below (length d.names))) (sym same) wide)
+    narrow (subst (λ (d : Declarations). Any (λ e. is_fd e ≡ false) d.deps × IsWideScheme d.deps (below (length d.names))) (sym same) wide)
 
 pub not_many_same : (s r : Schema) → AreSame s r → (HasManyKeys s → ⊥) → HasManyKeys r → ⊥
 not_many_same s r same within_limit many =

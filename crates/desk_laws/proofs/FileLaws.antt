@@ -3,7 +3,7 @@ use Rattle.std.proofs.Common.{◌≡◌, ◌≤◌, ◌<◌, ◌⊎◌, ℕ, tru
 use Rattle.std.specs.Prelude.{codes, slice_get}
 use Rattle.attr_sets.specs.Attributes.{Attributes}
 use Rattle.attr_sets.specs.Sets.{attributes}
-use Rattle.candidate_search.specs.Sides.{IsExceeded}
+use Rattle.candidate_search.specs.Sides.{IsTooManyLeftSides}
 use Rattle.candidate_search.specs.declared.side.TooManyLeftSides.{TooManyLeftSides}
 use Rattle.csv_rows.specs.Columns.{with_columns, columns_of_header}
 use Rattle.csv_rows.specs.Quotes.{open_record}
@@ -94,7 +94,7 @@ many_there : (most : ℕ) (h k : Headed) (refusal : TooManyLeftSides) → names_
     → HasTooManyLeftSides most k refusal → HasTooManyLeftSides most h refusal
 many_there most h k refusal same many =
     let moved = subst (λ (read : List (List ℕ) × Relation). (WIDEST_TRIED < length read.0)
-    × IsExceeded (length read.0) most read.1 refusal) same (many.wide, many.exceeded) in
+    × IsTooManyLeftSides (length read.0) most read.1 refusal) same (many.wide, many.exceeded) in
     record { wide = moved.0; exceeded = moved.1 }
 
 rules_given : (file : List ℕ) (h k : Headed) (response : ResponseValue)

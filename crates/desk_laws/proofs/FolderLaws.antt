@@ -5,8 +5,8 @@ use Rattle.attr_sets.specs.declared.set.AttrSet.{AttrSet}
 use Rattle.dep_model.specs.Plans.{schemes_of}
 use Rattle.dep_model.specs.Tuples.{Relation}
 use Rattle.dep_model.specs.declared.schema.Schema.{Schema}
-use Rattle.normal_forms.specs.declared.forms.Form.{Form}
-use Rattle.normal_forms.specs.declared.forms.Form.TheVariants.{Third, Bcnf, Fourth}
+use Rattle.normal_forms.specs.declared.form.Form.{Form}
+use Rattle.normal_forms.specs.declared.form.Form.TheVariants.{Third, Bcnf, Fourth}
 use Rattle.table_names.specs.TableNames.{GivenNames}
 use Rattle.named_plans.specs.NamedPlans.{NamedSchemes}
 use Rattle.desk_cli.specs.Performs.{Answers, Does, Performs}

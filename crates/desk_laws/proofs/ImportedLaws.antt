@@ -20,15 +20,15 @@ use Rattle.import_laws.specs.ReadTables.{named}
 use Rattle.lexer.specs.Lines.{without_mark}
 use Rattle.missing_values.specs.Missing.{NeverMissing}
 use Rattle.named_plans.specs.NamedPlans.{AreApart, NamedSchemes}
-use Rattle.normal_forms.specs.declared.forms.Form.{Form}
-use Rattle.normal_forms.specs.declared.forms.Form.TheVariants.{Third, Bcnf, Fourth}
+use Rattle.normal_forms.specs.declared.form.Form.{Form}
+use Rattle.normal_forms.specs.declared.form.Form.TheVariants.{Third, Bcnf, Fourth}
 use Rattle.plan_grammar.proofs.PlanLaws.{plan_names_apart}
 use Rattle.plan_laws.proofs.FormPlans.{form_is_plan}
 use Rattle.plan_laws.proofs.MissingAnswers.{finds_there, one_design_of}
 use Rattle.plan_laws.proofs.NameLaws.{none_given}
 use Rattle.plan_laws.proofs.OrderedNames.{stay_apart}
 use Rattle.plan_laws.proofs.PlanLengths.{form_length, ordered_length}
-use Rattle.plan_grammar.specs.declared.refusal.TheConstants.{MOST_SCHEMES}
+use Rattle.plan_grammar.specs.declared.bounds.TheConstants.{MOST_SCHEMES}
 use Rattle.plan_reader.specs.declared.reading.TheConstants.{MOST_PLAN_BYTES}
 use Rattle.plans.proofs.PlanLemmas.{plan_are_schemes}
 use Rattle.schema_grammar.proofs.DeclaredNames.{declared_are_names}
@@ -193,17 +193,17 @@ few s text p means plan same tables sound =
     )
 
 -- what is printed is kept in a file
-abbrev IsKept : Files → List ℕ → ResponseValue → Type 0
-IsKept files file printed = (bytes_of_file files file ≡ Some printed.text) × (length printed.text ≤ MOST_SQL_BYTES)
+abbrev IsKeptInFile : Files → List ℕ → ResponseValue → Type 0
+IsKeptInFile files file printed = (bytes_of_file files file ≡ Some printed.text) × (length printed.text ≤ MOST_SQL_BYTES)
 
-kept_as : (files : Files) (file text : List ℕ) (printed : ResponseValue) → printed.text ≡ text → IsKept files file printed
+kept_as : (files : Files) (file text : List ℕ) (printed : ResponseValue) → printed.text ≡ text → IsKeptInFile files file printed
     → (bytes_of_file files file ≡ Some text) × (length text ≤ MOST_SQL_BYTES)
 kept_as files file text printed is kept = subst (λ (t : List ℕ).
     (bytes_of_file files file ≡ Some t) × (length t ≤ MOST_SQL_BYTES)) is kept
 
 -- ---- of a plan
 module _ (later : Looks) (before after : Files) (schema planned file : List ℕ) (printed : ResponseValue)
-    (says_yes : printed.status ≡ Yes) (kept : IsKept after file printed) where
+    (says_yes : printed.status ≡ Yes) (kept : IsKeptInFile after file printed) where
   written : (s : Schema) → IsFile schema_file (known_files before) schema s → (p : NamedSchemes)
       → IsFile (plan_file s) (known_files before) planned p → AreNeverMissing s p.names p.schemes
       → WritesSchemes s p.names p.schemes printed → PlanIsImported later before after schema planned file
@@ -284,7 +284,7 @@ asked_by_name s plan tables sound few k table low =
     subst (λ (n : List ℕ). wanted_table n ≡ Some (named n)) (sym name) (number_asks (k + 1) (omega (arith, low, few)))
 
 module _ (later : Looks) (before after : Files) (form : Form) (schema file : List ℕ) (printed : ResponseValue)
-    (says_yes : printed.status ≡ Yes) (kept : IsKept after file printed) where
+    (says_yes : printed.status ≡ Yes) (kept : IsKeptInFile after file printed) where
   form_written : (s : Schema) → IsFile schema_file (known_files before) schema s → (plan : List AttrSet)
       → IsPlanInForm s form plan → AreNeverMissing s [] (schemes_of plan) → WritesTables s [] plan printed
       → FormIsImported later before after form schema file

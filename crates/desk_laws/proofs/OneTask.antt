@@ -48,7 +48,7 @@ use Rattle.plan_laws.proofs.FormTables.{one_synthesis}
 use Rattle.plan_laws.proofs.PlacedAnswers.{one_form_placed, one_plan_placed}
 use Rattle.plan_laws.proofs.ReasonAnswers.{one_explained_split, one_explained_synthesis}
 use Rattle.plan_laws.proofs.RowAnswers.{one_rejoined, one_rows_answer}
-use Rattle.plan_laws.proofs.SplitAnswers.{one_split_answer, one_wide_answer}
+use Rattle.plan_laws.proofs.SplitAnswers.{one_split_answer, one_wide_split_answer}
 use Rattle.plan_laws.proofs.UniqueLaws.{one_form, one_join, one_keeping}
 use Rattle.desk_cli.specs.Performs.{AnswersPlan, AnswersRows, AnswersSchema, Does, WithValues}
 use Rattle.desk_measures.specs.Measures.{MeasuresRows}
@@ -216,7 +216,7 @@ one_schema_answer form.synthesize s t same one other first second =
 one_schema_answer (form.split normal) s t same one other first second =
     inl (alike _ (λ s f. splits_moved s f normal) (λ s. one_split_answer s normal) s t same one other first second)
 one_schema_answer form.split_wide s t same one other first second =
-    inl (alike _ wide_split_moved one_wide_answer s t same one other first second)
+    inl (alike _ wide_split_moved one_wide_split_answer s t same one other first second)
 one_schema_answer form.exhibit s t same one other first second =
     inl (alike _ exhibit_moved one_exhibit_answer s t same one other first second)
 one_schema_answer form.explain_cover s t same one other first second =

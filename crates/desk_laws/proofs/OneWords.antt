@@ -3,7 +3,7 @@
 use Rattle.std.proofs.Common.{◌≡◌, ◌≤◌, ◌<◌, ◌⊎◌, ℕ, List, length, Some, None, Option, refl, sym, ap, subst, ◌∙◌, inl, inr, arith}
 use Rattle.std.specs.Prelude.{codes, MatchOption}
 use Rattle.attr_sets.specs.Attributes.{Attributes}
-use Rattle.candidate_search.specs.Sides.{IsExceeded}
+use Rattle.candidate_search.specs.Sides.{IsTooManyLeftSides}
 use Rattle.candidate_search.specs.declared.side.TooManyLeftSides.{TooManyLeftSides}
 use Rattle.dep_model.specs.Dependencies.{Dependency}
 use Rattle.dep_model.specs.Tuples.{Relation}
@@ -56,7 +56,7 @@ small_rules_given most read response =
 abbrev rules_refused : ℕ → List ℕ → List (List ℕ) × Relation → Allowed
 rules_refused most file read response =
     (refusal : TooManyLeftSides) × (WIDEST_TRIED < length read.0)
-    × IsExceeded (length read.0) most read.1 refusal
+    × IsTooManyLeftSides (length read.0) most read.1 refusal
     × Says Refused (left_sides_text file read.0 refusal.right) response
 
 abbrev row_keys_found : List ℕ → List (List ℕ) × Relation → Allowed

@@ -9,7 +9,7 @@ use Rattle.dep_model.specs.Dependencies.{Dependency}
 use Rattle.dep_model.specs.Schemas.{names_of, width_of, theory_of, attribute_named, naming_of}
 use Rattle.dep_model.specs.declared.schema.Schema.{Schema}
 use Rattle.key_listing.specs.Listing.{AreManyKeys}
-use Rattle.fd_closure.specs.LeftSides.{IsWide}
+use Rattle.fd_closure.specs.LeftSides.{IsWideScheme}
 use Rattle.fd_projection.specs.Refusals.{AreTooMany}
 use Rattle.schema_grammar.specs.Declarations.{Declarations}
 use Rattle.schema_grammar.specs.Sets.{MeansSet, read_set}
@@ -112,11 +112,11 @@ after_the_set s r set x rest response same is go more =
     let means = set_moved s r set x same is.means in
     read_the_set r set x rest response (record { within_limit = is.within_limit; means = means }) go more
 
-projects_yes : (s r : Schema) (x : Attributes) (response : ResponseValue) → AreSame s r → (IsEmpty x → ⊥) → (IsWide (theory_of s) x → ⊥)
+projects_yes : (s r : Schema) (x : Attributes) (response : ResponseValue) → AreSame s r → (IsEmpty x → ⊥) → (IsWideScheme (theory_of s) x → ⊥)
     → ((found : List Dependency) → AreTooMany (width_of s) (theory_of s) x found → ⊥) → ProjectsSet r x response → IsYesOrNo response.status
 projects_yes s r x response same some narrow few (inl (empty, says)) = absurd (some empty)
 projects_yes s r x response same some narrow few (inr (inl (also, inl (wide, says)))) =
-    absurd (narrow (subst (λ (d : Declarations). IsWide d.deps x) (sym same) wide))
+    absurd (narrow (subst (λ (d : Declarations). IsWideScheme d.deps x) (sym same) wide))
 projects_yes s r x response same some narrow few (inr (inl (also, inr ((fits, many), says)))) =
     absurd (few many.0 (subst (λ (d : Declarations). AreTooMany (length d.names) d.deps x many.0) (sym same) many.1))
 projects_yes s r x response same some narrow few (inr (inr (rules, is, says))) = inl (ap (λ (a : ResponseValue). a.status) says)
@@ -129,7 +129,7 @@ project_asks files name set looks response answered = answered
 
 pub project_answered : (files : Files) (name set : List ℕ) (schema : Schema) (x : Attributes)
     → IsFile schema_file (known_files files) name schema → IsSetText schema set x
-    → (IsEmpty x → ⊥) → (IsWide (theory_of schema) x → ⊥)
+    → (IsEmpty x → ⊥) → (IsWideScheme (theory_of schema) x → ⊥)
     → ((found : List Dependency) → AreTooMany (width_of schema) (theory_of schema) x found → ⊥)
     → IsAnswered files (codes "project" ∷ name ∷ set ∷ [])
 project_answered files name set schema x file is some narrow few looks response answered =
@@ -164,12 +164,12 @@ in_plan plan earlier later scheme list =
     subst (λ (l : List Attributes). Contains l scheme) (sym list) (Contains-append_right earlier (scheme ∷ later) scheme (0, omega arith, refl))
 
 answer_agrees : (s r : Schema) (p plan : List Attributes) (response : ResponseValue) → AreSame s r → p ≡ plan
-    → All (λ scheme. IsWide (theory_of s) scheme → ⊥) plan → All (HasFewKeys s) plan → ListsKeysOfPlan r p response → IsYesOrNo response.status
+    → All (λ scheme. IsWideScheme (theory_of s) scheme → ⊥) plan → All (HasFewKeys s) plan → ListsKeysOfPlan r p response → IsYesOrNo response.status
 answer_agrees s r p plan response same is narrow within_limit (inl (listed, schemes, keys, says)) = inl (ap (λ (a : ResponseValue). a.status) says)
 answer_agrees s r p plan response same is narrow within_limit (inr (scheme, first, inl (wide, says))) =
     let at = in_plan plan first.earlier first.later scheme (sym is ∙ first.list) in
-    absurd (All-contains (λ (x : Attributes). IsWide (theory_of s) x → ⊥) plan scheme narrow at
-    (subst (λ (d : Declarations). IsWide d.deps scheme) (sym same) wide))
+    absurd (All-contains (λ (x : Attributes). IsWideScheme (theory_of s) x → ⊥) plan scheme narrow at
+    (subst (λ (d : Declarations). IsWideScheme d.deps scheme) (sym same) wide))
 answer_agrees s r p plan response same is narrow within_limit (inr (scheme, first, inr (fits, more))) =
     let at = in_plan plan first.earlier first.later scheme (sym is ∙ first.list) in
     absurd (All-contains (HasFewKeys s) plan scheme within_limit at more.0
@@ -183,7 +183,7 @@ keys_asks files name file looks response answered = answered
 
 pub keys_of_plan_answered : (files : Files) (name file : List ℕ) (schema : Schema) (plan : NamedSchemes)
     → IsFile schema_file (known_files files) name schema → IsFile (plan_file schema) (known_files files) file plan
-    → All (λ scheme. IsWide (theory_of schema) scheme → ⊥) plan.schemes
+    → All (λ scheme. IsWideScheme (theory_of schema) scheme → ⊥) plan.schemes
     → All (λ scheme. (found : List AttrSet) → AreManyKeys (width_of schema) (theory_of schema) scheme found → ⊥) plan.schemes
     → IsAnswered files (codes "keys" ∷ name ∷ file ∷ [])
 keys_of_plan_answered files name file schema plan held_schema held_plan narrow within_limit looks response answered =

@@ -18,8 +18,8 @@ use Rattle.desk_reasons.specs.SplitReasons.{AreSplitReasons, ExplainsCuts}
 use Rattle.desk_reasons.specs.SynthesisReasons.{AreSynthesisReasons, ExplainsSynthesis}
 use Rattle.desk_responses.specs.Reasons.{Explained}
 use Rattle.desk_responses.specs.ResponseValues.{ResponseValue, Allowed, With}
-use Rattle.normal_forms.specs.declared.forms.Form.{Form}
-use Rattle.normal_forms.specs.declared.forms.Form.TheVariants.{Bcnf, Fourth}
+use Rattle.normal_forms.specs.declared.form.Form.{Form}
+use Rattle.normal_forms.specs.declared.form.Form.TheVariants.{Bcnf, Fourth}
 use Rattle.desk_responses.specs.declared.status.Status.{Status}
 use Rattle.desk_words.specs.Forms.{form_of, form_over_schema, after_explain, after_explain_split, schema_alone}
 use Rattle.desk_laws.specs.Completeness.{IsYesOrNo, IsAnswered, HasPlanInForm}

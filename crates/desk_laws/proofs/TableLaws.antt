@@ -14,13 +14,13 @@ use Rattle.dep_model.specs.Plans.{schemes_of}
 use Rattle.dep_model.specs.Schemas.{width_of, theory_of, nullable_of}
 use Rattle.dep_model.specs.Tuples.{Relation}
 use Rattle.dep_model.specs.declared.schema.Schema.{Schema}
-use Rattle.fd_closure.specs.LeftSides.{left_sides, IsWide}
+use Rattle.fd_closure.specs.LeftSides.{left_sides, IsWideScheme}
 use Rattle.ddl_text.specs.declared.table.TableDesign.{TableDesign}
 use Rattle.missing_values.specs.Missing.{FindsMissing}
 use Rattle.missing_values.specs.declared.refusal.MissingRefusal.{MissingRefusal}
 use Rattle.missing_values.specs.declared.refusal.MissingRefusal.TheVariants.{InKey, InTwo}
-use Rattle.normal_forms.specs.declared.forms.Form.{Form}
-use Rattle.normal_forms.specs.declared.forms.Form.TheVariants.{Third, Bcnf, Fourth}
+use Rattle.normal_forms.specs.declared.form.Form.{Form}
+use Rattle.normal_forms.specs.declared.form.Form.TheVariants.{Third, Bcnf, Fourth}
 use Rattle.schema_grammar.specs.Declarations.{Declarations}
 use Rattle.split_forms.proofs.SplitLemmas.{too_many_short}
 use Rattle.split_forms.specs.Splitting.{IsTooWideAt, HasTooManySchemes}
@@ -104,14 +104,14 @@ JudgesKeeping-yes_or_no : (r : Schema) (plan : List Attributes) (response : Resp
 JudgesKeeping-yes_or_no r plan response (inl (kept, says)) = inl (ap (λ (a : ResponseValue). a.status) says)
 JudgesKeeping-yes_or_no r plan response (inr (lost, found)) = inr (ap (λ (a : ResponseValue). a.status) found.3)
 
-JudgesForm-yes_or_no : (s r : Schema) (form : Form) (p plan : List Attributes) (response : ResponseValue) → AreSame s r → p ≡ plan → All (λ scheme. IsWide (theory_of s) scheme → ⊥) plan
+JudgesForm-yes_or_no : (s r : Schema) (form : Form) (p plan : List Attributes) (response : ResponseValue) → AreSame s r → p ≡ plan → All (λ scheme. IsWideScheme (theory_of s) scheme → ⊥) plan
     → JudgesForm r form p response → IsYesOrNo response.status
 JudgesForm-yes_or_no s r form p plan response same is narrow (inl (all, says)) = inl (ap (λ (a : ResponseValue). a.status) says)
 JudgesForm-yes_or_no s r form p plan response same is narrow (inr (scheme, first, inl (wide, says))) =
     let at : Contains plan scheme = subst (λ (l : List Attributes). Contains l scheme) (sym first.list ∙ is)
     (Contains-append_right first.earlier (scheme ∷ first.later) scheme (0, omega arith, refl)) in
-    absurd (All-contains (λ (x : Attributes). IsWide (theory_of s) x → ⊥) plan scheme narrow at
-    (subst (λ (d : Declarations). IsWide d.deps scheme) (sym same) wide))
+    absurd (All-contains (λ (x : Attributes). IsWideScheme (theory_of s) x → ⊥) plan scheme narrow at
+    (subst (λ (d : Declarations). IsWideScheme d.deps scheme) (sym same) wide))
 JudgesForm-yes_or_no s r form p plan response same is narrow (inr (scheme, first, inr (narrow_one, found))) = inr (ap (λ (a : ResponseValue). a.status) found.3)
 
 Exhibits-yes_or_no : (s r : Schema) (response : ResponseValue) → AreSame s r → ((k : ℕ) → IsFirstMvd (theory_of s) k → ⊥) → (IsTooWideToExhibit s → ⊥) → (HasTooManyRows s → ⊥)
@@ -163,7 +163,7 @@ check_form_asks Fourth files name file looks response answered = answered
 pub check_answered : (form : Form) (files : Files) (name file : List ℕ)
     → (schema : Schema) (plan : NamedSchemes)
     → IsFile schema_file (known_files files) name schema → IsFile (plan_file schema) (known_files files) file plan
-    → All (λ scheme. IsWide (theory_of schema) scheme → ⊥) plan.schemes → IsAnswered files (codes "check" ∷ codes "form" ∷ form_word form ∷ name ∷ file ∷ [])
+    → All (λ scheme. IsWideScheme (theory_of schema) scheme → ⊥) plan.schemes → IsAnswered files (codes "check" ∷ codes "form" ∷ form_word form ∷ name ∷ file ∷ [])
 check_answered form files name file schema plan held_schema held_plan narrow looks response answered =
     after_schema files name schema (λ r. WithFile (plan_file r) (known_files files) file (λ p. JudgesForm r form p.schemes)) response held_schema
     (λ r same more. after_plan files schema r file plan (λ p. JudgesForm r form p.schemes) response same held_plan

@@ -7,7 +7,7 @@ use Rattle.dep_model.specs.Dependencies.{Dependency}
 use Rattle.dep_model.specs.Schemas.{width_of, theory_of}
 use Rattle.dep_model.specs.declared.schema.Schema.{Schema}
 use Rattle.key_listing.specs.Listing.{AreManyKeys}
-use Rattle.fd_closure.specs.LeftSides.{IsWide}
+use Rattle.fd_closure.specs.LeftSides.{IsWideScheme}
 use Rattle.fd_projection.specs.Refusals.{AreTooMany}
 use Rattle.schema_match.specs.Columns.{SameNames}
 use Rattle.named_plans.specs.NamedPlans.{NamedSchemes}
@@ -39,7 +39,7 @@ abbrev pub ProjectIsAnswered : Type 0
 ProjectIsAnswered =
     (files : Files) (name set : List ℕ) (schema : Schema) (x : Attributes)
     → IsFile schema_file (known_files files) name schema → IsSetText schema set x
-    → (IsEmpty x → ⊥) → (IsWide (theory_of schema) x → ⊥)
+    → (IsEmpty x → ⊥) → (IsWideScheme (theory_of schema) x → ⊥)
     → ((found : List Dependency) → AreTooMany (width_of schema) (theory_of schema) x found → ⊥)
     → IsAnswered files (codes "project" ∷ name ∷ set ∷ [])
 
@@ -56,7 +56,7 @@ abbrev pub KeysOfPlanIsAnswered : Type 0
 KeysOfPlanIsAnswered =
     (files : Files) (name file : List ℕ) (schema : Schema) (plan : NamedSchemes)
     → IsFile schema_file (known_files files) name schema → IsFile (plan_file schema) (known_files files) file plan
-    → All (λ scheme. IsWide (theory_of schema) scheme → ⊥) plan.schemes
+    → All (λ scheme. IsWideScheme (theory_of schema) scheme → ⊥) plan.schemes
     → All (λ scheme. (found : List AttrSet)
     → AreManyKeys (width_of schema) (theory_of schema) scheme found → ⊥) plan.schemes
     → IsAnswered files (codes "keys" ∷ name ∷ file ∷ [])

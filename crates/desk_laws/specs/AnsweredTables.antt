@@ -10,12 +10,12 @@ use Rattle.dep_model.specs.Tuples.{Relation}
 use Rattle.dep_model.specs.declared.schema.Schema.{Schema}
 use Rattle.fd_discovery.specs.declared.headed_rows.Headed.{Headed}
 use Rattle.fd_discovery.specs.Headings.{names_under, rows_under}
-use Rattle.fd_closure.specs.LeftSides.{IsWide}
+use Rattle.fd_closure.specs.LeftSides.{IsWideScheme}
 use Rattle.lexer.specs.Bytes.{number_of}
 use Rattle.lexer.specs.Lines.{without_mark}
 use Rattle.row_keys.specs.Keys.{HasTooManyKeys}
-use Rattle.normal_forms.specs.declared.forms.Form.{Form}
-use Rattle.normal_forms.specs.declared.forms.Form.TheVariants as forms
+use Rattle.normal_forms.specs.declared.form.Form.{Form}
+use Rattle.normal_forms.specs.declared.form.Form.TheVariants as forms
 use Rattle.table_join.specs.Answers.{IsWithinLimit, tables_from_last}
 use Rattle.table_join.specs.Tables.{tables_of, plan_of_tables}
 use Rattle.named_plans.specs.NamedPlans.{NamedSchemes}
@@ -46,7 +46,7 @@ abbrev pub CheckFormIsAnsweredInForm : Type 0
 CheckFormIsAnsweredInForm =
     (form : Form) (files : Files) (name file : List ℕ) (schema : Schema) (plan : NamedSchemes)
     → IsFile schema_file (known_files files) name schema → IsFile (plan_file schema) (known_files files) file plan
-    → All (λ scheme. IsWide (theory_of schema) scheme → ⊥) plan.schemes
+    → All (λ scheme. IsWideScheme (theory_of schema) scheme → ⊥) plan.schemes
     → IsAnswered files (codes "check" ∷ codes "form" ∷ form_word form ∷ name ∷ file ∷ [])
 
 -- `check keeps` is answered where the schema file means a schema and the plan file a plan

@@ -4,7 +4,7 @@ use Rattle.std.proofs.lemmas.Grind.{flat_map-append}
 use Rattle.std.proofs.lemmas.List.{append_assoc, length-take-le}
 use Rattle.std.proofs.lemmas.Option.{slice_get-get_or}
 use Rattle.std.specs.List.{flat_map}
-use Rattle.csv_rows.proofs.RowLemmas.{take_next}
+use Rattle.dep_model.proofs.ListLemmas.{take_next}
 use Rattle.csv_text.specs.Rows.{csv_row, rows_text}
 use Rattle.row_store.specs.Rows.{row_at}
 use Rattle.std.specs.Prelude.{if◌then◌else◌}

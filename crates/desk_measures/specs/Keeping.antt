@@ -7,8 +7,8 @@ use Rattle.dep_model.specs.Tuples.{Relation}
 use Rattle.dep_model.specs.declared.schema.Schema.{Schema}
 use Rattle.legality.specs.Parts.{flag_at}
 use Rattle.removal_laws.specs.Removals.{rows_at}
-use Rattle.row_measures.specs.Answers.{AreKept}
-use Rattle.desk_discovery.specs.Exhibits.{multivalued_text}
+use Rattle.row_measures.specs.Answers.{AreKeptFlags}
+use Rattle.desk_discovery.specs.Multivalued.{multivalued_text}
 use Rattle.desk_responses.specs.declared.status.Status.TheVariants.{Yes, Refused}
 use Rattle.desk_responses.specs.ResponseValues.{Allowed, Says}
 
@@ -16,7 +16,7 @@ use Rattle.desk_responses.specs.ResponseValues.{Allowed, Says}
 pub record AreKeptRows (schema : Schema) (rows kept : Relation) : Type 0 where
   pub functional : IsFunctional schema
   pub flags : List Bool
-  pub are : AreKept (theory_of schema) rows flags
+  pub are : AreKeptFlags (theory_of schema) rows flags
   pub rest : kept ≡ rows_at (flag_at flags) rows
   pub legal : LegalFor schema kept
 

@@ -4,5 +4,5 @@ pub mod Untyped
 pub mod Findings
 pub mod Offences
 pub mod Measures
-pub mod Telling
+pub mod BreachFindings
 pub mod Keeping

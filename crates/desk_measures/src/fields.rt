@@ -38,7 +38,7 @@ pub fn take_row_headings(fields: &mut FlatValues) -> Result<(), OutOfMemory>
 }
 
 // Adds the names of a schema to fields.
-#[tactic(auto, using(csv_rows::proofs::RowLemmas::take_next))]
+#[tactic(auto, using(dep_model::proofs::ListLemmas::take_next))]
 pub fn push_names(fields: &mut FlatValues, schema: &Schema) -> Result<(), OutOfMemory>
     ensures names { OnOk result (fields.new ≡ fields.old ++ names_of schema.now) }
 {

@@ -99,7 +99,7 @@ fn put_kept(
 }
 
 // The fields become the values of a row.
-#[tactic(auto, using(csv_rows::proofs::RowLemmas::take_next))]
+#[tactic(auto, using(dep_model::proofs::ListLemmas::take_next))]
 fn take_values(fields: &mut FlatValues, rows: &Rows, row: usize) -> Result<(), OutOfMemory>
     requires row { row < length rows.now }
     ensures values { OnOk result (fields.new ≡ row_at rows.now row) }

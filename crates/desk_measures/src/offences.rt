@@ -9,7 +9,7 @@ ghost use Rattle.dep_model.specs.Tuples.{IsOver};
 ghost use Rattle.desk_responses.specs.Responses.{response_value, RespondsAs};
 ghost use Rattle.desk_measures.specs.Findings.{Adds};
 ghost use Rattle.desk_measures.specs.Offences.{ArePartLines, AreRowLines, ListsBelow, ListsOffences, ListsOffencesByRow, part_fields, row_fields, shown_of};
-ghost use Rattle.desk_measures.specs.Telling.{Tells};
+ghost use Rattle.desk_measures.specs.BreachFindings.{Tells};
 
 use crate::fields::{
     push_names, take_broken_row, take_part, take_part_headings, take_row_headings,

@@ -6,7 +6,7 @@ ghost use Rattle.dep_model.specs.Deps.{IsDepWithin, dependency_of};
 ghost use Rattle.dep_model.specs.Schemas.{universe_of, width_of};
 ghost use Rattle.desk_measures.specs.Findings.{Adds, status_of};
 ghost use Rattle.desk_measures.specs.Offences.{OfDependency, OfEachDependency};
-ghost use Rattle.desk_measures.specs.Telling.{Tells};
+ghost use Rattle.desk_measures.specs.BreachFindings.{Tells};
 
 use crate::measures::put_measure_of;
 use crate::offences::{put_parts_of, put_rows_of};

@@ -25,7 +25,7 @@ pub fn text_columns_alone(alloc: Global, schema: &Schema) -> Result<Schema, OutO
 }
 
 // The names of a schema.
-#[tactic(auto, using(csv_rows::proofs::RowLemmas::take_next))]
+#[tactic(auto, using(dep_model::proofs::ListLemmas::take_next))]
 fn names_of(alloc: Global, schema: &Schema) -> Result<Vec<Name>, OutOfMemory>
     ensures names { IfOk result (λ names. names.items ≡ names_of schema.now) }
 {
@@ -46,7 +46,7 @@ fn text_columns(alloc: Global, count: u8) -> Result<Vec<ColumnType>, OutOfMemory
 }
 
 // The line of each dependency of a schema.
-#[tactic(auto, using(csv_rows::proofs::RowLemmas::take_next))]
+#[tactic(auto, using(dep_model::proofs::ListLemmas::take_next))]
 fn lines_of(alloc: Global, schema: &Schema) -> Result<Vec<u32>, OutOfMemory>
     ensures lines { IfOk result (λ lines. lines.items ≡ lines_of schema.now) }
 {

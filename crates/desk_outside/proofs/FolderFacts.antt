@@ -3,7 +3,7 @@ use Rattle.std.proofs.Common.{◌≡◌, ℕ, ◌+◌, ◌-◌, Bool, true, fals
 use Rattle.std.specs.Str.{bytes_eq}
 use Rattle.std.proofs.Math.Seq.{take-add}
 use Rattle.std.proofs.lemmas.List.{take_rest}
-use Rattle.desk_outside.specs.declared.argument.HeldFile.{HeldFile}
+use Rattle.desk_outside.specs.declared.held_file.HeldFile.{HeldFile}
 use Rattle.desk_outside.specs.Files.{StoredFile, stored_file, files_of, without_file}
 use Rattle.desk_outside.specs.Folders.{FolderContents, with_bytes}
 

@@ -4,7 +4,7 @@ use Rattle.std.specs.Option.{option_map_or}
 use Rattle.std.specs.Str.{bytes_eq}
 use Rattle.std.proofs.lemmas.List.{drop_more}
 use Rattle.std.proofs.lemmas.Option.{slice_get_read}
-use Rattle.desk_outside.specs.declared.argument.HeldFile.{HeldFile}
+use Rattle.desk_outside.specs.declared.held_file.HeldFile.{HeldFile}
 use Rattle.desk_outside.specs.Files.{bytes_of_file, files_of}
 use Rattle.desk_outside.specs.Memory.{bytes_at}
 

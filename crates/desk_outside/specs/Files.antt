@@ -3,7 +3,7 @@
 use Rattle.std.specs.Prelude.{◌≡◌, ℕ, ◌<◌, not, if◌then◌else◌, List, [], ◌∷◌, length, map, filter, Option, Some, None, unwrap_or, IfSome, IsSomeAnd}
 use Rattle.std.specs.Option.{option_map}
 use Rattle.std.specs.Str.{bytes_eq}
-use Rattle.desk_outside.specs.declared.argument.HeldFile.{HeldFile}
+use Rattle.desk_outside.specs.declared.held_file.HeldFile.{HeldFile}
 
 -- a name with bytes
 pub record StoredFile : Type 0 where

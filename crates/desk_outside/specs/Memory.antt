@@ -1,7 +1,7 @@
 -- The objects in memory, as contracts see them: for those that tests use. `Desk` does not cite it.
 use Rattle.std.specs.Prelude.{ℕ, ◌-◌, ◌<◌, ◌≤◌, List, [], length, Option, Some, None, slice_get}
 use Rattle.std.specs.Option.{option_map_or}
-use Rattle.desk_outside.specs.declared.argument.HeldFile.{HeldFile}
+use Rattle.desk_outside.specs.declared.held_file.HeldFile.{HeldFile}
 use Rattle.desk_outside.specs.Files.{Files, StoredFile}
 use Rattle.desk_outside.specs.Folders.{FolderContents}
 use Rattle.desk_outside.specs.Planned.{FaultPlan, new_plan}

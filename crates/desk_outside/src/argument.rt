@@ -34,12 +34,3 @@ impl Argument {
         self.content.as_slice()
     }
 }
-
-/// A file that is held in memory.
-#[derive(Debug, Drop)]
-pub struct HeldFile {
-    /// Its name.
-    pub name: Argument,
-    /// All its bytes.
-    pub bytes: Vec<u8>,
-}

@@ -1,7 +1,8 @@
 ghost use Rattle.std.specs.Prelude.{◌≡◌, ◌≤◌, ◌↔◌, ◌⊎◌, false, [], None, IsTrue, IsOk, IsErrAnd, IfOk, is_some, length};
 ghost use Rattle.std.specs.IoError.{error_kind};
 
-use crate::argument::{Argument, HeldFile};
+use crate::argument::Argument;
+use crate::held_file::HeldFile;
 use crate::failure::OutsideFault;
 use crate::folder::Folder;
 use crate::progress::ProgressLine;

@@ -4,7 +4,7 @@ ghost use Rattle.desk_outside.specs.Causes.{HasOutsideCause};
 ghost use Rattle.desk_outside.specs.Files.{files_of};
 ghost use Rattle.desk_outside.specs.Folders.{FolderContents, with_begun, with_bytes, with_ended, with_none_open, BeginsName};
 
-use crate::argument::HeldFile;
+use crate::held_file::HeldFile;
 use crate::failure::OutsideFault;
 
 /// Files to write, one at a time.

@@ -18,6 +18,7 @@
 #![tactic(auto)]
 
 mod argument;
+mod held_file;
 mod failure;
 mod fault_plan;
 mod file_folder;
@@ -31,7 +32,7 @@ mod real_files;
 mod sink;
 mod transfer;
 
-pub use argument::{Argument, HeldFile};
+pub use argument::Argument;
 pub use failure::{CannotWrite, Failed, LoadRefusal, OutsideFault};
 pub use fault_plan::PlannedFaults;
 pub use file_folder::FileFolder;
@@ -44,3 +45,4 @@ pub use progress::ProgressLine;
 pub use real_files::{RealFiles, StdoutSink};
 pub use sink::Sink;
 pub use transfer::{load, send, write_all};
+pub use held_file::HeldFile;

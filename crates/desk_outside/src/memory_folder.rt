@@ -7,7 +7,8 @@ ghost use Rattle.desk_outside.specs.Folders.{more_bytes, BeginsName};
 ghost use Rattle.desk_outside.specs.Memory.{new_folder, contents_of};
 ghost use Rattle.desk_outside.specs.Planned.{FailsNext, CountsCall};
 
-use crate::argument::{Argument, HeldFile};
+use crate::argument::Argument;
+use crate::held_file::HeldFile;
 use crate::failure::OutsideFault;
 use crate::folder::Folder;
 use crate::memory_series::MemorySeries;

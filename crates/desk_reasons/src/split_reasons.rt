@@ -3,7 +3,7 @@ ghost use Rattle.std.specs.List.{flat_map};
 ghost use Rattle.attr_sets.specs.Sets.{attributes};
 ghost use Rattle.dep_model.specs.Plans.{schemes_of};
 ghost use Rattle.dep_model.specs.Schemas.{width_of, theory_of};
-ghost use Rattle.normal_forms.specs.declared.forms.Form.TheVariants as forms;
+ghost use Rattle.normal_forms.specs.declared.form.Form.TheVariants as forms;
 ghost use Rattle.plans.specs.Containing.{without_contained};
 ghost use Rattle.schema_printer.specs.Spelling.{printed_names_of};
 ghost use Rattle.split_forms.specs.Refusals.{IsWithinLimits};

@@ -4,12 +4,12 @@ use Rattle.attr_sets.specs.Attributes.{Attributes}
 use Rattle.dep_model.specs.Dependencies.{Dependency, fd}
 use Rattle.dep_model.specs.Schemas.{theory_of, universe_of, width_of}
 use Rattle.dep_model.specs.declared.schema.Schema.{Schema}
-use Rattle.fd_closure.specs.LeftSides.{IsWide}
+use Rattle.fd_closure.specs.LeftSides.{IsWideScheme}
 use Rattle.html_pages.specs.Commands.{shell_word}
 use Rattle.html_pages.specs.Pages.{title_with_words}
 use Rattle.normal_forms.specs.Chosen.{IsChosenViolation, IsInForm}
-use Rattle.normal_forms.specs.declared.forms.Form.{Form}
-use Rattle.normal_forms.specs.declared.forms.Form.TheVariants.{Third, Bcnf, Fourth}
+use Rattle.normal_forms.specs.declared.form.Form.{Form}
+use Rattle.normal_forms.specs.declared.form.Form.TheVariants.{Third, Bcnf, Fourth}
 use Rattle.schema_printer.specs.Printing.{dependency_text}
 use Rattle.schema_printer.specs.Spelling.{printed_names_of}
 use Rattle.desk_designs.specs.NormalForms.{JudgesForm, violation_of}
@@ -45,9 +45,9 @@ ShowsTwice s x = Folds (codes "Two rows that store it twice") (DecidesGoal s (go
 -- to be tested
 abbrev pub ShowsViolation : List ℕ → Schema → Form → Shown
 ShowsViolation file s form text =
-    ((IsWide (theory_of s) (universe_of s) ⊎ IsInForm (width_of s) (theory_of s) form (universe_of s))
+    ((IsWideScheme (theory_of s) (universe_of s) ⊎ IsInForm (width_of s) (theory_of s) form (universe_of s))
     × Just [] text)
-    ⊎ ((IsWide (theory_of s) (universe_of s) → ⊥)
+    ⊎ ((IsWideScheme (theory_of s) (universe_of s) → ⊥)
     × ((x : Attributes) × (y : Attributes)
     × IsChosenViolation (width_of s) (theory_of s) form (universe_of s) x y
     × Then (ShowsWhy file s form x y) (ShowsTwice s x) text))

@@ -4,7 +4,7 @@ use Rattle.dep_model.specs.declared.schema.Schema.{Schema}
 use Rattle.named_plans.specs.NamedPlans.{NamedSchemes}
 use Rattle.html_pages.specs.Commands.{shell_word}
 use Rattle.html_pages.specs.Pages.{page_text, title_with_words}
-use Rattle.normal_forms.specs.declared.forms.Form.TheVariants.{Third, Bcnf, Fourth}
+use Rattle.normal_forms.specs.declared.form.Form.TheVariants.{Third, Bcnf, Fourth}
 use Rattle.desk_covers.specs.Covering.{GivesCover}
 use Rattle.desk_discovery.specs.Exhibits.{Exhibits}
 use Rattle.desk_keys.specs.Keys.{ListsKeys}

@@ -10,8 +10,8 @@ use Rattle.ddl_text.specs.declared.table.TableDesign.{TableDesign}
 use Rattle.design_picture.specs.Picture.{picture_text}
 use Rattle.html_pages.specs.Commands.{shell_word}
 use Rattle.html_pages.specs.Pages.{title_with_words}
-use Rattle.normal_forms.specs.declared.forms.Form.{Form}
-use Rattle.normal_forms.specs.declared.forms.Form.TheVariants.{Third, Bcnf, Fourth}
+use Rattle.normal_forms.specs.declared.form.Form.{Form}
+use Rattle.normal_forms.specs.declared.form.Form.TheVariants.{Third, Bcnf, Fourth}
 use Rattle.desk_designs.specs.Decompositions.{FormStops, IsPlanInForm, Splits}
 use Rattle.desk_designs.specs.Designs.{IsSoundDesign, WritesForm, WritesPlan}
 use Rattle.desk_designs.specs.Joins.{JudgesJoin}

@@ -7,7 +7,7 @@ ghost use Rattle.dep_model.specs.Deps.{dependency_of};
 ghost use Rattle.dep_model.specs.Dependencies.{fd};
 ghost use Rattle.dep_model.specs.Schemas.{universe_of};
 ghost use Rattle.html_pages.specs.Pages.{title_with_words};
-ghost use Rattle.normal_forms.specs.declared.forms.Form.TheVariants as forms;
+ghost use Rattle.normal_forms.specs.declared.form.Form.TheVariants as forms;
 ghost use Rattle.plans.specs.Plans.{IsPlanOver, plan_of};
 ghost use Rattle.desk_designs.specs.NormalForms.{JudgesForm, violation_of};
 ghost use Rattle.desk_reports.specs.Forms.{FormsSection, ShowsForm, ShowsTwice, ShowsViolation, ShowsWhy, form_title, goal_text, goal_words};

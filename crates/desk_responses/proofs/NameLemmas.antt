@@ -5,9 +5,9 @@ use Rattle.dep_model.specs.Schemas.{width_of}
 use Rattle.dep_model.specs.declared.schema.Schema.{Schema}
 use Rattle.schema_printer.specs.Spelling.{printed_names_of}
 use Rattle.schema_printer.proofs.SpellingLemmas.{length_printed}
-use Rattle.desk_responses.specs.Lines.{name_text}
+use Rattle.desk_responses.specs.Lines.{attribute_name}
 
-pub no_name : (s : Schema) (k : ℕ) (text : List ℕ) → width_of s ≤ k → text ≡ text ++ name_text (printed_names_of s) k
+pub no_name : (s : Schema) (k : ℕ) (text : List ℕ) → width_of s ≤ k → text ≡ text ++ attribute_name (printed_names_of s) k
 no_name s k text beyond =
     let past : length (printed_names_of s) ≤ k = omega (arith, length_printed s, beyond) in
     sym (append-nil text) ∙ ap (λ t. text ++ t) (sym (get_or_past (printed_names_of s) k [] past))

@@ -13,8 +13,8 @@ line_number_text (Some at) = decimal at
 line_number_text None = []
 
 -- the name of an attribute, of these names
-abbrev pub name_text : List (List ℕ) → ℕ → List ℕ
-name_text names attribute = slice_index_or names attribute []
+abbrev pub attribute_name : List (List ℕ) → ℕ → List ℕ
+attribute_name names attribute = slice_index_or names attribute []
 
 -- a dependency, over the names of the attributes
 abbrev pub dep_text : List (List ℕ) → Option Dep → List ℕ

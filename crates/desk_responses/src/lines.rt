@@ -1,12 +1,12 @@
 //! Lines that the answers of several commands have, and the refusals that several commands end with.
 
-ghost use Rattle.std.specs.Prelude.{◌≡◌, ◌++◌, ◌<◌, [], slice_get, slice_index_or, IfOk, OnOk};
+ghost use Rattle.std.specs.Prelude.{◌≡◌, ◌++◌, ◌<◌, [], slice_get, IfOk, OnOk};
 ghost use Rattle.attr_sets.specs.Attributes.{IsSubset};
 ghost use Rattle.attr_sets.specs.Sets.{attributes};
-ghost use Rattle.dep_model.specs.Schemas.{deps_of, lines_of, names_of, universe_of, width_of};
+ghost use Rattle.dep_model.specs.Schemas.{deps_of, lines_of, universe_of, width_of};
 ghost use Rattle.schema_printer.specs.Spelling.{printed_names_of};
-ghost use Rattle.desk_texts.specs.Texts.{refusal_text, set_line};
-ghost use Rattle.desk_responses.specs.Lines.{bad_table_text, dep_text, line_number_text, name_text, too_wide_text};
+ghost use Rattle.desk_texts.specs.Texts.{set_line};
+ghost use Rattle.desk_responses.specs.Lines.{bad_table_text, dep_text, line_number_text, attribute_name, too_wide_text};
 ghost use Rattle.desk_responses.specs.ResponseValues.{Says};
 ghost use Rattle.desk_responses.specs.Responses.{ExitsAs};
 
@@ -14,8 +14,7 @@ use crate::Status;
 use crate::response::EarlyExit;
 use attr_sets::AttrSet;
 use dep_model::{OutOfMemory, Schema};
-use desk_texts::{line_of, refusal_line};
-use schema_grammar::SchemaRefusal;
+use desk_texts::line_of;
 use schema_printer::{add, add_dep, add_name, add_number, add_set, print_set};
 use std::alloc::Global;
 
@@ -67,7 +66,7 @@ pub fn put_set_line(
 #[tactic(auto, using(crate::proofs::NameLemmas::no_name))]
 pub fn put_name(text: &mut Vec<u8>, schema: &Schema, attribute: u8) -> Result<(), OutOfMemory>
     ensures added { OnOk result (text.new.items
-        ≡ text.old.items ++ name_text (printed_names_of schema.now) attribute) }
+        ≡ text.old.items ++ attribute_name (printed_names_of schema.now) attribute) }
 {
     if attribute < schema.width() {
         put_known_name(text, schema, attribute)
@@ -79,16 +78,9 @@ pub fn put_name(text: &mut Vec<u8>, schema: &Schema, attribute: u8) -> Result<()
 fn put_known_name(text: &mut Vec<u8>, schema: &Schema, attribute: u8) -> Result<(), OutOfMemory>
     requires attribute { attribute < width_of schema.now }
     ensures added { OnOk result (text.new.items
-        ≡ text.old.items ++ name_text (printed_names_of schema.now) attribute) }
+        ≡ text.old.items ++ attribute_name (printed_names_of schema.now) attribute) }
 {
     add_name(text, schema.naming(), schema.name(attribute))
-}
-
-/// A command that ends with the refusal of a text.
-pub fn refusal_exit(alloc: Global, group: &[u8], name: &[u8], refusal: SchemaRefusal) -> EarlyExit
-    ensures says { ExitsAs (Says Status.Refused (refusal_text group.now name.now refusal)) result }
-{
-    EarlyExit::with_text(Status::Refused, refusal_line(alloc, group, name, refusal))
 }
 
 /// A scheme has more attributes than are looked at.

@@ -2,8 +2,6 @@
 -- refusals of both.
 use Rattle.std.specs.Prelude.{List, codes, ℕ, ◌++◌}
 use Rattle.std.specs.Fmt.{decimal}
-use Rattle.dep_model.specs.Dependencies.{Dependency}
-use Rattle.schema_printer.specs.Printing.{dependency_text}
 use Rattle.proof_grammar.specs.Diagnostics.{LineDiagnostic}
 use Rattle.proof_grammar.specs.RefusalTexts.{diagnostic_number, diagnostic_text, position_text}
 use Rattle.desk_texts.specs.Texts.{line}
@@ -22,12 +20,3 @@ proof_refusal_text names file refusal = refused_line_text (codes "refused: proof
 -- a refusal of a derivation
 abbrev pub derivation_refusal_text : List (List ℕ) → List ℕ → LineDiagnostic → List ℕ
 derivation_refusal_text names file refusal = refused_line_text (codes "refused: derivation ") names file refusal
-
-abbrev pub checked_text : List (List ℕ) → Dependency → List ℕ
-checked_text names d = line (codes "checked " ++ dependency_text names d)
-
--- what a text concludes, and what was asked
-abbrev pub concludes_text : List (List ℕ) → Dependency → Dependency → List ℕ
-concludes_text names concluded asked =
-    line (codes "concludes " ++ dependency_text names concluded)
-    ++ line (codes "asked " ++ dependency_text names asked)

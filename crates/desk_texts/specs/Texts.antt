@@ -1,11 +1,7 @@
 -- The texts that several commands print: refusals, sets of attributes, a relation that shows a `no`, and a comment on
 -- what no schema file takes.
 use Rattle.std.specs.Prelude.{ℕ, List, [], ◌∷◌, ◌++◌, codes, length, nat_lt, if◌then◌else◌}
-use Rattle.std.specs.Fmt.{decimal}
 use Rattle.attr_sets.specs.Attributes.{Attributes}
-use Rattle.schema_grammar.specs.declared.refusal.SchemaRefusal.{SchemaRefusal}
-use Rattle.schema_grammar.specs.RefusalTexts.{place_and_reason}
-use Rattle.schema_grammar.specs.DiagnosticKinds.{number_of, diagnostic_kind}
 use Rattle.schema_printer.specs.Printing.{set_text}
 use Rattle.csv_text.specs.Rows.{rows_text}
 use Rattle.dep_model.specs.Dependencies.{Dependency}
@@ -34,20 +30,6 @@ goal_too_long_text = line (codes "refused: goal is too long")
 
 abbrev pub set_too_long_text : List ℕ
 set_too_long_text = line (codes "refused: set is too long")
-
--- a refusal of a text at its place: the kind of text, its name, the line and the column
-abbrev pub refusal_text : List ℕ → List ℕ → SchemaRefusal → List ℕ
-refusal_text group name refusal =
-    line (codes "refused: " ++ group ++ codes " " ++ decimal (number_of (diagnostic_kind refusal.kind))
-    ++ codes " at " ++ name ++ codes ":" ++ place_and_reason refusal)
-
--- a goal is named `goal`
-abbrev pub goal_refusal_text : SchemaRefusal → List ℕ
-goal_refusal_text refusal = refusal_text (codes "goal") (codes "goal") refusal
-
--- and a set `set`
-abbrev pub set_refusal_text : SchemaRefusal → List ℕ
-set_refusal_text refusal = refusal_text (codes "set") (codes "set") refusal
 
 abbrev pub yes_text : List ℕ
 yes_text = line (codes "yes")

@@ -2,7 +2,7 @@ ghost use Rattle.std.specs.Prelude.{◌≡◌, IfOk};
 ghost use Rattle.dep_model.specs.Deps.{dependency_of, IsDepWithin};
 ghost use Rattle.dep_model.specs.Schemas.{universe_of};
 ghost use Rattle.schema_printer.specs.Spelling.{printed_names_of};
-ghost use Rattle.desk_texts.specs.ProofTexts.{checked_text, concludes_text};
+ghost use Rattle.desk_texts.specs.Conclusions.{checked_text, concludes_text};
 
 use crate::text::line_of;
 use dep_model::{Dep, OutOfMemory, Schema};

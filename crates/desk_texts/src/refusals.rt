@@ -1,5 +1,5 @@
 ghost use Rattle.std.specs.Prelude.{◌≡◌, IfOk};
-ghost use Rattle.desk_texts.specs.Texts.{refusal_text};
+ghost use Rattle.desk_texts.specs.Refusals.{refusal_text};
 
 use crate::text::add_displayed;
 use dep_model::OutOfMemory;

@@ -13,6 +13,7 @@ mod migrate;
 mod numbers;
 mod pages;
 mod persons;
+mod counted;
 mod questions;
 mod rows;
 mod rules;
@@ -22,5 +23,5 @@ mod tables;
 
 pub use bounds::{LeftBound, MOST_ON_LEFT};
 pub use command::{Command, MOST_FILES, parse};
-pub use persons::Persons;
 pub use questions::{PlanQuestion, RowsQuestion, RulesQuestion, SchemaQuestion, Task};
+pub use counted::Persons;

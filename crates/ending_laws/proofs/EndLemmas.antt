@@ -21,7 +21,7 @@ use Rattle.sql_evaluation.specs.Values.{each, look_at, View, value, holds}
 use Rattle.sql_evaluation.specs.Evaluation.{Rows, Engine, taken, row_view, item_value, with_items, selected, no_view, row_of_values, appended, is_among, without, excepted, evaluate}
 use Rattle.sql_evaluation.specs.Running.{Held, table, view, State, Cast, Fails, rows_of_table, rows_found, engine_at, with_name, made, with_rows, both_rows, all_zeros, filled, inserted, tried, done, ended, unless_error, run, outcome}
 use Rattle.check_queries.specs.Columns.{name_at}
-use Rattle.check_laws.specs.Holding.{Holds}
+use Rattle.check_laws.specs.HeldRelations.{Holds}
 use Rattle.check_laws.proofs.CellLemmas.{same_row-decides}
 use Rattle.check_laws.proofs.RowLemmas.{filter-none, none_is_not_some}
 use Rattle.check_laws.proofs.EachLemmas.{filter-known}

@@ -17,8 +17,8 @@ use Rattle.check_queries.specs.Columns.{type_at}
 use Rattle.check_queries.specs.Checks.{required_of}
 use Rattle.sql_evaluation.specs.Cells.{Cell, missing, text, number, integer_text, text_of, integer_of, equal, is_none}
 use Rattle.sql_evaluation.specs.Running.{Cast}
-use Rattle.check_laws.specs.Holding.{compared_cell, AreApart, CastsIntegers}
-use Rattle.check_laws.specs.Telling.{NoneMissing, IsIntegerCell, AreIntegers}
+use Rattle.check_laws.specs.HeldRelations.{compared_cell, AreApart, CastsIntegers}
+use Rattle.check_laws.specs.CheckedRules.{NoneMissing, IsIntegerCell, AreIntegers}
 use Rattle.check_laws.proofs.ColumnLemmas.{bytes_same, bytes_self}
 use Rattle.check_laws.proofs.RowLemmas.{none_is_not_some, some_is}
 use Rattle.migrate_laws.specs.Moved.{copied_cell, entered_cell}

@@ -11,7 +11,7 @@ use Rattle.std.specs.Set.{unique_keys}
 use Rattle.attr_sets.specs.Attributes.{Attributes, IsSubset}
 use Rattle.attr_sets.specs.Sets.{attributes}
 use Rattle.counting_laws.proofs.CountLemmas.{equivalence, unique-unique}
-use Rattle.ddl_text.specs.Holding.{KeyHolds}
+use Rattle.ddl_text.specs.KeysAndReferences.{KeyHolds}
 use Rattle.dep_model.specs.declared.column_type.ColumnType.TheVariants.{Integer}
 use Rattle.dep_model.specs.declared.schema.Schema.{Schema}
 use Rattle.dep_model.specs.Projections.{members_below, project_tuple, ordered_projection}
@@ -28,8 +28,8 @@ use Rattle.sql_evaluation.specs.Values.{each, bytes_of, named_cell}
 use Rattle.sql_evaluation.specs.Evaluation.{Rows}
 use Rattle.sql_evaluation.specs.Running.{Cast}
 use Rattle.sql_evaluation.specs.Rules.{cells_in, is_any_missing, HasMissing, HasRepeated, HasUnmatched}
-use Rattle.check_laws.specs.Holding.{compared_cell, AreApart, CastsIntegers}
-use Rattle.check_laws.specs.Telling.{NoneMissing, AreIntegers}
+use Rattle.check_laws.specs.HeldRelations.{compared_cell, AreApart, CastsIntegers}
+use Rattle.check_laws.specs.CheckedRules.{NoneMissing, AreIntegers}
 use Rattle.check_laws.proofs.CellLemmas.{same_row-decides, names_on_apart, member_of, is_member_of}
 use Rattle.check_laws.proofs.ColumnLemmas.{named_cell-member}
 use Rattle.check_laws.proofs.EachLemmas.{each-known, each-map, map-known}

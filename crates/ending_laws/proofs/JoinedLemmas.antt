@@ -24,8 +24,8 @@ use Rattle.sql_evaluation.specs.Cells.{Cell, same_row, equal}
 use Rattle.sql_evaluation.specs.Evaluation.{Rows, joined_by}
 use Rattle.sql_evaluation.specs.Joins.{is_name_of, agree_by, cells_beside, rows_joined}
 use Rattle.sql_evaluation.specs.Running.{Cast}
-use Rattle.check_laws.specs.Holding.{compared_cell, AreApart, CastsIntegers}
-use Rattle.check_laws.specs.Telling.{NoneMissing, AreIntegers}
+use Rattle.check_laws.specs.HeldRelations.{compared_cell, AreApart, CastsIntegers}
+use Rattle.check_laws.specs.CheckedRules.{NoneMissing, AreIntegers}
 use Rattle.check_laws.proofs.CellLemmas.{same_row-decides, names_apart, names_on_apart, member_of, is_member_of}
 use Rattle.check_laws.proofs.ColumnLemmas.{bytes_same, bytes_self, NamesApart}
 use Rattle.check_laws.proofs.EachLemmas.{map-known, filter-map}

@@ -18,7 +18,7 @@ use Rattle.ddl_text.specs.Ddl.{is_empty}
 use Rattle.ddl_text.specs.Designs.{known_keys}
 use Rattle.sql_names.specs.Names.{quoted_name}
 use Rattle.sql_syntax.specs.Syntax.{ColumnName, Item, each_row}
-use Rattle.sql_syntax.specs.Statements.{Element, column_of, primary_key, unique_key, foreign_key, Statement, remark, create_table}
+use Rattle.sql_syntax.specs.Statements.{Element, column_definition, primary_key, unique_key, foreign_key, Statement, remark, create_table}
 use Rattle.check_queries.specs.Columns.{name_at}
 use Rattle.sql_evaluation.specs.Cells.{Cell, same_row}
 use Rattle.sql_evaluation.specs.Values.{each, bytes_of, look_at, View}
@@ -68,7 +68,7 @@ made_free name held z free = ap (λ (h : Option Held). if is_some h then None el
 -- ---- the columns of a table
 names_append : (xs ys : List Element) → column_names (xs ++ ys) ≡ column_names xs ++ column_names ys
 names_append [] ys = refl
-names_append (column_of name type nullable ∷ xs) ys = ap (λ (rest : List (List ℕ)). bytes_of name ∷ rest) (names_append xs ys)
+names_append (column_definition name type nullable ∷ xs) ys = ap (λ (rest : List (List ℕ)). bytes_of name ∷ rest) (names_append xs ys)
 names_append (primary_key names ∷ xs) ys = names_append xs ys
 names_append (unique_key names ∷ xs) ys = names_append xs ys
 names_append (foreign_key names other ∷ xs) ys = names_append xs ys

@@ -27,8 +27,8 @@ use Rattle.sql_evaluation.specs.Cells.{Cell, text_of, followed_by}
 use Rattle.sql_evaluation.specs.Values.{each, bytes_of, Look, look_at, named_cell, View}
 use Rattle.sql_evaluation.specs.Evaluation.{Rows, Engine, row_view, item_name, item_value, with_items, selected, joined_by, columns_of, linked, all_linked, evaluate}
 use Rattle.sql_evaluation.specs.Running.{Cast}
-use Rattle.check_laws.specs.Holding.{compared_cell, AreApart, CastsIntegers}
-use Rattle.check_laws.specs.Telling.{NoneMissing, AreIntegers}
+use Rattle.check_laws.specs.HeldRelations.{compared_cell, AreApart, CastsIntegers}
+use Rattle.check_laws.specs.CheckedRules.{NoneMissing, AreIntegers}
 use Rattle.check_laws.proofs.CellLemmas.{names_apart, names_on_apart, member_of, is_member_of}
 use Rattle.check_laws.proofs.ColumnLemmas.{named_cell-member}
 use Rattle.check_laws.proofs.EachLemmas.{each-known, each-map, map-known}

@@ -13,8 +13,8 @@ use Rattle.ddl_text.specs.Designs.{known_keys, ReferToEarlier}
 use Rattle.ddl_text.specs.Laws.{KeysHold, OtherKeysHold}
 use Rattle.sql_names.specs.Names.{quoted_name}
 use Rattle.check_queries.specs.Columns.{type_at}
-use Rattle.check_laws.specs.Holding.{compared_cell, Holds, CastsIntegers}
-use Rattle.check_laws.specs.Telling.{NoneMissing, AreIntegers}
+use Rattle.check_laws.specs.HeldRelations.{compared_cell, Holds, CastsIntegers}
+use Rattle.check_laws.specs.CheckedRules.{NoneMissing, AreIntegers}
 use Rattle.sql_evaluation.specs.Cells.{Cell, equal}
 use Rattle.sql_evaluation.specs.Running.{State, Cast, Fails, engine_at}
 use Rattle.sql_evaluation.specs.Rules.{RefusesBroken}

@@ -8,7 +8,7 @@ use Rattle.attr_sets.proofs.AttributesLemmas.{count_below-within}
 use Rattle.dep_model.specs.Dependencies.{Dependency}
 use Rattle.dep_model.specs.Keys.{InClosure}
 use Rattle.dep_model.proofs.RuleLemmas.{reflexivity_obeyed, fd_weaker_obeyed}
-use Rattle.fd_closure.specs.LeftSides.{left_sides, IsWide}
+use Rattle.fd_closure.specs.LeftSides.{left_sides, IsWideScheme}
 use Rattle.fd_closure.specs.declared.left_sides.TheConstants.{WIDEST_SEARCHED}
 
 -- ---- closures
@@ -35,10 +35,10 @@ closure_begins n ds x more c low closure a = (
 )
 
 -- ---- widths
-pub wider : (ds : List Dependency) (x y : Attributes) → IsSubset x y → IsWide ds x → IsWide ds y
+pub wider : (ds : List Dependency) (x y : Attributes) → IsSubset x y → IsWideScheme ds x → IsWideScheme ds y
 wider ds x y inside wide =
     omega (arith, wide, count_below-within MOST_ATTRIBUTES (intersection x (left_sides ds)) (intersection y (left_sides ds)) (λ k m. grind (arith, m, inside k)))
 
-pub few_never_wide : (ds : List Dependency) (scheme : Attributes) → count_below (left_sides ds) MOST_ATTRIBUTES ≤ WIDEST_SEARCHED → IsWide ds scheme → ⊥
+pub few_never_wide : (ds : List Dependency) (scheme : Attributes) → count_below (left_sides ds) MOST_ATTRIBUTES ≤ WIDEST_SEARCHED → IsWideScheme ds scheme → ⊥
 few_never_wide ds scheme few wide =
     absurd (omega (arith, few, wide, count_below-within MOST_ATTRIBUTES (intersection scheme (left_sides ds)) (left_sides ds) (λ k m. grind (arith, m))))

@@ -12,8 +12,8 @@ left_sides [] = none
 left_sides (d ∷ ds) = union (left_of d) (left_sides ds)
 
 -- a scheme is too wide to be searched: more of its attributes stand in left sides than are tried
-abbrev pub IsWide : List Dependency → Attributes → Type 0
-IsWide ds scheme = WIDEST_SEARCHED < count_below (intersection scheme (left_sides ds)) MOST_ATTRIBUTES
+abbrev pub IsWideScheme : List Dependency → Attributes → Type 0
+IsWideScheme ds scheme = WIDEST_SEARCHED < count_below (intersection scheme (left_sides ds)) MOST_ATTRIBUTES
 
 -- attribute a stands in the left side of a dependency of a list
 abbrev pub InLeftSide : List Dependency → ℕ → Type 0

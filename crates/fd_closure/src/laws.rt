@@ -9,7 +9,7 @@ ghost use Rattle.dep_model.specs.Implication.{Implies};
 ghost use Rattle.dep_model.specs.Keys.{InClosure, IsKey};
 ghost use Rattle.fd_closure.specs.FunctionallyClosed.{IsFunctionallyClosed};
 ghost use Rattle.fd_closure.specs.KeyLists.{IsExchanged};
-ghost use Rattle.fd_closure.specs.LeftSides.{left_sides, IsWide};
+ghost use Rattle.fd_closure.specs.LeftSides.{left_sides, IsWideScheme};
 ghost use Rattle.fd_closure.specs.declared.left_sides.TheConstants.{WIDEST_SEARCHED};
 
 /// A set is closed under the functional dependencies exactly where it holds its closure.
@@ -46,11 +46,11 @@ pub fn closures_begin_with_closures_of_parts()
 
 /// A part of a scheme that is not too wide to be searched is not too wide.
 pub fn parts_are_no_wider()
-    ensures law { (ds : List Dependency) (x y : Attributes) → IsSubset x y → IsWide ds x → IsWide ds y }
+    ensures law { (ds : List Dependency) (x y : Attributes) → IsSubset x y → IsWideScheme ds x → IsWideScheme ds y }
 {}
 
 /// Where few attributes stand in left sides, no scheme is too wide to be searched.
 pub fn few_left_sides_are_never_wide()
     ensures law { (ds : List Dependency) (scheme : Attributes)
-        → count_below (left_sides ds) MOST_ATTRIBUTES ≤ WIDEST_SEARCHED → IsWide ds scheme → ⊥ }
+        → count_below (left_sides ds) MOST_ATTRIBUTES ≤ WIDEST_SEARCHED → IsWideScheme ds scheme → ⊥ }
 {}

@@ -2,7 +2,7 @@ ghost use Rattle.std.specs.Prelude.{◌≡◌, ℕ, ◌↔◌, ◌⊎◌, true, 
 ghost use Rattle.attr_sets.specs.Sets.{attributes};
 ghost use Rattle.dep_model.specs.Dependencies.{functional_part};
 ghost use Rattle.dep_model.specs.Deps.{dependency_of, dependencies_of};
-ghost use Rattle.fd_closure.specs.LeftSides.{left_sides, InLeftSide, InLeftSideWithin, IsWide};
+ghost use Rattle.fd_closure.specs.LeftSides.{left_sides, InLeftSide, InLeftSideWithin, IsWideScheme};
 
 use attr_sets::AttrSet;
 use dep_model::{Dep, sides};
@@ -11,8 +11,8 @@ use dep_model::{Dep, sides};
 pub const WIDEST_SEARCHED: u8 = 20;
 
 /// Whether more attributes of a scheme than are tried stand in the left sides of a list.
-pub fn is_wide(deps: &[Dep], scheme: AttrSet) -> bool
-    ensures wide { IsTrue result ↔ IsWide (dependencies_of deps.now) (attributes scheme) }
+pub fn is_wide_scheme(deps: &[Dep], scheme: AttrSet) -> bool
+    ensures wide { IsTrue result ↔ IsWideScheme (dependencies_of deps.now) (attributes scheme) }
 {
     scheme.intersection(left_attributes(deps)).len() > WIDEST_SEARCHED
 }

@@ -5,7 +5,7 @@ use Rattle.std.proofs.Math.Seq.{get_or-append_seam}
 use Rattle.std.proofs.lemmas.List.{append-nil, length-append, append_assoc, get_or_append_left}
 use Rattle.std.proofs.lemmas.Bool.{cases_lt}
 use Rattle.std.proofs.lemmas.Bool.Decides.{nat_tests}
-use Rattle.csv_rows.proofs.NumberingLemmas.{same_default}
+use Rattle.dep_model.proofs.ListLemmas.{same_default}
 use Rattle.std.proofs.lemmas.List.Elements.{All-push}
 use Rattle.csv.specs.declared.reader.Reader.{Reader}
 use Rattle.csv_rows.specs.Records.{HasLeft, TakesRecord}
@@ -19,8 +19,8 @@ use Rattle.fd_discovery.specs.declared.headed_rows.Headed.{Headed}
 use Rattle.fd_discovery.specs.declared.headed_rows.Limits.{Limits}
 use Rattle.dep_model.specs.Failures.{RefusesAs}
 use Rattle.dep_model.specs.declared.failure.Failure.{Failure}
-use Rattle.fd_discovery.specs.declared.refusal.DiscoverRefusal.{DiscoverRefusal}
-use Rattle.fd_discovery.specs.declared.refusal.DiscoverRefusal.TheVariants as refusal
+use Rattle.fd_discovery.specs.declared.refusal.HeaderRefusal.{HeaderRefusal}
+use Rattle.fd_discovery.specs.declared.refusal.HeaderRefusal.TheVariants as refusal
 
 -- the first record was taken, or there was none
 TakesRows-one : (old new : Reader (Bor (List ℕ))) (fields : List (List ℕ)) (b : Bool) (rs : List (List (List ℕ)))
@@ -38,7 +38,7 @@ TakesRows-none old new fields b rs is takes left =
 
 -- the first record is the header
 pub names_read : {T : Type 0} (widest : ℕ) (names : T → List (List ℕ)) (unclosed : Option ℕ) (old new : Reader (Bor (List ℕ))) (fields : List (List ℕ))
-    (b : Bool) (r : Result T (Failure DiscoverRefusal)) (rs : List (List (List ℕ)))
+    (b : Bool) (r : Result T (Failure HeaderRefusal)) (rs : List (List (List ℕ)))
     → is_open unclosed 1 ≡ false → b ≡ true → TakesRecord b old new fields → HasLeft old rs
     → IfOk r (λ v. names v ≡ fields) → IfOk r (λ _. IsHeaderWithin widest fields) → IfOk r (λ v. ReadsNames widest unclosed rs new (names v))
 names_read widest names unclosed old new fields b (Err e) rs closed is takes left all header = tt
@@ -53,13 +53,13 @@ names_read widest names unclosed old new fields b (Ok v) rs closed is takes left
     }
 
 -- a header without an open quote that is refused
-closed_refused : (widest : ℕ) (b : Bool) (header : List (List ℕ)) (e : Failure DiscoverRefusal) → b ≡ false → RefusesAs (RefusesColumnHeader widest header) e
+closed_refused : (widest : ℕ) (b : Bool) (header : List (List ℕ)) (e : Failure HeaderRefusal) → b ≡ false → RefusesAs (RefusesColumnHeader widest header) e
     → RefusesAs (RefusesHeader widest b header) e
 closed_refused widest b header e closed refused =
     subst (λ (t : Bool). RefusesAs (RefusesHeader widest t header) e) (sym closed) refused
 
 pub names_refused : {T : Type 0} (widest : ℕ) (unclosed : Option ℕ) (old new : Reader (Bor (List ℕ))) (fields : List (List ℕ)) (b : Bool)
-    (r : Result T (Failure DiscoverRefusal)) (rs : List (List (List ℕ)))
+    (r : Result T (Failure HeaderRefusal)) (rs : List (List (List ℕ)))
     → is_open unclosed 1 ≡ false → b ≡ true → TakesRecord b old new fields → HasLeft old rs
     → IfErr r (RefusesAs (RefusesColumnHeader widest fields)) → IfErr r (RefusesAs (RefusesNames widest unclosed rs))
 names_refused widest unclosed old new fields b (Ok v) rs closed is takes left refused = tt
@@ -129,7 +129,7 @@ module _ (most : ℕ) (unclosed : Option ℕ) (n : ℕ) (rs : List (List (List �
       (sym (ap (λ (m : List (List (List ℕ))). row_at m i) at_hand.1
       ∙ get_or_append_left rows (fields ∷ at_hand.0) [] i l)) (fit i l)
 
-  pub row_refused : (count : ℕ) (e : DiscoverRefusal) → count ≡ length rows → RefusesRow most unclosed n count fields e
+  pub row_refused : (count : ℕ) (e : HeaderRefusal) → count ≡ length rows → RefusesRow most unclosed n count fields e
       → RefusesRows most unclosed n rs e
   row_refused count e same refused = record {
     at = length rows;
@@ -167,19 +167,19 @@ pub over_more : (n : ℕ) (rows : Relation) (t : Tuple) → IsOver n rows → le
 over_more n rows t even fits = All-push (λ (u : Tuple). length u ≡ n) rows t even fits
 
 -- the whole text, where the open record was found
-pub header_refused : (limits : Limits) (unclosed : Option ℕ) (rs : List (List (List ℕ))) (e : DiscoverRefusal) → RefusesNames limits.columns unclosed rs e
+pub header_refused : (limits : Limits) (unclosed : Option ℕ) (rs : List (List (List ℕ))) (e : HeaderRefusal) → RefusesNames limits.columns unclosed rs e
     → RefusesRecords limits unclosed rs e
 header_refused limits unclosed [] e h = h
 header_refused limits unclosed (header ∷ records) e h = inl h
 
 pub rows_refused : (limits : Limits) (unclosed : Option ℕ) (rs : List (List (List ℕ))) (reader : Reader (Bor (List ℕ))) (names : List (List ℕ)) (n : ℕ)
-    (e : DiscoverRefusal)
+    (e : HeaderRefusal)
     → (read : ReadsNames limits.columns unclosed rs reader names) → n ≡ length names → RefusesRows limits.rows unclosed n read.records e → RefusesRecords limits unclosed rs e
 rows_refused limits unclosed rs reader names n e read count refused =
     subst (λ (l : List (List (List ℕ))). RefusesRecords limits unclosed l e) (sym read.all)
     (inr (read.closed, read.header, subst (λ (m : ℕ). RefusesRows limits.rows unclosed m read.records e) count refused))
 
-pub refused_text : (limits : Limits) (text : List ℕ) (unclosed : Option ℕ) (e : DiscoverRefusal) → unclosed ≡ open_record text
+pub refused_text : (limits : Limits) (text : List ℕ) (unclosed : Option ℕ) (e : HeaderRefusal) → unclosed ≡ open_record text
     → RefusesRecords limits unclosed (records_of text) e → IsRefusedWithin limits text e
 refused_text limits text unclosed e same refused =
     subst (λ (o : Option ℕ). RefusesRecords limits o (records_of text) e) same refused

@@ -10,12 +10,12 @@ use Rattle.dep_model.specs.Dependencies.{ObeysFd}
 use Rattle.csv_rows.specs.Numberings.{number_at, AreGroups}
 use Rattle.row_store.specs.Rows.{row_at}
 use Rattle.csv_rows.specs.Interning.{codes_at}
-use Rattle.fd_discovery.specs.Leaders.{AreLeaders, AreLed, IsOrderOf, IsTableOfRows, order_at}
+use Rattle.fd_discovery.specs.Leaders.{AreLeadersOn, AreLed, IsOrderOf, IsTableOfRows, order_at}
 use Rattle.fd_discovery.specs.declared.table.CodeColumns.{CodeColumns}
 use Rattle.dep_model.proofs.TwoRowLemmas.{AgreeOn-union, AgreeOn-left, AgreeOn-right}
 use Rattle.csv_rows.proofs.NumberingLemmas.{row_of}
 
-module _ (r : Relation) (x : Attributes) (leaders : List ℕ) (led : AreLeaders r x leaders) where
+module _ (r : Relation) (x : Attributes) (leaders : List ℕ) (led : AreLeadersOn r x leaders) where
   abbrev lead : ℕ → ℕ
   lead i = number_at leaders i
 
@@ -248,10 +248,10 @@ module _ (leaders codes order latest finer : List ℕ) (p : ℕ)
 
 -- all rows have new leaders: those on the set and the column
 pub all_refined : (r : Relation) (x : Attributes) (k : ℕ) (leaders codes order latest finer : List ℕ) (p : ℕ)
-    → AreLeaders r x leaders → AreGroups r (only k) codes → IsOrderOf codes order
+    → AreLeadersOn r x leaders → AreGroups r (only k) codes → IsOrderOf codes order
     → Refines (length leaders) (length order) (number_at leaders) (number_at codes) (number_at order) p
     (number_at latest) (number_at finer)
-    → length finer ≡ length leaders → p ≡ length order → AreLeaders r (union x (only k)) finer
+    → length finer ≡ length leaders → p ≡ length order → AreLeadersOn r (union x (only k)) finer
 all_refined r x k leaders codes order latest finer p led groups ordered refined size end = record {
   one_each = size ∙ led.one_each;
   within = λ i l. let (q, at, is) = position i l in
@@ -286,7 +286,7 @@ all_refined r x k leaders codes order latest finer p led groups ordered refined 
 
 -- all rows agree on nothing, so the first row leads them
 pub first_leads : (r : Relation) (x : Attributes) (leaders : List ℕ) → IsEmpty x → leaders ≡ replicate (length r) 0
-    → AreLeaders r x leaders
+    → AreLeadersOn r x leaders
 first_leads r x leaders empty is = record {
   one_each = ap length is ∙ length-replicate (length r) 0;
   within = λ i l. omega (arith, l, zero i l);
@@ -306,9 +306,9 @@ first_led n r table x leaders given rows empty is same = record {
 }
 
 -- a set looks at its members alone
-pub same_leaders : (r : Relation) (x y : Attributes) (leaders : List ℕ) → x ≡ y → AreLeaders r x leaders
-    → AreLeaders r y leaders
-same_leaders r x y leaders same led = subst (λ (z : Attributes). AreLeaders r z leaders) same led
+pub same_leaders : (r : Relation) (x y : Attributes) (leaders : List ℕ) → x ≡ y → AreLeadersOn r x leaders
+    → AreLeadersOn r y leaders
+same_leaders r x y leaders same led = subst (λ (z : Attributes). AreLeadersOn r z leaders) same led
 
 -- one order more
 pub orders_more : (P : ℕ → List ℕ → Type 0) (orders : List (List ℕ)) (order : List ℕ) (n : ℕ) → length orders ≡ n
@@ -336,8 +336,8 @@ pub leaders_with : (n : ℕ) (r : Relation) (t : CodeColumns) (set larger : Attr
     (codes row order finer : List ℕ) → IsTableOfRows n r t → position < n
     → codes ≡ codes_at t.codes position → order ≡ row → row ≡ slice_index_or t.orders.items position row
     → larger ≡ union set (only position)
-    → (AreGroups r (only position) codes → IsOrderOf codes order → AreLeaders r (union set (only position)) finer)
-    → AreLeaders r larger finer
+    → (AreGroups r (only position) codes → IsOrderOf codes order → AreLeadersOn r (union set (only position)) finer)
+    → AreLeadersOn r larger finer
 leaders_with n r t set larger position codes row order finer table low is_codes is_order is_row same refined =
     let within : position < length t.orders.items = omega (arith, low, table.one_each) in
     let order_is : order ≡ order_at t position = is_order ∙ is_row ∙ get_or_default t.orders.items position row [] within in
@@ -351,10 +351,10 @@ leaders_with n r t set larger position codes row order finer table low is_codes 
 pub led_with : (r : Relation) (t : CodeColumns) (set larger : Attributes) (position : ℕ) (leaders codes row order finer given : List ℕ)
     → AreLed r t set leaders → position < t.width → codes ≡ codes_at t.codes position → order ≡ row → row ≡ slice_index_or t.orders.items position row
     → larger ≡ union set (only position)
-    → (AreLeaders r set leaders → AreGroups r (only position) codes → IsOrderOf codes order → AreLeaders r (union set (only position)) finer)
+    → (AreLeadersOn r set leaders → AreGroups r (only position) codes → IsOrderOf codes order → AreLeadersOn r (union set (only position)) finer)
     → given ≡ finer → AreLed r t larger given
 led_with r t set larger position leaders codes row order finer given led low is_codes is_order is_row same refined is = record {
   table = led.table;
-  led = subst (λ (l : List ℕ). AreLeaders r larger l) (sym is)
+  led = subst (λ (l : List ℕ). AreLeadersOn r larger l) (sym is)
       (leaders_with t.width r t set larger position codes row order finer led.table low is_codes is_order is_row same (refined led.led));
 }

@@ -11,20 +11,20 @@ use Rattle.row_store.specs.Rows.{row_at}
 use Rattle.fd_discovery.specs.Headings.{is_open_at, FitsRow, RefusesRow, RefusesRows, RefusesHeader, RefusesRecords, IsHeadedWithin, IsRefusedWithin, names_under, rows_under}
 use Rattle.fd_discovery.specs.declared.headed_rows.Headed.{Headed}
 use Rattle.fd_discovery.specs.declared.headed_rows.Limits.{Limits}
-use Rattle.fd_discovery.specs.declared.refusal.DiscoverRefusal.{DiscoverRefusal}
-use Rattle.fd_discovery.specs.declared.refusal.DiscoverRefusal.TheVariants as refusal
+use Rattle.fd_discovery.specs.declared.refusal.HeaderRefusal.{HeaderRefusal}
+use Rattle.fd_discovery.specs.declared.refusal.HeaderRefusal.TheVariants as refusal
 
 at_most_not_beyond : (n most : ℕ) → n ≤ most → most < n → ⊥
 at_most_not_beyond n most within beyond = omega (arith, within, beyond)
 
 -- ---- columns
 -- the refusal of a field is that of a bad name, or of a name that stands before it
-abbrev SeenColumn : List (List ℕ) → List ℕ → ℕ → DiscoverRefusal → Type 0
+abbrev SeenColumn : List (List ℕ) → List ℕ → ℕ → HeaderRefusal → Type 0
 SeenColumn before field column e =
     ((e ≡ refusal.BadColumn column) × (IsName field → ⊥))
     ⊎ ((e ≡ refusal.DoubleColumn column) × IsName field × (attribute_named before field ≢ None))
 
-seen_column : (before : List (List ℕ)) (field : List ℕ) (column : ℕ) (e : DiscoverRefusal)
+seen_column : (before : List (List ℕ)) (field : List ℕ) (column : ℕ) (e : HeaderRefusal)
     → RefusesColumn before field column e → SeenColumn before field column e
 seen_column before field column (refusal.BadColumn c) p = inl (ap refusal.BadColumn p.0, p.1)
 seen_column before field column (refusal.DoubleColumn c) p = inr (ap refusal.DoubleColumn p.0, p.1, p.2)
@@ -35,7 +35,7 @@ seen_column before field column refusal.TooManyRows p = absurd p
 seen_column before field column refusal.OpenHeader p = absurd p
 seen_column before field column (refusal.OpenRow r) p = absurd p
 
-named_not_refused : (before : List (List ℕ)) (field : List ℕ) (column : ℕ) (e : DiscoverRefusal)
+named_not_refused : (before : List (List ℕ)) (field : List ℕ) (column : ℕ) (e : HeaderRefusal)
     → NamesColumn before field → RefusesColumn before field column e → ⊥
 named_not_refused before field column e named p = by (seen_column before field column e p)
   where
@@ -43,7 +43,7 @@ named_not_refused before field column e named p = by (seen_column before field c
     by (inl (is, bad)) = bad named.0
     by (inr (is, good, double)) = double named.1
 
-column_same : (before : List (List ℕ)) (field : List ℕ) (column : ℕ) (e f : DiscoverRefusal)
+column_same : (before : List (List ℕ)) (field : List ℕ) (column : ℕ) (e f : HeaderRefusal)
     → RefusesColumn before field column e → RefusesColumn before field column f → e ≡ f
 column_same before field column e f p q =
     by (seen_column before field column e p) (seen_column before field column f q)
@@ -54,7 +54,7 @@ column_same before field column e f p q =
     by (inr (is, good, double)) (inl (also, bad)) = absurd (bad good)
     by (inr (is, good, double)) (inr (also, fine, twice)) = is ∙ sym also
 
-field_same : (widest : ℕ) (header : List (List ℕ)) (e f : DiscoverRefusal) → RefusesField widest header e → RefusesField widest header f → e ≡ f
+field_same : (widest : ℕ) (header : List (List ℕ)) (e f : HeaderRefusal) → RefusesField widest header e → RefusesField widest header f → e ≡ f
 field_same widest header e f p q = elim (cases_lt p.at q.at) [
   | inl before ↦ absurd
       (named_not_refused (take p.at header) (field_at header p.at) (p.at + 1) e (q.before p.at before) p.refused)
@@ -69,26 +69,26 @@ field_same widest header e f p q = elim (cases_lt p.at q.at) [
 ]
 
 -- ---- headers
-header_same : (widest : ℕ) (header : List (List ℕ)) (e f : DiscoverRefusal) → RefusesColumnHeader widest header e → RefusesColumnHeader widest header f → e ≡ f
+header_same : (widest : ℕ) (header : List (List ℕ)) (e f : HeaderRefusal) → RefusesColumnHeader widest header e → RefusesColumnHeader widest header f → e ≡ f
 header_same widest header e f (inl p) (inl q) = p.0 ∙ sym q.0
 header_same widest header e f (inl p) (inr q) = absurd (at_most_not_beyond (length header) widest q.within_limit p.1)
 header_same widest header e f (inr p) (inl q) = absurd (at_most_not_beyond (length header) widest p.within_limit q.1)
 header_same widest header e f (inr p) (inr q) = field_same widest header e f p q
 
-header_not_refused : (widest : ℕ) (header : List (List ℕ)) (e : DiscoverRefusal) → IsHeaderWithin widest header → RefusesColumnHeader widest header e → ⊥
+header_not_refused : (widest : ℕ) (header : List (List ℕ)) (e : HeaderRefusal) → IsHeaderWithin widest header → RefusesColumnHeader widest header e → ⊥
 header_not_refused widest header e is (inl p) = at_most_not_beyond (length header) widest is.within_limit p.1
 header_not_refused widest header e is (inr p) =
     named_not_refused (take p.at header) (field_at header p.at) (p.at + 1) e (is.named p.at p.within) p.refused
 
 -- ---- rows
 -- the refusal of a record is that of an open quote, of its length, or that there are too many
-abbrev SeenRow : ℕ → Option ℕ → ℕ → ℕ → List (List ℕ) → DiscoverRefusal → Type 0
+abbrev SeenRow : ℕ → Option ℕ → ℕ → ℕ → List (List ℕ) → HeaderRefusal → Type 0
 SeenRow most unclosed n i fields e =
     ((e ≡ refusal.OpenRow (i + 1)) × (is_open_at unclosed i ≡ true))
     ⊎ ((e ≡ refusal.UnevenRow (i + 1)) × (is_open_at unclosed i ≡ false) × (length fields ≢ n))
     ⊎ ((e ≡ refusal.TooManyRows) × (is_open_at unclosed i ≡ false) × (length fields ≡ n) × (most ≤ i))
 
-seen_row : (most : ℕ) (unclosed : Option ℕ) (n i : ℕ) (fields : List (List ℕ)) (e : DiscoverRefusal)
+seen_row : (most : ℕ) (unclosed : Option ℕ) (n i : ℕ) (fields : List (List ℕ)) (e : HeaderRefusal)
     → RefusesRow most unclosed n i fields e → SeenRow most unclosed n i fields e
 seen_row most unclosed n i fields (refusal.OpenRow row) p = inl (ap refusal.OpenRow p.0, p.1)
 seen_row most unclosed n i fields (refusal.UnevenRow row) p = inr (inl (ap refusal.UnevenRow p.0, p.1, p.2))
@@ -99,7 +99,7 @@ seen_row most unclosed n i fields refusal.TooManyColumns p = absurd p
 seen_row most unclosed n i fields (refusal.BadColumn c) p = absurd p
 seen_row most unclosed n i fields (refusal.DoubleColumn c) p = absurd p
 
-row_same : (most : ℕ) (unclosed : Option ℕ) (n i : ℕ) (fields : List (List ℕ)) (e f : DiscoverRefusal)
+row_same : (most : ℕ) (unclosed : Option ℕ) (n i : ℕ) (fields : List (List ℕ)) (e f : HeaderRefusal)
     → RefusesRow most unclosed n i fields e → RefusesRow most unclosed n i fields f → e ≡ f
 row_same most unclosed n i fields e f p q = by (seen_row most unclosed n i fields e p) (seen_row most unclosed n i fields f q)
   where
@@ -114,7 +114,7 @@ row_same most unclosed n i fields e f p q = by (seen_row most unclosed n i field
     by (inr (inr (is, closed, even, many))) (inr (inl (also, shut, other))) = absurd (other even)
     by (inr (inr (is, closed, even, many))) (inr (inr (also, shut, same, more))) = is ∙ sym also
 
-fits_not_refused : (most : ℕ) (unclosed : Option ℕ) (n i : ℕ) (fields : List (List ℕ)) (e : DiscoverRefusal)
+fits_not_refused : (most : ℕ) (unclosed : Option ℕ) (n i : ℕ) (fields : List (List ℕ)) (e : HeaderRefusal)
     → FitsRow most unclosed n i fields → RefusesRow most unclosed n i fields e → ⊥
 fits_not_refused most unclosed n i fields e fits p = by (seen_row most unclosed n i fields e p)
   where
@@ -123,7 +123,7 @@ fits_not_refused most unclosed n i fields e fits p = by (seen_row most unclosed 
     by (inr (inl (is, closed, other))) = other fits.1
     by (inr (inr (is, closed, even, many))) = at_most_not_beyond most i many fits.2
 
-under_same : (most : ℕ) (unclosed : Option ℕ) (n : ℕ) (rows : Relation) (e f : DiscoverRefusal) → RefusesRows most unclosed n rows e
+under_same : (most : ℕ) (unclosed : Option ℕ) (n : ℕ) (rows : Relation) (e f : HeaderRefusal) → RefusesRows most unclosed n rows e
     → RefusesRows most unclosed n rows f → e ≡ f
 under_same most unclosed n rows e f p q = elim (cases_lt p.at q.at) [
   | inl before ↦ absurd (fits_not_refused most unclosed n p.at (row_at rows p.at) e (q.before p.at before) p.refused)
@@ -136,23 +136,23 @@ under_same most unclosed n rows e f p q = elim (cases_lt p.at q.at) [
   ]
 ]
 
-rows_not_refused : (most n : ℕ) (rows : Relation) (e : DiscoverRefusal) → IsOver n rows → length rows ≤ most
+rows_not_refused : (most n : ℕ) (rows : Relation) (e : HeaderRefusal) → IsOver n rows → length rows ≤ most
     → RefusesRows most None n rows e → ⊥
 rows_not_refused most n rows e over in_limit p =
     fits_not_refused most None n p.at (row_at rows p.at) e (refl, over p.at [] p.within, omega (arith, p.within, in_limit)) p.refused
 
 -- ---- headers that may have an open quote
-header_of_same : (widest : ℕ) (b : Bool) (header : List (List ℕ)) (e f : DiscoverRefusal) → RefusesHeader widest b header e → RefusesHeader widest b header f → e ≡ f
+header_of_same : (widest : ℕ) (b : Bool) (header : List (List ℕ)) (e f : HeaderRefusal) → RefusesHeader widest b header e → RefusesHeader widest b header f → e ≡ f
 header_of_same widest true header e f p q = p ∙ sym q
 header_of_same widest false header e f p q = header_same widest header e f p q
 
-closed_header_not_refused : (widest : ℕ) (b : Bool) (header : List (List ℕ)) (e : DiscoverRefusal) → b ≡ false → IsHeaderWithin widest header
+closed_header_not_refused : (widest : ℕ) (b : Bool) (header : List (List ℕ)) (e : HeaderRefusal) → b ≡ false → IsHeaderWithin widest header
     → RefusesHeader widest b header e → ⊥
 closed_header_not_refused widest b header e closed is p =
     header_not_refused widest header e is (subst (λ (t : Bool). RefusesHeader widest t header e) closed p)
 
 -- ---- records
-records_same : (limits : Limits) (unclosed : Option ℕ) (records : List (List (List ℕ))) (e f : DiscoverRefusal) → RefusesRecords limits unclosed records e
+records_same : (limits : Limits) (unclosed : Option ℕ) (records : List (List (List ℕ))) (e f : HeaderRefusal) → RefusesRecords limits unclosed records e
     → RefusesRecords limits unclosed records f → e ≡ f
 records_same limits unclosed [] e f p q = p ∙ sym q
 records_same limits unclosed (header ∷ rows) e f (inl p) (inl q) = header_of_same limits.columns (is_open unclosed 1) header e f p q
@@ -160,15 +160,15 @@ records_same limits unclosed (header ∷ rows) e f (inl p) (inr q) = absurd (clo
 records_same limits unclosed (header ∷ rows) e f (inr p) (inl q) = absurd (closed_header_not_refused limits.columns (is_open unclosed 1) header f p.0 p.1 q)
 records_same limits unclosed (header ∷ rows) e f (inr p) (inr q) = under_same limits.rows unclosed (length header) rows e f p.2 q.2
 
-pub refused_same : (limits : Limits) (text : List ℕ) (e f : DiscoverRefusal) → IsRefusedWithin limits text e → IsRefusedWithin limits text f → e ≡ f
+pub refused_same : (limits : Limits) (text : List ℕ) (e f : HeaderRefusal) → IsRefusedWithin limits text e → IsRefusedWithin limits text f → e ≡ f
 refused_same limits text e f p q = records_same limits (open_record text) (records_of text) e f p q
 
-not_refused : (limits : Limits) (names : List (List ℕ)) (rows : Relation) (e : DiscoverRefusal) → IsHeaderWithin limits.columns names
+not_refused : (limits : Limits) (names : List (List ℕ)) (rows : Relation) (e : HeaderRefusal) → IsHeaderWithin limits.columns names
     → IsOver (length names) rows → length rows ≤ limits.rows → RefusesRecords limits None (names ∷ rows) e → ⊥
 not_refused limits names rows e header even in_limit (inl p) = header_not_refused limits.columns names e header p
 not_refused limits names rows e header even in_limit (inr p) = rows_not_refused limits.rows (length names) rows e even in_limit p.2
 
-pub never_both : (limits : Limits) (text : List ℕ) (h : Headed) (e : DiscoverRefusal) → IsHeadedWithin limits text h → IsRefusedWithin limits text e → ⊥
+pub never_both : (limits : Limits) (text : List ℕ) (h : Headed) (e : HeaderRefusal) → IsHeadedWithin limits text h → IsRefusedWithin limits text e → ⊥
 never_both limits text h e is p =
     let none : open_record text ≡ None = ap (λ (b : Bool). if b then Some (length (records_of text)) else None) is.closed in
     not_refused limits (names_under h) (rows_under h) e is.header is.even is.within_limit

@@ -8,16 +8,16 @@ use Rattle.dep_model.specs.declared.naming.Naming.{Naming}
 use Rattle.dep_model.specs.declared.naming.Naming.TheVariants.{Bare, Any}
 use Rattle.schema_grammar.specs.Words.{is_reserved}
 use Rattle.schema_grammar.specs.declared.format.Format.TheVariants as format
-use Rattle.fd_discovery.specs.declared.headed_rows.TheConstants.{WIDEST_HEADED}
-use Rattle.fd_discovery.specs.declared.refusal.DiscoverRefusal.{DiscoverRefusal}
-use Rattle.fd_discovery.specs.declared.refusal.DiscoverRefusal.TheVariants as refusal
+use Rattle.fd_discovery.specs.declared.limits.TheConstants.{WIDEST_HEADED}
+use Rattle.fd_discovery.specs.declared.refusal.HeaderRefusal.{HeaderRefusal}
+use Rattle.fd_discovery.specs.declared.refusal.HeaderRefusal.TheVariants as refusal
 
 -- a field names a column: it is a name, and no column before it has this name, ASCII case aside
 abbrev pub NamesColumn : List (List ℕ) → List ℕ → Type 0
 NamesColumn before field = IsName field × (attribute_named before field ≡ None)
 
 -- why a field does not name the column of this number
-abbrev pub RefusesColumn : List (List ℕ) → List ℕ → ℕ → DiscoverRefusal → Type 0
+abbrev pub RefusesColumn : List (List ℕ) → List ℕ → ℕ → HeaderRefusal → Type 0
 RefusesColumn before field column (refusal.BadColumn c) = (c ≡ column) × (IsName field → ⊥)
 RefusesColumn before field column (refusal.DoubleColumn c) =
     (c ≡ column) × IsName field × (attribute_named before field ≢ None)
@@ -46,7 +46,7 @@ abbrev pub IsColumnHeader : List (List ℕ) → Type 0
 IsColumnHeader header = IsHeaderWithin WIDEST_HEADED header
 
 -- the first field that does not name its column is refused so
-pub record RefusesField (widest : ℕ) (header : List (List ℕ)) (e : DiscoverRefusal) : Type 0 where
+pub record RefusesField (widest : ℕ) (header : List (List ℕ)) (e : HeaderRefusal) : Type 0 where
   pub within_limit : length header ≤ widest
   pub at : ℕ
   pub within : at < length header
@@ -54,7 +54,7 @@ pub record RefusesField (widest : ℕ) (header : List (List ℕ)) (e : DiscoverR
   pub refused : RefusesColumn (take at header) (field_at header at) (at + 1) e
 
 -- why a record is no header: it is too wide, or a field of it is refused
-abbrev pub RefusesColumnHeader : ℕ → List (List ℕ) → DiscoverRefusal → Type 0
+abbrev pub RefusesColumnHeader : ℕ → List (List ℕ) → HeaderRefusal → Type 0
 RefusesColumnHeader widest header e =
     ((e ≡ refusal.TooManyColumns) × (widest < length header)) ⊎ RefusesField widest header e
 

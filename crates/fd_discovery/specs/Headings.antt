@@ -10,9 +10,9 @@ use Rattle.dep_model.specs.Tuples.{Relation, IsOver}
 use Rattle.fd_discovery.specs.Headers.{IsHeaderWithin, RefusesColumnHeader}
 use Rattle.fd_discovery.specs.declared.headed_rows.Headed.{Headed}
 use Rattle.fd_discovery.specs.declared.headed_rows.Limits.{Limits}
-use Rattle.fd_discovery.specs.declared.headed_rows.TheConstants.{MOST_HEADED_ROWS, WIDEST_HEADED}
-use Rattle.fd_discovery.specs.declared.refusal.DiscoverRefusal.{DiscoverRefusal}
-use Rattle.fd_discovery.specs.declared.refusal.DiscoverRefusal.TheVariants as refusal
+use Rattle.fd_discovery.specs.declared.limits.TheConstants.{MOST_HEADED_ROWS, WIDEST_HEADED}
+use Rattle.fd_discovery.specs.declared.refusal.HeaderRefusal.{HeaderRefusal}
+use Rattle.fd_discovery.specs.declared.refusal.HeaderRefusal.TheVariants as refusal
 
 -- the names of the columns
 abbrev pub names_under : Headed → List (List ℕ)
@@ -48,7 +48,7 @@ FitsRow most unclosed n i fields =
     (is_open_at unclosed i ≡ false) × (length fields ≡ n) × (i < most)
 
 -- why it is none: an open quote comes before all else
-abbrev pub RefusesRow : ℕ → Option ℕ → ℕ → ℕ → List (List ℕ) → DiscoverRefusal → Type 0
+abbrev pub RefusesRow : ℕ → Option ℕ → ℕ → ℕ → List (List ℕ) → HeaderRefusal → Type 0
 RefusesRow most unclosed n i fields (refusal.OpenRow row) = (row ≡ i + 1) × (is_open_at unclosed i ≡ true)
 RefusesRow most unclosed n i fields (refusal.UnevenRow row) =
     (row ≡ i + 1) × (is_open_at unclosed i ≡ false) × (length fields ≢ n)
@@ -65,7 +65,7 @@ abbrev pub AreRows : ℕ → Option ℕ → ℕ → Relation → ℕ → Type 0
 AreRows most unclosed n records m = (i : ℕ) → i < m → FitsRow most unclosed n i (row_at records i)
 
 -- the first record below a header of n fields that is no row is refused so
-pub record RefusesRows (most : ℕ) (unclosed : Option ℕ) (n : ℕ) (records : Relation) (e : DiscoverRefusal)
+pub record RefusesRows (most : ℕ) (unclosed : Option ℕ) (n : ℕ) (records : Relation) (e : HeaderRefusal)
     : Type 0 where
   pub at : ℕ
   pub within : at < length records
@@ -73,12 +73,12 @@ pub record RefusesRows (most : ℕ) (unclosed : Option ℕ) (n : ℕ) (records :
   pub refused : RefusesRow most unclosed n at (row_at records at) e
 
 -- why a header that may have an open quote is none
-abbrev pub RefusesHeader : ℕ → Bool → List (List ℕ) → DiscoverRefusal → Type 0
+abbrev pub RefusesHeader : ℕ → Bool → List (List ℕ) → HeaderRefusal → Type 0
 RefusesHeader widest true header e = e ≡ refusal.OpenHeader
 RefusesHeader widest false header e = RefusesColumnHeader widest header e
 
 -- why records, of which one may have an open quote, are no rows under a header
-abbrev pub RefusesRecords : Limits → Option ℕ → List (List (List ℕ)) → DiscoverRefusal → Type 0
+abbrev pub RefusesRecords : Limits → Option ℕ → List (List (List ℕ)) → HeaderRefusal → Type 0
 RefusesRecords limits unclosed [] e = e ≡ refusal.NoHeader
 RefusesRecords limits unclosed (header ∷ rows) e =
     RefusesHeader limits.columns (is_open unclosed 1) header e
@@ -86,11 +86,11 @@ RefusesRecords limits unclosed (header ∷ rows) e =
     × RefusesRows limits.rows unclosed (length header) rows e)
 
 -- why a text has no rows under a header within these limits
-abbrev pub IsRefusedWithin : Limits → List ℕ → DiscoverRefusal → Type 0
+abbrev pub IsRefusedWithin : Limits → List ℕ → HeaderRefusal → Type 0
 IsRefusedWithin limits text e = RefusesRecords limits (open_record text) (records_of text) e
 
 -- the same, of a text whose dependencies are looked for
-abbrev pub IsRefusedDiscovery : List ℕ → DiscoverRefusal → Type 0
+abbrev pub IsRefusedDiscovery : List ℕ → HeaderRefusal → Type 0
 IsRefusedDiscovery text e = IsRefusedWithin discovered text e
 
 -- the header of a text was read, and the records below it are still to come
@@ -103,6 +103,6 @@ pub record ReadsNames (widest : ℕ) (unclosed : Option ℕ) (rs : List (List (L
   pub left : HasLeft reader records
 
 -- there is no header, or it is refused
-abbrev pub RefusesNames : ℕ → Option ℕ → List (List (List ℕ)) → DiscoverRefusal → Type 0
+abbrev pub RefusesNames : ℕ → Option ℕ → List (List (List ℕ)) → HeaderRefusal → Type 0
 RefusesNames widest unclosed [] e = e ≡ refusal.NoHeader
 RefusesNames widest unclosed (header ∷ records) e = RefusesHeader widest (is_open unclosed 1) header e

@@ -9,7 +9,7 @@ use Rattle.csv_rows.specs.Interning.{IsInterned, codes_at}
 use Rattle.fd_discovery.specs.declared.table.CodeColumns.{CodeColumns}
 
 -- each row's leader on a set: one row that agrees with it there, the same for all rows that agree
-pub record AreLeaders (r : Relation) (x : Attributes) (leaders : List ℕ) : Type 0 where
+pub record AreLeadersOn (r : Relation) (x : Attributes) (leaders : List ℕ) : Type 0 where
   pub one_each : length leaders ≡ length r
   pub within : (i : ℕ) → i < length r → number_at leaders i < length r
   pub agrees : (i : ℕ) → i < length r → AgreeOn x (row_at r i) (row_at r (number_at leaders i))
@@ -37,7 +37,7 @@ pub record IsTableOfRows (n : ℕ) (r : Relation) (t : CodeColumns) : Type 0 whe
 -- a table of rows, and their leaders on a set
 pub record AreLed (r : Relation) (t : CodeColumns) (x : Attributes) (leaders : List ℕ) : Type 0 where
   pub table : IsTableOfRows t.width r t
-  pub led : AreLeaders r x leaders
+  pub led : AreLeadersOn r x leaders
 
 -- the first n numbers of a list, each with its position
 pub record ArePaired (numbers : List ℕ) (n : ℕ) (pairs : List (ℕ × ℕ)) : Type 0 where

@@ -2,11 +2,11 @@
 -- the line that refuses such a file.
 use Rattle.std.specs.Prelude.{ℕ, List, ◌++◌, codes}
 use Rattle.std.specs.Fmt.{decimal}
-use Rattle.fd_discovery.specs.declared.refusal.DiscoverRefusal.{DiscoverRefusal}
-use Rattle.fd_discovery.specs.declared.refusal.DiscoverRefusal.TheVariants as refusal
+use Rattle.fd_discovery.specs.declared.refusal.HeaderRefusal.{HeaderRefusal}
+use Rattle.fd_discovery.specs.declared.refusal.HeaderRefusal.TheVariants as refusal
 
 -- the number of a refusal
-abbrev pub headed_refusal_number : DiscoverRefusal → ℕ
+abbrev pub headed_refusal_number : HeaderRefusal → ℕ
 headed_refusal_number refusal.NoHeader = 1
 headed_refusal_number refusal.TooManyColumns = 2
 headed_refusal_number (refusal.BadColumn column) = 3
@@ -17,7 +17,7 @@ headed_refusal_number refusal.OpenHeader = 8
 headed_refusal_number (refusal.OpenRow row) = 8
 
 -- a refusal in words
-abbrev pub headed_reason_text : DiscoverRefusal → List ℕ
+abbrev pub headed_reason_text : HeaderRefusal → List ℕ
 headed_reason_text refusal.NoHeader = codes "no header"
 headed_reason_text refusal.TooManyColumns = codes "too many columns"
 headed_reason_text (refusal.BadColumn column) = codes "bad column " ++ decimal column

@@ -4,7 +4,7 @@ ghost use Rattle.csv.specs.Records.{fields_of};
 ghost use Rattle.dep_model.specs.Failures.{RefusesAs};
 ghost use Rattle.fd_discovery.specs.Headers.{NamesColumn, RefusesColumn, IsHeaderWithin, RefusesColumnHeader, is_plain_name, naming_under};
 
-use crate::DiscoverRefusal;
+use crate::HeaderRefusal;
 use csv::ByteRecord;
 use csv_rows::field;
 use dep_model::{Failure, Name, Naming, is_bare_name};
@@ -17,13 +17,13 @@ pub fn column_names(
     alloc: Global,
     widest: u8,
     fields: &ByteRecord,
-) -> Result<Vec<Name>, Failure<DiscoverRefusal>>
+) -> Result<Vec<Name>, Failure<HeaderRefusal>>
     ensures names { IfOk result (λ names. names.items ≡ fields_of fields.now) }
     ensures header { IfOk result (λ _. IsHeaderWithin widest (fields_of fields.now)) }
     ensures err { IfErr result (RefusesAs (RefusesColumnHeader widest (fields_of fields.now))) }
 {
     if fields.len() > widest as usize {
-        return Err(Failure::Refused(DiscoverRefusal::TooManyColumns));
+        return Err(Failure::Refused(HeaderRefusal::TooManyColumns));
     }
     let mut names = Vec::new(alloc);
     for i in 0..fields.len() {
@@ -37,15 +37,15 @@ pub fn column_names(
 }
 
 // The name of a column, from 1, where those before it have these names.
-fn column_name(before: &[Name], field: &[u8], column: u32) -> Result<Name, DiscoverRefusal>
+fn column_name(before: &[Name], field: &[u8], column: u32) -> Result<Name, HeaderRefusal>
     ensures name { IfOk result (λ name. name ≡ field.now) }
     ensures fits { IfOk result (λ _. NamesColumn before.now field.now) }
     ensures err { IfErr result (RefusesColumn before.now field.now column) }
 {
     match Name::new(field) {
-        None => Err(DiscoverRefusal::BadColumn { column }),
+        None => Err(HeaderRefusal::BadColumn { column }),
         Some(name) => match position_among(before, field) {
-            Some(_) => Err(DiscoverRefusal::DoubleColumn { column }),
+            Some(_) => Err(HeaderRefusal::DoubleColumn { column }),
             None => Ok(name),
         },
     }

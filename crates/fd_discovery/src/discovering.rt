@@ -6,7 +6,7 @@ ghost use Rattle.dep_model.specs.Implication.{Implies};
 ghost use Rattle.dep_model.specs.Tuples.{IsOver};
 ghost use Rattle.fd_discovery.specs.Minimal.{AreAllMinimal};
 
-use crate::headed_rows::WIDEST_HEADED;
+use crate::limits::WIDEST_HEADED;
 use crate::searching::{add_minimal, search_above};
 use crate::table::CodeColumns;
 use attr_sets::AttrSet;

@@ -5,25 +5,14 @@ ghost use Rattle.dep_model.specs.Failures.{RefusesAs};
 ghost use Rattle.dep_model.specs.Tuples.{IsOver};
 ghost use Rattle.fd_discovery.specs.Headings.{IsHeadedWithin, IsRefusedWithin, is_open_at, names_under, FitsRow, RefusesRow, RefusesRows, ReadsNames, RefusesNames};
 
-use crate::DiscoverRefusal;
+use crate::limits::MOST_HEADED_ROWS;
+use crate::HeaderRefusal;
 use crate::columns::column_names;
 use csv::{ByteRecord, Reader};
 use csv_rows::{field, is_open, open_reader, open_record, take_record};
 use dep_model::{Failure, Name, OutOfMemory};
 use row_store::{FlatValues, Rows};
 use std::alloc::Global;
-
-/// The most columns of a text whose dependencies are looked for.
-pub const WIDEST_HEADED: u8 = 64;
-
-/// The most rows of such a text.
-pub const MOST_HEADED_ROWS: u32 = 10_000_000;
-
-/// The most columns of a text of which all that its rows obey is looked for.
-pub const WIDEST_WITH_ALL: u8 = 10;
-
-/// The most rows of such a text.
-pub const MOST_ROWS_WITH_ALL: u32 = 100_000;
 
 /// How many columns and rows a text may have.
 #[derive(Clone, Copy, Debug)]
@@ -43,14 +32,14 @@ pub struct Headed {
 
 /// The rows of a CSV text, at most so many, under a header of at most so many different names, which may be any
 /// names. The records are those that `csv_rows` reads, after one byte-order mark. Of more than one refusal the
-/// first in the order of `DiscoverRefusal` decides, of the header's fields the first from the left, of the rows
+/// first in the order of `HeaderRefusal` decides, of the header's fields the first from the left, of the rows
 /// the first from the top; of one row `UnevenRow` comes before `TooManyRows`. But an open quote comes right after
 /// `NoHeader`, and in a row before all else.
 pub fn read_headed(
     alloc: Global,
     limits: Limits,
     text: &[u8],
-) -> Result<Headed, Failure<DiscoverRefusal>>
+) -> Result<Headed, Failure<HeaderRefusal>>
     requires rows { limits.rows ≤ MOST_HEADED_ROWS }
     ensures ok { IfOk result (λ headed. IsHeadedWithin limits text.now headed) }
     ensures any_name { IfOk result (λ headed. 0 < length (names_under headed)) }
@@ -81,7 +70,7 @@ fn read_names(
     widest: u8,
     unclosed: Option<usize>,
     reader: &mut Reader<&[u8]>,
-) -> Result<Vec<Name>, Failure<DiscoverRefusal>>
+) -> Result<Vec<Name>, Failure<HeaderRefusal>>
     ensures ok { (rs : List (List (List ℕ))) → HasLeft reader.old rs
         → IfOk result (λ names. ReadsNames widest unclosed rs reader.new names.items) }
     ensures err { (rs : List (List (List ℕ))) → HasLeft reader.old rs
@@ -89,9 +78,9 @@ fn read_names(
 {
     let mut fields = ByteRecord::new(alloc);
     match take_record(reader, &mut fields) {
-        Ok(true) if is_open(unclosed, 1) => Err(Failure::Refused(DiscoverRefusal::OpenHeader)),
+        Ok(true) if is_open(unclosed, 1) => Err(Failure::Refused(HeaderRefusal::OpenHeader)),
         Ok(true) => column_names(alloc, widest, &fields),
-        Ok(false) => Err(Failure::Refused(DiscoverRefusal::NoHeader)),
+        Ok(false) => Err(Failure::Refused(HeaderRefusal::NoHeader)),
         Err(_) => Err(Failure::OutOfMemory),
     }
 }
@@ -104,7 +93,7 @@ fn read_body(
     unclosed: Option<usize>,
     reader: &mut Reader<&[u8]>,
     room: usize,
-) -> Result<Rows, Failure<DiscoverRefusal>>
+) -> Result<Rows, Failure<HeaderRefusal>>
     requires most { most ≤ MOST_HEADED_ROWS }
     ensures records { (rs : List (List (List ℕ))) → HasLeft reader.old rs
         → IfOk result (λ rows. rows ≡ rs) }
@@ -140,18 +129,18 @@ fn row_refusal(
     unclosed: Option<usize>,
     count: u32,
     fields: &ByteRecord,
-) -> Option<DiscoverRefusal>
+) -> Option<HeaderRefusal>
     requires most { most ≤ MOST_HEADED_ROWS }
     requires count { count ≤ most }
     ensures refusal { IfSome result (RefusesRow most unclosed columns count (fields_of fields.now)) }
     ensures none { result ≡ None → FitsRow most unclosed columns count (fields_of fields.now) }
 {
     if is_open(unclosed, count as usize + 2) {
-        Some(DiscoverRefusal::OpenRow { row: count + 1 })
+        Some(HeaderRefusal::OpenRow { row: count + 1 })
     } else if fields.len() != columns {
-        Some(DiscoverRefusal::UnevenRow { row: count + 1 })
+        Some(HeaderRefusal::UnevenRow { row: count + 1 })
     } else if count >= most {
-        Some(DiscoverRefusal::TooManyRows)
+        Some(HeaderRefusal::TooManyRows)
     } else {
         None
     }

@@ -3,7 +3,7 @@
 ghost use Rattle.std.specs.Prelude.{◌≡◌, List, ℕ};
 ghost use Rattle.fd_discovery.specs.declared.headed_rows.Headed.{Headed};
 ghost use Rattle.fd_discovery.specs.declared.headed_rows.Limits.{Limits};
-ghost use Rattle.fd_discovery.specs.declared.refusal.DiscoverRefusal.{DiscoverRefusal};
+ghost use Rattle.fd_discovery.specs.declared.refusal.HeaderRefusal.{HeaderRefusal};
 ghost use Rattle.fd_discovery.specs.Headings.{IsHeadedWithin, IsRefusedWithin, names_under, rows_under};
 
 /// Within limits a text has one header with its rows, or one refusal: never two lists of
@@ -13,8 +13,8 @@ pub fn one_reading()
         → IsHeadedWithin limits text other → names_under one ≡ names_under other }
     ensures rows { (limits : Limits) (text : List ℕ) (one other : Headed) → IsHeadedWithin limits text one
         → IsHeadedWithin limits text other → rows_under one ≡ rows_under other }
-    ensures refusal { (limits : Limits) (text : List ℕ) (one other : DiscoverRefusal) → IsRefusedWithin limits text one
+    ensures refusal { (limits : Limits) (text : List ℕ) (one other : HeaderRefusal) → IsRefusedWithin limits text one
         → IsRefusedWithin limits text other → one ≡ other }
-    ensures never_both { (limits : Limits) (text : List ℕ) (headed : Headed) (why : DiscoverRefusal)
+    ensures never_both { (limits : Limits) (text : List ℕ) (headed : Headed) (why : HeaderRefusal)
         → IsHeadedWithin limits text headed → IsRefusedWithin limits text why → ⊥ }
 {}

@@ -3,7 +3,7 @@ ghost use Rattle.attr_sets.specs.Attributes.{Attributes, only, union};
 ghost use Rattle.csv_rows.specs.Numberings.{AreGroups};
 ghost use Rattle.dep_model.specs.Dependencies.{ObeysFd};
 ghost use Rattle.dep_model.specs.Tuples.{Relation};
-ghost use Rattle.fd_discovery.specs.Leaders.{AreLeaders, IsOrderOf};
+ghost use Rattle.fd_discovery.specs.Leaders.{AreLeadersOn, IsOrderOf};
 
 use dep_model::OutOfMemory;
 use std::alloc::Global;
@@ -23,9 +23,9 @@ pub fn refine_leaders(
     requires same_length { length codes.now ≡ length leaders.now }
     requires leaders { All (λ row. row < length leaders.now) leaders.now }
     requires order { All (λ row. row < length leaders.now) order.now }
-    ensures leaders { (r : Relation) (x : Attributes) (k : ℕ) → AreLeaders r x leaders.now
+    ensures leaders { (r : Relation) (x : Attributes) (k : ℕ) → AreLeadersOn r x leaders.now
         → AreGroups r (only k) codes.now → IsOrderOf codes.now order.now
-        → IfOk result (λ finer. AreLeaders r (union x (only k)) finer.items) }
+        → IfOk result (λ finer. AreLeadersOn r (union x (only k)) finer.items) }
 {
     let mut latest = Vec::from_slice(alloc, leaders)?;
     let mut finer = Vec::from_slice(alloc, leaders)?;
@@ -44,7 +44,7 @@ pub fn refine_leaders(
 pub fn determines(leaders: &[u32], codes: &[u32]) -> bool
     requires same_length { length codes.now ≡ length leaders.now }
     requires leaders { All (λ row. row < length leaders.now) leaders.now }
-    ensures obeys { (r : Relation) (x : Attributes) (k : ℕ) → AreLeaders r x leaders.now
+    ensures obeys { (r : Relation) (x : Attributes) (k : ℕ) → AreLeadersOn r x leaders.now
         → AreGroups r (only k) codes.now → IsTrue result ↔ ObeysFd x (only k) r }
 {
     for row in 0..leaders.len() {

@@ -16,6 +16,7 @@
 mod columns;
 mod discovering;
 mod headed_rows;
+mod limits;
 mod laws;
 mod leaders;
 mod ordering;
@@ -25,13 +26,11 @@ mod table;
 
 pub use columns::naming_under;
 pub use discovering::discover;
-pub use headed_rows::{
-    Headed, Limits, MOST_HEADED_ROWS, MOST_ROWS_WITH_ALL, WIDEST_HEADED, WIDEST_WITH_ALL,
-    read_headed,
-};
+pub use headed_rows::{Headed, Limits, read_headed};
 pub use laws::one_reading;
 pub use leaders::refine_leaders;
 pub use ordering::RowOrder;
-pub use refusal::DiscoverRefusal;
+pub use refusal::HeaderRefusal;
 pub use searching::attributes_not_given;
 pub use table::CodeColumns;
+pub use limits::{MOST_HEADED_ROWS, MOST_ROWS_WITH_ALL, WIDEST_HEADED, WIDEST_WITH_ALL};

@@ -6,7 +6,7 @@ use std::fmt;
 
 /// Why a CSV text is refused whose columns are named by its header alone.
 #[derive(Clone, Copy, Debug, PartialEq, Eq, Hash)]
-pub enum DiscoverRefusal {
+pub enum HeaderRefusal {
     /// 1: the text has no record.
     NoHeader,
     /// 2: the header has more columns than are looked at.
@@ -25,39 +25,39 @@ pub enum DiscoverRefusal {
     OpenRow { row: u32 },
 }
 
-impl DiscoverRefusal {
+impl HeaderRefusal {
     /// The number by which the documents and the program name it.
     pub fn number(self) -> u32
         ensures number { result ≡ headed_refusal_number self }
     {
         match self {
-            DiscoverRefusal::NoHeader => 1,
-            DiscoverRefusal::TooManyColumns => 2,
-            DiscoverRefusal::BadColumn { .. } => 3,
-            DiscoverRefusal::DoubleColumn { .. } => 4,
-            DiscoverRefusal::UnevenRow { .. } => 5,
-            DiscoverRefusal::TooManyRows => 6,
-            DiscoverRefusal::OpenHeader => 8,
-            DiscoverRefusal::OpenRow { .. } => 8,
+            HeaderRefusal::NoHeader => 1,
+            HeaderRefusal::TooManyColumns => 2,
+            HeaderRefusal::BadColumn { .. } => 3,
+            HeaderRefusal::DoubleColumn { .. } => 4,
+            HeaderRefusal::UnevenRow { .. } => 5,
+            HeaderRefusal::TooManyRows => 6,
+            HeaderRefusal::OpenHeader => 8,
+            HeaderRefusal::OpenRow { .. } => 8,
         }
     }
 }
 
-impl fmt::Display for DiscoverRefusal {
+impl fmt::Display for HeaderRefusal {
     ghost output = { λ refusal. Some (headed_reason_text refusal) };
 
     fn fmt<W: fmt::Write>(&self, f: &mut fmt::Formatter<W>) -> fmt::Result {
         match self {
-            DiscoverRefusal::NoHeader => f.write_str("no header"),
-            DiscoverRefusal::TooManyColumns => f.write_str("too many columns"),
-            DiscoverRefusal::BadColumn { column } => write!(f, "bad column {column}"),
-            DiscoverRefusal::DoubleColumn { column } => write!(f, "column {column} repeated"),
-            DiscoverRefusal::UnevenRow { row } => write!(f, "row {row} has the wrong length"),
-            DiscoverRefusal::TooManyRows => f.write_str("too many rows"),
-            DiscoverRefusal::OpenHeader => f.write_str("the header has an open quote"),
-            DiscoverRefusal::OpenRow { row } => write!(f, "row {row} has an open quote"),
+            HeaderRefusal::NoHeader => f.write_str("no header"),
+            HeaderRefusal::TooManyColumns => f.write_str("too many columns"),
+            HeaderRefusal::BadColumn { column } => write!(f, "bad column {column}"),
+            HeaderRefusal::DoubleColumn { column } => write!(f, "column {column} repeated"),
+            HeaderRefusal::UnevenRow { row } => write!(f, "row {row} has the wrong length"),
+            HeaderRefusal::TooManyRows => f.write_str("too many rows"),
+            HeaderRefusal::OpenHeader => f.write_str("the header has an open quote"),
+            HeaderRefusal::OpenRow { row } => write!(f, "row {row} has an open quote"),
         }
     }
 }
 
-impl Error for DiscoverRefusal {}
+impl Error for HeaderRefusal {}

@@ -15,10 +15,10 @@ use Rattle.dep_model.specs.Dependencies.{Dependency, fd}
 use Rattle.normal_forms.proofs.SearchLemmas.{IsPassed}
 use Rattle.fd_projection.specs.declared.refusal.TheConstants.{MOST_LISTED}
 use Rattle.fd_projection.specs.Projections.{IsMinimalWithin, IsMinimalFd, Precedes}
-use Rattle.fd_projection.specs.Closures.{IsTriedMinimal, AreFound, AreFoundWithin, TriedBefore, TriedUpTo}
+use Rattle.fd_projection.specs.Closures.{IsTriedMinimal, AreTriedMinimal, AreFoundWithin, TriedBefore, TriedUpTo}
 
 -- ---- one more
-pub found_none : (n : ℕ) (ds : List Dependency) (set : Attributes) (T : Attributes → ℕ → Type 0) → ((v : Attributes) (b : ℕ) → T v b → ⊥) → AreFound n ds set T []
+pub found_none : (n : ℕ) (ds : List Dependency) (set : Attributes) (T : Attributes → ℕ → Type 0) → ((v : Attributes) (b : ℕ) → T v b → ⊥) → AreTriedMinimal n ds set T []
 found_none n ds set T nothing = record {
   each = All-nil (IsTriedMinimal n ds set T);
   all = λ x a minimal tried. absurd (nothing x a tried);
@@ -26,9 +26,9 @@ found_none n ds set T nothing = record {
 }
 
 -- the same list, where what was tried beside has nothing minimal
-pub found_more : (n : ℕ) (ds : List Dependency) (set : Attributes) (T U : Attributes → ℕ → Type 0) (found : List Dependency) → AreFound n ds set T found
+pub found_more : (n : ℕ) (ds : List Dependency) (set : Attributes) (T U : Attributes → ℕ → Type 0) (found : List Dependency) → AreTriedMinimal n ds set T found
     → ((v : Attributes) (b : ℕ) → T v b → U v b) → ((v : Attributes) (b : ℕ) → IsMinimalWithin n ds set v b → U v b → T v b)
-    → AreFound n ds set U found
+    → AreTriedMinimal n ds set U found
 found_more n ds set T U found before on back = record {
   each = λ k d l. let one = before.each k d l in record {
     left = one.left;
@@ -42,11 +42,11 @@ found_more n ds set T U found before on back = record {
 }
 
 pub found_push : (n : ℕ) (ds : List Dependency) (set : Attributes) (T U : Attributes → ℕ → Type 0) (found : List Dependency) (x : Attributes) (a : ℕ)
-    → AreFound n ds set T found → IsMinimalWithin n ds set x a
+    → AreTriedMinimal n ds set T found → IsMinimalWithin n ds set x a
     → ((v : Attributes) (b : ℕ) → T v b → Precedes (fd v (only b)) (fd x (only a)))
     → ((v : Attributes) (b : ℕ) → T v b → U v b) → U x a
     → ((v : Attributes) (b : ℕ) → U v b → T v b ⊎ ((v ≡ x) × (b ≡ a)))
-    → AreFound n ds set U (found ++ fd x (only a) ∷ [])
+    → AreTriedMinimal n ds set U (found ++ fd x (only a) ∷ [])
 found_push n ds set T U found x a before is earlier on here cases =
     let new : Dependency = fd x (only a) in
     record {
@@ -78,14 +78,14 @@ TriedTo x m v b = IsBefore v x ⊎ ((v ≡ x) × (b < m))
 only_before : (b m : ℕ) → b < m → IsBefore (only b) (only m)
 only_before b m less = (m, grind (arith, nat_tests, less), grind (arith, nat_tests), λ j above. grind (arith, nat_tests, less, above))
 
-pub tried_begin : (n : ℕ) (ds : List Dependency) (set x : Attributes) (found : List Dependency) → AreFound n ds set (TriedBefore x) found
-    → AreFound n ds set (TriedTo x 0) found
+pub tried_begin : (n : ℕ) (ds : List Dependency) (set x : Attributes) (found : List Dependency) → AreTriedMinimal n ds set (TriedBefore x) found
+    → AreTriedMinimal n ds set (TriedTo x 0) found
 tried_begin n ds set x found before =
     found_more n ds set (TriedBefore x) (TriedTo x 0) found before (λ v b earlier. inl earlier)
     (λ v b minimal tried. ⊎_elim (λ (earlier : IsBefore v x). earlier) (λ (no : (v ≡ x) × (b < 0)). absurd (omega (arith, no.1))) tried)
 
 pub tried_push : (n : ℕ) (ds : List Dependency) (set x : Attributes) (m : ℕ) (found : List Dependency) → IsMinimalWithin n ds set x m
-    → AreFound n ds set (TriedTo x m) found → AreFound n ds set (TriedTo x (m + 1)) (found ++ fd x (only m) ∷ [])
+    → AreTriedMinimal n ds set (TriedTo x m) found → AreTriedMinimal n ds set (TriedTo x (m + 1)) (found ++ fd x (only m) ∷ [])
 tried_push n ds set x m found is before =
     found_push n ds set (TriedTo x m) (TriedTo x (m + 1)) found x m before is
     (λ v b tried. ⊎_elim
@@ -106,7 +106,7 @@ tried_push n ds set x m found is before =
     tried)
 
 pub tried_skip : (n : ℕ) (ds : List Dependency) (set x : Attributes) (m : ℕ) (found : List Dependency) → (IsMinimalWithin n ds set x m → ⊥)
-    → AreFound n ds set (TriedTo x m) found → AreFound n ds set (TriedTo x (m + 1)) found
+    → AreTriedMinimal n ds set (TriedTo x m) found → AreTriedMinimal n ds set (TriedTo x (m + 1)) found
 tried_skip n ds set x m found not before =
     found_more n ds set (TriedTo x m) (TriedTo x (m + 1)) found before
     (λ v b tried. ⊎_elim
@@ -122,7 +122,7 @@ tried_skip n ds set x m found not before =
     tried)
 
 pub tried_done : (n : ℕ) (ds : List Dependency) (set x : Attributes) (m : ℕ) (found : List Dependency) → ((a : ℕ) → set a ≡ true → a < m)
-    → AreFound n ds set (TriedTo x m) found → AreFound n ds set (TriedUpTo x) found
+    → AreTriedMinimal n ds set (TriedTo x m) found → AreTriedMinimal n ds set (TriedUpTo x) found
 tried_done n ds set x m found low before =
     found_more n ds set (TriedTo x m) (TriedUpTo x) found before
     (λ v b tried. ⊎_elim
@@ -138,7 +138,7 @@ tried_done n ds set x m found low before =
 -- the left side that comes lies within a whole, and those before it were tried
 pub record IsWalked (n : ℕ) (ds : List Dependency) (set whole : Attributes) (next : Option AttrSet) (found : List Dependency) : Type 0 where
   pub within : IfSome next (λ x. IsSubset (attributes x) whole)
-  pub listed : AreFound n ds set (λ v b. IsPassed v next) found
+  pub listed : AreTriedMinimal n ds set (λ v b. IsPassed v next) found
 
 pub walk_start : (n : ℕ) (ds : List Dependency) (set whole : Attributes) (first : AttrSet) → attributes first ≡ none → IsWalked n ds set whole (Some first) []
 walk_start n ds set whole first empty = record {
@@ -155,7 +155,7 @@ pub walk_on : (n : ℕ) (ds : List Dependency) (set whole : Attributes) (x : Att
     → IsSubset whole (below n) → IsSubset (attributes x) whole
     → ((v : Attributes) (b : ℕ) → IsMinimalWithin n ds set v b → IsSubset v whole)
     → (IsNone next → attributes x ≡ whole) → IfSome next (λ y. IsNextSubset whole (attributes x) (attributes y))
-    → AreFound n ds set (TriedUpTo (attributes x)) found → IsWalked n ds set whole next found
+    → AreTriedMinimal n ds set (TriedUpTo (attributes x)) found → IsWalked n ds set whole next found
 walk_on n ds set whole x None found low x_in lefts last is before = record {
   within = tt;
   listed = found_more n ds set (TriedUpTo (attributes x)) (λ v b. IsPassed v None) found before (λ v b tried. tt)
@@ -182,14 +182,14 @@ walk_on n ds set whole x (Some next) found low x_in lefts last is before = recor
 }
 
 -- ---- the end
-minimal_each : (n : ℕ) (ds : List Dependency) (set : Attributes) (T : Attributes → ℕ → Type 0) (found : List Dependency) → AreFound n ds set T found
+minimal_each : (n : ℕ) (ds : List Dependency) (set : Attributes) (T : Attributes → ℕ → Type 0) (found : List Dependency) → AreTriedMinimal n ds set T found
     → All (IsMinimalFd n ds set) found
 minimal_each n ds set T found before k d l = let one = before.each k d l in (one.left, one.attribute, one.is, one.minimal)
 
 pub walk_end : (n : ℕ) (ds : List Dependency) (set whole : Attributes) (next : Option AttrSet) (found : List Dependency) → next ≡ None
     → IsWalked n ds set whole next found → AreFoundWithin n ds set found
 walk_end n ds set whole next found is walked =
-    let all : AreFound n ds set (λ v b. IsPassed v None) found = subst (λ (o : Option AttrSet). AreFound n ds set (λ v b. IsPassed v o) found) is walked.listed in
+    let all : AreTriedMinimal n ds set (λ v b. IsPassed v None) found = subst (λ (o : Option AttrSet). AreTriedMinimal n ds set (λ v b. IsPassed v o) found) is walked.listed in
     record {
       each = minimal_each n ds set (λ v b. IsPassed v None) found all;
       ascending = all.ascending;
@@ -197,7 +197,7 @@ walk_end n ds set whole next found is walked =
     }
 
 pub walk_cut : (n : ℕ) (ds : List Dependency) (set x : Attributes) (found : List Dependency) → MOST_LISTED < length found
-    → AreFound n ds set (TriedUpTo x) found → AreFoundWithin n ds set found
+    → AreTriedMinimal n ds set (TriedUpTo x) found → AreFoundWithin n ds set found
 walk_cut n ds set x found many before = record {
   each = minimal_each n ds set (TriedUpTo x) found before;
   ascending = before.ascending;

@@ -22,7 +22,7 @@ pub record IsTriedMinimal (n : ℕ) (ds : List Dependency) (set : Attributes)
   pub tried : IsTried left attribute
 
 -- exactly those minimal dependencies that were tried, in order
-pub record AreFound (n : ℕ) (ds : List Dependency) (set : Attributes)
+pub record AreTriedMinimal (n : ℕ) (ds : List Dependency) (set : Attributes)
     (IsTried : Attributes → ℕ → Type 0) (found : List Dependency) : Type 0 where
   pub each : All (IsTriedMinimal n ds set IsTried) found
   pub all : (x : Attributes) (a : ℕ) → IsMinimalWithin n ds set x a → IsTried x a

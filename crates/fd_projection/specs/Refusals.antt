@@ -3,7 +3,7 @@
 use Rattle.std.specs.Prelude.{ℕ, ◌<◌, List, length, All, AllPairs}
 use Rattle.attr_sets.specs.Attributes.{Attributes}
 use Rattle.dep_model.specs.Dependencies.{Dependency}
-use Rattle.fd_closure.specs.LeftSides.{IsWide}
+use Rattle.fd_closure.specs.LeftSides.{IsWideScheme}
 use Rattle.fd_projection.specs.declared.refusal.ProjectionRefusal.{ProjectionRefusal}
 use Rattle.fd_projection.specs.declared.refusal.ProjectionRefusal.TheVariants.{TooWide, TooMany}
 use Rattle.fd_projection.specs.declared.refusal.TheConstants.{MOST_LISTED}
@@ -19,6 +19,6 @@ pub record AreTooMany (n : ℕ) (ds : List Dependency) (set : Attributes)
 -- why they are not listed: too many attributes of the set stand in left sides, or else there are too
 -- many of them
 abbrev pub IsRefusedProjection : ℕ → List Dependency → Attributes → ProjectionRefusal → Type 0
-IsRefusedProjection n ds set TooWide = IsWide ds set
+IsRefusedProjection n ds set TooWide = IsWideScheme ds set
 IsRefusedProjection n ds set TooMany =
-    (IsWide ds set → ⊥) × ((found : List Dependency) × AreTooMany n ds set found)
+    (IsWideScheme ds set → ⊥) × ((found : List Dependency) × AreTooMany n ds set found)

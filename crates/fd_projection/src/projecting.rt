@@ -4,7 +4,7 @@ ghost use Rattle.attr_sets.specs.Sets.{attributes};
 ghost use Rattle.dep_model.specs.Deps.{dependencies_of, IsDepWithin};
 ghost use Rattle.dep_model.specs.Failures.{RefusesAs};
 ghost use Rattle.dep_model.specs.Schemas.{width_of, universe_of, theory_of};
-ghost use Rattle.fd_closure.specs.LeftSides.{IsWide};
+ghost use Rattle.fd_closure.specs.LeftSides.{IsWideScheme};
 ghost use Rattle.fd_projection.specs.Projections.{IsProjection, IsCoverWithin};
 ghost use Rattle.fd_projection.specs.Refusals.{IsRefusedProjection};
 
@@ -12,7 +12,7 @@ use crate::refusal::{MOST_LISTED, ProjectionRefusal};
 use crate::searching::minimal_within;
 use attr_sets::AttrSet;
 use dep_model::{Dep, Failure, Schema};
-use fd_closure::is_wide;
+use fd_closure::is_wide_scheme;
 use min_cover::nonredundant_from;
 use std::alloc::Global;
 
@@ -35,11 +35,11 @@ pub fn project(
     ensures cover { IfOk result (λ rules. IsCoverWithin (width_of schema.now) (theory_of schema.now)
         (attributes set) (dependencies_of rules.items)) }
     ensures within { IfOk result (λ rules. All (IsDepWithin (attributes set)) rules.items) }
-    ensures narrow { IfOk result (λ _. IsWide (theory_of schema.now) (attributes set) → ⊥) }
+    ensures narrow { IfOk result (λ _. IsWideScheme (theory_of schema.now) (attributes set) → ⊥) }
     ensures refused { IfErr result (RefusesAs (IsRefusedProjection (width_of schema.now)
         (theory_of schema.now) (attributes set))) }
 {
-    if is_wide(schema.deps(), set) {
+    if is_wide_scheme(schema.deps(), set) {
         return Err(Failure::Refused(ProjectionRefusal::TooWide));
     }
     let found = minimal_within(alloc, schema, set)?;

@@ -4,7 +4,7 @@ ghost use Rattle.attr_sets.specs.Sets.{attributes};
 ghost use Rattle.dep_model.specs.Deps.{dependencies_of};
 ghost use Rattle.dep_model.specs.Schemas.{width_of, universe_of, theory_of};
 ghost use Rattle.fd_closure.specs.Closures.{IsClosureOf};
-ghost use Rattle.fd_projection.specs.Closures.{IsClosureOfParts, AreFound, AreFoundWithin, TriedBefore, TriedUpTo};
+ghost use Rattle.fd_projection.specs.Closures.{IsClosureOfParts, AreTriedMinimal, AreFoundWithin, TriedBefore, TriedUpTo};
 
 use crate::closures::{closed_beyond, closed_by_parts};
 use crate::refusal::MOST_LISTED;
@@ -53,9 +53,9 @@ fn add_minimal(
         (attributes closed) }
     requires given { IsClosureOfParts (width_of schema.now) (theory_of schema.now) (attributes lhs)
         (attributes given) }
-    requires found { AreFound (width_of schema.now) (theory_of schema.now) (attributes set)
+    requires found { AreTriedMinimal (width_of schema.now) (theory_of schema.now) (attributes set)
         (TriedBefore (attributes lhs)) (dependencies_of found.old.items) }
-    ensures found { OnOk result (AreFound (width_of schema.now) (theory_of schema.now) (attributes set)
+    ensures found { OnOk result (AreTriedMinimal (width_of schema.now) (theory_of schema.now) (attributes set)
         (TriedUpTo (attributes lhs)) (dependencies_of found.new.items)) }
 {
     let rights = closed.intersection(set).difference(lhs.union(given));

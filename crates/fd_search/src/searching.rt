@@ -2,7 +2,7 @@ ghost use Rattle.std.specs.Prelude.{◌≡◌, ◌<◌, ◌≤◌, ◌^◌, ◌�
 ghost use Rattle.std.specs.List.{range_with_len};
 ghost use Rattle.attr_sets.specs.Attributes.{Attributes, IsSubset, below};
 ghost use Rattle.attr_sets.specs.declared.set.TheConstants.{MOST_ATTRIBUTES};
-ghost use Rattle.candidate_search.specs.Sides.{IsExceeded};
+ghost use Rattle.candidate_search.specs.Sides.{IsTooManyLeftSides};
 ghost use Rattle.dep_model.specs.Dependencies.{fd, ObeysFd};
 ghost use Rattle.dep_model.specs.Deps.{IsDepWithin, dependencies_of};
 ghost use Rattle.dep_model.specs.Failures.{RefusesAs};
@@ -35,7 +35,7 @@ pub fn minimal_dependencies(
         → IfOk result (λ found.
         Implies width (dependencies_of found.items) (fd x y) ↔ ObeysFd x y rows.now) }
     ensures within { IfOk result (λ found. All (IsDepWithin (below width)) found.items) }
-    ensures refusal { IfErr result (RefusesAs (IsExceeded width width rows.now)) }
+    ensures refusal { IfErr result (RefusesAs (IsTooManyLeftSides width width rows.now)) }
 {
     let found = small_dependencies(alloc, hashing, width, width, rows)?;
     Ok(found)
@@ -55,7 +55,7 @@ pub fn small_dependencies(
     requires fits_u32 { length rows.now < 2 ^ 32 }
     ensures small { IfOk result (λ found. AreAllSmall width most rows.now (dependencies_of found.items)) }
     ensures within { IfOk result (λ found. All (IsDepWithin (below width)) found.items) }
-    ensures refusal { IfErr result (RefusesAs (IsExceeded width most rows.now)) }
+    ensures refusal { IfErr result (RefusesAs (IsTooManyLeftSides width most rows.now)) }
 {
     let table = CodeColumns::new(alloc, hashing, width, rows)?;
     let rights = columns(alloc, width)?;

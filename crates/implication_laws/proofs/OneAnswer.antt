@@ -37,11 +37,12 @@ use Rattle.schema_grammar.proofs.SetLaws.{set-law, set-refusal-law}
 use Rattle.schema_match.specs.Columns.{SameNames, undeclared_attributes}
 use Rattle.schema_printer.specs.Printing.{schema_text, set_text}
 use Rattle.schema_printer.specs.Spelling.{printed_names_of}
-use Rattle.desk_responses.specs.Lines.{name_text}
+use Rattle.desk_responses.specs.Lines.{attribute_name}
 use Rattle.desk_responses.specs.ResponseValues.{ResponseValue, Allowed}
 use Rattle.desk_responses.specs.declared.status.Status.TheVariants.{Yes, No, Refused}
-use Rattle.desk_texts.specs.ProofTexts.{concludes_text}
-use Rattle.desk_texts.specs.Texts.{line, set_line, goal_refusal_text, set_refusal_text}
+use Rattle.desk_texts.specs.Conclusions.{concludes_text}
+use Rattle.desk_texts.specs.Texts.{line, set_line}
+use Rattle.desk_texts.specs.Refusals.{goal_refusal_text, set_refusal_text}
 use Rattle.desk_implication.specs.Bases.{TellsBasis, GivesBasis, blocks_text}
 use Rattle.desk_implication.specs.Certificates.{Checked, ChecksProof}
 use Rattle.desk_covers.specs.Covering.{GivesCover}
@@ -52,7 +53,8 @@ use Rattle.desk_discovery.specs.AllDiscoveries.{FindsAllRules}
 use Rattle.desk_discovery.specs.NearDiscoveries.{FindsNearRules, near_text}
 use Rattle.desk_discovery.specs.KeyDiscoveries.{FindsRowKeys, GivesRowKeys, RefusesRowKeys, row_keys_text}
 use Rattle.desk_discovery.specs.declared.discovering.TheConstants.{WIDEST_TRIED}
-use Rattle.desk_discovery.specs.Exhibits.{Exhibits, IsExample, multivalued_text}
+use Rattle.desk_discovery.specs.Exhibits.{Exhibits, IsExample}
+use Rattle.desk_discovery.specs.Multivalued.{multivalued_text}
 use Rattle.desk_arguments.specs.Goals.{GoalStops, IsGoal, SetStops, IsSetText, WithGoal}
 use Rattle.desk_keys.specs.Keys.{ListsKeys}
 use Rattle.desk_covers.specs.Sameness.{LacksName, NameStops, Compares, ChecksSame, different_text, not_in_text}
@@ -265,7 +267,7 @@ one_exhibit_answer schema one other (inr (inr (inr (many, says)))) (inr (inr (in
 one_lacking : (schema other : Schema) (file : List ℕ) → AllowsOne (LacksName schema other file)
 one_lacking schema other file one two (a, first, says) (b, also, said) =
     same_says Refused _ _ one two says said
-    (ap (λ (c : ℕ). not_in_text (name_text (printed_names_of schema) c) file)
+    (ap (λ (c : ℕ). not_in_text (attribute_name (printed_names_of schema) c) file)
     (least_same (undeclared_attributes schema other) a b first also))
 
 pub one_name_stop : (schema other : Schema) (file other_file : List ℕ) → AllowsOne (NameStops schema other file other_file)

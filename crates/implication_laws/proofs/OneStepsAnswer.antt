@@ -8,7 +8,7 @@ use Rattle.attr_sets.specs.Attributes.{Attributes, only, difference}
 use Rattle.attr_sets.specs.Sets.{attributes}
 use Rattle.attr_sets.proofs.AttributesLemmas.{same_from_within}
 use Rattle.closure_steps.specs.declared.without.Without.{Without}
-use Rattle.closure_steps.specs.Steps.{Step, reached}
+use Rattle.closure_steps.specs.Steps.{ClosureStepValue, reached}
 use Rattle.closure_steps.specs.Without.{IsClosureWithout, AreClosuresWithout}
 use Rattle.closure_steps.proofs.StepLemmas.{one_list}
 use Rattle.cover_check.specs.declared.diagnostic.CoverDiagnostic.{CoverDiagnostic}
@@ -62,10 +62,10 @@ one_closure_text s x text other first second =
     let beside : first.beside ≡ second.beside =
     one_beside names (difference second.closed (reached x second.steps)) first.beside second.beside
     (subst (λ (c : Attributes). IsBesideText names (difference c (reached x second.steps)) first.beside) closed
-    (subst (λ (ss : List Step). IsBesideText names (difference first.closed (reached x ss)) first.beside) steps first.is_beside))
+    (subst (λ (ss : List ClosureStepValue). IsBesideText names (difference first.closed (reached x ss)) first.beside) steps first.is_beside))
     second.is_beside in
     first.reads
-    ∙ ap (λ (ss : List Step). closure_text s x ss first.beside first.closed) steps
+    ∙ ap (λ (ss : List ClosureStepValue). closure_text s x ss first.beside first.closed) steps
     ∙ ap (λ (b : List ℕ). closure_text s x second.steps b first.closed) beside
     ∙ ap (λ (c : Attributes). closure_text s x second.steps second.beside c) closed
     ∙ sym second.reads

@@ -11,13 +11,13 @@ use Rattle.dep_model.specs.declared.schema.TheConstants.{MOST_DEPENDENCIES}
 use Rattle.sql_names.specs.Names.{quoted_name}
 use Rattle.sql_lexemes.specs.declared.dialect.Dialect.{Dialect}
 use Rattle.sql_lexemes.specs.Lexemes.{Lexed}
-use Rattle.sql_definitions.specs.Elements.{element, is_taken, key_of_parts, named_column}
+use Rattle.sql_definitions.specs.Elements.{element, has_column_named, key_of_parts, named_column}
 use Rattle.sql_definitions.specs.Facts.{Facts, Outcome, StatedColumn, StatedPart, state_key, then_read, with_column, with_key}
 use Rattle.sql_definitions.specs.Lists.{lists_columns}
 use Rattle.sql_definitions.specs.declared.definition.KeyKind.{KeyKind}
 use Rattle.sql_definitions.specs.declared.definition.KeyKind.TheVariants.{Primary, Unique}
 use Rattle.ddl_pieces.proofs.Cutting.{depth_append, depth_past}
-use Rattle.ddl_pieces.specs.Pieces.{TextPiece, blank, lexemes_from, quoted_piece, type_pieces, word}
+use Rattle.ddl_pieces.specs.Pieces.{TextPiece, blank, lexemes_from, quoted_name_piece, type_pieces, word}
 use Rattle.import_laws.specs.ReadTables.{NamedKey, named_key}
 use Rattle.import_laws.specs.StatedTypes.{states_a_type, stay_within}
 use Rattle.import_laws.proofs.ListLemmas.{bracketed, list_columns, list_end, list_inside, list_read}
@@ -58,17 +58,17 @@ pub record IsElement (d : Dialect) (before after : Known) (e : List TextPiece) :
 -- ---- columns
 column_read : (d : Dialect) (known : Known) (name : List ℕ) (nullable : Bool) (column : ColumnType)
     → IsName name → IsTrue (states_a_type d column) → IsTrue (is_column_type column)
-    → is_taken known.columns name ≡ false → length known.columns < MOST_ATTRIBUTES
+    → has_column_named known.columns name ≡ false → length known.columns < MOST_ATTRIBUTES
     → (place end : ℕ) (f : Facts) → States known f
-    → Reads (element d end (lexemes_from place 1 (quoted_piece name ∷ after_name nullable (type_pieces column))) f)
+    → Reads (element d end (lexemes_from place 1 (quoted_name_piece name ∷ after_name nullable (type_pieces column))) f)
     (one_column known (column_typed d name nullable column))
 unfolding element lexemes_from
 column_read d known name nullable column is stated typed free room place end f states =
     let at = place + length (quoted_name name) in
     let type = column_lexemes at nullable (type_pieces column) in
     let (keys, typing, inside) = type_reads d nullable column stated typed at in
-    let here : is_taken f.columns name ≡ false =
-    ap (λ (cs : List StatedColumn). is_taken cs name) states.columns ∙ free in
+    let here : has_column_named f.columns name ≡ false =
+    ap (λ (cs : List StatedColumn). has_column_named cs name) states.columns ∙ free in
     let same : length f.columns ≡ length known.columns = ap (λ (cs : List StatedColumn). length cs) states.columns in
     let space : nat_lt (length f.columns) MOST_ATTRIBUTES ≡ true = grind (arith, nat_tests, same, room) in (
       with_column f (column_typed d name nullable column),
@@ -84,16 +84,16 @@ column_read d known name nullable column is stated typed free room place end f s
 column_inside : (d : Dialect) (name : List ℕ) (nullable : Bool) (column : ColumnType)
     → IsTrue (states_a_type d column) → IsTrue (is_column_type column) → (place : ℕ)
     → stay_within 0 (lexemes_from place 1
-    (quoted_piece name ∷ after_name nullable (type_pieces column))) ≡ true
+    (quoted_name_piece name ∷ after_name nullable (type_pieces column))) ≡ true
 unfolding lexemes_from stay_within
 column_inside d name nullable column stated typed place =
     let (keys, typing, inside) = type_reads d nullable column stated typed (place + length (quoted_name name)) in inside
 
 pub column_element : (d : Dialect) (known : Known) (name : List ℕ) (nullable : Bool) (column : ColumnType)
     → IsName name → IsTrue (states_a_type d column) → IsTrue (is_column_type column)
-    → is_taken known.columns name ≡ false → length known.columns < MOST_ATTRIBUTES
+    → has_column_named known.columns name ≡ false → length known.columns < MOST_ATTRIBUTES
     → IsElement d known (one_column known (column_typed d name nullable column))
-    (quoted_piece name ∷ after_name nullable (type_pieces column))
+    (quoted_name_piece name ∷ after_name nullable (type_pieces column))
 unfolding lexemes_from
 column_element d known name nullable column is stated typed free room = record {
   some = λ place. (_, _, refl);
@@ -183,7 +183,7 @@ unique_element d known names some all room = record {
 -- ---- references
 abbrev pub after_referring : List ℕ → List (List ℕ) → List TextPiece
 after_referring table names =
-    blank ∷ word (codes "REFERENCES") ∷ blank ∷ quoted_piece table ∷ blank ∷ bracketed names
+    blank ∷ word (codes "REFERENCES") ∷ blank ∷ quoted_name_piece table ∷ blank ∷ bracketed names
 
 abbrev pub reference_by : List ℕ → List (List ℕ) → List TextPiece
 reference_by table names =

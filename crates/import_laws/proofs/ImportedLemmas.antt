@@ -33,7 +33,7 @@ use Rattle.sql_schemas.proofs.ReadLemmas.{definition_reads}
 use Rattle.sql_schemas.specs.Keys.{KeyColumns, and_then, compares_missing, is_dependency, is_primary, key_dependency, new_keys}
 use Rattle.sql_schemas.specs.Meaning.{declared_table, whole_keys}
 use Rattle.sql_schemas.specs.Texts.{column_names, column_types, columns_missing, imported_text, is_bound, says_nothing, table_text, text_of_facts}
-use Rattle.import_laws.specs.ImportedTables.{columns_of, determines_others, has, imported_keys, imported_table, places_in, stated_keys}
+use Rattle.import_laws.specs.ImportedTables.{columns_of, determines_others, has, imported_keys, imported_table, places_in, declared_keys}
 use Rattle.import_laws.specs.ReadTables.{NamedKey, StatesTable, key_named, named_key, read_column, read_columns, read_keys, read_nullable}
 use Rattle.import_laws.specs.StatedTypes.{read_type}
 use Rattle.import_laws.proofs.FitLemmas.{IsFit}
@@ -77,7 +77,7 @@ module _ (s : Schema) (tables : List TableDesign) (k : ℕ) (table : TableDesign
       bounded : (a : ℕ) → below (width_of s) a ≡ true → below MOST_ATTRIBUTES a ≡ true
       bounded a low = grind (arith, nat_tests, low, few)
 
-  pub stated_are : All IsStated (stated_keys s table)
+  pub stated_are : All IsStated (declared_keys s table)
   stated_are = by_key (is_empty (attributes table.key))
     where
       by_key : (b : Bool) → All IsStated
@@ -87,7 +87,7 @@ module _ (s : Schema) (tables : List TableDesign) (k : ℕ) (table : TableDesign
           All-cons IsStated (attributes table.key) (filter (is_never_missing s) (known_keys table.other_keys))
           (record { within = fit.key; never_missing = key_never }) others_stated
 
-  pub stated_names : map (λ (key : NamedKey). key.names) (read_keys s table) ≡ map (set_names s) (stated_keys s table)
+  pub stated_names : map (λ (key : NamedKey). key.names) (read_keys s table) ≡ map (set_names s) (declared_keys s table)
   stated_names = by_key (is_empty (attributes table.key))
     where
       rest : map (λ (key : NamedKey). key.names)
@@ -130,7 +130,7 @@ module _ (s : Schema) (tables : List TableDesign) (k : ℕ) (table : TableDesign
       (λ same. true≢false (sym (is_same-from (get_or xs i d) (attributes table.key) (sym same)) ∙ far))
 
   pub stated_apart : AllPairs (λ x y. is_same (places_in (columns_of s table) x)
-      (places_in (columns_of s table) y) ≡ false) (stated_keys s table)
+      (places_in (columns_of s table) y) ≡ false) (declared_keys s table)
   stated_apart = by_key (is_empty (attributes table.key))
     where
       by_key : (b : Bool) → AllPairs (λ x y. is_same (places_in (columns_of s table) x)
@@ -143,7 +143,7 @@ module _ (s : Schema) (tables : List TableDesign) (k : ℕ) (table : TableDesign
 
   -- ---- keys of these places
   module _ (d : Dialect) (keys : List KeyColumns)
-      (are : map (λ key. key.columns) keys ≡ map (places_in (columns_of s table)) (stated_keys s table)) where
+      (are : map (λ key. key.columns) keys ≡ map (places_in (columns_of s table)) (declared_keys s table)) where
     never_read : (x : Attributes) → IsStated x → Disjoint x (read_nullable d s)
     never_read x is a member =
         rw (is.never_missing a member) refl
@@ -155,16 +155,16 @@ module _ (s : Schema) (tables : List TableDesign) (k : ℕ) (table : TableDesign
         (λ c. Disjoint c (places_in (columns_of s table) (read_nullable d s))) keys
         (subst (All (λ c. Disjoint c (places_in (columns_of s table) (read_nullable d s)))) (sym are)
         (All-map (λ c. Disjoint c (places_in (columns_of s table) (read_nullable d s)))
-        (places_in (columns_of s table)) (stated_keys s table)
-        (λ i e low. places_disjoint (width_of s) (attributes table.scheme) (get_or (stated_keys s table) i e)
+        (places_in (columns_of s table)) (declared_keys s table)
+        (λ i e low. places_disjoint (width_of s) (attributes table.scheme) (get_or (declared_keys s table) i e)
         (read_nullable d s)
-        (never_read (get_or (stated_keys s table) i e) (stated_are i e low)))))
+        (never_read (get_or (declared_keys s table) i e) (stated_are i e low)))))
 
     pub keys_apart : AllPairs Apart keys
     keys_apart =
         pairs_back (λ (key : KeyColumns). key.columns) (λ x y. is_same x y ≡ false) keys
         (subst (AllPairs (λ x y. is_same x y ≡ false)) (sym are)
-        (pairs_map (places_in (columns_of s table)) (λ x y. is_same x y ≡ false) (stated_keys s table) stated_apart))
+        (pairs_map (places_in (columns_of s table)) (λ x y. is_same x y ≡ false) (declared_keys s table) stated_apart))
 
     -- a value may be missing exactly in the nullable columns
     missing_at : (j : ℕ) → columns_missing (read_columns d s (attributes table.scheme)) keys j
@@ -226,7 +226,7 @@ module _ (s : Schema) (tables : List TableDesign) (k : ℕ) (table : TableDesign
         (λ i e low. or_true (compares_missing (get_or keys i e).kind)
         (is_disjoint-from (get_or keys i e).columns (places_in (columns_of s table) (read_nullable d s))
         (keys_never i e low)))))
-        ∙ dependencies_same (width_of s) (attributes table.scheme) few fit.within keys (stated_keys s table) are
+        ∙ dependencies_same (width_of s) (attributes table.scheme) few fit.within keys (declared_keys s table) are
 
   -- ---- the text that is imported
   pub facts_imported : (d : Dialect) (wanted : TableName) (text : List ℕ) (f : Facts)
@@ -235,11 +235,11 @@ module _ (s : Schema) (tables : List TableDesign) (k : ℕ) (table : TableDesign
       → (printed : List ℕ) × (lines : List ℕ) × (imported_text d wanted text ≡ Ok printed)
       × MeansSchema printed (imported_table d s table lines)
   facts_imported d wanted text f defined states =
-      let named : map part_names f.keys ≡ map (set_names s) (stated_keys s table) =
+      let named : map part_names f.keys ≡ map (set_names s) (declared_keys s table) =
       sym (map-map (λ (key : NamedKey). key.names) named_key f.keys)
       ∙ ap (map (λ (key : NamedKey). key.names)) states.keys ∙ stated_names in
       let (keys, read, are) = keys_read d s (attributes table.scheme) f fit.within states.columns [] f.keys
-      (stated_keys s table)
+      (declared_keys s table)
       (λ i e low. (stated_are i e low).within) named in
       let is = definition_reads d wanted text f defined in
       let (lines, means) = text_means f keys is.fine.columns is.some is.fine.keys read in (
@@ -251,7 +251,7 @@ module _ (s : Schema) (tables : List TableDesign) (k : ℕ) (table : TableDesign
       )
     where
       declared : (f : Facts) → StatesTable d s table f → (keys : List KeyColumns)
-          → map (λ key. key.columns) keys ≡ map (places_in (columns_of s table)) (stated_keys s table)
+          → map (λ key. key.columns) keys ≡ map (places_in (columns_of s table)) (declared_keys s table)
           → (lines : List ℕ)
           → MeansSchema (table_text f.columns keys) (declared_table f.columns keys lines)
           → MeansSchema (table_text f.columns keys) (imported_table d s table lines)

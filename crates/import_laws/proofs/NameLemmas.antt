@@ -9,7 +9,7 @@ use Rattle.sql_names.specs.Names.{quoted_name}
 use Rattle.sql_lexemes.specs.declared.dialect.Dialect.{Dialect}
 use Rattle.sql_lexemes.specs.declared.lexeme.LexemeKind.TheVariants as kind
 use Rattle.sql_definitions.specs.Lists.{name_of}
-use Rattle.sql_definitions.specs.Names.{inner, name_text, undoubled, unquoted}
+use Rattle.sql_definitions.specs.Names.{inner, name_of_lexeme, undoubled, unquoted}
 use Rattle.ddl_pieces.specs.Pieces.{lexeme_at}
 
 undoubled_doubled : (name : List ℕ) → undoubled 34 false (quotes_doubled name) ≡ name
@@ -34,7 +34,7 @@ pub unquoted_quoted : (name : List ℕ) → unquoted (quoted_name name) ≡ name
 unquoted_quoted name = ap (undoubled 34 false) (inner_is (quotes_doubled name)) ∙ undoubled_doubled name
 
 pub name_known : (d : Dialect) (place depth : ℕ) (name : List ℕ) → IsName name
-    → name_of (name_text d (lexeme_at place depth kind.Quoted (quoted_name name))) ≡ Some name
+    → name_of (name_of_lexeme d (lexeme_at place depth kind.Quoted (quoted_name name))) ≡ Some name
 name_known d place depth name is =
     let test : quotes.is_name name ≡ true = (name_test name).1 is in
     ap name_of (unquoted_quoted name) ∙ ap (λ (b : Bool). cond b (Some name) None) test

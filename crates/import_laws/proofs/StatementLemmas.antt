@@ -18,7 +18,7 @@ use Rattle.sql_definitions.specs.Definitions.{ended, read_statement, read_statem
 use Rattle.sql_definitions.specs.Facts.{Facts, Outcome, as_found, no_facts, then_read}
 use Rattle.sql_definitions.specs.Tables.{create_table, elements, read_lexemes}
 use Rattle.ddl_pieces.specs.Created.{AreCreated, IsCreated}
-use Rattle.ddl_pieces.specs.Pieces.{TextPiece, blank, create_lexemes, elements_pieces, gap, lexeme_at, lexemes_from, lines_after, lines_pieces, mark, quoted_piece, word}
+use Rattle.ddl_pieces.specs.Pieces.{TextPiece, blank, create_lexemes, elements_pieces, gap, lexeme_at, lexemes_from, lines_after, lines_pieces, mark, quoted_name_piece, word}
 use Rattle.import_laws.specs.ReadTables.{named}
 use Rattle.table_name_laws.proofs.NameLemmas.{apart_turned}
 use Rattle.import_laws.proofs.ChainLemmas.{Leads, closing, elements_read}
@@ -62,7 +62,7 @@ opened d end place name (l ∷ rest) = refl
 -- the pieces of a table of these elements
 abbrev table_pieces : List ℕ → List (List TextPiece) → List TextPiece
 table_pieces name es =
-    word (codes "CREATE") ∷ blank ∷ word (codes "TABLE") ∷ blank ∷ quoted_piece name ∷ blank ∷ mark 40
+    word (codes "CREATE") ∷ blank ∷ word (codes "TABLE") ∷ blank ∷ quoted_name_piece name ∷ blank ∷ mark 40
     ∷ gap (10 ∷ []) ∷ (lines_pieces es ++ closing)
 
 abbrev nothing : Known

@@ -21,7 +21,7 @@ use Rattle.ddl_text.specs.Ddl.{is_empty, is_never_missing}
 use Rattle.ddl_text.specs.Designs.{known_keys}
 use Rattle.ddl_text.specs.declared.table.TableDesign.{TableDesign}
 use Rattle.sql_lexemes.specs.declared.dialect.Dialect.{Dialect}
-use Rattle.sql_definitions.specs.Elements.{is_taken}
+use Rattle.sql_definitions.specs.Elements.{has_column_named}
 use Rattle.sql_definitions.specs.Facts.{StatedColumn}
 use Rattle.sql_definitions.specs.declared.definition.KeyKind.TheVariants.{Primary, Unique}
 use Rattle.ddl_pieces.specs.Pieces.{TextPiece, column_pieces, elements_pieces, key_pieces, keys_pieces, referred, unique_pieces}
@@ -77,7 +77,7 @@ members_low (suc n) x =
 
 -- the name of an attribute is none of those before it
 name_free : (d : Dialect) (s : Schema) (x : Attributes) (n : ℕ) → n < width_of s
-    → is_taken (map (read_column d s) (members_below n x)) (slice_index_or (names_of s) n []) ≡ false
+    → has_column_named (map (read_column d s) (members_below n x)) (slice_index_or (names_of s) n []) ≡ false
 name_free d s x n low =
     list_any_none (λ (c : StatedColumn). same_name c.name (slice_index_or (names_of s) n []))
     (map (read_column d s) (members_below n x))

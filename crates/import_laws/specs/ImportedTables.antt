@@ -30,14 +30,14 @@ abbrev pub places_in : List ℕ → Attributes → Attributes
 places_in columns x j = has x (slice_get columns j)
 
 -- the keys that the SQL of a table states: its key, if it is not empty, and the others of which no value may be missing
-abbrev pub stated_keys : Schema → TableDesign → List Attributes
-stated_keys s table =
+abbrev pub declared_keys : Schema → TableDesign → List Attributes
+declared_keys s table =
     (if is_empty (attributes table.key) then [] else attributes table.key ∷ [])
     ++ filter (is_never_missing s) (known_keys table.other_keys)
 
 -- those that do not have all columns
 abbrev pub imported_keys : Schema → TableDesign → List Attributes
-imported_keys s table = filter (λ key. not (is_subset (attributes table.scheme) key)) (stated_keys s table)
+imported_keys s table = filter (λ key. not (is_subset (attributes table.scheme) key)) (declared_keys s table)
 
 -- some of n columns determine all others
 abbrev pub determines_others : ℕ → Attributes → Dependency

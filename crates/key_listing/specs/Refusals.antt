@@ -7,7 +7,7 @@ use Rattle.dep_model.specs.declared.failure.Failure.{Failure}
 use Rattle.dep_model.specs.declared.failure.Failure.TheVariants.{Refused, OutOfMemory}
 use Rattle.dep_model.specs.declared.schema.Schema.{Schema}
 use Rattle.dep_model.specs.Schemas.{width_of, universe_of, theory_of}
-use Rattle.fd_closure.specs.LeftSides.{IsWide}
+use Rattle.fd_closure.specs.LeftSides.{IsWideScheme}
 use Rattle.key_listing.specs.declared.refusal.KeyRefusal.{KeyRefusal}
 use Rattle.key_listing.specs.declared.refusal.KeyRefusal.TheVariants.{TooManyKeys, TooWide}
 use Rattle.key_listing.specs.declared.refusal.SchemeKeyRefusal.{SchemeKeyRefusal}
@@ -16,7 +16,7 @@ use Rattle.key_listing.specs.Listing.{AreManyKeys}
 
 -- a multivalued dependency is given, and the universe is too wide to be searched
 abbrev pub IsTooWide : Schema → Type 0
-IsTooWide s = Any (λ d. is_fd d ≡ false) (theory_of s) × IsWide (theory_of s) (universe_of s)
+IsTooWide s = Any (λ d. is_fd d ≡ false) (theory_of s) × IsWideScheme (theory_of s) (universe_of s)
 
 -- why the keys of a schema are not listed; memory runs out only where they are searched
 abbrev pub IsRefusedListing : Schema → Failure KeyRefusal → Type 0
@@ -28,6 +28,6 @@ IsRefusedListing s OutOfMemory = IsTooWide s → ⊥
 -- why the keys of a scheme are not listed
 abbrev pub IsRefusedFor : Schema → Attributes → Failure SchemeKeyRefusal → Type 0
 IsRefusedFor s scheme (Refused (of_scheme.TooManyKeys found)) =
-    (IsWide (theory_of s) scheme → ⊥) × AreManyKeys (width_of s) (theory_of s) scheme found.items
-IsRefusedFor s scheme (Refused of_scheme.TooWide) = IsWide (theory_of s) scheme
-IsRefusedFor s scheme OutOfMemory = IsWide (theory_of s) scheme → ⊥
+    (IsWideScheme (theory_of s) scheme → ⊥) × AreManyKeys (width_of s) (theory_of s) scheme found.items
+IsRefusedFor s scheme (Refused of_scheme.TooWide) = IsWideScheme (theory_of s) scheme
+IsRefusedFor s scheme OutOfMemory = IsWideScheme (theory_of s) scheme → ⊥

@@ -8,7 +8,7 @@ use crate::refusal::{KeyRefusal, MOST_KEYS};
 use crate::searching::searched_keys;
 use attr_sets::AttrSet;
 use dep_model::{Failure, OutOfMemory, Schema};
-use fd_closure::{is_functional, is_wide};
+use fd_closure::{is_functional, is_wide_scheme};
 use std::alloc::Global;
 
 /// All keys of the universe by all dependencies, ascending: of two keys the greatest attribute that is
@@ -44,7 +44,7 @@ fn is_too_wide(schema: &Schema) -> bool
     if is_functional(schema.deps()) {
         return false;
     }
-    is_wide(schema.deps(), AttrSet::full(schema.width()))
+    is_wide_scheme(schema.deps(), AttrSet::full(schema.width()))
 }
 
 // The keys of the universe, one more than are listed at most.

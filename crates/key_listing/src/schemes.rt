@@ -2,7 +2,7 @@ ghost use Rattle.std.specs.Prelude.{◌≤◌, length, IfOk, IfErr};
 ghost use Rattle.attr_sets.specs.Attributes.{IsSubset};
 ghost use Rattle.attr_sets.specs.Sets.{attributes};
 ghost use Rattle.dep_model.specs.Schemas.{width_of, universe_of, theory_of};
-ghost use Rattle.fd_closure.specs.LeftSides.{IsWide};
+ghost use Rattle.fd_closure.specs.LeftSides.{IsWideScheme};
 ghost use Rattle.key_listing.specs.Listing.{AreAllKeys};
 ghost use Rattle.key_listing.specs.Refusals.{IsRefusedFor};
 
@@ -10,7 +10,7 @@ use crate::refusal::{MOST_KEYS, SchemeKeyRefusal};
 use crate::searching::searched_keys;
 use attr_sets::AttrSet;
 use dep_model::{Failure, Schema};
-use fd_closure::is_wide;
+use fd_closure::is_wide_scheme;
 use std::alloc::Global;
 
 /// All keys of a scheme by all dependencies, ascending: of two keys the greatest attribute that is in one
@@ -30,10 +30,10 @@ pub fn keys_of_scheme(
     ensures keys { IfOk result (λ keys.
         AreAllKeys (width_of schema.now) (theory_of schema.now) (attributes scheme) keys.items) }
     ensures within_limit { IfOk result (λ keys. length keys.items ≤ MOST_KEYS) }
-    ensures not_too_wide { IfOk result (λ _. IsWide (theory_of schema.now) (attributes scheme) → ⊥) }
+    ensures not_too_wide { IfOk result (λ _. IsWideScheme (theory_of schema.now) (attributes scheme) → ⊥) }
     ensures refused { IfErr result (IsRefusedFor schema.now (attributes scheme)) }
 {
-    if is_wide(schema.deps(), scheme) {
+    if is_wide_scheme(schema.deps(), scheme) {
         return Err(Failure::Refused(SchemeKeyRefusal::TooWide));
     }
     let found = searched_keys(alloc, schema, scheme)?;

@@ -7,7 +7,9 @@ use Rattle.dep_model.specs.Dependencies.{Dependency, Obeys}
 use Rattle.legality.specs.declared.offence.Offence.{Offence}
 use Rattle.legality.specs.Offences.{IsLeastPair, IsOffence, OffencesFrom, OffencesOf}
 use Rattle.legality.proofs.OffenceLemmas.{not_obeyed}
-use Rattle.csv_rows.proofs.PrintedRows.{zero_plus}
+
+zero_plus : (n : ℕ) → 0 + n ≡ n
+zero_plus n = omega arith
 
 -- an offence is that of one of these dependencies, which are numbered from k
 abbrev Names : ℕ → Relation → ℕ → List Dependency → Offence → Type 0

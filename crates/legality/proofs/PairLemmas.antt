@@ -7,7 +7,8 @@ use Rattle.dep_model.specs.Tuples.{Tuple, Relation, AgreeOn, value_at}
 use Rattle.dep_model.specs.Dependencies.{fd}
 use Rattle.csv_rows.specs.Numberings.{number_at, AreGroups, AreFirsts}
 use Rattle.row_store.specs.Rows.{row_at}
-use Rattle.csv_rows.proofs.NumberingLemmas.{same_default, row_of}
+use Rattle.csv_rows.proofs.NumberingLemmas.{row_of}
+use Rattle.dep_model.proofs.ListLemmas.{same_default}
 use Rattle.legality.specs.Answers.{IsLeastOffence}
 use Rattle.legality.specs.declared.pair.Pair.{Pair}
 

@@ -17,7 +17,8 @@ use Rattle.lexer.specs.declared.word.WordBytes.TheVariants as bytes
 use Rattle.lexer.specs.Pieces.{front_piece}
 use Rattle.lexer.specs.Quotes.{undoubled, between}
 
--- a token with the bytes that it stands for: those of its text, or the name between its quotes
+-- a token with the bytes that it stands for: those of its text, or the name between its quotes. So a mark says what
+-- is written; a `Token` of the code says only what stands where in a line
 pub record Mark : Type 0 where
   pub kind : TokenKind
   pub column : ℕ

@@ -24,7 +24,8 @@ pub enum TokenKind {
     Colon,
 }
 
-/// A token of a line: what it is, the column of its first byte, from 1, and how many bytes it has.
+/// A token of a line: what it is, the column of its first byte, from 1, and how many bytes it has. What these
+/// are is read in the line: a token together with it is a `Mark` of the definitions.
 #[derive(Clone, Copy, Debug, PartialEq, Eq)]
 pub struct Token {
     pub kind: TokenKind,

@@ -8,7 +8,7 @@ use Rattle.sql_evaluation.specs.Cells.{Cell}
 use Rattle.sql_evaluation.specs.Values.{bytes_of}
 use Rattle.sql_evaluation.specs.Evaluation.{Rows, Engine, selected, appended, excepted, joined_by, columns_of, linked, all_linked, evaluate}
 use Rattle.sql_evaluation.specs.Running.{Held, table, view, State, Cast, rows_of_table, rows_found, engine_at}
-use Rattle.check_laws.specs.Holding.{Holds}
+use Rattle.check_laws.specs.HeldRelations.{Holds}
 use Rattle.check_laws.proofs.RowLemmas.{none_is_not_some}
 use Rattle.migrate_laws.proofs.StepLemmas.{bind_some, Keeps}
 

@@ -15,7 +15,7 @@ use Rattle.sql_syntax.specs.Statements.{Statement, remark, create_from, create_v
 use Rattle.sql_evaluation.specs.Cells.{Cell}
 use Rattle.sql_evaluation.specs.Evaluation.{Rows, excepted, evaluate}
 use Rattle.sql_evaluation.specs.Running.{Held, table, view, State, Cast, Fails, all_zeros, tried, done, made, with_name, inserted, engine_at, ended, outcome}
-use Rattle.check_laws.specs.Holding.{Holds}
+use Rattle.check_laws.specs.HeldRelations.{Holds}
 use Rattle.check_laws.proofs.ColumnLemmas.{bytes_same}
 use Rattle.check_laws.proofs.RowLemmas.{none_is_not_some, some_is}
 use Rattle.check_laws.proofs.ValuesLemmas.{cells_on}

@@ -25,7 +25,7 @@ use Rattle.sql_evaluation.specs.Cells.{Cell, number, same_row, integer_of}
 use Rattle.sql_evaluation.specs.Values.{each, look_at, View, value, named_cell, bytes_of}
 use Rattle.sql_evaluation.specs.Evaluation.{Rows, Engine, row_view, item_name, item_value, with_items, selected, no_view, row_of_values, appended, is_among, without, excepted, evaluate}
 use Rattle.sql_evaluation.specs.Running.{Held, table, State, Cast, all_zeros, rows_found, engine_at}
-use Rattle.check_laws.specs.Holding.{compared_cell, Holds}
+use Rattle.check_laws.specs.HeldRelations.{compared_cell, Holds}
 use Rattle.check_laws.proofs.EachLemmas.{each-known, each-map, map-known, map-map}
 use Rattle.check_laws.proofs.ColumnLemmas.{named_cell-member}
 use Rattle.check_laws.proofs.CellLemmas.{same_row-decides, names_on_apart, member_of, is_member_of}

@@ -12,7 +12,7 @@ use Rattle.schema_printer.specs.Printing.{is_integer}
 use Rattle.ddl_text.specs.declared.table.TableDesign.{TableDesign}
 use Rattle.sql_names.specs.Names.{quoted_name}
 use Rattle.check_queries.specs.Columns.{type_at}
-use Rattle.check_laws.specs.Holding.{compared_cell}
+use Rattle.check_laws.specs.HeldRelations.{compared_cell}
 use Rattle.sql_evaluation.specs.Cells.{Cell, integer_of}
 use Rattle.sql_evaluation.specs.Values.{each}
 use Rattle.sql_evaluation.specs.Evaluation.{Rows, evaluate}

@@ -11,12 +11,12 @@ use Rattle.ddl_text.specs.Ddl.{sql_type, is_empty, is_never_missing}
 use Rattle.ddl_text.specs.Designs.{known_keys}
 use Rattle.sql_names.specs.Names.{name_list, quoted_name}
 use Rattle.sql_syntax.specs.Syntax.{attribute}
-use Rattle.sql_syntax.specs.Statements.{Element, column_of, primary_key, unique_key, foreign_key, Statement, remark, create_table}
+use Rattle.sql_syntax.specs.Statements.{Element, column_definition, primary_key, unique_key, foreign_key, Statement, remark, create_table}
 use Rattle.check_queries.specs.Columns.{name_at, type_at}
 use Rattle.migrate_queries.specs.Moving.{attribute_names}
 
 abbrev pub column_made : Schema → ℕ → Element
-column_made s k = column_of (attribute (name_at s k)) (sql_type (type_at s k)) (nullable_of s k)
+column_made s k = column_definition (attribute (name_at s k)) (sql_type (type_at s k)) (nullable_of s k)
 
 abbrev pub columns_made : Schema → Attributes → List Element
 columns_made s scheme = map (column_made s) (members_below (width_of s) scheme)

@@ -3,7 +3,7 @@ ghost use Rattle.csv_rows.specs.Interning.{firsts_of, groups_of};
 ghost use Rattle.csv_rows.specs.Numberings.{AreFirsts};
 ghost use Rattle.dep_model.specs.Tuples.{IsOver};
 ghost use Rattle.mvd_discovery.specs.Counting.{ArePartSizes};
-ghost use Rattle.fd_discovery.specs.declared.headed_rows.TheConstants.{WIDEST_WITH_ALL};
+ghost use Rattle.fd_discovery.specs.declared.limits.TheConstants.{WIDEST_WITH_ALL};
 
 use attr_sets::AttrSet;
 use csv_rows::{Groups, Interned};

@@ -62,6 +62,6 @@ abbrev pub AreFoundUpTo : Sought → Relation → Attributes → Found → Type 
 AreFoundUpTo s r y found = AreFoundBefore s r y s.rights found
 
 -- one of the right sides has too many sets to try
-pub record IsExceeded (s : Sought) (r : Relation) (refusal : TooManyTried) : Type 0 where
+pub record IsTooManyTried (s : Sought) (r : Relation) (refusal : TooManyTried) : Type 0 where
   pub right : refusal.right < s.rights
   pub exceeds : ExceedsTried s.width s.most s.limit r refusal.right

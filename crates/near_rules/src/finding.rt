@@ -5,7 +5,7 @@ ghost use Rattle.dep_model.specs.Deps.{IsDepWithin, dependencies_of};
 ghost use Rattle.dep_model.specs.Failures.{RefusesAs};
 ghost use Rattle.dep_model.specs.Tuples.{IsOver, Relation};
 ghost use Rattle.near_rules.specs.NearRules.{AreNearRules, ExceedsTried, IsFirstExceeded, IsTriedWhole};
-ghost use Rattle.near_rules.specs.Searching.{AreFoundUpTo, AreSought, IsExceeded};
+ghost use Rattle.near_rules.specs.Searching.{AreFoundUpTo, AreSought, IsTooManyTried};
 
 use crate::found::{Found, NearRules, Sought, TooManyTried};
 use crate::front::front_rows;
@@ -92,7 +92,7 @@ fn search(alloc: Global, sought: &Sought) -> Result<Found, Failure<TooManyTried>
     ensures found { (r : Relation) → AreSought r sought.now
         → IfOk result (AreFoundUpTo sought.now r (below sought.now.width)) }
     ensures refusal { (r : Relation) → AreSought r sought.now
-        → IfErr result (RefusesAs (IsExceeded sought.now r)) }
+        → IfErr result (RefusesAs (IsTooManyTried sought.now r)) }
 {
     let none = AttrSet::empty();
     let groups = Groups::by_agreement(alloc, &sought.codes, none)?;

@@ -8,7 +8,7 @@ ghost use Rattle.dep_model.specs.Failures.{RefusesAs};
 ghost use Rattle.dep_model.specs.Tuples.{Relation};
 ghost use Rattle.fd_discovery.specs.Searching.{AreUndetermined};
 ghost use Rattle.near_rules.specs.NearRules.{MustBeTried};
-ghost use Rattle.near_rules.specs.Searching.{AreFoundBefore, AreFoundUpTo, AreGrouped, AreSought, IsExceeded};
+ghost use Rattle.near_rules.specs.Searching.{AreFoundBefore, AreFoundUpTo, AreGrouped, AreSought, IsTooManyTried};
 
 use crate::found::{Found, MOST_TRIED, Sought, TooManyTried};
 use crate::front::is_far;
@@ -40,7 +40,7 @@ pub fn search_above(
         → IfOk result (λ _. AreFoundUpTo sought.now r (union (attributes set) (below bound)) found.new) }
     ensures refusal { (r : Relation) → AreSought r sought.now → AreGrouped r (attributes set) groups.now
         → AreFoundUpTo sought.now r (attributes set) found.old
-        → IfErr result (RefusesAs (IsExceeded sought.now r)) }
+        → IfErr result (RefusesAs (IsTooManyTried sought.now r)) }
 {
     if set.len() >= sought.most {
         return Ok(());
@@ -77,7 +77,7 @@ pub fn try_set(
         → IfOk result (λ _. AreFoundUpTo sought.now r (attributes set) found.new) }
     ensures refusal { (r : Relation) → AreSought r sought.now → AreGrouped r (attributes set) groups.now
         → AreFoundBefore sought.now r (attributes set) 0 found.old
-        → IfErr result (RefusesAs (IsExceeded sought.now r)) }
+        → IfErr result (RefusesAs (IsTooManyTried sought.now r)) }
 {
     for attribute in 0..sought.rights {
         if wanted.contains(attribute) {
@@ -108,7 +108,7 @@ fn try_right(
     ensures refusal { (r : Relation) → AreSought r sought.now → AreGrouped r (attributes set) groups.now
         → AreFoundBefore sought.now r (attributes set) attribute found.old
         → MustBeTried sought.now.width sought.now.most sought.now.limit r (attributes set) attribute
-        → IfErr result (RefusesAs (IsExceeded sought.now r)) }
+        → IfErr result (RefusesAs (IsTooManyTried sought.now r)) }
 {
     let before = found.tried[attribute as usize];
     if before as usize >= MOST_TRIED {

@@ -9,7 +9,7 @@ use Rattle.attr_sets.proofs.AttributesLemmas.{tell_subset, same_at}
 use Rattle.dep_model.specs.declared.dep.Dep.{Dep}
 use Rattle.dep_model.specs.Dependencies.{Dependency, ObeysMvd, functional_part, left_of, IsWithin}
 use Rattle.dep_model.specs.Deps.{dependency_of, dependencies_of, IsDepWithin}
-use Rattle.dep_model.specs.Keys.{IsSuperkey, InClosure, IsBlockOn}
+use Rattle.dep_model.specs.Keys.{IsSuperkey, InClosure, IsPartOn}
 use Rattle.dep_model.specs.TwoTuples.{two_tuples}
 use Rattle.dep_model.proofs.RuleLemmas.{fd_weaker_obeyed}
 use Rattle.dep_model.proofs.SchemeLemmas.{mvd_in-to}
@@ -21,8 +21,8 @@ use Rattle.dep_basis.specs.Bases.{IsSplitBy}
 use Rattle.dep_basis.proofs.BlockLemmas.{outside_of}
 use Rattle.dep_basis.proofs.BasisLemmas.{split_broken}
 use Rattle.dep_basis.proofs.PartLemmas.{parts_two}
-use Rattle.normal_forms.specs.declared.forms.Form.{Form}
-use Rattle.normal_forms.specs.declared.forms.Form.TheVariants.{Third, Bcnf, Fourth}
+use Rattle.normal_forms.specs.declared.form.Form.{Form}
+use Rattle.normal_forms.specs.declared.form.Form.TheVariants.{Third, Bcnf, Fourth}
 use Rattle.normal_forms.specs.Violations.{DeterminesBeyond, ViolatesBcnf, ViolatesFourth, Violates}
 use Rattle.normal_forms.specs.Adding.{AddOnlyThemselves}
 use Rattle.normal_forms.specs.Breaking.{Breaks, IsEnough}
@@ -155,7 +155,7 @@ bcnf_violated n ds scheme x y b right = record {
 }
 
 pub fourth_violated : (n : ℕ) (ds : List Dep) (scheme x y : Attributes) → n ≤ 128 → All (IsDepWithin (below n)) ds → IsSubset scheme (below n) → Breaks n (dependencies_of ds) Fourth scheme x
-    → IsBlockOn n (dependencies_of ds) scheme x y → ((a : ℕ) → IsFirstFrom (difference scheme x) 0 a → y a ≡ true) → ViolatesFourth n (dependencies_of ds) scheme x y
+    → IsPartOn n (dependencies_of ds) scheme x y → ((a : ℕ) → IsFirstFrom (difference scheme x) 0 a → y a ≡ true) → ViolatesFourth n (dependencies_of ds) scheme x y
 fourth_violated n ds scheme x y within_limit within low b part first =
     let other = other_part n ds scheme x within low b.1.implied.within.0 within_limit y part b.1 in
     record { no_superkey = b.0; part = part; first = first; other = other.0; other_part = other.1; differ = other.2 }

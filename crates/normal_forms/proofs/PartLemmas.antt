@@ -11,7 +11,7 @@ use Rattle.dep_model.specs.Dependencies.{Dependency, fd, mvd, left_of}
 use Rattle.dep_model.specs.Deps.{dependency_of, dependencies_of, IsDepWithin}
 use Rattle.dep_model.specs.Implication.{Implies}
 use Rattle.dep_model.specs.OnSchemes.{ImpliedOn}
-use Rattle.dep_model.specs.Keys.{InClosure, IsBlock, IsBlockOn}
+use Rattle.dep_model.specs.Keys.{InClosure, IsBlock, IsPartOn}
 use Rattle.dep_model.specs.TwoTuples.{two_tuples}
 use Rattle.dep_model.proofs.SchemeLemmas.{mvd_in-to, mvd_in-from}
 use Rattle.dep_model.proofs.KeyLemmas.{fd_on-from}
@@ -50,7 +50,7 @@ module _ (n : ℕ) (ds : List Dep) (scheme x : Attributes) (within : All (IsDepW
       (mvd_in-to scheme x y (two_tuples n (outside_of n p)) x_in on.within.1 (on.obeyed (two_tuples n (outside_of n p)) legal))
 
   -- what the scheme has of a block is a part
-  pub part_of_block : (p : Attributes) (a : ℕ) → IsBlock n (dependencies_of ds) x p → scheme a ≡ true → p a ≡ true → IsBlockOn n (dependencies_of ds) scheme x (intersection p scheme)
+  pub part_of_block : (p : Attributes) (a : ℕ) → IsBlock n (dependencies_of ds) x p → scheme a ≡ true → p a ≡ true → IsPartOn n (dependencies_of ds) scheme x (intersection p scheme)
   part_of_block p a block a_in a_p = record {
     outside = λ k m. block_disjoint n (dependencies_of ds) x p block k (grind (arith, m));
     not_empty = λ nothing. true≢false (sym (grind (arith, a_in, a_p)) ∙ nothing a);
@@ -65,7 +65,7 @@ module _ (n : ℕ) (ds : List Dep) (scheme x : Attributes) (within : All (IsDepW
   }
 
   -- so is an attribute beyond x that it determines
-  pub part_of_one : (a : ℕ) → InClosure n (dependencies_of ds) x a → scheme a ≡ true → x a ≡ false → IsBlockOn n (dependencies_of ds) scheme x (only a)
+  pub part_of_one : (a : ℕ) → InClosure n (dependencies_of ds) x a → scheme a ≡ true → x a ≡ false → IsPartOn n (dependencies_of ds) scheme x (only a)
   part_of_one a closed a_in out = record {
     outside = λ k e. grind (arith, nat_tests, e, out);
     not_empty = λ nothing. true≢false (grind (arith, nat_tests, nothing a));
@@ -77,7 +77,7 @@ module _ (n : ℕ) (ds : List Dep) (scheme x : Attributes) (within : All (IsDepW
   }
 
   -- each attribute beyond x is in a part
-  pub part_at : n ≤ 128 → (a : ℕ) → scheme a ≡ true → x a ≡ false → (p : Attributes) × IsBlockOn n (dependencies_of ds) scheme x p × (p a ≡ true)
+  pub part_at : n ≤ 128 → (a : ℕ) → scheme a ≡ true → x a ≡ false → (p : Attributes) × IsPartOn n (dependencies_of ds) scheme x p × (p a ≡ true)
   part_at within_limit a a_in out =
       ⊎_elim
       (λ closed. (only a, part_of_one a closed a_in out, grind (arith, nat_tests)))
@@ -85,8 +85,8 @@ module _ (n : ℕ) (ds : List Dep) (scheme x : Attributes) (within : All (IsDepW
       (block_at n ds x a within_limit within x_low (ltb-true a n (low a a_in)))
 
   -- where x has two parts, an attribute beyond it is in another part than this one
-  pub other_part : n ≤ 128 → (y : Attributes) → IsBlockOn n (dependencies_of ds) scheme x y → HasTwoParts n (dependencies_of ds) scheme x
-      → (p : Attributes) × IsBlockOn n (dependencies_of ds) scheme x p × (p ≡ y → ⊥)
+  pub other_part : n ≤ 128 → (y : Attributes) → IsPartOn n (dependencies_of ds) scheme x y → HasTwoParts n (dependencies_of ds) scheme x
+      → (p : Attributes) × IsPartOn n (dependencies_of ds) scheme x p × (p ≡ y → ⊥)
   other_part within_limit y part two =
       let a = two.not_empty.0 in
       let b = two.rest.0 in
@@ -101,7 +101,7 @@ module _ (n : ℕ) (ds : List Dep) (scheme x : Attributes) (within : All (IsDepW
         ]
       ]
     where
-      other_at : (k : ℕ) → scheme k ≡ true → x k ≡ false → y k ≡ false → (p : Attributes) × IsBlockOn n (dependencies_of ds) scheme x p × (p ≡ y → ⊥)
+      other_at : (k : ℕ) → scheme k ≡ true → x k ≡ false → y k ≡ false → (p : Attributes) × IsPartOn n (dependencies_of ds) scheme x p × (p ≡ y → ⊥)
       other_at k k_in out not_y =
           let p = part_at within_limit k k_in out in
           (p.0, p.1, λ same. true≢false (sym p.2 ∙ same_at same k ∙ not_y))

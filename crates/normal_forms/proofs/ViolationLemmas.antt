@@ -10,13 +10,13 @@ use Rattle.dep_model.specs.Tuples.{value_at}
 use Rattle.dep_model.specs.Dependencies.{Dependency, fd}
 use Rattle.dep_model.specs.Implication.{Implies}
 use Rattle.dep_model.specs.OnSchemes.{ImpliedOn}
-use Rattle.dep_model.specs.Keys.{IsSuperkey, IsBlockOn}
+use Rattle.dep_model.specs.Keys.{IsSuperkey, IsPartOn}
 use Rattle.dep_model.proofs.RuleLemmas.{reflexivity_obeyed, fd_union_obeyed, fd_weaker_obeyed}
 use Rattle.dep_model.proofs.KeyLemmas.{superkey-from, fd_on-to, fd_on-from}
 use Rattle.dep_model.proofs.FormLemmas.{replicated_on}
 use Rattle.dep_model.proofs.PartLemmas.{parts_same}
-use Rattle.normal_forms.specs.declared.forms.Form.{Form}
-use Rattle.normal_forms.specs.declared.forms.Form.TheVariants.{Third, Bcnf, Fourth}
+use Rattle.normal_forms.specs.declared.form.Form.{Form}
+use Rattle.normal_forms.specs.declared.form.Form.TheVariants.{Third, Bcnf, Fourth}
 use Rattle.normal_forms.specs.Violations.{ViolatesBcnf, ViolatesFourth, Violates}
 use Rattle.normal_forms.specs.Chosen.{IsInForm}
 use Rattle.normal_forms.specs.Cuts.{IsCut}
@@ -87,7 +87,7 @@ module _ (n : ℕ) (ds : List Dependency) (scheme x y : Attributes) (low : IsSub
 
 -- ---- fourth form
 -- a part has an attribute beyond its left side
-pub part_attribute : (n : ℕ) (ds : List Dependency) (scheme x p : Attributes) → IsSubset scheme (below n) → IsBlockOn n ds scheme x p → (k : ℕ) × (p k ≡ true)
+pub part_attribute : (n : ℕ) (ds : List Dependency) (scheme x p : Attributes) → IsSubset scheme (below n) → IsPartOn n ds scheme x p → (k : ℕ) × (p k ≡ true)
 part_attribute n ds scheme x p low part = nonempty-member n p (λ k m. low k (part.implied.within.1 k m)) part.not_empty
 
 module _ (n : ℕ) (ds : List Dependency) (scheme x y : Attributes) (low : IsSubset scheme (below n)) (v : ViolatesFourth n ds scheme x y) where

@@ -4,9 +4,9 @@ use Rattle.std.specs.Prelude.{◌≡◌, ℕ, ◌<◌, ◌↔◌, false, true, L
 use Rattle.attr_sets.specs.Attributes.{Attributes, only, difference, IsEmpty, IsFirstFrom}
 use Rattle.dep_model.specs.Dependencies.{Dependency, fd, functional_part}
 use Rattle.dep_model.specs.OnSchemes.{ImpliedOn}
-use Rattle.dep_model.specs.Keys.{IsSuperkey, IsPrime, IsBlockOn}
-use Rattle.normal_forms.specs.declared.forms.Form.{Form}
-use Rattle.normal_forms.specs.declared.forms.Form.TheVariants.{Third, Bcnf, Fourth}
+use Rattle.dep_model.specs.Keys.{IsSuperkey, IsPrime, IsPartOn}
+use Rattle.normal_forms.specs.declared.form.Form.{Form}
+use Rattle.normal_forms.specs.declared.form.Form.TheVariants.{Third, Bcnf, Fourth}
 
 -- x determines on the scheme attribute a, which lies outside it
 abbrev pub DeterminesBeyond : ℕ → List Dependency → Attributes → Attributes → ℕ → Type 0
@@ -33,10 +33,10 @@ pub record ViolatesBcnf (n : ℕ) (ds : List Dependency) (scheme x y : Attribute
 -- x is no superkey and has two parts or more; y is the one with the first attribute outside x
 pub record ViolatesFourth (n : ℕ) (ds : List Dependency) (scheme x y : Attributes) : Type 0 where
   pub no_superkey : IsSuperkey n ds scheme x → ⊥
-  pub part : IsBlockOn n ds scheme x y
+  pub part : IsPartOn n ds scheme x y
   pub first : (a : ℕ) → IsFirstFrom (difference scheme x) 0 a → y a ≡ true
   pub other : Attributes
-  pub other_part : IsBlockOn n ds scheme x other
+  pub other_part : IsPartOn n ds scheme x other
   pub differ : other ≡ y → ⊥
 
 -- x violates a form on a scheme, with the right side y; third normal form goes by the functional

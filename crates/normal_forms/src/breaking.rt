@@ -2,7 +2,7 @@ ghost use Rattle.std.specs.Prelude.{◌≡◌, ℕ, ◌↔◌, true, List, IsTru
 ghost use Rattle.attr_sets.specs.Attributes.{Attributes, below, difference, IsSubset, IsEmpty, IsFirstFrom};
 ghost use Rattle.attr_sets.specs.Sets.{attributes};
 ghost use Rattle.dep_model.specs.Dependencies.{Dependency, functional_part};
-ghost use Rattle.dep_model.specs.Keys.{InClosure, IsBlockOn};
+ghost use Rattle.dep_model.specs.Keys.{InClosure, IsPartOn};
 ghost use Rattle.dep_model.specs.Schemas.{width_of, universe_of, theory_of};
 ghost use Rattle.normal_forms.specs.Beginning.{IsKnownPart};
 ghost use Rattle.normal_forms.specs.Breaking.{Breaks, IsFirstBreaking, NoneBreaks};
@@ -10,7 +10,7 @@ ghost use Rattle.normal_forms.specs.Passing.{LiesBetween, PassesOver};
 ghost use Rattle.normal_forms.specs.Violations.{Violates};
 
 use crate::beginning::{KnownPart, begun, closure_begun, first_few, next_part, no_part};
-use crate::forms::Form;
+use crate::form::Form;
 use crate::parting::parts_none;
 use crate::passing::{FEWEST_PASSED, determines_none, filled};
 use attr_sets::AttrSet;
@@ -182,7 +182,7 @@ fn first_part(schema: &Schema, scheme: AttrSet, lhs: AttrSet) -> AttrSet
     ensures first { (a : ℕ) → IsFirstFrom (difference (attributes scheme) (attributes lhs)) 0 a
         → attributes result a ≡ true }
     ensures part { (IsEmpty (difference (attributes scheme) (attributes lhs)) → ⊥)
-        → IsBlockOn (width_of schema.now) (theory_of schema.now) (attributes scheme) (attributes lhs)
+        → IsPartOn (width_of schema.now) (theory_of schema.now) (attributes scheme) (attributes lhs)
         (attributes result) }
 {
     let Some(first) = scheme.difference(lhs).first() else {

@@ -14,6 +14,7 @@
 mod beginning;
 mod breaking;
 mod forms;
+mod form;
 pub mod laws;
 mod narrowing;
 mod parting;
@@ -22,5 +23,6 @@ mod primes;
 mod testing;
 mod third;
 
-pub use forms::{Breach, Form, TooWide};
+pub use forms::{Breach, TooWide};
 pub use testing::{violation, visible_violation};
+pub use form::Form;

@@ -7,7 +7,7 @@ ghost use Rattle.fd_closure.specs.LeftSides.{left_sides};
 ghost use Rattle.normal_forms.specs.Adding.{AddOnlyThemselves};
 ghost use Rattle.normal_forms.specs.Breaking.{IsEnough};
 
-use crate::forms::Form;
+use crate::form::Form;
 use attr_sets::AttrSet;
 use dep_model::Schema;
 use fd_closure::{functional_closure, functional_left_attributes, left_attributes};

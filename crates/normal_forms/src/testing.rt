@@ -2,18 +2,19 @@ ghost use Rattle.std.specs.Prelude.{◌≡◌, ◌↔◌, IsErr, IsNone, IfOk, I
 ghost use Rattle.attr_sets.specs.Attributes.{IsSubset};
 ghost use Rattle.attr_sets.specs.Sets.{attributes};
 ghost use Rattle.dep_model.specs.Schemas.{width_of, universe_of, theory_of};
-ghost use Rattle.fd_closure.specs.LeftSides.{left_sides, IsWide};
+ghost use Rattle.fd_closure.specs.LeftSides.{left_sides, IsWideScheme};
 ghost use Rattle.normal_forms.specs.Chosen.{IsInForm, IsChosenViolation};
 ghost use Rattle.normal_forms.specs.Chosen.{IsVisibleViolation, HasNoVisibleViolation};
 
 use crate::beginning::no_part;
 use crate::breaking::{breaks, first_breaking, right_side};
-use crate::forms::{Breach, Form, TooWide};
+use crate::forms::{Breach, TooWide};
+use crate::form::Form;
 use crate::narrowing::searched_attributes;
 use crate::third::third_violation;
 use attr_sets::AttrSet;
 use dep_model::{Schema, sides};
-use fd_closure::{is_functional, is_wide};
+use fd_closure::{is_functional, is_wide_scheme};
 
 /// The violation of a form on a scheme, where the scheme is not in the form: of its subsets, in
 /// the order of sets, the first that violates the form, with its right side. For third form that
@@ -27,7 +28,7 @@ use fd_closure::{is_functional, is_wide};
 /// third form they are tried again for each attribute of which it is asked whether it is prime.
 pub fn violation(schema: &Schema, scheme: AttrSet, form: Form) -> Result<Option<Breach>, TooWide>
     requires scheme { IsSubset (attributes scheme) (universe_of schema.now) }
-    ensures too_wide { IsErr result ↔ IsWide (theory_of schema.now) (attributes scheme) }
+    ensures too_wide { IsErr result ↔ IsWideScheme (theory_of schema.now) (attributes scheme) }
     ensures scheme { IfErr result (λ refusal. refusal.scheme ≡ scheme) }
     ensures none { IfOk result (λ found. IsNone found
         ↔ IsInForm (width_of schema.now) (theory_of schema.now) form (attributes scheme)) }
@@ -37,7 +38,7 @@ pub fn violation(schema: &Schema, scheme: AttrSet, form: Form) -> Result<Option<
     ensures in_left_sides { IfOk result (λ found. IfSome found (λ breach.
         IsSubset (attributes breach.lhs) (left_sides (theory_of schema.now)))) }
 {
-    if is_wide(schema.deps(), scheme) {
+    if is_wide_scheme(schema.deps(), scheme) {
         return Err(TooWide { scheme });
     }
     match form {

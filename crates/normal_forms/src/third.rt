@@ -13,7 +13,8 @@ ghost use Rattle.normal_forms.specs.Violations.{DeterminesBeyond};
 ghost use Rattle.normal_forms.specs.Chosen.{IsChosenViolation};
 
 use crate::beginning::{KnownPart, closure_begun, first_few, next_part, no_part};
-use crate::forms::{Breach, Form};
+use crate::forms::Breach;
+use crate::form::Form;
 use crate::narrowing::functionally_searched_attributes;
 use crate::passing::{FEWEST_PASSED, determines_none, filled};
 use crate::primes::{Sifted, prime_or_not};

@@ -1,1 +1,1 @@
-pub mod HoldingLemmas
+pub mod HeldNumerals

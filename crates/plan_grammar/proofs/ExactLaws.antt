@@ -27,7 +27,7 @@ use Rattle.schema_grammar.specs.Meanings.{HasTokens, IsAttribute, attributes_of_
 use Rattle.schema_grammar.proofs.OneRefusal.{both_least, same_carried, same_refusal}
 use Rattle.plan_grammar.specs.declared.refusal.PlanRefusal.{PlanRefusal}
 use Rattle.plan_grammar.specs.declared.refusal.PlanRefusal.TheVariants as plan
-use Rattle.plan_grammar.specs.declared.refusal.TheConstants.{MOST_SCHEMES}
+use Rattle.plan_grammar.specs.declared.bounds.TheConstants.{MOST_SCHEMES}
 use Rattle.table_names.specs.TableNames.{is_given}
 use Rattle.named_plans.specs.NamedPlans.{NamedSchemes, PlannedTable, led_by_table}
 use Rattle.plan_grammar.specs.LineTokens.{is_keyword, is_scheme, is_table, lex_line}

@@ -20,7 +20,7 @@ use Rattle.schema_grammar.specs.Words.{is_word_token}
 use Rattle.schema_grammar.proofs.PrintedTexts.{Bytes, bytes_both, EachBytes, lines_cut}
 use Rattle.schema_grammar.proofs.SpelledSides.{kind_is_word, printed_side, printed_names}
 use Rattle.schema_grammar.proofs.SpelledWords.{kind_of, name_mark, name_marks, side_marks, members_spelled, named_line, names_bytes, nothing_left}
-use Rattle.plan_grammar.specs.declared.refusal.TheConstants.{MOST_SCHEMES}
+use Rattle.plan_grammar.specs.declared.bounds.TheConstants.{MOST_SCHEMES}
 use Rattle.named_plans.specs.NamedPlans.{NamedSchemes, PlannedTable, unnamed}
 use Rattle.plan_grammar.specs.LineTokens.{is_keyword, is_table, lex_line, line_mode, mode_by_head}
 use Rattle.plan_grammar.specs.Meanings.{MeansTable, MeansTableLines, MeansPlan}

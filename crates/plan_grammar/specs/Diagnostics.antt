@@ -20,7 +20,7 @@ use Rattle.table_names.specs.TableNames.{is_given}
 use Rattle.named_plans.specs.NamedPlans.{NamedSchemes}
 use Rattle.plan_grammar.specs.declared.refusal.PlanRefusal.{PlanRefusal}
 use Rattle.plan_grammar.specs.declared.refusal.PlanRefusal.TheVariants as plan
-use Rattle.plan_grammar.specs.declared.refusal.TheConstants.{MOST_SCHEMES}
+use Rattle.plan_grammar.specs.declared.bounds.TheConstants.{MOST_SCHEMES}
 use Rattle.plan_grammar.specs.LineTokens.{is_scheme, is_table, lex_line}
 use Rattle.plan_grammar.specs.Meanings.{is_kept_word, MeansTableLines}
 use Rattle.plan_grammar.specs.Refusals.{plan_diagnostic_kind}

@@ -4,9 +4,6 @@ ghost use Rattle.plan_grammar.specs.Refusals.{plan_diagnostic_kind};
 
 use schema_grammar::SchemaRefusal;
 
-/// The most schemes of a plan text.
-pub const MOST_SCHEMES: usize = 256;
-
 /// Why a plan text is refused. It has no `Display`: an attribute is printed by its name in a schema.
 #[derive(Clone, Copy, Debug, PartialEq, Eq, Hash)]
 pub enum PlanRefusal {

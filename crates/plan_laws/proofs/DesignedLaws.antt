@@ -14,7 +14,7 @@ use Rattle.dep_model.specs.Schemas.{width_of, theory_of, LegalFor}
 use Rattle.dep_model.specs.Tuples.{Relation}
 use Rattle.dep_model.specs.declared.schema.Schema.{Schema}
 use Rattle.ddl_text.specs.Designs.{IsTableOf}
-use Rattle.ddl_text.specs.Holding.{KeyHolds, ReferenceHolds}
+use Rattle.ddl_text.specs.KeysAndReferences.{KeyHolds, ReferenceHolds}
 use Rattle.ddl_text.specs.declared.table.TableDesign.{TableDesign}
 use Rattle.design_order.proofs.OrderLemmas.{one_order}
 use Rattle.named_tables.specs.Tables.{TableValue}

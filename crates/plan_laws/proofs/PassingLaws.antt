@@ -15,11 +15,11 @@ use Rattle.dep_model.specs.declared.schema.Schema.{Schema}
 use Rattle.dep_model.proofs.FormLemmas.{fourth_bcnf}
 use Rattle.dep_model.proofs.ListLemmas.{Any-from}
 use Rattle.implication_laws.proofs.OnePlanAnswer.{failing_in_plan}
-use Rattle.fd_closure.specs.LeftSides.{IsWide}
+use Rattle.fd_closure.specs.LeftSides.{IsWideScheme}
 use Rattle.normal_forms.specs.Chosen.{IsInForm}
 use Rattle.normal_forms.specs.Violations.{Violates}
-use Rattle.normal_forms.specs.declared.forms.Form.{Form}
-use Rattle.normal_forms.specs.declared.forms.Form.TheVariants.{Third, Bcnf, Fourth}
+use Rattle.normal_forms.specs.declared.form.Form.{Form}
+use Rattle.normal_forms.specs.declared.form.Form.TheVariants.{Third, Bcnf, Fourth}
 use Rattle.normal_forms.proofs.ViolationLemmas.{not_in_form}
 use Rattle.plans.specs.Containing.{is_contained, without_contained_after, without_contained}
 use Rattle.split_forms.specs.Splitting.{StaysWhole}
@@ -53,7 +53,7 @@ form_passes : (s : Schema) (form : Form) (plan : List Attributes)
 form_passes s form plan low formed response (inl passed) = inl passed.1
 form_passes s form plan low formed response (inr (scheme, first, inl (wide, says))) =
     inr (
-      Any-from (IsWide (theory_of s)) plan scheme (failing_in_plan (PassesForm s form) plan scheme first) wide,
+      Any-from (IsWideScheme (theory_of s)) plan scheme (failing_in_plan (PassesForm s form) plan scheme first) wide,
       ap (λ (r : ResponseValue). r.status) says,
     )
 form_passes s form plan low formed response (inr (scheme, first, inr (narrow, found))) =
@@ -85,10 +85,10 @@ pub plan_all : (P : Attributes → Type 0) (all plan : List AttrSet) → plan �
 plan_all P all plan kept each = subst (λ (l : List AttrSet). All P (schemes_of l)) (sym kept) (all_kept P [] all each)
 
 pub split_narrow : (s : Schema) (form : Form) (plan : List AttrSet) → IsSplitInForm s form plan
-    → All (λ scheme. IsWide (theory_of s) scheme → ⊥) (schemes_of plan)
+    → All (λ scheme. IsWideScheme (theory_of s) scheme → ⊥) (schemes_of plan)
 split_narrow s form plan is =
-    plan_all (λ (x : Attributes). IsWide (theory_of s) x → ⊥) is.split.all plan is.split.kept
-    (All-weaker (StaysWhole (width_of s) (theory_of s) form) (λ (x : Attributes). IsWide (theory_of s) x → ⊥)
+    plan_all (λ (x : Attributes). IsWideScheme (theory_of s) x → ⊥) is.split.all plan is.split.kept
+    (All-weaker (StaysWhole (width_of s) (theory_of s) form) (λ (x : Attributes). IsWideScheme (theory_of s) x → ⊥)
     (λ x whole. whole.narrow)
     (schemes_of is.split.all) is.split.finished.whole)
 
@@ -137,15 +137,15 @@ third_keeps s plan is response (inl (keeps, says)) = says
 third_keeps s plan is response (inr (lost, found)) = absurd (lost is.keeps)
 
 -- ---- wide splits
-pub wide_form : (s : Schema) (plan : List AttrSet) → IsWideSplit s plan → PassesCheckForm s Bcnf (schemes_of plan)
-wide_form s plan is =
+pub wide_split_form : (s : Schema) (plan : List AttrSet) → IsWideSplit s plan → PassesCheckForm s Bcnf (schemes_of plan)
+wide_split_form s plan is =
     form_passes s Bcnf (schemes_of plan)
     (λ other. plan_all (λ (x : Attributes). IsSubset x (below (width_of s))) is.split.all plan is.split.kept
     (schema_parts s is.split.all is.split.split).within)
     is.bcnf
 
-pub wide_join : (s : Schema) (plan : List AttrSet) → IsWideSplit s plan → PassesCheckJoin s (schemes_of plan)
-wide_join s plan is = join_passes s (schemes_of plan) is.lossless
+pub wide_split_join : (s : Schema) (plan : List AttrSet) → IsWideSplit s plan → PassesCheckJoin s (schemes_of plan)
+wide_split_join s plan is = join_passes s (schemes_of plan) is.lossless
 
 -- ---- tableaux
 pub functional_small : (s : Schema) (plan : List Attributes)
@@ -154,8 +154,8 @@ pub functional_small : (s : Schema) (plan : List Attributes)
 functional_small s plan functional short =
     functional_within_limit (width_of s) (theory_of s) plan MOST_TABLEAU_ROWS functional short
 
-pub wide_small : (s : Schema) (plan : List AttrSet) → ((x y : Attributes) → Contains (theory_of s) (mvd x y) → ⊥)
+pub wide_split_small : (s : Schema) (plan : List AttrSet) → ((x y : Attributes) → Contains (theory_of s) (mvd x y) → ⊥)
     → IsWideSplit s plan → IsTooLarge s (schemes_of plan) → ⊥
-wide_small s plan functional is =
+wide_split_small s plan functional is =
     functional_small s (schemes_of plan) functional
     (omega (arith, length-map plan attributes, is.within_limit, s.valid.names_within_limit))

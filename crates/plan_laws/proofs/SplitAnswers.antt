@@ -4,8 +4,8 @@ use Rattle.attr_sets.specs.declared.set.AttrSet.{AttrSet}
 use Rattle.dep_model.specs.Plans.{schemes_of}
 use Rattle.dep_model.specs.Schemas.{width_of, theory_of}
 use Rattle.dep_model.specs.declared.schema.Schema.{Schema}
-use Rattle.normal_forms.specs.declared.forms.Form.{Form}
-use Rattle.normal_forms.specs.declared.forms.Form.TheVariants.{Third, Bcnf, Fourth}
+use Rattle.normal_forms.specs.declared.form.Form.{Form}
+use Rattle.normal_forms.specs.declared.form.Form.TheVariants.{Third, Bcnf, Fourth}
 use Rattle.plans.specs.Printing.{plan_text}
 use Rattle.schema_printer.specs.Spelling.{printed_names_of}
 use Rattle.split_forms.proofs.SplitLemmas.{one_stuck, stuck_within_limit}
@@ -15,9 +15,9 @@ use Rattle.desk_responses.specs.Lines.{too_wide_text}
 use Rattle.desk_responses.specs.ResponseValues.{ResponseValue, Allowed}
 use Rattle.desk_responses.specs.declared.status.Status.TheVariants.{Yes, Refused}
 use Rattle.desk_designs.specs.declared.decomposition.TheConstants.{MOST_SPLIT_SCHEMES}
-use Rattle.desk_designs.specs.Decompositions.{FormStops, IsPlanInForm, IsSplitInForm, SplitStops, Splits, SplitsWide, ShowsPlan, WithPlanInForm, wide_text}
+use Rattle.desk_designs.specs.Decompositions.{FormStops, IsPlanInForm, IsSplitInForm, SplitStops, Splits, SplitsWide, ShowsPlan, WithPlanInForm, wide_split_text}
 use Rattle.plan_laws.proofs.FormTables.{same_schemes}
-use Rattle.plan_laws.proofs.UniqueLaws.{wide_same}
+use Rattle.plan_laws.proofs.UniqueLaws.{wide_split_same}
 
 -- ---- the search for a plan
 one_split_stop : (s : Schema) (form : Form) → (form ≡ Third → ⊥) → AllowsOne (SplitStops s form)
@@ -70,6 +70,6 @@ one_shown s plan others one other same says said =
 pub one_split_answer : (s : Schema) (form : Form) → AllowsOne (Splits s form)
 one_split_answer s form = one_in_form s form (ShowsPlan s) (one_shown s)
 
-pub one_wide_answer : (s : Schema) → AllowsOne (SplitsWide s)
-one_wide_answer s one other (plan, is, says) (others, also, said) =
-    same_says Yes _ _ one other says said (ap (wide_text (printed_names_of s)) (wide_same s plan others is also))
+pub one_wide_split_answer : (s : Schema) → AllowsOne (SplitsWide s)
+one_wide_split_answer s one other (plan, is, says) (others, also, said) =
+    same_says Yes _ _ one other says said (ap (wide_split_text (printed_names_of s)) (wide_split_same s plan others is also))

@@ -19,11 +19,11 @@ use Rattle.dep_model.specs.Tuples.{Relation}
 use Rattle.dep_model.specs.TwoTuples.{two_tuples}
 use Rattle.dep_model.specs.declared.schema.Schema.{Schema}
 use Rattle.dep_model.proofs.ListLemmas.{Contains-head}
-use Rattle.normal_forms.specs.declared.forms.Form.{Form}
-use Rattle.normal_forms.specs.declared.forms.Form.TheVariants.{Third}
+use Rattle.normal_forms.specs.declared.form.Form.{Form}
+use Rattle.normal_forms.specs.declared.form.Form.TheVariants.{Third}
 use Rattle.primary_keys.proofs.PrimaryLemmas.{one_primary}
 use Rattle.plans.specs.Containing.{is_contained, without_contained_after, without_contained}
-use Rattle.preservation.specs.Keeping.{IsKept, IsLostOn, LossesFrom}
+use Rattle.preservation.specs.Keeping.{IsPreserved, IsLostOn, LossesFrom}
 use Rattle.preservation.specs.declared.losing.Loss.{Loss}
 use Rattle.normal_forms.proofs.ViolationLemmas.{not_in_form}
 use Rattle.normal_forms.proofs.UniqueLemmas.{one_chosen}
@@ -106,9 +106,9 @@ split_same s form plan other not_third one two =
     (one_finished (width_of s) (theory_of s) form s.valid.names_not_empty not_third (schemes_of one.split.all)
     (schemes_of two.split.all) one.split.finished two.split.finished)
 
-pub wide_same : (s : Schema) (plan other : List AttrSet) → IsWideSplit s plan → IsWideSplit s other
+pub wide_split_same : (s : Schema) (plan other : List AttrSet) → IsWideSplit s plan → IsWideSplit s other
     → schemes_of plan ≡ schemes_of other
-wide_same s plan other one two =
+wide_split_same s plan other one two =
     kept_same one.split.all two.split.all plan other one.split.kept two.split.kept
     (one_split (width_of s) (theory_of s) (below (width_of s)) (schemes_of one.split.all) (schemes_of two.split.all)
     one.split.split two.split.split)
@@ -175,7 +175,7 @@ one_agreement n ds plan (fd x y) a b one other = fun_ext (λ k.
 one_agreement n ds plan (mvd x y) a b one other = absurd one
 
 kept_not_lost : (n : ℕ) (ds : List Dependency) (plan : List Attributes) (d : Dependency) (a : Attributes)
-    → IsKept n ds plan d → IsLostOn n ds plan d a → ⊥
+    → IsPreserved n ds plan d → IsLostOn n ds plan d a → ⊥
 kept_not_lost n ds plan (fd x y) a kept lost = lost.shows.breaks (kept (two_tuples n a) lost.shows.inside)
 kept_not_lost n ds plan (mvd x y) a kept lost = lost
 

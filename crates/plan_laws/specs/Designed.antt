@@ -5,7 +5,7 @@ use Rattle.attr_sets.specs.Sets.{attributes}
 use Rattle.csv_migrate.specs.Migration.{column_names}
 use Rattle.dep_model.specs.declared.schema.Schema.{Schema}
 use Rattle.ddl_text.specs.Designs.{known_keys}
-use Rattle.ddl_text.specs.Holding.{KeyHolds, ReferenceHolds}
+use Rattle.ddl_text.specs.KeysAndReferences.{KeyHolds, ReferenceHolds}
 use Rattle.ddl_text.specs.declared.table.TableDesign.{TableDesign}
 use Rattle.named_tables.specs.Tables.{TableValue}
 

@@ -4,8 +4,8 @@ use Rattle.std.specs.Prelude.{◌≡◌, ◌⊎◌, List, Any}
 use Rattle.attr_sets.specs.Attributes.{Attributes}
 use Rattle.dep_model.specs.declared.schema.Schema.{Schema}
 use Rattle.dep_model.specs.Schemas.{theory_of}
-use Rattle.normal_forms.specs.declared.forms.Form.{Form}
-use Rattle.fd_closure.specs.LeftSides.{IsWide}
+use Rattle.normal_forms.specs.declared.form.Form.{Form}
+use Rattle.fd_closure.specs.LeftSides.{IsWideScheme}
 use Rattle.desk_responses.specs.declared.status.Status.TheVariants.{Yes, Refused}
 use Rattle.desk_responses.specs.ResponseValues.{ResponseValue, Says}
 use Rattle.desk_designs.specs.NormalForms.{JudgesForm, in_form_text}
@@ -16,7 +16,7 @@ use Rattle.desk_designs.specs.Keeping.{JudgesKeeping, kept_text}
 abbrev pub PassesCheckForm : Schema → Form → List Attributes → Type 0
 PassesCheckForm schema form plan =
     (response : ResponseValue) → JudgesForm schema form plan response
-    → Says Yes (in_form_text form) response ⊎ (Any (IsWide (theory_of schema)) plan × (response.status ≡ Refused))
+    → Says Yes (in_form_text form) response ⊎ (Any (IsWideScheme (theory_of schema)) plan × (response.status ≡ Refused))
 
 -- `check join` says yes of a plan, or refuses it for a tableau of too many rows
 abbrev pub PassesCheckJoin : Schema → List Attributes → Type 0

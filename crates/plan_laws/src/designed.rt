@@ -12,7 +12,7 @@ ghost use Rattle.ddl_text.specs.declared.table.TableDesign.{TableDesign};
 ghost use Rattle.design_order.specs.Order.{AreNamesInOrder};
 ghost use Rattle.named_plans.specs.NamedPlans.{AreApart};
 ghost use Rattle.named_tables.specs.Tables.{TableValue};
-ghost use Rattle.normal_forms.specs.declared.forms.Form.{Form};
+ghost use Rattle.normal_forms.specs.declared.form.Form.{Form};
 ghost use Rattle.table_names.specs.TableNames.{GivenNames};
 ghost use Rattle.desk_designs.specs.Decompositions.{IsPlanInForm};
 ghost use Rattle.desk_designs.specs.Designs.{IsSoundDesign};

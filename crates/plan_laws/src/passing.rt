@@ -7,9 +7,9 @@ ghost use Rattle.dep_model.specs.Dependencies.{mvd};
 ghost use Rattle.dep_model.specs.Plans.{schemes_of};
 ghost use Rattle.dep_model.specs.Schemas.{theory_of};
 ghost use Rattle.dep_model.specs.declared.schema.Schema.{Schema};
-ghost use Rattle.fd_closure.specs.LeftSides.{IsWide};
-ghost use Rattle.normal_forms.specs.declared.forms.Form.{Form};
-ghost use Rattle.normal_forms.specs.declared.forms.Form.TheVariants as forms;
+ghost use Rattle.fd_closure.specs.LeftSides.{IsWideScheme};
+ghost use Rattle.normal_forms.specs.declared.form.Form.{Form};
+ghost use Rattle.normal_forms.specs.declared.form.Form.TheVariants as forms;
 ghost use Rattle.desk_designs.specs.declared.join.TheConstants.{MOST_TABLEAU_ROWS};
 ghost use Rattle.desk_designs.specs.Decompositions.{IsPlanInForm, IsSplitInForm, IsWideSplit};
 ghost use Rattle.desk_designs.specs.Joins.{IsTooLarge};
@@ -35,7 +35,7 @@ pub fn synthesized_plans_keep()
 /// that `check form` never refuses it; one in fourth form passes `check form bcnf` too.
 pub fn split_plans_are_narrow()
     ensures narrow { (schema : Schema) (form : Form) (plan : List AttrSet) → IsSplitInForm schema form plan
-        → All (λ scheme. IsWide (theory_of schema) scheme → ⊥) (schemes_of plan) }
+        → All (λ scheme. IsWideScheme (theory_of schema) scheme → ⊥) (schemes_of plan) }
     ensures fourth { (schema : Schema) (plan : List AttrSet) → IsSplitInForm schema forms.Fourth plan
         → PassesCheckForm schema forms.Bcnf (schemes_of plan) }
 {}

@@ -17,7 +17,7 @@ use Rattle.dep_model.specs.declared.dep.Dep.TheVariants.{Fd, Mvd}
 use Rattle.dep_model.proofs.DepLemmas.{functional_all-to, theory_next}
 use Rattle.dep_model.specs.TwoTuples.{two_tuples}
 use Rattle.preservation.specs.Keeping.{ObeysInside}
-use Rattle.preservation.specs.Keeping.{IsKept, IsLostOn, LossesFrom}
+use Rattle.preservation.specs.Keeping.{IsPreserved, IsLostOn, LossesFrom}
 use Rattle.preservation.specs.declared.losing.Loss.{Loss}
 
 -- ---- lists of losses
@@ -29,7 +29,7 @@ no_losses n ds plan k rest losses e h = subst (λ (l : List Dependency). LossesF
 -- one dependency more, which is kept
 pub kept_more : (n : ℕ) (ds : List Dependency) (plan : List Attributes) (k : ℕ) (rest : List Dependency)
     (losses : List Loss) (d : Dependency)
-    → LossesFrom n ds plan k rest losses → IsKept n ds plan d → LossesFrom n ds plan k (rest ++ d ∷ []) losses
+    → LossesFrom n ds plan k rest losses → IsPreserved n ds plan d → LossesFrom n ds plan k (rest ++ d ∷ []) losses
 unfolding LossesFrom
 kept_more n ds plan k [] losses d h kept = inl (kept, h)
 kept_more n ds plan k (e ∷ rest) losses d (inl h) kept = inl (h.0, kept_more n ds plan (k + 1) rest losses d h.1 kept)
@@ -59,10 +59,10 @@ lost_more n ds plan k (e ∷ rest) losses d loss (inr (first, more, at, position
 
 -- where none is lost each is kept, and the other way round
 pub none_kept : (n : ℕ) (ds : List Dependency) (plan : List Attributes) (k : ℕ) (rest : List Dependency)
-    (losses : List Loss) → LossesFrom n ds plan k rest losses → losses ≡ [] → All (IsKept n ds plan) rest
+    (losses : List Loss) → LossesFrom n ds plan k rest losses → losses ≡ [] → All (IsPreserved n ds plan) rest
 unfolding LossesFrom
-none_kept n ds plan k [] losses h e = All-nil (IsKept n ds plan)
-none_kept n ds plan k (d ∷ rest) losses (inl h) e = All-cons (IsKept n ds plan) d rest h.0
+none_kept n ds plan k [] losses h e = All-nil (IsPreserved n ds plan)
+none_kept n ds plan k (d ∷ rest) losses (inl h) e = All-cons (IsPreserved n ds plan) d rest h.0
     (none_kept n ds plan (k + 1) rest losses h.1 e)
 none_kept n ds plan k (d ∷ rest) losses (inr (loss, more, at, number, is, h)) e = absurd
     (cons_not_nil loss more (sym at ∙ e))
@@ -71,45 +71,45 @@ none_kept n ds plan k (d ∷ rest) losses (inr (loss, more, at, number, is, h)) 
     cons_not_nil loss more e = cc
 
 kept_not_lost : (n : ℕ) (ds : List Dependency) (plan : List Attributes) (d : Dependency) (agreement : Attributes)
-    → IsKept n ds plan d → IsLostOn n ds plan d agreement → ⊥
+    → IsPreserved n ds plan d → IsLostOn n ds plan d agreement → ⊥
 kept_not_lost n ds plan (fd x y) agreement kept lost = lost.shows.breaks
     (kept (two_tuples n agreement) lost.shows.inside)
 kept_not_lost n ds plan (mvd x y) agreement kept lost = lost
 
 pub kept_none : (n : ℕ) (ds : List Dependency) (plan : List Attributes) (k : ℕ) (rest : List Dependency)
-    (losses : List Loss) → LossesFrom n ds plan k rest losses → All (IsKept n ds plan) rest → losses ≡ []
+    (losses : List Loss) → LossesFrom n ds plan k rest losses → All (IsPreserved n ds plan) rest → losses ≡ []
 unfolding LossesFrom
 kept_none n ds plan k [] losses h all = h
 kept_none n ds plan k (d ∷ rest) losses (inl h) all = kept_none n ds plan (k + 1) rest losses h.1
-    (All-tail (IsKept n ds plan) d rest all)
+    (All-tail (IsPreserved n ds plan) d rest all)
 kept_none n ds plan k (d ∷ rest) losses (inr (loss, more, at, number, is, h)) all =
-    absurd (kept_not_lost n ds plan d (attributes loss.agreement) (All-head (IsKept n ds plan) d rest all) is)
+    absurd (kept_not_lost n ds plan d (attributes loss.agreement) (All-head (IsPreserved n ds plan) d rest all) is)
 
 -- ---- a plan keeps the dependencies exactly where each given one is kept
 kept_obeyed : (n : ℕ) (ds : List Dependency) (plan : List Attributes) (r : Relation) (d : Dependency)
-    → ObeysInside n ds plan r → is_fd d ≡ true → IsKept n ds plan d → Obeys n d r
+    → ObeysInside n ds plan r → is_fd d ≡ true → IsPreserved n ds plan d → Obeys n d r
 kept_obeyed n ds plan r (fd x y) inside is kept = kept r inside
 kept_obeyed n ds plan r (mvd x y) inside is kept = absurd (false≢true is)
 
-pub each_kept : (n : ℕ) (ds : List Dependency) (plan : List Attributes) → All (IsKept n ds plan) ds
+pub each_kept : (n : ℕ) (ds : List Dependency) (plan : List Attributes) → All (IsPreserved n ds plan) ds
     → KeepsDependencies n ds plan
 each_kept n ds plan all r over obeys = record {
   over = over;
   obeys = λ k d l.
       kept_obeyed n ds plan r (get_or (functional_part ds) k d) (record { over = over; obeys = obeys })
-      (filter_passes is_fd ds k d l) (All-filter is_fd (IsKept n ds plan) ds all k d l);
+      (filter_passes is_fd ds k d l) (All-filter is_fd (IsPreserved n ds plan) ds all k d l);
 }
 
 kept_at : (n : ℕ) (ds : List Dependency) (plan : List Attributes) (d : Dep)
     → ((r : Relation) → ObeysInside n ds plan r → IfFd (λ x y. ObeysFd x y r) d)
-    → IsKept n ds plan (dependency_of d)
+    → IsPreserved n ds plan (dependency_of d)
 kept_at n ds plan (Fd lhs rhs) obeys = obeys
 kept_at n ds plan (Mvd lhs rhs) obeys = tt
 
 pub keeps_each : (n : ℕ) (ds : List Dep) (plan : List Attributes) → KeepsDependencies n (dependencies_of ds) plan
-    → All (IsKept n (dependencies_of ds) plan) (dependencies_of ds)
+    → All (IsPreserved n (dependencies_of ds) plan) (dependencies_of ds)
 keeps_each n ds plan keeps =
-    All-map (IsKept n (dependencies_of ds) plan) dependency_of ds (λ k d l.
+    All-map (IsPreserved n (dependencies_of ds) plan) dependency_of ds (λ k d l.
     kept_at n (dependencies_of ds) plan (get_or ds k d)
     (λ r inside. functional_all-to (λ (e : Dependency). Obeys n e r) ds
     (keeps r inside.over inside.obeys).obeys k d l))
@@ -119,12 +119,12 @@ keeps_each n ds plan keeps =
 pub next_kept : (n : ℕ) (deps ds : List Dep) (plan : List Attributes) (k : ℕ) (d : Dep) (losses : List Loss) → ds ≡ deps
     → k < length ds
     → LossesFrom n (dependencies_of deps) plan 0 (take k (dependencies_of deps)) losses
-    → IsKept n (dependencies_of deps) plan (dependency_of (get_or ds k d))
+    → IsPreserved n (dependencies_of deps) plan (dependency_of (get_or ds k d))
     → LossesFrom n (dependencies_of deps) plan 0 (take (k + 1) (dependencies_of deps)) losses
 next_kept n deps ds plan k d losses e l old kept =
     let low : k < length deps = subst (λ (xs : List Dep). k < length xs) e l in
-    let is : IsKept n (dependencies_of deps) plan (dependency_of (get_or deps k d)) = subst
-    (λ (xs : List Dep). IsKept n (dependencies_of deps) plan (dependency_of (get_or xs k d))) e kept in
+    let is : IsPreserved n (dependencies_of deps) plan (dependency_of (get_or deps k d)) = subst
+    (λ (xs : List Dep). IsPreserved n (dependencies_of deps) plan (dependency_of (get_or xs k d))) e kept in
     subst (λ (l : List Dependency). LossesFrom n (dependencies_of deps) plan 0 l losses)
     (sym (theory_next deps k d low))
     (kept_more n (dependencies_of deps) plan 0 (take k (dependencies_of deps)) losses

@@ -35,9 +35,9 @@ pub record ShowsLost (n : ℕ) (ds : List Dependency) (plan : List Attributes) (
 
 -- a functional dependency is kept where it follows from those inside the schemes; a multivalued one is
 -- passed over
-abbrev pub IsKept : ℕ → List Dependency → List Attributes → Dependency → Type 0
-IsKept n ds plan (fd x y) = FollowsInside n ds plan x y
-IsKept n ds plan (mvd x y) = Unit {0}
+abbrev pub IsPreserved : ℕ → List Dependency → List Attributes → Dependency → Type 0
+IsPreserved n ds plan (fd x y) = FollowsInside n ds plan x y
+IsPreserved n ds plan (mvd x y) = Unit {0}
 
 -- a set is all that follows from x by the dependencies inside the schemes, and the two tuples that agree
 -- exactly on it obey these and break x -> y
@@ -55,7 +55,7 @@ IsLostOn n ds plan (mvd x y) agreement = ⊥
 unfoldable pub LossesFrom : ℕ → List Dependency → List Attributes → ℕ → List Dependency → List Loss → Type 0
 LossesFrom n ds plan k [] losses = losses ≡ []
 LossesFrom n ds plan k (d ∷ rest) losses =
-    (IsKept n ds plan d × LossesFrom n ds plan (k + 1) rest losses)
+    (IsPreserved n ds plan d × LossesFrom n ds plan (k + 1) rest losses)
     ⊎ ((loss : Loss) × (more : List Loss) × (losses ≡ loss ∷ more) × (loss.dep ≡ k)
     × IsLostOn n ds plan d (attributes loss.agreement) × LossesFrom n ds plan (k + 1) rest more)
 

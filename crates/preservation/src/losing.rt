@@ -7,7 +7,7 @@ ghost use Rattle.dep_model.specs.Preservation.{KeepsDependencies};
 ghost use Rattle.dep_model.specs.Schemas.{width_of, deps_of, theory_of, universe_of};
 ghost use Rattle.fd_closure.specs.Counting.{FitsList};
 ghost use Rattle.preservation.specs.SchemeClosures.{IsSchemeClosure, schemes_of_closures, plan_of_closures};
-ghost use Rattle.preservation.specs.Keeping.{IsKept, IsLostOn, LossesOf};
+ghost use Rattle.preservation.specs.Keeping.{IsPreserved, IsLostOn, LossesOf};
 ghost use Rattle.preservation.specs.FunctionallyClosed.{TellsKeptClosure};
 
 use crate::closing::{Closed, closure_after};
@@ -72,7 +72,7 @@ fn loss_of(
         (plan_of_closures closures.old) (dependency_of dep) (attributes lost_on.closed)) }
     ensures all { IfSome result
         (TellsKeptClosure (width_of schema.now) (theory_of schema.now) (plan_of_closures closures.old)) }
-    ensures kept { IfNone result (IsKept (width_of schema.now) (theory_of schema.now)
+    ensures kept { IfNone result (IsPreserved (width_of schema.now) (theory_of schema.now)
         (plan_of_closures closures.old) (dependency_of dep)) }
     ensures known { All (IsSchemeClosure (width_of schema.now) (theory_of schema.now)) closures.new }
     ensures schemes { schemes_of_closures closures.new ≡ schemes_of_closures closures.old }

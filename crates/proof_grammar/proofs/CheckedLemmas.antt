@@ -30,7 +30,7 @@ use Rattle.lexer.specs.Tokens.{lex}
 use Rattle.dep_model.specs.Schemas.{names_of, naming_of}
 use Rattle.proof_grammar.specs.Texts.{in_line, read_as, line_kind, read_one, at_line, read_certificate_lines, read_proof}
 use Rattle.proof_grammar.specs.Checked.{IsChecked}
-use Rattle.proof_grammar.specs.ValidStates.{Stands, IfOpen, AllStand, open_nodes, all_nodes, IsCheckerState}
+use Rattle.proof_grammar.specs.ValidStates.{ProvesItsConclusion, IfOpen, AllStand, open_nodes, all_nodes, IsCheckerState}
 
 AllStand-get : (s : Schema) (os : List (Option Opened)) (i : ℕ) (o : Option Opened) → AllStand s os
     → option_flatten (slice_get os i) ≡ o → IfOpen s o
@@ -49,7 +49,7 @@ all_nodes-close [] i o e = omega (arith, ap open_nodes e)
 all_nodes-close (x ∷ os) zero o e = omega (arith, ap open_nodes e)
 all_nodes-close (x ∷ os) (suc i) o e = omega (arith, all_nodes-close os i o e)
 
-pub AllStand-push : (s : Schema) (os : List (Option Opened)) (o : Opened) → AllStand s os → Stands s o → AllStand s (os ++ Some o ∷ [])
+pub AllStand-push : (s : Schema) (os : List (Option Opened)) (o : Opened) → AllStand s os → ProvesItsConclusion s o → AllStand s (os ++ Some o ∷ [])
 AllStand-push s [] o all stands = (stands, tt {0})
 AllStand-push s (x ∷ os) o all stands = (all.0, AllStand-push s os o all.1 stands)
 
@@ -211,7 +211,7 @@ entered_keeps s at state l is =
     (within_limits (length os) l p.levels p.outcome) o ends (within_limits_ok (length os) l p.levels p.outcome) in
     let deep : depth o.tree ≡ o.levels = prep.levels o.tree o.conclusion at_end.prepared_so ∙ sym at_end.same_levels in
     let longer : length (p.unused ++ Some o ∷ []) ≡ length p.unused + 1 = length-append p.unused (Some o ∷ []) in
-    let stands : Stands s o = record {
+    let stands : ProvesItsConclusion s o = record {
       proves = prep.proves o.tree o.conclusion at_end.prepared_so;
       levels = deep;
       levels_fit = omega (arith, at_end.same_levels, at_end.levels_fit);

@@ -7,8 +7,8 @@ use Rattle.derivation.specs.Conclusions.{Proves}
 use Rattle.derivation.specs.declared.measures.TheConstants.{MOST_NODES, MOST_LEVELS}
 use Rattle.proof_grammar.specs.CheckerStates.{Opened, CheckerStateValue}
 
--- an open line proves its conclusion
-pub record Stands (s : Schema) (o : Opened) : Type 0 where
+-- an open line proves its conclusion, and has the levels of its tree, which are few enough
+pub record ProvesItsConclusion (s : Schema) (o : Opened) : Type 0 where
   pub proves : Proves s o.tree o.conclusion
   pub levels : depth o.tree ≡ o.levels
   pub levels_fit : o.levels ≤ MOST_LEVELS
@@ -16,7 +16,7 @@ pub record Stands (s : Schema) (o : Opened) : Type 0 where
 -- the same of a line that may have been used
 abbrev pub IfOpen : Schema → Option Opened → Type 0
 IfOpen s None = Unit {0}
-IfOpen s (Some o) = Stands s o
+IfOpen s (Some o) = ProvesItsConclusion s o
 
 -- and of each of some lines
 abbrev pub AllStand : Schema → List (Option Opened) → Type 0

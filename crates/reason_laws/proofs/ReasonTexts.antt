@@ -12,8 +12,8 @@ use Rattle.dep_model.specs.Plans.{schemes_of}
 use Rattle.dep_model.specs.Schemas.{names_of}
 use Rattle.dep_model.specs.declared.schema.Schema.{Schema}
 use Rattle.dep_model.proofs.PlainLemmas.{IsPlain, plain_both}
-use Rattle.normal_forms.specs.declared.forms.Form.{Form}
-use Rattle.normal_forms.specs.declared.forms.Form.TheVariants.{Third, Bcnf, Fourth}
+use Rattle.normal_forms.specs.declared.form.Form.{Form}
+use Rattle.normal_forms.specs.declared.form.Form.TheVariants.{Third, Bcnf, Fourth}
 use Rattle.plans.specs.Containing.{lies_within, without_contained}
 use Rattle.plans.specs.Printing.{plan_text, scheme_text}
 use Rattle.schema_printer.specs.Printing.{dependency_text, members_from, set_text, words_text}

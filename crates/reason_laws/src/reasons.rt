@@ -5,7 +5,7 @@ ghost use Rattle.std.specs.Prelude.{◌<◌, ◌^◌, All};
 ghost use Rattle.dep_model.specs.Names.{IsName};
 ghost use Rattle.dep_model.specs.Schemas.{lines_of, names_of};
 ghost use Rattle.dep_model.specs.declared.schema.Schema.{Schema};
-ghost use Rattle.normal_forms.specs.declared.forms.Form.{Form};
+ghost use Rattle.normal_forms.specs.declared.form.Form.{Form};
 ghost use Rattle.desk_covers.specs.CoverReasons.{ExplainsCover};
 ghost use Rattle.desk_covers.specs.Covering.{GivesCover};
 ghost use Rattle.desk_designs.specs.Decompositions.{Splits};

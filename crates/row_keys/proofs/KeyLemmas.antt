@@ -19,7 +19,7 @@ use Rattle.dep_model.proofs.DistinctLemmas.{filter-keeps, filter-member}
 use Rattle.dep_model.proofs.ListLemmas.{Contains-cases, Contains-map, map-member}
 use Rattle.dep_model.proofs.TupleLemmas.{IsOver-length, same_tuple-Contains}
 use Rattle.candidate_search.specs.Levels.{AreTabled}
-use Rattle.candidate_search.specs.Sides.{AreMinimalLeftSides, HasMinimal, IsExceeded, lefts_of, rights_of}
+use Rattle.candidate_search.specs.Sides.{AreMinimalLeftSides, HasMinimal, IsTooManyLeftSides, lefts_of, rights_of}
 use Rattle.candidate_search.specs.declared.side.Side.{Side}
 use Rattle.candidate_search.specs.declared.side.TooManyLeftSides.{TooManyLeftSides}
 use Rattle.fd_discovery.specs.Minimal.{IsMinimalWithin}
@@ -236,7 +236,7 @@ module _ (name : Tuple → List ℕ) (n : ℕ) (r : Relation) (over : IsOver n r
 
   -- the refusal of the one attribute that is asked for
   pub keys_refused : (refusal : TooManyLeftSides) → Contains (n ∷ []) refusal.right
-      → IsExceeded (n + 1) n (with_names name r) refusal → HasTooManyKeys n r
+      → IsTooManyLeftSides (n + 1) n (with_names name r) refusal → HasTooManyKeys n r
   keys_refused refusal named exceeded = elim (Contains-cases n [] refusal.right named) [
     | inl same ↦ keys_exceeded
         (subst (λ (a : ℕ). ExceedsCandidates (n + 1) n (with_names name r) a MOST_CANDIDATES) same exceeded.exceeds)

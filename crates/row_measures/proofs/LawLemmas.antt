@@ -22,7 +22,7 @@ use Rattle.removal_laws.proofs.ChangeLemmas.{least_change}
 use Rattle.removal_laws.proofs.LargestLemmas.{least}
 use Rattle.removal_laws.proofs.StayingLemmas.{count_staying, stands, stay}
 use Rattle.row_store.specs.Rows.{row_at}
-use Rattle.row_measures.specs.Answers.{AreBrokenParts, AreBrokenRows, AreKept, IsKept, IsMeasure, class_row, mark_of}
+use Rattle.row_measures.specs.Answers.{AreBrokenParts, AreBrokenRows, AreKeptFlags, IsKeptRow, IsMeasure, class_row, mark_of}
 use Rattle.row_measures.specs.Broken.{flagged_groups, flagged_rows, in_flagged, missing_pairs, ordinal, positions_of, rows_outside}
 use Rattle.row_measures.specs.Laws.{IsRemoved}
 use Rattle.row_measures.specs.Sorted.{Classes}
@@ -87,7 +87,7 @@ same_rows n r (mvd x y) one other (c, is) (d, also) =
     }) (in_flagged groups broken (length broken)) in
     is ∙ same_of_parts by c d ∙ sym also
 
-pub same_kept : (ds : List Dependency) (r : Relation) (one other : List Bool) → AreKept ds r one → AreKept ds r other → one ≡ other
+pub same_kept : (ds : List Dependency) (r : Relation) (one other : List Bool) → AreKeptFlags ds r one → AreKeptFlags ds r other → one ≡ other
 same_kept ds r one other a b =
     ext_get_or false one other (a.one_each ∙ sym b.one_each) (λ i low.
     let within : i < length r = omega (arith, low, a.one_each) in
@@ -171,17 +171,17 @@ module _ (x y : Attributes) (r : Relation) (c : Classes x y r) where
   )
 
 -- ---- the rows that are kept
-module _ (ds : List Dependency) (r : Relation) (kept : List Bool) (are : AreKept ds r kept) where
+module _ (ds : List Dependency) (r : Relation) (kept : List Bool) (are : AreKeptFlags ds r kept) where
   kept_by : (x y : Attributes) → Contains ds (fd x y) → (c : Classes x y r) → (i : ℕ) → i < length r → flag_at kept i ≡ true → in_chosen c.groups c.classes c.chosen i ≡ true
   kept_by x y there c i low set =
-      let here = All-contains (IsKept r i) ds (fd x y) ((are.told i low).0 set) there in
+      let here = All-contains (IsKeptRow r i) ds (fd x y) ((are.told i low).0 set) there in
       same_of_classes (λ groups firsts classes class_firsts chosen broken. in_chosen groups classes chosen i) c here.0 ∙ here.1
 
   kept_obey : (n : ℕ) (x y : Attributes) → Contains ds (fd x y) → ObeysFd x y (rows_at (flag_at kept) r)
   kept_obey n x y there t u t_in u_in agree =
       let (i, i_in, i_kept, i_is) = stands (flag_at kept) r t t_in in
       let (j, j_in, j_kept, j_is) = stands (flag_at kept) r u u_in in
-      let first = All-contains (IsKept r i) ds (fd x y) ((are.told i i_in).0 i_kept) there in
+      let first = All-contains (IsKeptRow r i) ds (fd x y) ((are.told i i_in).0 i_kept) there in
       let c = first.0 in
       let stays : Positions = in_chosen c.groups c.classes c.chosen in
       let obeys = (least x y r c.groups c.classes c.chosen c.by_left c.by_both c.largest.largest n).obeys in

@@ -98,11 +98,11 @@ AreBrokenRows n r (mvd x y) rows = (p : Parts n x y r) × (rows ≡ group_rows_o
 
 -- ---- the rows that no functional dependency removes
 -- a dependency does not remove a row: it is in the chosen class of its group
-abbrev pub IsKept : Relation → ℕ → Dependency → Type 0
-IsKept r i (fd x y) = (c : Classes x y r) × (in_chosen c.groups c.classes c.chosen i ≡ true)
-IsKept r i (mvd x y) = Unit {0}
+abbrev pub IsKeptRow : Relation → ℕ → Dependency → Type 0
+IsKeptRow r i (fd x y) = (c : Classes x y r) × (in_chosen c.groups c.classes c.chosen i ≡ true)
+IsKeptRow r i (mvd x y) = Unit {0}
 
 -- a flag for each row, set where no functional dependency removes it
-pub record AreKept (ds : List Dependency) (r : Relation) (kept : List Bool) : Type 0 where
+pub record AreKeptFlags (ds : List Dependency) (r : Relation) (kept : List Bool) : Type 0 where
   pub one_each : length kept ≡ length r
-  pub told : (i : ℕ) → i < length r → (flag_at kept i ≡ true) ↔ All (IsKept r i) ds
+  pub told : (i : ℕ) → i < length r → (flag_at kept i ≡ true) ↔ All (IsKeptRow r i) ds

@@ -4,7 +4,7 @@ ghost use Rattle.csv_rows.specs.Interning.{IsInterned};
 ghost use Rattle.dep_model.specs.Deps.{IsDepWithin, dependencies_of};
 ghost use Rattle.legality.specs.Parts.{AreBelow, flag_at};
 ghost use Rattle.removal_laws.specs.Classes.{in_chosen};
-ghost use Rattle.row_measures.specs.Answers.{AreKept};
+ghost use Rattle.row_measures.specs.Answers.{AreKeptFlags};
 
 use crate::by_class::sort_by_class;
 use attr_sets::MOST_ATTRIBUTES;
@@ -25,7 +25,7 @@ pub fn kept_rows(
     requires width { width ≤ MOST_ATTRIBUTES }
     requires codes { IsInterned width rows.now codes.now }
     requires deps { All (IsDepWithin (below width)) deps.now }
-    ensures kept { IfOk result (λ v. AreKept (dependencies_of deps.now) rows.now v.items) }
+    ensures kept { IfOk result (λ v. AreKeptFlags (dependencies_of deps.now) rows.now v.items) }
 {
     let mut kept = all_flags(alloc, rows.len())?;
     for dep in deps {

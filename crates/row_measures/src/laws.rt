@@ -7,7 +7,7 @@ ghost use Rattle.dep_model.specs.Implication.{IsLegal};
 ghost use Rattle.dep_model.specs.Tuples.{IsOver, Relation, Tuple};
 ghost use Rattle.legality.specs.Parts.{flag_at};
 ghost use Rattle.removal_laws.specs.Removals.{IsLeastChange, IsLeastRemoval, Positions, rows_at};
-ghost use Rattle.row_measures.specs.Answers.{AreBrokenParts, AreBrokenRows, AreKept, IsMeasure};
+ghost use Rattle.row_measures.specs.Answers.{AreBrokenParts, AreBrokenRows, AreKeptFlags, IsMeasure};
 ghost use Rattle.row_measures.specs.Laws.{AreMissing, IsRemoved};
 ghost use Rattle.row_measures.specs.declared.breach.BrokenPart.{BrokenPart};
 ghost use Rattle.row_measures.specs.declared.breach.BrokenRow.{BrokenRow};
@@ -34,7 +34,7 @@ pub fn one_list_of_rows()
 /// Rows have one list of flags of those that are kept.
 pub fn one_list_of_kept()
     ensures law { (ds : List Dependency) (r : Relation) (one other : List Bool)
-        → AreKept ds r one → AreKept ds r other → one ≡ other }
+        → AreKeptFlags ds r one → AreKeptFlags ds r other → one ≡ other }
 {}
 
 /// What the measure of a functional dependency counts is a least removal, and no fewer rows can change
@@ -64,5 +64,5 @@ pub fn removed_rows_are_least_removal()
 /// The rows that no functional dependency removes obey all of them.
 pub fn kept_rows_are_legal()
     ensures law { (n : ℕ) (ds : List Dependency) (r : Relation) (kept : List Bool) → IsOver n r
-        → AreKept ds r kept → All (λ d. is_fd d ≡ true) ds → IsLegal n ds (rows_at (flag_at kept) r) }
+        → AreKeptFlags ds r kept → All (λ d. is_fd d ≡ true) ds → IsLegal n ds (rows_at (flag_at kept) r) }
 {}

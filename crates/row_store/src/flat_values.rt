@@ -73,7 +73,7 @@ impl FlatValues {
         ensures memory { OnErr result (self.new ≡ self.old) }
     {
         let end = self.bytes.len() + value.len();
-        if end > MOST {
+        if end > MOST_STORED {
             return Err(OutOfMemory);
         }
         self.ends.reserve(1)?;
@@ -88,7 +88,7 @@ impl FlatValues {
         ensures memory { OnErr result (self.new ≡ self.old) }
     {
         let count = self.bytes.len();
-        if count + other.bytes.len() > MOST {
+        if count + other.bytes.len() > MOST_STORED {
             return Err(OutOfMemory);
         }
         self.ends.reserve(other.ends.len())?;
@@ -99,7 +99,7 @@ impl FlatValues {
 }
 
 /// The most bytes of values, and the most values of rows.
-pub const MOST: usize = 0xFFFF_FFFF;
+pub const MOST_STORED: usize = 0xFFFF_FFFF;
 
 /// Where the piece at position `i` begins.
 pub fn start_of(ends: &[u32], i: usize) -> usize

@@ -3,7 +3,7 @@ ghost use Rattle.dep_model.specs.Tuples.{value_at};
 ghost use Rattle.row_store.specs.Rows.{row_at};
 
 use crate::FlatValues;
-use crate::flat_values::{MOST, start_of};
+use crate::flat_values::{MOST_STORED, start_of};
 use dep_model::{OutOfMemory, Row};
 use std::alloc::Global;
 use std::marker::Model;
@@ -92,7 +92,7 @@ impl Rows {
         ensures memory { OnErr result (self.new ≡ self.old) }
     {
         let end = self.values.len() + row.len();
-        if end > MOST {
+        if end > MOST_STORED {
             return Err(OutOfMemory);
         }
         self.ends.reserve(1)?;

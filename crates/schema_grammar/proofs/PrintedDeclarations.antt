@@ -33,7 +33,7 @@ use Rattle.schema_printer.proofs.MemberLemmas.{members_each}
 use Rattle.schema_grammar.proofs.PrintedColumns.{IsPrinted, PrintsRun, column_run, column_bytes}
 use Rattle.schema_grammar.proofs.PrintedDependencies.{plain_line}
 use Rattle.schema_grammar.proofs.PrintedTexts.{bytes_both, EachBytes}
-use Rattle.schema_grammar.proofs.SpelledSides.{IsCutAt, cut_more, words_set, IsKnown, each_known, differ_before, kind_is_word, kind_not_reserved, marks_name, marks_set, members_are}
+use Rattle.schema_grammar.proofs.SpelledSides.{IsCutAt, cut_more, words_set, IsKnownName, each_known, differ_before, kind_is_word, kind_not_reserved, marks_name, marks_set, members_are}
 use Rattle.schema_grammar.proofs.SpelledWords.{name_marks, named_line, members_spelled, names_bytes}
 
 -- ---- names that are declared one by one
@@ -240,13 +240,13 @@ unfolding nullable_lines line_kind
 nullable_mean number d nullable rest whole are within unset later =
     rw (members_spelled Any nullable 0 d.names)
     (by_cases (members_from nullable 0 d.names) (members_are nullable d.names are.differ within)
-    (members_each (IsKnown format.Full Any d.names) nullable 0 d.names
+    (members_each (IsKnownName format.Full Any d.names) nullable 0 d.names
     (each_known format.Full Any d.names [] d.names 0 are.differ (record { whole = refl; size = refl }) are.each))
     (members_each (IsReadBack format.Full Any) nullable 0 d.names are.each)
     (rw (members_spelled Any nullable 0 d.names) at later))
   where
     by_cases : (members : List (List ℕ)) → nullable ≡ words_set d.names members
-        → All (IsKnown format.Full Any d.names) members → All (IsReadBack format.Full Any) members
+        → All (IsKnownName format.Full Any d.names) members → All (IsReadBack format.Full Any) members
         → MeansLines format.Full (number + length (nullable_lines (map (spelling Any) members)))
         (with_nullable d nullable) rest whole
         → MeansLines format.Full number d (nullable_lines (map (spelling Any) members) ++ rest) whole

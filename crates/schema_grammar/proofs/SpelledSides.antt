@@ -92,15 +92,15 @@ found_at names before name after position differ cut =
     ∙ ap Some cut.size
 
 -- a name, of which an attribute is known
-abbrev pub IsKnown : Format → Naming → List (List ℕ) → List ℕ → Type 0
-IsKnown f naming names name =
+abbrev pub IsKnownName : Format → Naming → List (List ℕ) → List ℕ → Type 0
+IsKnownName f naming names name =
     IsReadBack f naming name × ((position : ℕ) × (attribute_named names name ≡ Some position))
 
 pub each_known : (f : Format) (naming : Naming) (names before after : List (List ℕ)) (position : ℕ) → Differ names
-    → IsCutAt names before after position → All (IsReadBack f naming) after → All (IsKnown f naming names) after
-each_known f naming names before [] position differ cut all = All-nil (IsKnown f naming names)
+    → IsCutAt names before after position → All (IsReadBack f naming) after → All (IsKnownName f naming names) after
+each_known f naming names before [] position differ cut all = All-nil (IsKnownName f naming names)
 each_known f naming names before (name ∷ after) position differ cut all =
-    All-cons (IsKnown f naming names) name after (
+    All-cons (IsKnownName f naming names) name after (
       All-head (IsReadBack f naming) name after all,
       (position, found_at names before name after position differ cut),
     )
@@ -108,7 +108,7 @@ each_known f naming names before (name ∷ after) position differ cut all =
     (cut_more names before name after position cut) (All-tail (IsReadBack f naming) name after all))
 
 mark_names : (f : Format) (naming : Naming) (names : List (List ℕ)) (column : ℕ) (name : List ℕ)
-    → IsKnown f naming names name → IsAttribute f names (name_mark naming column name)
+    → IsKnownName f naming names name → IsAttribute f names (name_mark naming column name)
 mark_names f naming names column name known = record {
   word = kind_is_word naming name;
   not_reserved = kind_not_reserved f naming name known.0;
@@ -117,13 +117,13 @@ mark_names f naming names column name known = record {
 }
 
 pub marks_name : (f : Format) (naming : Naming) (names : List (List ℕ)) (column : ℕ) (words : List (List ℕ))
-    → All (IsKnown f naming names) words → All (IsAttribute f names) (name_marks naming column words)
+    → All (IsKnownName f naming names) words → All (IsAttribute f names) (name_marks naming column words)
 marks_name f naming names column [] known = All-nil (IsAttribute f names)
 marks_name f naming names column (word ∷ words) known =
     All-cons (IsAttribute f names) _ _
-    (mark_names f naming names (column + 1) word (All-head (IsKnown f naming names) word words known))
+    (mark_names f naming names (column + 1) word (All-head (IsKnownName f naming names) word words known))
     (marks_name f naming names (column + 1 + length (spelling naming word)) words
-    (All-tail (IsKnown f naming names) word words known))
+    (All-tail (IsKnownName f naming names) word words known))
 
 -- ---- the set that they name
 -- whether i is one of n attributes from a position on
@@ -189,15 +189,15 @@ marks_set naming names column (word ∷ words) k =
 
 -- ---- the side
 side_is : (f : Format) (naming : Naming) (names : List (List ℕ)) (x : Attributes) (column : ℕ)
-    (words : List (List ℕ)) → All (IsKnown f naming names) words → x ≡ words_set names words
+    (words : List (List ℕ)) → All (IsKnownName f naming names) words → x ≡ words_set names words
     → IsSide f names (side_marks naming column words) x
 side_is f naming names x column [] known e =
     inl (record { mark = _; alone = refl; is_empty = refl; nothing = e })
 side_is f naming names x column (word ∷ words) known e = inr (record {
   not_empty = omega arith;
   each = All-cons (IsAttribute f names) _ _
-      (mark_names f naming names column word (All-head (IsKnown f naming names) word words known))
-      (marks_name f naming names _ words (All-tail (IsKnown f naming names) word words known));
+      (mark_names f naming names column word (All-head (IsKnownName f naming names) word words known))
+      (marks_name f naming names _ words (All-tail (IsKnownName f naming names) word words known));
   members = e
       ∙ fun_ext (λ k. ap (λ b. is_at (attribute_named names word) k || b) (sym (marks_set naming names _ words k)));
 })
@@ -208,7 +208,7 @@ pub printed_side : (f : Format) (naming : Naming) (names : List (List ℕ)) (x :
     → IsSide f names (side_marks naming column (members_from x 0 names)) x
 printed_side f naming names x column are within =
     side_is f naming names x column (members_from x 0 names)
-    (members_each (IsKnown f naming names) x 0 names
+    (members_each (IsKnownName f naming names) x 0 names
     (each_known f naming names [] names 0 are.differ (record { whole = refl; size = refl }) are.each))
     (members_are x names are.differ within)
 

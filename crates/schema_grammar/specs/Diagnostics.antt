@@ -52,8 +52,8 @@ pub record IsStuck (ks : List TokenKind) (stop : Option LexError) (position : �
   pub here : ((position < length ks) × (BeginsLine (take (suc position) ks) → ⊥))
       ⊎ ((position ≡ length ks) × (stop ≡ None) × (IsLine ks → ⊥))
 
--- what is wanted after tokens of these kinds: a side where `()` can follow, an arrow where one can, and
--- the line's end where they are a line
+-- a grammar wants this after tokens of these kinds, since a line can go on with it: a side where `()` can
+-- follow, an arrow where one can, and the line's end where they are a line
 abbrev pub Wants : List TokenKind → What → Type 0
 Wants ks what.Side = BeginsLine (ks ++ token.Empty ∷ [])
 Wants ks what.Arrow = BeginsLine (ks ++ token.Arrow ∷ [])
@@ -83,8 +83,8 @@ span_at line next_column (m ∷ ms) stop zero =
     record { line = line; column = m.column; length = m.length }
 span_at line next_column (m ∷ ms) stop (suc position) = span_at line (m.column + m.length) ms stop position
 
--- a refusal of what is expected carries what is wanted, and one of a scale or a type that is none is of
--- the one that is wanted
+-- a refusal carries with it what is wanted: one of what is expected names a thing that is wanted there, and one of
+-- a scale or a type that is none stands where a scale or a type is wanted
 abbrev pub Carries : (What → Type 0) → SchemaRefusalKind → Type 0
 Carries Wanted (kind.Expected what) = Wanted what
 Carries Wanted kind.NoScale = Wanted what.Number

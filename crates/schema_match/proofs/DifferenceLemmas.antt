@@ -14,7 +14,7 @@ use Rattle.dep_model.specs.Dependencies.{Dependency, IsWithin}
 use Rattle.dep_model.specs.Deps.{dependency_of, IsDepWithin}
 use Rattle.dep_model.specs.Schemas.{deps_of, universe_of, theory_of, ImpliedBy}
 use Rattle.dep_model.proofs.ListLemmas.{Contains-head}
-use Rattle.schema_match.specs.Carried.{carry_dependency, FollowsFrom, IsImpliedBy}
+use Rattle.schema_match.specs.Carried.{carry_dependency, FollowsInSchema, IsImpliedBy}
 use Rattle.schema_match.specs.Differences.{IsDifference, AreDifferences}
 use Rattle.schema_match.specs.Namesakes.{AreNamesakes}
 use Rattle.schema_match.proofs.MatchLemmas.{carry_dependency-within}
@@ -23,7 +23,7 @@ use Rattle.schema_match.proofs.MatchLemmas.{carry_dependency-within}
 pub record AreDifferencesTo (schema other : Schema) (n : ℕ) (numbers : List ℕ) : Type 0 where
   pub each : (k : ℕ) → Contains numbers k → (k < n) × IsDifference schema other k
   pub all : (k : ℕ) (d : Dependency) → k < n → slice_get (theory_of schema) k ≡ Some d
-      → Contains numbers k ⊎ FollowsFrom other schema d
+      → Contains numbers k ⊎ FollowsInSchema other schema d
   pub ascending : AllPairs (λ j k. j < k) numbers
 
 same_dependency : (d e : Dependency) → Some d ≡ Some e → d ≡ e
@@ -32,7 +32,7 @@ same_dependency d e same = same_Some d e same
 -- the next one follows
 pub differences_follow : (schema other : Schema) (n : ℕ) (numbers : List ℕ) (d : Dependency)
     → AreDifferencesTo schema other n numbers
-    → slice_get (theory_of schema) n ≡ Some d → FollowsFrom other schema d
+    → slice_get (theory_of schema) n ≡ Some d → FollowsInSchema other schema d
     → AreDifferencesTo schema other (n + 1) numbers
 differences_follow schema other n numbers d before here follows = record {
   each = λ k h. let found = before.each k h in (omega (arith, found.0), found.1);
@@ -40,7 +40,7 @@ differences_follow schema other n numbers d before here follows = record {
       (λ (last : k ≡ n).
       let same : d ≡ e = same_dependency d e
       (sym here ∙ ap (λ (j : ℕ). slice_get (theory_of schema) j) (sym last) ∙ read) in
-      inr (subst (λ (f : Dependency). FollowsFrom other schema f) same follows))
+      inr (subst (λ (f : Dependency). FollowsInSchema other schema f) same follows))
       (λ (earlier : k ≡ n → ⊥). before.all k e (omega (arith, lt, earlier)) read)
       (cases_eq k n);
   ascending = before.ascending;
@@ -49,7 +49,7 @@ differences_follow schema other n numbers d before here follows = record {
 -- it does not
 pub differences_differ : (schema other : Schema) (n : ℕ) (numbers : List ℕ) (d : Dependency)
     → AreDifferencesTo schema other n numbers
-    → slice_get (theory_of schema) n ≡ Some d → (FollowsFrom other schema d → ⊥)
+    → slice_get (theory_of schema) n ≡ Some d → (FollowsInSchema other schema d → ⊥)
     → AreDifferencesTo schema other (n + 1) (numbers ++ n ∷ [])
 differences_differ schema other n numbers d before here fails = record {
   each = λ k h. ⊎_elim
@@ -114,7 +114,7 @@ no_difference schema other (k ∷ numbers) are follow =
     let d = found.0 in
     let lt = slice_get_within (theory_of schema) k d found.1 in
     let read : get_or (theory_of schema) k d ≡ d = get_or_from_slice_get (theory_of schema) k d d found.1 in
-    absurd (found.2 (subst (λ (e : Dependency). FollowsFrom other schema e) read (follow k d lt)))
+    absurd (found.2 (subst (λ (e : Dependency). FollowsInSchema other schema e) read (follow k d lt)))
 
 pub none_exactly : (schema other : Schema) (numbers : List ℕ) → AreDifferences schema other numbers
     → (numbers ≡ []) ↔ IsImpliedBy other schema
@@ -146,9 +146,9 @@ carried_within schema other e f is =
     subst (λ (g : Dependency). IsWithin (universe_of other) g) (sym is) (carry_dependency-within schema other f)
 
 pub implied_is : (schema other : Schema) (e f : Dependency) → e ≡ carry_dependency schema other f → ImpliedBy other e
-    → FollowsFrom other schema f
+    → FollowsInSchema other schema f
 implied_is schema other e f is implied = subst (λ (g : Dependency). ImpliedBy other g) is implied
 
 pub follows_is : (schema other : Schema) (e f : Dependency) → e ≡ carry_dependency schema other f
-    → FollowsFrom other schema f → ImpliedBy other e
+    → FollowsInSchema other schema f → ImpliedBy other e
 follows_is schema other e f is follows = subst (λ (g : Dependency). ImpliedBy other g) (sym is) follows

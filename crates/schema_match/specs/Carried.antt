@@ -20,12 +20,12 @@ carry_dependency schema other (fd x y) = fd (carry_attributes schema other x) (c
 carry_dependency schema other (mvd x y) = mvd (carry_attributes schema other x) (carry_attributes schema other y)
 
 -- a dependency of a schema follows from another: carried over by names, it is implied there
-abbrev pub FollowsFrom : Schema → Schema → Dependency → Type 0
-FollowsFrom other schema d = ImpliedBy other (carry_dependency schema other d)
+abbrev pub FollowsInSchema : Schema → Schema → Dependency → Type 0
+FollowsInSchema other schema d = ImpliedBy other (carry_dependency schema other d)
 
 -- every dependency of a schema follows from another
 abbrev pub IsImpliedBy : Schema → Schema → Type 0
-IsImpliedBy other schema = All (FollowsFrom other schema) (theory_of schema)
+IsImpliedBy other schema = All (FollowsInSchema other schema) (theory_of schema)
 
 -- two schemas have the same legal relations, columns taken by their names
 abbrev pub HaveSameLegalRelations : Schema → Schema → Type 0

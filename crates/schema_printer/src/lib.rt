@@ -9,10 +9,9 @@
 
 pub mod laws;
 mod printing;
+mod adding;
 mod spelling;
 
-pub use printing::{
-    add, add_dep, add_deps, add_digit, add_nullable, add_number, add_set, add_type_word, print_dep,
-    print_deps, print_set,
-};
+pub use printing::{add_dep, add_deps, add_nullable, add_set, add_type_word, print_dep, print_deps, print_set};
 pub use spelling::{add_name, add_quoted, is_schema_word};
+pub use adding::{add, add_digit, add_number};

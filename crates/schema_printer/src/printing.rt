@@ -9,6 +9,7 @@ ghost use Rattle.schema_printer.specs.Printing.{set_text, dependency_text, membe
 ghost use Rattle.schema_printer.specs.Spelling.{spelling, printed_names_of};
 ghost use Rattle.dep_model.specs.Names.{quoted};
 
+use crate::adding::{add, add_digit};
 use crate::spelling::{add_name, add_quoted};
 use attr_sets::AttrSet;
 use dep_model::{ColumnType, Dep, Name, Naming, OutOfMemory, Schema};
@@ -46,22 +47,6 @@ pub fn print_set(alloc: Global, schema: &Schema, set: AttrSet) -> Result<Vec<u8>
     let mut text = Vec::new(alloc);
     add_set(&mut text, schema, set)?;
     Ok(text)
-}
-
-/// Adds bytes to a text.
-pub fn add(text: &mut Vec<u8>, bytes: &[u8]) -> Result<(), OutOfMemory>
-    ensures added { OnOk result (text.new.items ≡ text.old.items ++ bytes.now) }
-{
-    text.extend_from_slice(bytes)?;
-    Ok(())
-}
-
-/// Adds a number in decimal digits to a text.
-pub fn add_number(text: &mut Vec<u8>, alloc: Global, number: u32) -> Result<(), OutOfMemory>
-    ensures added { OnOk result (text.new.items ≡ text.old.items ++ decimal number) }
-{
-    let digits = format!(in alloc; "{number}")?;
-    add(text, digits.as_bytes())
 }
 
 /// Adds a dependency to a text, without a line end.
@@ -330,13 +315,4 @@ fn add_other_word(text: &mut Vec<u8>, other: &[u8]) -> Result<(), OutOfMemory>
 {
     add(text, b"other ")?;
     add_quoted(text, other)
-}
-
-/// Adds a number of one digit to a text.
-pub fn add_digit(text: &mut Vec<u8>, digit: u8) -> Result<(), OutOfMemory>
-    requires digit { digit < 10 }
-    ensures added { OnOk result (text.new.items ≡ text.old.items ++ decimal digit) }
-{
-    text.push(b'0' + digit)?;
-    Ok(())
 }

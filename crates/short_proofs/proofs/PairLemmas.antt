@@ -14,8 +14,8 @@ use Rattle.dep_model.specs.Schemas.{deps_of, theory_of}
 use Rattle.derivation.specs.Trees.{Tree, Step, Pair, Leaf, leaf, pair, nodes, given, replication, complementation, augmentation, maugmentation, mtransitivity, coalescence}
 use Rattle.derivation.specs.Conclusions.{Proves}
 use Rattle.dep_basis.specs.CutProofs.{HasSize}
-use Rattle.short_proofs.specs.Short.{taken, start, cut_to, difference_of, coalescence_of, IsNoLongerThan}
-use Rattle.short_proofs.specs.Shapes.{IsKept, count, start_count}
+use Rattle.short_proofs.specs.Short.{taken, start, cut_to, transitivity_of, coalescence_of, IsNoLongerThan}
+use Rattle.short_proofs.specs.Shapes.{IsSameOrShorter, count, start_count}
 use Rattle.short_proofs.proofs.KeptLemmas.{kept_further, kept_no_longer, some_nodes}
 use Rattle.short_proofs.proofs.ShapeLemmas.{nodes-taken, depth-taken, count-le, shape_given}
 
@@ -43,9 +43,9 @@ start_size : (k : ℕ) (r c : Bool) → HasSize (start k r c) 3 3
 start_size k r c = taken_size c _ _ 2 2 (taken_size r _ _ 1 1 (leaf_size _))
 
 pub difference_small : (x y w : Attributes) (k : ℕ) (r c : Bool) (j : ℕ) (q d lifted widened turned again : Bool)
-    → HasSize (difference_of x y w (start k r c) (start j q d) lifted widened turned again) 16 16
+    → HasSize (transitivity_of x y w (start k r c) (start j q d) lifted widened turned again) 16 16
 difference_small x y w k r c j q d lifted widened turned again =
-    let whole : HasSize (difference_of x y w (start k r c) (start j q d) lifted widened turned again) 11 7 =
+    let whole : HasSize (transitivity_of x y w (start k r c) (start j q d) lifted widened turned again) 11 7 =
     taken_size again _ _ 10 6 (taken_size turned _ _ 9 5
     (pair_size _ _ _ 4 4 4 (taken_size lifted _ _ 3 3 (start_size k r c)) (taken_size widened _ _ 3 3 (start_size j q d)))) in
     let node_bound = whole.node_bound in
@@ -79,7 +79,7 @@ start_nodes k r c =
 
 pub difference_long : (x y w : Attributes) (k : ℕ) (r c : Bool) (j : ℕ) (q d lifted widened turned again : Bool)
     → start_count r c + start_count q d + 1 + count lifted + count widened + count turned + count again
-    ≤ nodes (difference_of x y w (start k r c) (start j q d) lifted widened turned again)
+    ≤ nodes (transitivity_of x y w (start k r c) (start j q d) lifted widened turned again)
 difference_long x y w k r c j q d lifted widened turned again =
     let v : Attributes = if lifted then union w x else w in
     let first = taken lifted (maugmentation x x) (start k r c) in
@@ -104,7 +104,7 @@ coalescence_long x y u k r c rule lifted cut again =
     omega (arith, one, two, three, some)
 
 -- ---- what is kept is no longer than what came before
-pub still : (s : Schema) (d : Dependency) (P : Tree → Type 0) (t u : Tree) → IsKept s d t u → IsNoLongerThan s d P t → IsNoLongerThan s d P u
+pub still : (s : Schema) (d : Dependency) (P : Tree → Type 0) (t u : Tree) → IsSameOrShorter s d t u → IsNoLongerThan s d P t → IsNoLongerThan s d P u
 still s d P t u kept short = λ v is proves.
     let le = kept_no_longer s d t u kept in
     let first = short v is proves in
@@ -118,9 +118,9 @@ by_flags Q one two three four true true = four
 
 -- four times, for two steps that are each taken or not
 pub four_kept : (s : Schema) (d : Dependency) (P : Bool → Bool → Tree → Type 0) (t one two three four : Tree)
-    → IsKept s d t one → IsNoLongerThan s d (P false false) one → IsKept s d one two → IsNoLongerThan s d (P false true) two
-    → IsKept s d two three → IsNoLongerThan s d (P true false) three → IsKept s d three four → IsNoLongerThan s d (P true true) four
-    → IsKept s d t four × IsNoLongerThan s d (λ v. (a b : Bool) × P a b v) four
+    → IsSameOrShorter s d t one → IsNoLongerThan s d (P false false) one → IsSameOrShorter s d one two → IsNoLongerThan s d (P false true) two
+    → IsSameOrShorter s d two three → IsNoLongerThan s d (P true false) three → IsSameOrShorter s d three four → IsNoLongerThan s d (P true true) four
+    → IsSameOrShorter s d t four × IsNoLongerThan s d (λ v. (a b : Bool) × P a b v) four
 four_kept s d P t one two three four k1 n1 k2 n2 k3 n3 k4 n4 = (
   kept_further s d t three four (kept_further s d t two three (kept_further s d t one two k1 k2) k3) k4,
   λ v is proves. by_flags (λ a b. P a b v → nodes four ≤ nodes v)
@@ -133,8 +133,8 @@ four_kept s d P t one two three four k1 n1 k2 n2 k3 n3 k4 n4 = (
 
 -- twice, for one step
 pub two_kept : (s : Schema) (d : Dependency) (P : Bool → Tree → Type 0) (t one two : Tree)
-    → IsKept s d t one → IsNoLongerThan s d (P false) one → IsKept s d one two → IsNoLongerThan s d (P true) two
-    → IsKept s d t two × IsNoLongerThan s d (λ v. (a : Bool) × P a v) two
+    → IsSameOrShorter s d t one → IsNoLongerThan s d (P false) one → IsSameOrShorter s d one two → IsNoLongerThan s d (P true) two
+    → IsSameOrShorter s d t two × IsNoLongerThan s d (λ v. (a : Bool) × P a v) two
 two_kept s d P t one two k1 n1 k2 n2 = (
   kept_further s d t one two k1 k2,
   λ v is proves. by_flags (λ a b. P a v → nodes two ≤ nodes v)
@@ -144,7 +144,7 @@ two_kept s d P t one two k1 n1 k2 n2 = (
 )
 
 -- one round of a loop more
-pub round_kept : (s : Schema) (d : Dependency) (P : ℕ → Tree → Type 0) (i : ℕ) (t u : Tree) → IsKept s d t u
+pub round_kept : (s : Schema) (d : Dependency) (P : ℕ → Tree → Type 0) (i : ℕ) (t u : Tree) → IsSameOrShorter s d t u
     → ((j : ℕ) → j < i → IsNoLongerThan s d (P j) t) → IsNoLongerThan s d (P i) u → (j : ℕ) → j < i + 1 → IsNoLongerThan s d (P j) u
 round_kept s d P i t u kept before now j less =
     ⊎_elim (λ earlier. still s d (P j) t u kept (before j earlier))

@@ -15,7 +15,7 @@ use Rattle.derivation.specs.Derivs.{tree_of}
 use Rattle.short_proofs.specs.declared.pairs.Halves.{Halves}
 use Rattle.short_proofs.specs.declared.pairs.Merged.{Merged}
 use Rattle.derivation.specs.Trees.{Tree, nodes, leaf, given}
-use Rattle.short_proofs.specs.Short.{shape, start, difference_of, coalescence_of, IsShort}
+use Rattle.short_proofs.specs.Short.{shape, start, transitivity_of, coalescence_of, IsShort}
 
 -- the derivation that a shape of the code stands for
 abbrev pub tree_of_shape : Shape → Tree
@@ -26,7 +26,7 @@ tree_of_shape f =
 -- the derivations of two dependencies that are joined by transitivity, and by coalescence
 abbrev pub tree_of_halves : Halves → Bool → Bool → Bool → Bool → Tree
 tree_of_halves h lifted widened turned again =
-    difference_of (attributes h.half.lhs) (attributes h.half.rhs) (attributes h.half.middle)
+    transitivity_of (attributes h.half.lhs) (attributes h.half.rhs) (attributes h.half.middle)
     (start h.half.first.number h.half.first.replicated h.half.first.complemented)
     (start h.second.number h.second.replicated h.second.complemented) lifted widened turned again
 
@@ -48,7 +48,7 @@ abbrev pub shape_nodes : Bool → Bool → Bool → Bool → Bool → ℕ
 shape_nodes replicated complemented augmented turned again =
     1 + count replicated + count complemented + count augmented + count turned + count again
 
--- a shape was found that proves x ->> y
+-- a shape fits x ->> y: the derivation that it stands for proves it
 abbrev pub Fits : Schema → Attributes → Attributes → Shape → Type 0
 Fits s x y f = Proves s (tree_of_shape f) (mvd x y)
 
@@ -66,8 +66,8 @@ IsNoLarger s x y k r c a t g found =
     → HasAtMost found (shape_nodes r c a t g)
 
 -- a derivation was kept, or gave way to a smaller one that is direct
-abbrev pub IsKept : Schema → Dependency → Tree → Tree → Type 0
-IsKept s d t u = (u ≡ t) ⊎ (IsProofOf s d u × IsDirect s u × (nodes u < nodes t))
+abbrev pub IsSameOrShorter : Schema → Dependency → Tree → Tree → Type 0
+IsSameOrShorter s d t u = (u ≡ t) ⊎ (IsProofOf s d u × IsDirect s u × (nodes u < nodes t))
 
 -- a derivation that is answered is short
 abbrev pub IsShortAnswer : Schema → Dependency → Proof → Type 0

@@ -15,7 +15,8 @@ taken true rule t = step rule t
 taken false rule t = t
 
 -- dependency k, and then replication, complementation, augmentation of both sides, complementation and
--- augmentation again, each or not
+-- augmentation again, each or not. It is turned where it is complemented the second time, and augmented again where
+-- it is the second time: each augmentation adds a wide set on the left and a narrow one of it on the right
 abbrev pub shape : ℕ → Bool → Bool → Bool → Attributes → Attributes → Bool → Bool → Attributes → Attributes → Tree
 shape k replicated complemented augmented wide narrow turned again wide_again narrow_again =
     taken again (maugmentation wide_again narrow_again)
@@ -40,9 +41,10 @@ abbrev pub start : ℕ → Bool → Bool → Tree
 start k replicated complemented = taken complemented complementation (taken replicated replication (leaf (given k)))
 
 -- from x ->> w and l ->> u, by transitivity: with x added to the first and w on the left of the second, each
--- or not; and then complementation, and what x and y share added on the right, each or not
-abbrev pub difference_of : Attributes → Attributes → Attributes → Tree → Tree → Bool → Bool → Bool → Bool → Tree
-difference_of x y w first second lifted widened turned again =
+-- or not; and then complementation, and what x and y share added on the right, each or not. So the first is lifted
+-- by x, the second widened by w, what comes of both is turned to what lies beyond, and again something is added
+abbrev pub transitivity_of : Attributes → Attributes → Attributes → Tree → Tree → Bool → Bool → Bool → Bool → Tree
+transitivity_of x y w first second lifted widened turned again =
     taken again (maugmentation x (intersection x y)) (taken turned complementation
     (pair mtransitivity (taken lifted (maugmentation x x) first)
     (taken widened (maugmentation (if lifted then union w x else w) none) second)))
@@ -53,7 +55,8 @@ cut_to true u z t = pair transitivity t (leaf (reflexivity u z))
 cut_to false u z t = t
 
 -- from x ->> w and l -> u, by coalescence: with x on the left of the first, and of the second only what y has
--- beyond x, each or not; and then what x and y share added to both sides, or not
+-- beyond x, each or not; and then what x and y share added to both sides, or not. So the first is lifted by x, the
+-- second is cut, and again something is added
 abbrev pub coalescence_of : Attributes → Attributes → Attributes → Tree → Tree → Bool → Bool → Bool → Tree
 coalescence_of x y u first second lifted cut again =
     taken again (augmentation (intersection x y))
@@ -81,10 +84,10 @@ abbrev pub SetsFit : Schema → Dependency → Attributes → Dependency → Typ
 SetsFit s d w e = FitBeyond (difference (universe_of s) (union w (left_of d))) d w e
 
 -- such trees of two dependencies: from a tree of x ->> w, and of dependency j
-abbrev pub IsDifference : Attributes → Attributes → Tree → Attributes → ℕ → Tree → Type 0
-IsDifference x y first w j t =
+abbrev pub IsTransitivity : Attributes → Attributes → Tree → Attributes → ℕ → Tree → Type 0
+IsTransitivity x y first w j t =
     (replicated complemented : Bool) × ((lifted widened : Bool) × ((turned again : Bool)
-    × (t ≡ difference_of x y w first (start j replicated complemented) lifted widened turned again)))
+    × (t ≡ transitivity_of x y w first (start j replicated complemented) lifted widened turned again)))
 
 abbrev pub IsCoalescence : Attributes → Attributes → Attributes → Tree → ℕ → Tree → Type 0
 IsCoalescence x y u first j t =
@@ -92,13 +95,13 @@ IsCoalescence x y u first j t =
     × (t ≡ coalescence_of x y u first (leaf (given j)) lifted cut again))
 
 -- the one or the other, by the goal, where the sets of dependency j fit
-abbrev pub IsPair : Dependency → Tree → Attributes → ℕ → Dependency → Tree → Type 0
-IsPair (mvd x y) first w j e t = IsDifference x y first w j t
-IsPair (fd x y) first w j e t = IsCoalescence x y (right_of e) first j t
+abbrev pub IsJoinedTree : Dependency → Tree → Attributes → ℕ → Dependency → Tree → Type 0
+IsJoinedTree (mvd x y) first w j e t = IsTransitivity x y first w j t
+IsJoinedTree (fd x y) first w j e t = IsCoalescence x y (right_of e) first j t
 
 abbrev pub IsJoinedBy : Schema → Dependency → Tree → Attributes → ℕ → Tree → Type 0
 IsJoinedBy s d first w j t =
-    (e : Dependency) × (slice_get (theory_of s) j ≡ Some e) × SetsFit s d w e × IsPair d first w j e t
+    (e : Dependency) × (slice_get (theory_of s) j ≡ Some e) × SetsFit s d w e × IsJoinedTree d first w j e t
 
 -- the same, where the first is v ->> w with v in the left side of the goal
 abbrev pub IsJoinedFrom : Schema → Dependency → Tree → Tree → Type 0

@@ -6,7 +6,7 @@ ghost use Rattle.dep_model.specs.Dependencies.{fd};
 ghost use Rattle.derivation.specs.Derivs.{tree_of};
 ghost use Rattle.dep_basis.specs.JoinedProofs.{IsProofOf};
 ghost use Rattle.short_proofs.specs.Short.{start, IsCoalescence, IsNoLongerThan};
-ghost use Rattle.short_proofs.specs.Shapes.{IsKept, tree_of_merged};
+ghost use Rattle.short_proofs.specs.Shapes.{IsSameOrShorter, tree_of_merged};
 
 use crate::keeping::{is_no_longer, unless_other};
 use crate::pairs::{Coalescing, Merged, coalescence_deriv, coalescence_size};
@@ -23,7 +23,7 @@ pub fn unless_coalescence(
 ) -> Result<Box<Deriv>, OutOfMemory>
     requires proof { IsProofOf schema.now (fd (attributes merged.lhs) (attributes merged.rhs))
         (tree_of deriv.value) }
-    ensures kept { IfOk result (λ b. IsKept schema.now (fd (attributes merged.lhs) (attributes merged.rhs))
+    ensures kept { IfOk result (λ b. IsSameOrShorter schema.now (fd (attributes merged.lhs) (attributes merged.rhs))
         (tree_of deriv.value) (tree_of b.value)) }
     ensures short { IfOk result (λ b. IsNoLongerThan schema.now
         (fd (attributes merged.lhs) (attributes merged.rhs))
@@ -46,7 +46,7 @@ fn unless_merged(
 ) -> Result<Box<Deriv>, OutOfMemory>
     requires proof { IsProofOf schema.now (fd (attributes merged.lhs) (attributes merged.rhs))
         (tree_of deriv.value) }
-    ensures kept { IfOk result (λ b. IsKept schema.now (fd (attributes merged.lhs) (attributes merged.rhs))
+    ensures kept { IfOk result (λ b. IsSameOrShorter schema.now (fd (attributes merged.lhs) (attributes merged.rhs))
         (tree_of deriv.value) (tree_of b.value)) }
     ensures short { IfOk result (λ b. IsNoLongerThan schema.now
         (fd (attributes merged.lhs) (attributes merged.rhs))
@@ -72,7 +72,7 @@ fn unless_coalescing(
 ) -> Result<Box<Deriv>, OutOfMemory>
     requires proof { IsProofOf schema.now (fd (attributes merged.lhs) (attributes merged.rhs))
         (tree_of deriv.value) }
-    ensures kept { IfOk result (λ b. IsKept schema.now (fd (attributes merged.lhs) (attributes merged.rhs))
+    ensures kept { IfOk result (λ b. IsSameOrShorter schema.now (fd (attributes merged.lhs) (attributes merged.rhs))
         (tree_of deriv.value) (tree_of b.value)) }
     ensures short { IfOk result (λ b. IsNoLongerThan schema.now
         (fd (attributes merged.lhs) (attributes merged.rhs))

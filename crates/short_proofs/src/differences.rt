@@ -5,8 +5,8 @@ ghost use Rattle.attr_sets.specs.Sets.{attributes};
 ghost use Rattle.dep_model.specs.Dependencies.{mvd};
 ghost use Rattle.derivation.specs.Derivs.{tree_of};
 ghost use Rattle.dep_basis.specs.JoinedProofs.{IsProofOf};
-ghost use Rattle.short_proofs.specs.Short.{start, difference_of, IsDifference, IsNoLongerThan};
-ghost use Rattle.short_proofs.specs.Shapes.{IsKept, tree_of_halves};
+ghost use Rattle.short_proofs.specs.Short.{start, transitivity_of, IsTransitivity, IsNoLongerThan};
+ghost use Rattle.short_proofs.specs.Shapes.{IsSameOrShorter, tree_of_halves};
 
 use crate::keeping::{is_no_longer, unless_other};
 use crate::pairs::{Half, Halves, Transit, difference_deriv, difference_size};
@@ -25,11 +25,11 @@ pub fn unless_difference(
 ) -> Result<Box<Deriv>, OutOfMemory>
     requires proof { IsProofOf schema.now (mvd (attributes half.lhs) (attributes half.rhs))
         (tree_of deriv.value) }
-    ensures kept { IfOk result (λ b. IsKept schema.now (mvd (attributes half.lhs) (attributes half.rhs))
+    ensures kept { IfOk result (λ b. IsSameOrShorter schema.now (mvd (attributes half.lhs) (attributes half.rhs))
         (tree_of deriv.value) (tree_of b.value)) }
     ensures short { IfOk result (λ b. IsNoLongerThan schema.now
         (mvd (attributes half.lhs) (attributes half.rhs))
-        (IsDifference (attributes half.lhs) (attributes half.rhs)
+        (IsTransitivity (attributes half.lhs) (attributes half.rhs)
         (start half.first.number half.first.replicated half.first.complemented)
         (attributes half.middle) number) (tree_of b.value)) }
 {
@@ -52,12 +52,12 @@ fn unless_second(
 ) -> Result<Box<Deriv>, OutOfMemory>
     requires proof { IsProofOf schema.now (mvd (attributes half.lhs) (attributes half.rhs))
         (tree_of deriv.value) }
-    ensures kept { IfOk result (λ b. IsKept schema.now (mvd (attributes half.lhs) (attributes half.rhs))
+    ensures kept { IfOk result (λ b. IsSameOrShorter schema.now (mvd (attributes half.lhs) (attributes half.rhs))
         (tree_of deriv.value) (tree_of b.value)) }
     ensures short { IfOk result (λ b. IsNoLongerThan schema.now
         (mvd (attributes half.lhs) (attributes half.rhs))
         (λ u. (lifted widened : Bool) × ((turned again : Bool)
-        × (u ≡ difference_of (attributes half.lhs) (attributes half.rhs) (attributes half.middle)
+        × (u ≡ transitivity_of (attributes half.lhs) (attributes half.rhs) (attributes half.middle)
         (start half.first.number half.first.replicated half.first.complemented)
         (start number replicated complemented) lifted widened turned again))) (tree_of b.value)) }
 {
@@ -78,7 +78,8 @@ fn unless_halves(
 ) -> Result<Box<Deriv>, OutOfMemory>
     requires proof { IsProofOf schema.now (mvd (attributes halves.half.lhs) (attributes halves.half.rhs))
         (tree_of deriv.value) }
-    ensures kept { IfOk result (λ b. IsKept schema.now (mvd (attributes halves.half.lhs) (attributes halves.half.rhs))
+    ensures kept { IfOk result (λ b. IsSameOrShorter schema.now
+        (mvd (attributes halves.half.lhs) (attributes halves.half.rhs))
         (tree_of deriv.value) (tree_of b.value)) }
     ensures short { IfOk result (λ b. IsNoLongerThan schema.now
         (mvd (attributes halves.half.lhs) (attributes halves.half.rhs))
@@ -103,7 +104,8 @@ fn unless_ended(
 ) -> Result<Box<Deriv>, OutOfMemory>
     requires proof { IsProofOf schema.now (mvd (attributes halves.half.lhs) (attributes halves.half.rhs))
         (tree_of deriv.value) }
-    ensures kept { IfOk result (λ b. IsKept schema.now (mvd (attributes halves.half.lhs) (attributes halves.half.rhs))
+    ensures kept { IfOk result (λ b. IsSameOrShorter schema.now
+        (mvd (attributes halves.half.lhs) (attributes halves.half.rhs))
         (tree_of deriv.value) (tree_of b.value)) }
     ensures short { IfOk result (λ b. IsNoLongerThan schema.now
         (mvd (attributes halves.half.lhs) (attributes halves.half.rhs))
@@ -130,7 +132,8 @@ fn unless_transit(
 ) -> Result<Box<Deriv>, OutOfMemory>
     requires proof { IsProofOf schema.now (mvd (attributes halves.half.lhs) (attributes halves.half.rhs))
         (tree_of deriv.value) }
-    ensures kept { IfOk result (λ b. IsKept schema.now (mvd (attributes halves.half.lhs) (attributes halves.half.rhs))
+    ensures kept { IfOk result (λ b. IsSameOrShorter schema.now
+        (mvd (attributes halves.half.lhs) (attributes halves.half.rhs))
         (tree_of deriv.value) (tree_of b.value)) }
     ensures short { IfOk result (λ b. IsNoLongerThan schema.now
         (mvd (attributes halves.half.lhs) (attributes halves.half.rhs))

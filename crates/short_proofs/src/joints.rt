@@ -1,4 +1,5 @@
-//! Two dependencies that are joined to a derivation of a goal, each pair in turn.
+//! Joints: two dependencies that are joined to a derivation of a goal, by transitivity or by coalescence,
+//! each pair in turn.
 
 ghost use Rattle.std.specs.Prelude.{ℕ, Bool, IfOk};
 ghost use Rattle.attr_sets.specs.Attributes.{IsSubset};
@@ -7,8 +8,8 @@ ghost use Rattle.dep_model.specs.Dependencies.{left_of};
 ghost use Rattle.dep_model.specs.Deps.{dependency_of};
 ghost use Rattle.derivation.specs.Derivs.{tree_of};
 ghost use Rattle.dep_basis.specs.JoinedProofs.{IsProofOf};
-ghost use Rattle.short_proofs.specs.Short.{start, SetsFit, IsPair, IsJoined, IsJoinedBy, IsJoinedFrom, IsNoLongerThan};
-ghost use Rattle.short_proofs.specs.Shapes.{IsKept};
+ghost use Rattle.short_proofs.specs.Short.{start, SetsFit, IsJoinedTree, IsJoined, IsJoinedBy, IsJoinedFrom, IsNoLongerThan};
+ghost use Rattle.short_proofs.specs.Shapes.{IsSameOrShorter};
 
 use crate::coalescences::unless_coalescence;
 use crate::differences::unless_difference;
@@ -29,7 +30,7 @@ pub fn unless_joined(
     deriv: Box<Deriv>,
 ) -> Result<Box<Deriv>, OutOfMemory>
     requires proof { IsProofOf schema.now (dependency_of goal) (tree_of deriv.value) }
-    ensures kept { IfOk result (λ b. IsKept schema.now (dependency_of goal)
+    ensures kept { IfOk result (λ b. IsSameOrShorter schema.now (dependency_of goal)
         (tree_of deriv.value) (tree_of b.value)) }
     ensures short { IfOk result (λ b. IsNoLongerThan schema.now (dependency_of goal)
         (IsJoined schema.now (dependency_of goal)) (tree_of b.value)) }
@@ -50,7 +51,7 @@ fn unless_begun(
     deriv: Box<Deriv>,
 ) -> Result<Box<Deriv>, OutOfMemory>
     requires proof { IsProofOf schema.now (dependency_of goal) (tree_of deriv.value) }
-    ensures kept { IfOk result (λ b. IsKept schema.now (dependency_of goal)
+    ensures kept { IfOk result (λ b. IsSameOrShorter schema.now (dependency_of goal)
         (tree_of deriv.value) (tree_of b.value)) }
     ensures short { IfOk result (λ b. IsNoLongerThan schema.now (dependency_of goal)
         (λ u. (r c : Bool) × IsJoinedFrom schema.now (dependency_of goal) (start number r c) u)
@@ -74,7 +75,7 @@ fn unless_start(
     deriv: Box<Deriv>,
 ) -> Result<Box<Deriv>, OutOfMemory>
     requires proof { IsProofOf schema.now (dependency_of goal) (tree_of deriv.value) }
-    ensures kept { IfOk result (λ b. IsKept schema.now (dependency_of goal)
+    ensures kept { IfOk result (λ b. IsSameOrShorter schema.now (dependency_of goal)
         (tree_of deriv.value) (tree_of b.value)) }
     ensures short { IfOk result (λ b. IsNoLongerThan schema.now (dependency_of goal)
         (IsJoinedFrom schema.now (dependency_of goal) (start number replicated complemented))
@@ -105,7 +106,7 @@ fn unless_after(
     deriv: Box<Deriv>,
 ) -> Result<Box<Deriv>, OutOfMemory>
     requires proof { IsProofOf schema.now (dependency_of goal) (tree_of deriv.value) }
-    ensures kept { IfOk result (λ b. IsKept schema.now (dependency_of goal)
+    ensures kept { IfOk result (λ b. IsSameOrShorter schema.now (dependency_of goal)
         (tree_of deriv.value) (tree_of b.value)) }
     ensures short { IfOk result (λ b. IsNoLongerThan schema.now (dependency_of goal)
         (λ u. IsSubset (attributes left) (left_of (dependency_of goal))
@@ -134,7 +135,7 @@ fn unless_pair(
     deriv: Box<Deriv>,
 ) -> Result<Box<Deriv>, OutOfMemory>
     requires proof { IsProofOf schema.now (dependency_of goal) (tree_of deriv.value) }
-    ensures kept { IfOk result (λ b. IsKept schema.now (dependency_of goal)
+    ensures kept { IfOk result (λ b. IsSameOrShorter schema.now (dependency_of goal)
         (tree_of deriv.value) (tree_of b.value)) }
     ensures short { IfOk result (λ b. IsNoLongerThan schema.now (dependency_of goal)
         (IsJoinedBy schema.now (dependency_of goal)
@@ -162,11 +163,11 @@ fn unless_given(
     deriv: Box<Deriv>,
 ) -> Result<Box<Deriv>, OutOfMemory>
     requires proof { IsProofOf schema.now (dependency_of goal) (tree_of deriv.value) }
-    ensures kept { IfOk result (λ b. IsKept schema.now (dependency_of goal)
+    ensures kept { IfOk result (λ b. IsSameOrShorter schema.now (dependency_of goal)
         (tree_of deriv.value) (tree_of b.value)) }
     ensures short { IfOk result (λ b. IsNoLongerThan schema.now (dependency_of goal)
         (λ u. SetsFit schema.now (dependency_of goal) (attributes middle) (dependency_of dep)
-        × IsPair (dependency_of goal) (start first.number first.replicated first.complemented)
+        × IsJoinedTree (dependency_of goal) (start first.number first.replicated first.complemented)
         (attributes middle) number (dependency_of dep) u) (tree_of b.value)) }
 {
     let (whole, _) = sides(goal);

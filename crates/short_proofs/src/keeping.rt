@@ -10,7 +10,7 @@ ghost use Rattle.derivation.specs.declared.measures.TheConstants.{MOST_NODES, MO
 ghost use Rattle.dep_basis.specs.CutProofs.{HasSize};
 ghost use Rattle.dep_basis.specs.JoinedProofs.{IsProofOf};
 ghost use Rattle.short_proofs.specs.Short.{IsNoLongerThan};
-ghost use Rattle.short_proofs.specs.Shapes.{IsKept};
+ghost use Rattle.short_proofs.specs.Shapes.{IsSameOrShorter};
 
 use dep_model::{Dep, Schema};
 use derivation::{Deriv, conclude, nodes, same_dep, shorten};
@@ -21,7 +21,7 @@ pub fn shorter(schema: &Schema, deriv: Box<Deriv>, other: Box<Deriv>) -> Box<Der
     requires fits_u32 { nodes (tree_of deriv.value) < 2 ^ 32 }
     requires small { HasSize (tree_of other.value) MOST_NODES MOST_LEVELS }
     ensures kept { (d : Dependency) → Proves schema.now (tree_of other.value) d
-        → IsKept schema.now d (tree_of deriv.value) (tree_of result.value) }
+        → IsSameOrShorter schema.now d (tree_of deriv.value) (tree_of result.value) }
     ensures than_other { nodes (tree_of result.value) ≤ nodes (tree_of other.value) }
 {
     let short = shorten(schema, other);
@@ -36,7 +36,7 @@ pub fn shorter(schema: &Schema, deriv: Box<Deriv>, other: Box<Deriv>) -> Box<Der
 pub fn unless_other(schema: &Schema, goal: Dep, deriv: Box<Deriv>, other: Box<Deriv>) -> Box<Deriv>
     requires proof { IsProofOf schema.now (dependency_of goal) (tree_of deriv.value) }
     requires small { HasSize (tree_of other.value) 16 16 }
-    ensures kept { IsKept schema.now (dependency_of goal) (tree_of deriv.value) (tree_of result.value) }
+    ensures kept { IsSameOrShorter schema.now (dependency_of goal) (tree_of deriv.value) (tree_of result.value) }
     ensures short { IsNoLongerThan schema.now (dependency_of goal) (λ u. u ≡ tree_of other.value)
         (tree_of result.value) }
 {

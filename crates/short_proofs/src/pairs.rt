@@ -30,7 +30,9 @@ pub struct Halves {
     pub second: Start,
 }
 
-/// What is done to join two dependencies by transitivity.
+/// What is done to join two dependencies by transitivity: the first is lifted, by the left side of the goal
+/// on both of its sides; the second is widened, by the right side of the first on its left; what comes of
+/// both is turned, which is complementation; and again it is augmented, by what both sides of the goal share.
 #[derive(Clone, Copy)]
 pub struct Transit {
     pub lifted: bool,
@@ -50,7 +52,9 @@ pub struct Merged {
     pub right: AttrSet,
 }
 
-/// What is done to join two dependencies by coalescence.
+/// What is done to join two dependencies by coalescence: the first is lifted, by the left side of the goal on
+/// its left; the second is cut, to what the goal lacks; and again what comes of both is augmented, by what
+/// both sides of the goal share.
 #[derive(Clone, Copy)]
 pub struct Coalescing {
     pub lifted: bool,

@@ -14,7 +14,7 @@ ghost use Rattle.derivation.specs.Chains.{IsFunctionalChain};
 ghost use Rattle.dep_basis.specs.JoinedProofs.{IsProofOf};
 ghost use Rattle.dep_basis.specs.Proofs.{IsAnswer, IsDirectAnswer, IsYes};
 ghost use Rattle.short_proofs.specs.Short.{IsShape, IsShort, rest_of};
-ghost use Rattle.short_proofs.specs.Shapes.{IsKept, IsShortAnswer};
+ghost use Rattle.short_proofs.specs.Shapes.{IsSameOrShorter, IsShortAnswer};
 
 use crate::given_shapes::smallest_shape;
 use crate::joints::unless_joined;
@@ -60,7 +60,7 @@ fn shortest(
     requires rhs { IsSubset (attributes rhs) (universe_of schema.now) }
     requires proof { IsProofOf schema.now (mvd (attributes lhs) (attributes rhs))
         (tree_of deriv.value) }
-    ensures kept { IfOk result (λ b. IsKept schema.now (mvd (attributes lhs) (attributes rhs))
+    ensures kept { IfOk result (λ b. IsSameOrShorter schema.now (mvd (attributes lhs) (attributes rhs))
         (tree_of deriv.value) (tree_of b.value)) }
     ensures short { IfOk result (λ b. IsShort schema.now (mvd (attributes lhs) (attributes rhs))
         (tree_of b.value)) }
@@ -84,7 +84,7 @@ fn shortest_fd(
     requires rhs { IsSubset (attributes rhs) (universe_of schema.now) }
     requires proof { IsProofOf schema.now (fd (attributes lhs) (attributes rhs))
         (tree_of deriv.value) }
-    ensures kept { IfOk result (λ b. IsKept schema.now (fd (attributes lhs) (attributes rhs))
+    ensures kept { IfOk result (λ b. IsSameOrShorter schema.now (fd (attributes lhs) (attributes rhs))
         (tree_of deriv.value) (tree_of b.value)) }
     ensures chain { IfOk result (λ b. Implies (width_of schema.now)
         (functional_part (theory_of schema.now)) (fd (attributes lhs) (attributes rhs))
@@ -128,7 +128,7 @@ fn unless_shape(
     requires rhs { IsSubset (attributes rhs) (universe_of schema.now) }
     requires proof { IsProofOf schema.now (mvd (attributes lhs) (attributes rhs))
         (tree_of deriv.value) }
-    ensures kept { IfOk result (λ b. IsKept schema.now (mvd (attributes lhs) (attributes rhs))
+    ensures kept { IfOk result (λ b. IsSameOrShorter schema.now (mvd (attributes lhs) (attributes rhs))
         (tree_of deriv.value) (tree_of b.value)) }
     ensures shapes { IfOk result (λ b. (t : Tree) → IsShape t
         → Proves schema.now t (mvd (attributes lhs) (attributes rhs))
@@ -152,7 +152,7 @@ fn unless_chain(
     requires rhs { IsSubset (attributes rhs) (universe_of schema.now) }
     requires proof { IsProofOf schema.now (mvd (attributes lhs) (attributes rhs))
         (tree_of deriv.value) }
-    ensures kept { IfOk result (λ b. IsKept schema.now (mvd (attributes lhs) (attributes rhs))
+    ensures kept { IfOk result (λ b. IsSameOrShorter schema.now (mvd (attributes lhs) (attributes rhs))
         (tree_of deriv.value) (tree_of b.value)) }
     ensures chains { IfOk result (λ b. (t : Tree)
         → IsFunctionalChain schema.now (attributes lhs) (attributes rhs) t
@@ -180,7 +180,7 @@ fn unless_chain_of_rest(
     requires rhs { IsSubset (attributes rhs) (universe_of schema.now) }
     requires proof { IsProofOf schema.now (mvd (attributes lhs) (attributes rhs))
         (tree_of deriv.value) }
-    ensures kept { IfOk result (λ b. IsKept schema.now (mvd (attributes lhs) (attributes rhs))
+    ensures kept { IfOk result (λ b. IsSameOrShorter schema.now (mvd (attributes lhs) (attributes rhs))
         (tree_of deriv.value) (tree_of b.value)) }
     ensures chains { IfOk result (λ b. (t : Tree) (shared : Bool)
         → IsFunctionalChain schema.now (attributes lhs)

@@ -20,7 +20,8 @@ use derivation::{Deriv, LeafRule, StepRule, leaf_conclusion, step_conclusion};
 use std::alloc::Global;
 
 /// A given dependency, by its number from 0, and which steps are taken after it: replication,
-/// complementation, augmentation by a wide and a narrow set, complementation, and augmentation again.
+/// complementation, augmentation by a wide and a narrow set, complementation, and augmentation again. It is
+/// `turned` by the second complementation; the wide set is added on the left, the narrow one on the right.
 #[derive(Clone, Copy, Debug)]
 pub struct Shape {
     pub number: u16,

@@ -6,25 +6,25 @@ use Rattle.attr_sets.specs.declared.set.AttrSet.{AttrSet}
 use Rattle.dep_model.specs.Dependencies.{Dependency}
 use Rattle.dep_model.specs.Plans.{schemes_of}
 use Rattle.plans.specs.Containing.{without_contained}
-use Rattle.normal_forms.specs.declared.forms.Form.{Form}
-use Rattle.fd_closure.specs.LeftSides.{IsWide}
+use Rattle.normal_forms.specs.declared.form.Form.{Form}
+use Rattle.fd_closure.specs.LeftSides.{IsWideScheme}
 use Rattle.normal_forms.specs.Chosen.{IsInForm, IsChosenViolation, HasNoVisibleViolation, IsVisibleViolation}
 use Rattle.split_forms.specs.Lists.{IsSplitStep, ReachedIn}
 
 -- a scheme stays whole: it is not too wide to be searched, and is in the form
 pub record StaysWhole (n : ℕ) (ds : List Dependency) (form : Form) (scheme : Attributes) : Type 0 where
-  pub narrow : IsWide ds scheme → ⊥
+  pub narrow : IsWideScheme ds scheme → ⊥
   pub in_form : IsInForm n ds form scheme
 
 -- x and y are what a scheme is cut by: its chosen violation, or the visible one of a wide scheme
 abbrev pub IsCutBy : ℕ → List Dependency → Form → Attributes → Attributes → Attributes → Type 0
 IsCutBy n ds form scheme x y =
-    ((IsWide ds scheme → ⊥) × IsChosenViolation n ds form scheme x y)
-    ⊎ (IsWide ds scheme × IsVisibleViolation n ds form scheme x y)
+    ((IsWideScheme ds scheme → ⊥) × IsChosenViolation n ds form scheme x y)
+    ⊎ (IsWideScheme ds scheme × IsVisibleViolation n ds form scheme x y)
 
 -- a scheme can neither be tested nor cut: it is wide, and no given left side violates the form
 pub record IsStuckScheme (n : ℕ) (ds : List Dependency) (form : Form) (scheme : Attributes) : Type 0 where
-  pub wide : IsWide ds scheme
+  pub wide : IsWideScheme ds scheme
   pub none : HasNoVisibleViolation n ds form scheme
 
 -- the list after another: its first scheme that does not stay whole is cut in its place

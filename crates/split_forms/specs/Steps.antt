@@ -4,7 +4,7 @@ use Rattle.std.specs.Prelude.{◌≡◌, ℕ, List, [], ◌∷◌, map, All}
 use Rattle.attr_sets.specs.Attributes.{Attributes, below}
 use Rattle.attr_sets.specs.Sets.{attributes}
 use Rattle.dep_model.specs.Dependencies.{Dependency}
-use Rattle.normal_forms.specs.declared.forms.Form.{Form}
+use Rattle.normal_forms.specs.declared.form.Form.{Form}
 use Rattle.split_forms.specs.declared.steps.SchemeCut.{SchemeCut}
 use Rattle.split_forms.specs.Splitting.{StaysWhole, IsNextList}
 

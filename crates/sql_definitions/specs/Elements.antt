@@ -12,7 +12,7 @@ use Rattle.sql_definitions.specs.declared.definition.KeyKind.TheVariants as key
 use Rattle.sql_definitions.specs.declared.refusal.Reason.TheVariants as reason
 use Rattle.sql_definitions.specs.Facts.{Facts, StatedColumn, StatedPart, Outcome, refused, then_read, state_key, with_column}
 use Rattle.sql_definitions.specs.Lists.{is_one_of, lists_columns, name_of, read_list}
-use Rattle.sql_definitions.specs.Names.{name_text, is_name}
+use Rattle.sql_definitions.specs.Names.{name_of_lexeme, is_name}
 use Rattle.sql_definitions.specs.Types.{column_type, type_text, is_serial, is_outside}
 
 -- NULLS NOT DISTINCT stands at the front
@@ -127,14 +127,14 @@ column_of d name type rest = record {
   never_missing = is_serial d (type_text true type) || says_not_null rest;
 }
 
-abbrev pub is_taken : List StatedColumn → List ℕ → Bool
-is_taken columns name = list_any (λ c. same_name c.name name) columns
+abbrev pub has_column_named : List StatedColumn → List ℕ → Bool
+has_column_named columns name = list_any (λ c. same_name c.name name) columns
 
 -- a column of this name, which stands at a place, with what follows the name
 abbrev pub named_column : Dialect → ℕ → List Lexed → Facts → Option (List ℕ) → Outcome
 named_column d place lexemes f None = refused reason.BadName place
 named_column d place lexemes f (Some name) =
-    if is_taken f.columns name then refused reason.NameDeclaredTwice place
+    if has_column_named f.columns name then refused reason.NameDeclaredTwice place
     else if nat_lt (length f.columns) MOST_ATTRIBUTES
     then column_keys (record { place = place; name = Some name }) (drop (type_length lexemes) lexemes)
     (with_column f (column_of d name (take (type_length lexemes) lexemes) (drop (type_length lexemes) lexemes)))
@@ -143,7 +143,8 @@ named_column d place lexemes f (Some name) =
 -- a column: a name, and what follows
 abbrev pub column : Dialect → Lexed → List Lexed → Facts → Outcome
 column d l ls f =
-    if is_name l then named_column d l.place ls f (name_of (name_text d l)) else refused reason.ExpectedName l.place
+    if is_name l then named_column d l.place ls f (name_of (name_of_lexeme d l))
+    else refused reason.ExpectedName l.place
 
 -- an element, which ends at a place
 unfoldable pub element : Dialect → ℕ → List Lexed → Facts → Outcome

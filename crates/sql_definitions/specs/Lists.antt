@@ -8,7 +8,7 @@ use Rattle.sql_lexemes.specs.Statements.{is_mark, is_word}
 use Rattle.sql_definitions.specs.declared.refusal.Reason.TheVariants as reason
 use Rattle.sql_definitions.specs.declared.refusal.Refusal.{Refusal}
 use Rattle.sql_definitions.specs.Facts.{StatedPart, refused}
-use Rattle.sql_definitions.specs.Names.{name_text, is_name, name_length}
+use Rattle.sql_definitions.specs.Names.{name_of_lexeme, is_name, name_length}
 
 -- bytes, where they are the name of an attribute
 abbrev pub name_of : List ℕ → Option (List ℕ)
@@ -16,7 +16,7 @@ name_of bytes = if quotes.is_name bytes then Some bytes else None
 
 -- the column that a lexeme names
 abbrev pub part_of : Dialect → Lexed → StatedPart
-part_of d l = record { place = l.place; name = name_of (name_text d l) }
+part_of d l = record { place = l.place; name = name_of (name_of_lexeme d l) }
 
 -- the bracket that closes a list, whose own bracket stands in so many
 abbrev pub closes_list : ℕ → Lexed → Bool

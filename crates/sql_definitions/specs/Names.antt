@@ -36,8 +36,8 @@ abbrev pub name_by_kind : Dialect → LexemeKind → List ℕ → List ℕ
 name_by_kind d kind.Quoted text = unquoted text
 name_by_kind d other text = if is_postgres d then lower_text text else text
 
-abbrev pub name_text : Dialect → Lexed → List ℕ
-name_text d l = name_by_kind d l.kind l.text
+abbrev pub name_of_lexeme : Dialect → Lexed → List ℕ
+name_of_lexeme d l = name_by_kind d l.kind l.text
 
 abbrev pub is_named : LexemeKind → Bool
 is_named kind.Word = true

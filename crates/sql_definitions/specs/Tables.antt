@@ -11,7 +11,7 @@ use Rattle.sql_definitions.specs.declared.refusal.Reason.TheVariants as reason
 use Rattle.sql_definitions.specs.Elements.{element, key_constraint, after_constraint, begins_constraint, begins_not_distinct}
 use Rattle.sql_definitions.specs.Facts.{Facts, Outcome, refused, then_read, state_key, as_found}
 use Rattle.sql_definitions.specs.Lists.{are_columns, list_parts, closes_list, is_one_of}
-use Rattle.sql_definitions.specs.Names.{name_text, is_name, name_length}
+use Rattle.sql_definitions.specs.Names.{name_of_lexeme, is_name, name_length}
 use Rattle.sql_definitions.specs.Wanted.{TableName}
 
 -- what follows a word, where the lexemes begin with it
@@ -63,7 +63,7 @@ after_alter lexemes =
 
 abbrev pub is_named_so : Dialect → List ℕ → Option Lexed → Bool
 is_named_so d wanted None = false
-is_named_so d wanted (Some l) = is_name l && same_name (name_text d l) wanted
+is_named_so d wanted (Some l) = is_name l && same_name (name_of_lexeme d l) wanted
 
 -- a part of a name is this one, or none is wanted
 abbrev pub is_wanted_part : Dialect → Option (List ℕ) → Option Lexed → Bool

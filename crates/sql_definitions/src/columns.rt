@@ -5,13 +5,13 @@ ghost use Rattle.dep_model.specs.Columns.{is_column_type};
 ghost use Rattle.dep_model.specs.Names.{IsName};
 ghost use Rattle.std.specs.List.{list_any};
 ghost use Rattle.sql_definitions.specs.Facts.{Fails};
-ghost use Rattle.sql_definitions.specs.Elements.{column, column_keys, column_of, ending_words, ends_type, is_taken, key_at, named_column, says_not_null, type_length};
+ghost use Rattle.sql_definitions.specs.Elements.{column, column_keys, column_of, ending_words, ends_type, has_column_named, key_at, named_column, says_not_null, type_length};
 ghost use Rattle.sql_definitions.specs.Lists.{is_one_of};
 
 use crate::definition::{Column, Definition, KeyKind, Part};
 use crate::elements::unique_kind;
 use crate::lists::{name_of, refused};
-use crate::names::{is_name, name_text};
+use crate::names::{is_name, name_of_lexeme};
 use crate::refusal::{Reason, Refusal};
 use crate::types::{column_type, is_outside, is_serial, type_text};
 use attr_sets::MOST_ATTRIBUTES;
@@ -33,7 +33,7 @@ pub fn column(
     if !is_name(lexeme) {
         return Err(refused(Reason::ExpectedName, lexeme.place()));
     }
-    let text = name_text(alloc, dialect, lexeme)?;
+    let text = name_of_lexeme(alloc, dialect, lexeme)?;
     let Some(name) = name_of(&text) else {
         return Err(refused(Reason::BadName, lexeme.place()));
     };
@@ -54,7 +54,7 @@ fn named_column(
     ensures err { IfErr result (λ failure.
         Fails failure (named_column dialect place rest.now definition.old (Some name))) }
 {
-    if is_taken(definition.columns(), &name) {
+    if has_column_named(definition.columns(), &name) {
         return Err(refused(Reason::NameDeclaredTwice, place));
     }
     if definition.columns().len() >= MOST_ATTRIBUTES as usize {
@@ -67,8 +67,8 @@ fn named_column(
 }
 
 // Whether an earlier column has this name.
-fn is_taken(columns: &[Column], name: &Name) -> bool
-    ensures taken { result ≡ is_taken columns.now name.now }
+fn has_column_named(columns: &[Column], name: &Name) -> bool
+    ensures taken { result ≡ has_column_named columns.now name.now }
 {
     columns.iter().any(|column| column.name().is_same(name))
 }

@@ -6,7 +6,7 @@ ghost use Rattle.sql_definitions.specs.Facts.{Fails};
 ghost use Rattle.sql_definitions.specs.Lists.{are_columns, closes_list, ends_column, is_one_of, list_parts, lists_columns, name_of, order_words, part_length, part_of, parts_list, past_class, past_collation, past_direction, past_nulls_order, read_list};
 
 use crate::definition::Part;
-use crate::names::{is_name, name_text};
+use crate::names::{is_name, name_of_lexeme};
 use crate::refusal::{Reason, Refusal};
 use crate::wanted::{from, name_length};
 use dep_model::{Failure, Name, OutOfMemory};
@@ -85,7 +85,7 @@ pub fn list_parts(
 fn part_of(alloc: Global, dialect: Dialect, lexeme: &Lexeme<'_>) -> Result<Part, OutOfMemory>
     ensures part { IfOk result (λ part. part ≡ part_of dialect lexeme.now) }
 {
-    let text = name_text(alloc, dialect, lexeme)?;
+    let text = name_of_lexeme(alloc, dialect, lexeme)?;
     Ok(Part::new(lexeme.place(), name_of(&text)))
 }
 

@@ -1,18 +1,18 @@
 ghost use Rattle.std.specs.Prelude.{◌≡◌, false, if◌then◌else◌, IfOk};
 ghost use Rattle.sql_lexemes.specs.Pieces.{is_postgres};
-ghost use Rattle.sql_definitions.specs.Names.{inner, is_name, is_named, lower, lower_text, name_text, undoubled, unquoted};
+ghost use Rattle.sql_definitions.specs.Names.{inner, is_name, is_named, lower, lower_text, name_of_lexeme, undoubled, unquoted};
 
 use dep_model::OutOfMemory;
 use sql_lexemes::{Dialect, Lexeme, LexemeKind, is_postgres};
 use std::alloc::Global;
 
 /// The name that a word or a quoted name stands for.
-pub fn name_text(
+pub fn name_of_lexeme(
     alloc: Global,
     dialect: Dialect,
     lexeme: &Lexeme<'_>,
 ) -> Result<Vec<u8>, OutOfMemory>
-    ensures name { IfOk result (λ text. text.items ≡ name_text dialect lexeme.now) }
+    ensures name { IfOk result (λ text. text.items ≡ name_of_lexeme dialect lexeme.now) }
 {
     match lexeme.kind() {
         LexemeKind::Quoted => unquoted(alloc, lexeme.text()),

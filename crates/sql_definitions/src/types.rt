@@ -58,7 +58,7 @@ fn type_by_text(
 {
     if text == b"".as_slice() || text == b"text".as_slice() {
         Ok(ColumnType::Text)
-    } else if is_integer_text(text) {
+    } else if is_integer_type(text) {
         Ok(ColumnType::Integer)
     } else if is_postgres(dialect) {
         postgres_type(alloc, text, lexemes)
@@ -99,7 +99,7 @@ fn is_timestamp_text(text: &[u8]) -> bool
 }
 
 // Integers of both engines.
-fn is_integer_text(text: &[u8]) -> bool
+fn is_integer_type(text: &[u8]) -> bool
     ensures exact { result ≡ list_any (bytes_eq text.now) types.integer_words }
 {
     text == b"int".as_slice()

@@ -6,7 +6,7 @@ ghost use Rattle.sql_definitions.specs.Names.{goes_on, name_length};
 ghost use Rattle.sql_definitions.specs.Tables.{is_meant, is_meant_by, is_named_so, is_wanted_part, part_from_end};
 ghost use Rattle.sql_definitions.specs.Wanted.{wanted_table};
 
-use crate::names::{is_name, name_text};
+use crate::names::{is_name, name_of_lexeme};
 use dep_model::OutOfMemory;
 use lexer::WordBytes;
 use sql_lexemes::{Dialect, Lexeme, is_mark};
@@ -171,6 +171,6 @@ fn is_named_so(
     if !is_name(lexeme) {
         return Ok(false);
     }
-    let text = name_text(alloc, dialect, lexeme)?;
+    let text = name_of_lexeme(alloc, dialect, lexeme)?;
     Ok(text.as_slice().eq_ignore_ascii_case(wanted))
 }

@@ -3,7 +3,7 @@
 use Rattle.std.specs.Prelude.{◌≡◌, ◌<◌, ◌⊎◌, ℕ, true, false, Bool, Option, Some, None, List, [], ◌∷◌, map, Contains, slice_get}
 use Rattle.std.specs.List.{list_any}
 use Rattle.sql_syntax.specs.Syntax.{ColumnName}
-use Rattle.sql_syntax.specs.Statements.{Element, column_of, primary_key, unique_key, foreign_key, Statement, create_table}
+use Rattle.sql_syntax.specs.Statements.{Element, column_definition, primary_key, unique_key, foreign_key, Statement, create_table}
 use Rattle.sql_evaluation.specs.Cells.{Cell, is_none}
 use Rattle.sql_evaluation.specs.Values.{each, bytes_of, named_cell}
 use Rattle.sql_evaluation.specs.Evaluation.{Rows}
@@ -53,7 +53,7 @@ pub record HasUnmatched (given : Rows) (columns : List ColumnName) (other : Opti
 -- ---- tables
 -- rows of a table break an element of it
 abbrev pub Breaks : State → Rows → Element → Type 0
-Breaks state given (column_of name type nullable) = (nullable ≡ false) × HasMissing given (name ∷ [])
+Breaks state given (column_definition name type nullable) = (nullable ≡ false) × HasMissing given (name ∷ [])
 Breaks state given (primary_key columns) = HasMissing given columns ⊎ HasRepeated given columns
 Breaks state given (unique_key columns) = HasRepeated given columns
 Breaks state given (foreign_key columns other) =

@@ -5,7 +5,7 @@ use Rattle.std.specs.List.{list_all}
 use Rattle.std.specs.Ordering.{int_eq}
 use Rattle.std.specs.Str.{bytes_eq}
 use Rattle.sql_syntax.specs.Syntax.{ColumnName, Query}
-use Rattle.sql_syntax.specs.Statements.{Element, column_of, primary_key, unique_key, foreign_key, Statement, remark, begin, commit, create_table, create_zeros, create_from, create_view, insert_into, insert_all, drop_table}
+use Rattle.sql_syntax.specs.Statements.{Element, column_definition, primary_key, unique_key, foreign_key, Statement, remark, begin, commit, create_table, create_zeros, create_from, create_view, insert_into, insert_all, drop_table}
 use Rattle.sql_evaluation.specs.Cells.{Cell, missing, text, number}
 use Rattle.sql_evaluation.specs.Values.{bytes_of}
 use Rattle.sql_evaluation.specs.Evaluation.{Rows, Engine, evaluate}
@@ -48,7 +48,7 @@ made name held state = if is_some (state name) then None else Some (with_name na
 -- the columns of a table that is created
 abbrev pub column_names : List Element → List (List ℕ)
 column_names [] = []
-column_names (column_of name type nullable ∷ es) = bytes_of name ∷ column_names es
+column_names (column_definition name type nullable ∷ es) = bytes_of name ∷ column_names es
 column_names (primary_key names ∷ es) = column_names es
 column_names (unique_key names ∷ es) = column_names es
 column_names (foreign_key names other ∷ es) = column_names es

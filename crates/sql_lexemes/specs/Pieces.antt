@@ -36,8 +36,8 @@ abbrev pub closed_or_open : LexemeKind → Option ℕ → Piece
 closed_or_open kind None = piece.Flaw flaw.OpenQuote
 closed_or_open kind (Some more) = piece.Lexeme kind more
 
-abbrev pub quoted_piece : LexemeKind → ℕ → Bool → List ℕ → Piece
-quoted_piece kind quote escapes rest = closed_or_open kind (quote_end quote escapes Inside 0 rest)
+abbrev pub between_quotes : LexemeKind → ℕ → Bool → List ℕ → Piece
+between_quotes kind quote escapes rest = closed_or_open kind (quote_end quote escapes Inside 0 rest)
 
 -- a name between square brackets, by what stands before the one that closes
 abbrev pub bracketed_by : Option ℕ → Piece
@@ -78,8 +78,8 @@ single_kind Sqlite = kind.Quoted
 -- a quoted name, a word, a number or a mark, after its first byte
 abbrev pub plain_piece : Dialect → ℕ → List ℕ → Piece
 plain_piece d b rest =
-    if b == 34 then quoted_piece kind.Quoted 34 false rest
-    else if (b == 96) && is_sqlite d then quoted_piece kind.Quoted 96 false rest
+    if b == 34 then between_quotes kind.Quoted 34 false rest
+    else if (b == 96) && is_sqlite d then between_quotes kind.Quoted 96 false rest
     else if (b == 91) && is_sqlite d then bracketed_piece rest
     else if begins_word b then piece.Lexeme kind.Word (prefix_len is_word_byte rest)
     else if is_ascii_digit b then piece.Lexeme kind.Number (prefix_len is_number_byte rest)
@@ -94,7 +94,7 @@ front_piece d before (b ∷ bs) =
     else if ((b == 92) && is_postgres d) && is_line_start before then piece.Gap (position_or_len is_line_feed bs)
     else if (b == 45) && starts_with nat_eq bs (45 ∷ []) then piece.Gap (position_or_len is_line_feed bs)
     else if (b == 47) && starts_with nat_eq bs (42 ∷ []) then comment_piece d bs
-    else if b == 39 then quoted_piece (single_kind d) 39 (is_postgres d && is_after_e before) bs
+    else if b == 39 then between_quotes (single_kind d) 39 (is_postgres d && is_after_e before) bs
     else if (b == 36) && is_postgres d then dollar_piece bs
     else plain_piece d b bs
 

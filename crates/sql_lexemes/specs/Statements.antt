@@ -115,18 +115,18 @@ is_last_line Last = true
 is_last_line line = false
 
 -- a line after one byte more
-abbrev pub line_after : Line → ℕ → Line
-line_after Start b = if b == 10 then Start else if b == 92 then Backslash else Another
-line_after Backslash b = if b == 10 then Start else if b == 46 then Last else Another
-line_after Last b = if b == 10 then Start else if b == 13 then Last else Another
-line_after Another b = if b == 10 then Start else Another
+abbrev pub line_with_byte : Line → ℕ → Line
+line_with_byte Start b = if b == 10 then Start else if b == 92 then Backslash else Another
+line_with_byte Backslash b = if b == 10 then Start else if b == 46 then Last else Another
+line_with_byte Last b = if b == 10 then Start else if b == 13 then Last else Another
+line_with_byte Another b = if b == 10 then Start else Another
 
 -- how many bytes there are up to the end of the line `\.` and with it, where so many are passed: first the rest of
 -- a line, then whole lines; carriage returns at the end of that line aside
 unfoldable pub data_end : Line → ℕ → List ℕ → ℕ
 data_end line passed [] = passed
 data_end line passed (b ∷ bs) =
-    if (b == 10) && is_last_line line then passed + 1 else data_end (line_after line b) (passed + 1) bs
+    if (b == 10) && is_last_line line then passed + 1 else data_end (line_with_byte line b) (passed + 1) bs
 
 -- how many bytes after a statement are passed over
 abbrev pub data_after : Dialect → List Lexed → List ℕ → ℕ

@@ -1,7 +1,7 @@
 //! The lines of data after a COPY statement.
 
 ghost use Rattle.std.specs.Prelude.{◌≡◌, ◌≤◌, length};
-ghost use Rattle.sql_lexemes.specs.Statements.{data_end, is_last_line, line_after};
+ghost use Rattle.sql_lexemes.specs.Statements.{data_end, is_last_line, line_with_byte};
 
 /// What stands in a line so far.
 #[derive(Clone, Copy, Debug)]
@@ -29,7 +29,7 @@ pub fn data_end(text: &[u8]) -> usize
         if *first == b'\n' && is_last_line(line) {
             return passed + 1;
         }
-        line = line_after(line, *first);
+        line = line_with_byte(line, *first);
         passed += 1;
         rest = after;
     }
@@ -46,8 +46,8 @@ fn is_last_line(line: Line) -> bool
 }
 
 // A line after one byte more.
-fn line_after(line: Line, byte: u8) -> Line
-    ensures exact { result ≡ line_after line byte }
+fn line_with_byte(line: Line, byte: u8) -> Line
+    ensures exact { result ≡ line_with_byte line byte }
 {
     if byte == b'\n' {
         return Line::Start;

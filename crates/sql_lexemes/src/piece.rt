@@ -1,7 +1,7 @@
 ghost use Rattle.std.specs.Prelude.{◌≡◌, ◌≤◌, ◌&&◌, ◌||◌, ◌==◌, ◌∷◌, [], drop, length, nat_eq};
 ghost use Rattle.std.specs.List.{starts_with};
 ghost use Rattle.sql_lexemes.specs.Bytes.{is_blank, is_strange};
-ghost use Rattle.sql_lexemes.specs.Pieces.{is_postgres, is_sqlite, is_line_start, is_after_e, front_piece, comment_piece, quoted_piece, bracketed_piece, dollar_piece, plain_piece, single_kind, FitsPiece};
+ghost use Rattle.sql_lexemes.specs.Pieces.{is_postgres, is_sqlite, is_line_start, is_after_e, front_piece, comment_piece, between_quotes, bracketed_piece, dollar_piece, plain_piece, single_kind, FitsPiece};
 
 use crate::dialect::Dialect;
 use crate::lexeme::LexemeKind;
@@ -104,7 +104,7 @@ pub fn front_piece(dialect: Dialect, before: Before, text: &[u8]) -> Piece
         comment_piece(dialect, rest)
     } else if *first == b'\'' {
         let escapes = is_postgres(dialect) && is_after_e(before);
-        quoted_piece(single_kind(dialect), b'\'', escapes, rest)
+        between_quotes(single_kind(dialect), b'\'', escapes, rest)
     } else if *first == b'$' && is_postgres(dialect) {
         dollar_piece(rest)
     } else {
@@ -137,8 +137,8 @@ fn single_kind(dialect: Dialect) -> LexemeKind
 }
 
 // What stands between quotes, after the first one.
-fn quoted_piece(kind: LexemeKind, quote: u8, escapes: bool, rest: &[u8]) -> Piece
-    ensures exact { result ≡ quoted_piece kind quote escapes rest.now }
+fn between_quotes(kind: LexemeKind, quote: u8, escapes: bool, rest: &[u8]) -> Piece
+    ensures exact { result ≡ between_quotes kind quote escapes rest.now }
     ensures fits { FitsPiece (length rest.now) result }
 {
     match quote_end(quote, escapes, rest) {
@@ -168,9 +168,9 @@ fn plain_piece(dialect: Dialect, first: u8, rest: &[u8]) -> Piece
     ensures fits { FitsPiece (length rest.now) result }
 {
     if first == b'"' {
-        quoted_piece(LexemeKind::Quoted, b'"', false, rest)
+        between_quotes(LexemeKind::Quoted, b'"', false, rest)
     } else if first == b'`' && is_sqlite(dialect) {
-        quoted_piece(LexemeKind::Quoted, b'`', false, rest)
+        between_quotes(LexemeKind::Quoted, b'`', false, rest)
     } else if first == b'[' && is_sqlite(dialect) {
         bracketed_piece(rest)
     } else if begins_word(first) {

@@ -22,10 +22,10 @@ use Rattle.sql_definitions.specs.declared.definition.KeyKind.TheVariants as key
 use Rattle.sql_definitions.specs.declared.refusal.Reason.TheVariants as reason
 use Rattle.sql_definitions.specs.declared.refusal.Refusal.{Refusal}
 use Rattle.sql_definitions.specs.Definitions.{definition_of, ended, flawed, is_there, read_statement, read_statements, reason_of}
-use Rattle.sql_definitions.specs.Elements.{after_constraint, begins_constraint, column, column_keys, column_of, constraint, element, is_like, is_taken, key_at, key_by_list, key_constraint, key_of_parts, named_column, past_nulls, primary_key, type_length, unique_kind}
+use Rattle.sql_definitions.specs.Elements.{after_constraint, begins_constraint, column, column_keys, column_of, constraint, element, is_like, has_column_named, key_at, key_by_list, key_constraint, key_of_parts, named_column, past_nulls, primary_key, type_length, unique_kind}
 use Rattle.sql_definitions.specs.Facts.{AreColumns, Facts, Outcome, StatedColumn, StatedPart, as_found, no_facts, refused, state_key, then_read, with_column, with_key}
 use Rattle.sql_definitions.specs.Lists.{are_columns, is_one_of, list_parts, lists_columns, read_list}
-use Rattle.sql_definitions.specs.Names.{is_name, name_length, name_text}
+use Rattle.sql_definitions.specs.Names.{is_name, name_length, name_of_lexeme}
 use Rattle.sql_definitions.specs.Tables.{add_key, add_to_table, after_alter, after_create, after_element, alter_table, altering_words, before_on, closed_table, create_table, element_length, elements, index_kind, index_list, index_over, index_statement, is_meant, is_where, open_table, other_statement, past_using, past_word, read_lexemes, statement_by, unique_index}
 use Rattle.sql_definitions.specs.Types.{column_type, decimal_type, has_quotes, integer_words, is_outside, is_up_to, is_word_or_within, number_in, other_type, postgres_type, scaled, serial_words, type_by_text, type_text, written}
 use Rattle.sql_definitions.specs.Wanted.{TableName}
@@ -175,13 +175,13 @@ type_column d ls =
     (type_if (list_all is_word_or_within ls) _ _ (text_column d (type_text true ls) ls) (other_column ls))
 
 -- a new name is none of those before it
-none_taken : (columns : List StatedColumn) (name : List ℕ) → is_taken columns name ≡ false
+none_taken : (columns : List StatedColumn) (name : List ℕ) → has_column_named columns name ≡ false
     → All (λ c. same_name c.name name ≡ false) columns
 none_taken [] name free = All-nil (λ c. same_name c.name name ≡ false)
 none_taken (column ∷ columns) name free = by_first (same_name column.name name) refl free (none_taken columns name)
   where
-    by_first : (b : Bool) → same_name column.name name ≡ b → (b || is_taken columns name) ≡ false
-        → (is_taken columns name ≡ false → All (λ c. same_name c.name name ≡ false) columns)
+    by_first : (b : Bool) → same_name column.name name ≡ b → (b || has_column_named columns name) ≡ false
+        → (has_column_named columns name ≡ false → All (λ c. same_name c.name name ≡ false) columns)
         → All (λ c. same_name c.name name ≡ false) (column ∷ columns)
     by_first true same rest later = cc
     by_first false same rest later = All-cons (λ c. same_name c.name name ≡ false) column columns same (later rest)
@@ -189,7 +189,7 @@ none_taken (column ∷ columns) name free = by_first (same_name column.name name
 named_holds : (d : Dialect) (place : ℕ) (ls : List Lexed) (f : Facts) (name : List ℕ) → IsName name → IsFine f
     → Holds (named_column d place ls f (Some name))
 named_holds d place ls f name is fine =
-    holds_known (is_taken f.columns name) _ _ (λ taken. tt)
+    holds_known (has_column_named f.columns name) _ _ (λ taken. tt)
     (λ free. holds_known (nat_lt (length f.columns) MOST_ATTRIBUTES) _ _
     (λ room. column_keys_hold (record { place = place; name = Some name }) (drop (type_length ls) ls) (with_column f new)
     (record { columns = columns_with f.columns new fine.columns (none_taken f.columns name free) (below room) (type_column d own) is; keys = fine.keys }))
@@ -206,11 +206,11 @@ named_holds d place ls f name is fine =
 
 column_holds : (d : Dialect) (l : Lexed) (ls : List Lexed) (f : Facts) → IsFine f → Holds (column d l ls f)
 column_holds d l ls f fine =
-    holds_if (is_name l) _ _ (by_name (quotes.is_name (name_text d l)) refl) tt
+    holds_if (is_name l) _ _ (by_name (quotes.is_name (name_of_lexeme d l)) refl) tt
   where
-    by_name : (b : Bool) → quotes.is_name (name_text d l) ≡ b
-        → Holds (named_column d l.place ls f (cond b (Some (name_text d l)) None))
-    by_name true is = named_holds d l.place ls f (name_text d l) ((name_test (name_text d l)).0 is) fine
+    by_name : (b : Bool) → quotes.is_name (name_of_lexeme d l) ≡ b
+        → Holds (named_column d l.place ls f (cond b (Some (name_of_lexeme d l)) None))
+    by_name true is = named_holds d l.place ls f (name_of_lexeme d l) ((name_test (name_of_lexeme d l)).0 is) fine
     by_name false is = tt
 
 element_holds : (d : Dialect) (end : ℕ) (ls : List Lexed) (f : Facts) → IsFine f → Holds (element d end ls f)

@@ -7,7 +7,7 @@ use Rattle.sql_syntax.specs.Printing.{name_text, names_text, query_text}
 -- what stands between the brackets of a table that is created: a column of a type, which may be missing or
 -- not; the key; another key; and columns that refer to those of the same names of a table
 pub data Element : Type 0 where
-  column_of : ColumnName → List ℕ → Bool → Element
+  column_definition : ColumnName → List ℕ → Bool → Element
   primary_key : List ColumnName → Element
   unique_key : List ColumnName → Element
   foreign_key : List ColumnName → List ℕ → Element
@@ -31,7 +31,7 @@ pub data Statement : Type 0 where
 
 -- ---- elements
 abbrev pub element_text : Element → List ℕ
-element_text (column_of name type nullable) =
+element_text (column_definition name type nullable) =
     name_text name ++ 32 ∷ (type ++ (if nullable then [] else codes " NOT NULL"))
 element_text (primary_key names) = codes "PRIMARY KEY (" ++ names_text names ++ codes ")"
 element_text (unique_key names) = codes "UNIQUE (" ++ names_text names ++ codes ")"

@@ -26,7 +26,7 @@ use Rattle.plans.specs.Containing.{lies_within}
 use Rattle.plans.proofs.ListLemmas.{any_from, any_some}
 use Rattle.synthesis_3nf.specs.Groups.{schemes_of_groups}
 use Rattle.synthesis_3nf.specs.GroupedPlans.{HoldSuperkey, IsWithKey}
-use Rattle.synthesis_3nf.proofs.Holding.{AreHeld}
+use Rattle.synthesis_3nf.proofs.GroupSchemes.{AreHeld}
 use Rattle.synthesis_3nf.proofs.GroupLemmas.{groups_are, groups_hold}
 use Rattle.synthesis_3nf.proofs.ThirdLemmas.{functional_same, fd_trans, fd_within, part_implied, group_third, key_third}
 use Rattle.synthesis_3nf.proofs.LosslessLemmas.{lossless, keeps}

@@ -13,7 +13,7 @@ use Rattle.dep_model.proofs.ListLemmas.{Contains-head, Contains-later, Contains-
 use Rattle.min_cover.specs.Covers.{IsSingle}
 use Rattle.plans.proofs.ListLemmas.{any_from, any_some}
 use Rattle.synthesis_3nf.specs.Groups.{left_sides_after, group_scheme, schemes_of_groups}
-use Rattle.synthesis_3nf.proofs.Holding.{IsGroupScheme, AreHeld}
+use Rattle.synthesis_3nf.proofs.GroupSchemes.{IsGroupScheme, AreHeld}
 
 -- ---- left sides
 -- a left side that stands among those before is passed over, and another one is added

@@ -1,4 +1,4 @@
-pub mod Holding
+pub mod GroupSchemes
 pub mod GroupLemmas
 pub mod ThirdLemmas
 pub mod LosslessLemmas

@@ -17,7 +17,7 @@ use Rattle.dep_model.proofs.JoinLemmas.{in_join-to, projected_tuple_agrees}
 use Rattle.dep_model.proofs.TwoRowLemmas.{Contains-two_first, Contains-two_second, Contains-two_cases, AgreeOn-refl, AgreeOn-sym, AgreeOn-within, AgreeOn-trans}
 use Rattle.dep_model.proofs.PreservationLemmas.{fd-obeys, fd-obeyed}
 use Rattle.min_cover.specs.Covers.{IsMinimalCover}
-use Rattle.synthesis_3nf.proofs.Holding.{AreHeld}
+use Rattle.synthesis_3nf.proofs.GroupSchemes.{AreHeld}
 
 module _ (n : ℕ) (ds cover : List Dependency) (minimal : IsMinimalCover n ds cover) (functional : All (λ d. is_fd d ≡ true) cover) (plan : List Attributes) (held : AreHeld cover plan) where
   -- a tuple of the join and one of the relation that agree on a left side agree on its right side

@@ -17,7 +17,7 @@ use Rattle.fd_closure.proofs.ClosureLemmas.{fd_each-to, fd_each-from}
 use Rattle.dep_model.proofs.TwoTupleLemmas.{two_tuples_fd-to, two_tuples_fd-from}
 use Rattle.fd_closure.proofs.ClosedSets.{closure_set, all_functional}
 use Rattle.min_cover.specs.Covers.{IsMinimalCover}
-use Rattle.synthesis_3nf.proofs.Holding.{IsGroupScheme}
+use Rattle.synthesis_3nf.proofs.GroupSchemes.{IsGroupScheme}
 
 -- ---- lists of functional dependencies
 

@@ -22,9 +22,10 @@ pub struct SynthesisSteps {
     pub schemes: Vec<AttrSet>,
 }
 
-/// How the plan in third normal form of a schema comes about (Beeri and Bernstein 1979; Biskup, Dayal and
+/// How the plan in third normal form of a schema comes about (Ullman 1982; the key by Biskup, Dayal and
 /// Bernstein 1979). The fixed cover is grouped by left side, in the order of first occurrence; each group
-/// gives the scheme of its left side and right sides. Where no scheme is a superkey of the universe, its
+/// gives the scheme of its left side and right sides. Groups are not merged, as Bernstein's (1976) synthesis
+/// merges those whose left sides determine each other. Where no scheme is a superkey of the universe, its
 /// primary key by the functional dependencies is added last.
 pub fn synthesis_steps(alloc: Global, schema: &Schema) -> Result<SynthesisSteps, OutOfMemory>
     ensures steps { IfOk result (λ steps. AreSynthesisSteps (width_of schema.now) (theory_of schema.now)

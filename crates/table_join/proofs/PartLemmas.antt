@@ -10,12 +10,12 @@ use Rattle.std.proofs.lemmas.List.Quantifiers.{position-Some}
 use Rattle.attr_sets.specs.Attributes.{count_below, Attributes, below, IsSubset}
 use Rattle.attr_sets.specs.Sets.{attributes}
 use Rattle.attr_sets.specs.declared.set.AttrSet.{AttrSet}
-use Rattle.csv_rows.specs.Columns.{with_columns, column_of, columns_of_header, columns_from, ◌>>=◌}
+use Rattle.csv_rows.specs.Columns.{with_columns, attribute_of_column, columns_of_header, columns_from, ◌>>=◌}
 use Rattle.csv_rows.specs.Quotes.{open_record, is_open}
 use Rattle.csv_rows.specs.Reading.{PartOf, HasScheme, HeaderOf, TableOf, RowsUnder, value_of}
 use Rattle.csv_rows.specs.declared.refusal.RowRefusal.{RowRefusal}
 use Rattle.csv_rows.specs.declared.refusal.RowRefusal.TheVariants as refusal
-use Rattle.csv_rows.proofs.NumberingLemmas.{same_default}
+use Rattle.dep_model.proofs.ListLemmas.{same_default}
 use Rattle.csv_rows.proofs.ReadingLemmas.{closed_row}
 use Rattle.dep_model.specs.Names.{same_name}
 use Rattle.dep_model.specs.Projections.{members_below}
@@ -27,7 +27,7 @@ use Rattle.table_join.specs.Tables.{IsTable}
 use Rattle.attr_sets.proofs.AttributesLemmas.{same_at}
 
 -- the attribute of a column is one that has a name
-named_low : (names : List (List ℕ)) (column a : ℕ) (before : Attributes) (field : List ℕ) → column_of column before
+named_low : (names : List (List ℕ)) (column a : ℕ) (before : Attributes) (field : List ℕ) → attribute_of_column column before
     (attribute_named names field) ≡ Ok a → a < length names
 named_low names column a before field h = by (attribute_named names field) refl h
   where
@@ -35,7 +35,7 @@ named_low names column a before field h = by (attribute_named names field) refl 
     without_double true b e = cc
     without_double false b e = cc
 
-    by : (o : Option ℕ) → attribute_named names field ≡ o → column_of column before o ≡ Ok a → a < length names
+    by : (o : Option ℕ) → attribute_named names field ≡ o → attribute_of_column column before o ≡ Ok a → a < length names
     by None p e = cc
     by (Some b) p e =
         let at = position-Some (λ (name : List ℕ). same_name name field) names b [] p in
@@ -53,7 +53,7 @@ unfolding columns_from
 columns_low names before [] columns h low = let same : before ≡ columns = cc in subst
     (All (λ (a : ℕ). a < length names)) same low
 columns_low names before (field ∷ fields) columns h low =
-    let w = bind_ok (column_of (length before + 1) (with_columns before) (attribute_named names field))
+    let w = bind_ok (attribute_of_column (length before + 1) (with_columns before) (attribute_named names field))
     (λ a. columns_from names (before ++ a ∷ []) fields) columns h in
     columns_low names (before ++ w.0 ∷ []) fields columns w.2
     (All-push (λ (a : ℕ). a < length names) before w.0 low (named_low names (length before + 1) w.0 (with_columns before)

@@ -17,7 +17,7 @@ use Rattle.dep_model.specs.Tuples.{Tuple, Relation, IsOver, same_tuple, distinct
 use Rattle.dep_model.specs.declared.schema.Schema.{Schema}
 use Rattle.dep_model.proofs.SchemeLemmas.{length-project_tuple, value_in-project_tuple}
 use Rattle.named_tables.specs.Tables.{TableValue}
-use Rattle.table_laws.proofs.PartFiles.{Fits, part_back}
+use Rattle.table_laws.proofs.PartFiles.{FitsItsColumns, part_back}
 use Rattle.destinations.specs.Formats.{table_file}
 use Rattle.destinations.specs.declared.format.TableFormat.TheVariants.{Csv}
 
@@ -42,13 +42,13 @@ table_back s names rows number x proper over typed within_limit not_empty =
     let each : IsOver (count_below x n) (projection x rows) =
     All-map (λ (u : Tuple). length u ≡ count_below x n) (project_tuple x) rows
     (λ i d l. length-project_tuple x _ ∙ ap (count_below x) (over i d l)) in
-    let fits : All (Fits s x) (projection x rows) =
-    All-map (Fits s x) (project_tuple x) rows
+    let fits : All (FitsItsColumns s x) (projection x rows) =
+    All-map (FitsItsColumns s x) (project_tuple x) rows
     (λ i d l k column inside is. subst (λ (value : List ℕ). FitsColumn column (nullable_of s k) value) (sym (value_in-project_tuple x _ k inside))
     (typed i d l k column is)) in
     part_back s x (ordered_projection x rows) proper not_empty
     (all_distinct (λ (u : Tuple). length u ≡ count_below x n) (projection x rows) each)
-    (all_distinct (Fits s x) (projection x rows) fits)
+    (all_distinct (FitsItsColumns s x) (projection x rows) fits)
     (omega (arith, within_limit, length-distinct_tuples-le (projection x rows), length-map rows (project_tuple x)))
 
 -- ---- all tables

@@ -10,16 +10,16 @@ use Rattle.std.proofs.lemmas.List.Sums.{position_or_len_is}
 use Rattle.attr_sets.specs.Attributes.{Attributes, count_below}
 use Rattle.attr_sets.proofs.AttributesLemmas.{count_below-before_member, same_at}
 use Rattle.csv_migrate.proofs.ProjectionLemmas.{column_count}
-use Rattle.csv_rows.specs.Columns.{with_columns, column_of, columns_of_header, columns_from, ◌>>=◌}
+use Rattle.csv_rows.specs.Columns.{with_columns, attribute_of_column, columns_of_header, columns_from, ◌>>=◌}
 use Rattle.csv_rows.specs.Reading.{value_of, tuple_of, ClosedRowOf, AreFirstRows, PartOf, TableOf}
 use Rattle.csv_rows.specs.Quotes.{open_record}
 use Rattle.csv_rows.specs.Records.{records_of}
 use Rattle.csv_rows.specs.declared.reading.TheConstants.{MOST_ROWS}
 use Rattle.csv_rows.specs.declared.refusal.RowRefusal.{RowRefusal}
 use Rattle.csv_rows.proofs.HeaderLemmas.{named_after}
-use Rattle.csv_rows.proofs.NumberingLemmas.{same_default}
+use Rattle.dep_model.proofs.ListLemmas.{same_default}
 use Rattle.csv_rows.proofs.PrintedRows.{own_column, other_name, printed_closed, printed_records}
-use Rattle.csv_rows.proofs.ReadingLemmas.{member_at}
+use Rattle.dep_model.proofs.SchemeLemmas.{member_at}
 use Rattle.csv_text.specs.Rows.{rows_text}
 use Rattle.column_values.specs.Values.{FitsColumn}
 use Rattle.dep_model.specs.Names.{is_bare_name, same_name}
@@ -128,7 +128,7 @@ part_columns_from x before (name ∷ after) differ =
           let position : attribute_named names name ≡ Some m = attribute_named-append before name after none in
           let low : nat_lt m m ≡ false = grind (arith, nat_tests) in
           let unused : with_columns (members_below m x) m ≡ false = named_members x m m ∙ ap (λ (b : Bool). b && x m) low in
-          let column : column_of (length (members_below m x) + 1) (with_columns (members_below m x))
+          let column : attribute_of_column (length (members_below m x) + 1) (with_columns (members_below m x))
           (attribute_named names name) ≡ Ok m =
           own_column _ m _ _ position unused in
           ap (λ (b : Bool). columns_from names (members_below m x)
@@ -194,13 +194,13 @@ tuple_is n x t size =
     ∙ ap (λ (l : List ℕ). map (value_of ms t) l) (sym (columns_are n x))
 
 -- the values of a tuple over a scheme fit their columns
-abbrev pub Fits : Schema → Attributes → Tuple → Type 0
-Fits s x t =
+abbrev pub FitsItsColumns : Schema → Attributes → Tuple → Type 0
+FitsItsColumns s x t =
     (k : ℕ) (column : ColumnType) → x k ≡ true → slice_get (types_of s) k ≡ Some column
     → FitsColumn column (nullable_of s k) (value_in x t k)
 
 row_is : (s : Schema) (x : Attributes) (row : ℕ) (t : Tuple) → length t ≡ count_below x (width_of s) → row ≤ MOST_ROWS
-    → Fits s x t → ClosedRowOf s (members_below (width_of s) x) row t (Ok t)
+    → FitsItsColumns s x t → ClosedRowOf s (members_below (width_of s) x) row t (Ok t)
 row_is s x row t size within_limit typed =
     let n = width_of s in
     let ms = members_below n x in (
@@ -219,7 +219,7 @@ row_is s x row t size within_limit typed =
 
 -- a text of rows over a scheme that has an attribute
 pub part_back : (s : Schema) (x : Attributes) (rows : Relation) → All (λ name. IsTrue (is_bare_name name)) (names_of s)
-    → 0 < count_below x (width_of s) → IsOver (count_below x (width_of s)) rows → All (Fits s x) rows
+    → 0 < count_below x (width_of s) → IsOver (count_below x (width_of s)) rows → All (FitsItsColumns s x) rows
     → length rows ≤ MOST_ROWS → PartOf s (rows_text (members_from x 0 (names_of s)) rows) (Ok rows)
 part_back s x rows proper not_empty over typed within_limit =
     let n = width_of s in

@@ -20,7 +20,7 @@ use Rattle.dep_model.proofs.ListLemmas.{Contains-head, Contains-later, Contains-
 use Rattle.dep_model.proofs.RuleLemmas.{reflexivity_obeyed, mreflexivity_obeyed}
 use Rattle.dep_model.proofs.TwoRowLemmas.{AgreeOn-refl, AgreeOn-sym, AgreeOn-union, AgreeOn-trans}
 use Rattle.dep_model.proofs.TupleLemmas.{IsOver-length, same_tuple-Contains}
-use Rattle.table_queries.specs.Queries.{Query, several, unpaired, breaches_of}
+use Rattle.table_queries.specs.Queries.{TableQuery, several, unpaired, breaches_of}
 use Rattle.table_queries.specs.Meanings.{GivesNone}
 
 -- ---- what can be said
@@ -106,7 +106,7 @@ splice-outside n z t u k long out = elim (cases_lt k n) [
 ]
 
 -- ---- multivalued dependencies
-abbrev mvd_breaches : ℕ → Attributes → Attributes → Query
+abbrev mvd_breaches : ℕ → Attributes → Attributes → TableQuery
 mvd_breaches n x y = unpaired x (difference y x) (difference (below n) (union x y))
 
 -- the one tuple that has the values of t on xy and those of u elsewhere

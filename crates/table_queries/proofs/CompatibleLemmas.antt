@@ -13,14 +13,14 @@ use Rattle.dep_model.specs.Projections.{projection, Covers}
 use Rattle.dep_model.proofs.JoinLemmas.{project_tuple-same}
 use Rattle.dep_model.proofs.ListLemmas.{Contains-head, Contains-later}
 use Rattle.dep_model.proofs.TwoRowLemmas.{AgreeOn-sym, AgreeOn-trans}
-use Rattle.table_queries.specs.Queries.{Query, StoredTable, whole, values_on, several, unpaired, join, except, kept, attributes_of, breaches_of, stored_query, joined_with, plan_join, table_beyond_view, view_beyond_table}
+use Rattle.table_queries.specs.Queries.{TableQuery, StoredTable, whole, values_on, several, unpaired, join, except, kept, attributes_of, breaches_of, stored_query, joined_with, plan_join, table_beyond_view, view_beyond_table}
 use Rattle.table_queries.specs.Meanings.{Gives, IsUnionCompatible}
 use Rattle.table_queries.proofs.JoinedLemmas.{all_attributes}
 
 same_whole : (n : ℕ) (t u : Tuple) → length t ≡ n → length u ≡ n → AgreeOn (below n) t u → t ≡ u
 same_whole n t u lt lu agree = ext_get_or [] t u (lt ∙ sym lu) (λ (k : ℕ) l. agree k (grind (arith, nat_tests, l, lt)))
 
-pub own_values : (n : ℕ) (q : Query) (r : Relation) (t u : Tuple) → IsUnionCompatible n q → length t ≡ n → length u ≡ n
+pub own_values : (n : ℕ) (q : TableQuery) (r : Relation) (t u : Tuple) → IsUnionCompatible n q → length t ≡ n → length u ≡ n
     → AgreeOn (attributes_of n q) t u → Gives q r t → Gives q r u
 own_values n whole r t u even lt lu agree given = subst (λ (z : Tuple). Contains r z) (same_whole n t u lt lu agree) given
 own_values n (values_on x) r t u even lt lu agree given =
@@ -73,7 +73,7 @@ breaches_even n (mvd x y) inside = elim (cases_Bool (is_subset y x)) [
   ]
 ]
 
-joined_even : (n : ℕ) (q : Query) (tables : List StoredTable) → IsUnionCompatible n q → IsUnionCompatible n (joined_with q tables)
+joined_even : (n : ℕ) (q : TableQuery) (tables : List StoredTable) → IsUnionCompatible n q → IsUnionCompatible n (joined_with q tables)
 joined_even n q [] even = even
 joined_even n q (table ∷ tables) even = joined_even n (join q (stored_query table)) tables (even, tt)
 
@@ -84,7 +84,7 @@ join_even n (table ∷ tables) = joined_even n (stored_query table) tables tt
 abbrev pub AreWithin : ℕ → List StoredTable → Type 0
 AreWithin n tables = (table : StoredTable) → Contains tables table → IsSubset table.scheme (below n)
 
-joined_within : (n : ℕ) (q : Query) (tables : List StoredTable) → IsSubset (attributes_of n q) (below n) → AreWithin n tables
+joined_within : (n : ℕ) (q : TableQuery) (tables : List StoredTable) → IsSubset (attributes_of n q) (below n) → AreWithin n tables
     → IsSubset (attributes_of n (joined_with q tables)) (below n)
 joined_within n q [] low each = low
 joined_within n q (table ∷ tables) low each =

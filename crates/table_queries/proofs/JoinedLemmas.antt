@@ -11,7 +11,7 @@ use Rattle.dep_model.proofs.DistinctLemmas.{ordered_projection-same}
 use Rattle.dep_model.proofs.JoinLemmas.{IsProjected, in_join-from}
 use Rattle.dep_model.proofs.ListLemmas.{Contains-map, Contains-later, Contains-cases, map-member}
 use Rattle.dep_model.proofs.SchemeLemmas.{project_tuple-whole}
-use Rattle.table_queries.specs.Queries.{Query, StoredTable, values_on, join, stored_query, attributes_of, joined_with, plan_join, table_beyond_view, view_beyond_table}
+use Rattle.table_queries.specs.Queries.{TableQuery, StoredTable, values_on, join, stored_query, attributes_of, joined_with, plan_join, table_beyond_view, view_beyond_table}
 use Rattle.table_queries.specs.Meanings.{Gives, IsGiven, GivesNone}
 
 -- ---- the values on a scheme
@@ -51,13 +51,13 @@ first_of_each first tables r t each = each first (0, omega arith, refl)
 rest_of_each : (first : StoredTable) (tables : List StoredTable) (r : Relation) (t : Tuple) → InEach (first ∷ tables) r t → InEach tables r t
 rest_of_each first tables r t each table h = each table (Contains-later first tables table h)
 
-joined-to : (q : Query) (tables : List StoredTable) (r : Relation) (t : Tuple) → Gives (joined_with q tables) r t → Gives q r t × InEach tables r t
+joined-to : (q : TableQuery) (tables : List StoredTable) (r : Relation) (t : Tuple) → Gives (joined_with q tables) r t → Gives q r t × InEach tables r t
 joined-to q [] r t given = (given, none_in r t)
 joined-to q (first ∷ tables) r t given =
     let rest = joined-to (join q (stored_query first)) tables r t given in
     (rest.0.0, in_first first tables r t rest.0.1 rest.1)
 
-joined-from : (q : Query) (tables : List StoredTable) (r : Relation) (t : Tuple) → Gives q r t → InEach tables r t → Gives (joined_with q tables) r t
+joined-from : (q : TableQuery) (tables : List StoredTable) (r : Relation) (t : Tuple) → Gives q r t → InEach tables r t → Gives (joined_with q tables) r t
 joined-from q [] r t given each = given
 joined-from q (first ∷ tables) r t given each =
     joined-from (join q (stored_query first)) tables r t (given, first_of_each first tables r t each) (rest_of_each first tables r t each)
@@ -69,11 +69,11 @@ join-to (first ∷ tables) r t given =
     in_first first tables r t found.0 found.1
 
 -- ---- the attributes of a join
-more_attributes : (n : ℕ) (q : Query) (tables : List StoredTable) (k : ℕ) → attributes_of n q k ≡ true → attributes_of n (joined_with q tables) k ≡ true
+more_attributes : (n : ℕ) (q : TableQuery) (tables : List StoredTable) (k : ℕ) → attributes_of n q k ≡ true → attributes_of n (joined_with q tables) k ≡ true
 more_attributes n q [] k m = m
 more_attributes n q (first ∷ tables) k m = more_attributes n (join q (stored_query first)) tables k (grind (arith, m))
 
-later_attributes : (n : ℕ) (q : Query) (tables : List StoredTable) (table : StoredTable) (k : ℕ) → Contains tables table → table.scheme k ≡ true
+later_attributes : (n : ℕ) (q : TableQuery) (tables : List StoredTable) (table : StoredTable) (k : ℕ) → Contains tables table → table.scheme k ≡ true
     → attributes_of n (joined_with q tables) k ≡ true
 later_attributes n q [] table k h m = absurd (omega (arith, h.1))
 later_attributes n q (first ∷ tables) table k h m = ⊎_elim

@@ -25,7 +25,7 @@ use Rattle.check_queries.specs.Checks.{has_members, line_item, count_column, int
 use Rattle.table_scripts.specs.declared.unpaired.Counted.{Counted}
 use Rattle.table_scripts.specs.declared.unpaired.Counted.TheVariants.{First, Second, Both}
 use Rattle.table_scripts.specs.Listing.{counts_of, missing_tests}
-use Rattle.table_scripts.specs.Checking.{integer_text, missing_text, check_line}
+use Rattle.table_scripts.specs.Checking.{integer_check_text, missing_text, check_line}
 use Rattle.table_scripts.proofs.ItemLemmas.{tests_are}
 
 -- ---- lists of a function's values
@@ -142,8 +142,8 @@ range_more n =
 pub integer_line : (naming : Naming) (table name comment query : List ℕ)
     → comment ≡ codes "-- " ++ spelling naming name ++ codes " is an integer\n"
     → query ≡ query_text (integer_query table (named_column (codes "r") name))
-    → comment ++ (query ++ codes ";\n") ≡ integer_text naming table name
-unfolding integer_text check_line
+    → comment ++ (query ++ codes ";\n") ≡ integer_check_text naming table name
+unfolding integer_check_text check_line
 integer_line naming table name comment query is_comment is_query =
     ap (λ (t : List ℕ). t ++ (query ++ codes ";\n")) is_comment
     ∙ ap (λ (q : List ℕ). codes "-- " ++ spelling naming name ++ codes " is an integer\n" ++ (q ++ codes ";\n")) is_query

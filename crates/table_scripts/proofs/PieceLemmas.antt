@@ -21,7 +21,7 @@ fd_rule s t line x y both beyond same =
     ∙ sym (ap (λ (b : Bool). breaches_text (option_and_then (query_of s t line) (if b then None else Some (several x (union x y))))) beyond)
 
 -- the term of what breaks a multivalued dependency
-abbrev pub mvd_term : ℕ → Attributes → Attributes → terms.Query
+abbrev pub mvd_term : ℕ → Attributes → Attributes → terms.TableQuery
 mvd_term n x y = unpaired x (difference y x) (difference (below n) (union x y))
 
 pub mvd_rule : (s : Schema) (t : List ℕ) (line : ℕ) (x y universe both right rest : Attributes) → universe ≡ below (width_of s) → both ≡ union x y

@@ -10,7 +10,7 @@ use Rattle.dep_model.specs.Schemas.{width_of, theory_of, deps_of, LegalFor}
 use Rattle.dep_model.specs.Tuples.{Relation, IsOver}
 use Rattle.dep_model.proofs.DepLemmas.{dependencies_all-from}
 use Rattle.ddl_text.specs.declared.table.TableDesign.{TableDesign}
-use Rattle.table_queries.specs.Queries.{Query, StoredTable, breaches_of}
+use Rattle.table_queries.specs.Queries.{TableQuery, StoredTable, breaches_of}
 use Rattle.table_queries.specs.Meanings.{GivesNone}
 use Rattle.table_queries.proofs.BreachLemmas.{breaches_tell}
 use Rattle.table_queries.proofs.JoinedLemmas.{values_given, join_given, nothing_left}
@@ -19,12 +19,12 @@ use Rattle.table_scripts.specs.Migrating.{stored_tables, FillsTables, ViewIsTabl
 use Rattle.migrate_queries.specs.Script.{view_name}
 
 -- ---- rules
-GivesNone-from_meaning : (n : ℕ) (r : Relation) (found : Option Query) (A : Type 0) → MatchOption found A (λ q. GivesNone n q r ↔ A) → A
+GivesNone-from_meaning : (n : ℕ) (r : Relation) (found : Option TableQuery) (A : Type 0) → MatchOption found A (λ q. GivesNone n q r ↔ A) → A
     → MatchOption found ⊤ (λ q. GivesNone n q r)
 GivesNone-from_meaning n r None A query_exact holds = tt
 GivesNone-from_meaning n r (Some q) A query_exact holds = query_exact.1 holds
 
-meaning-from_GivesNone : (n : ℕ) (r : Relation) (found : Option Query) (A : Type 0) → MatchOption found A (λ q. GivesNone n q r ↔ A)
+meaning-from_GivesNone : (n : ℕ) (r : Relation) (found : Option TableQuery) (A : Type 0) → MatchOption found A (λ q. GivesNone n q r ↔ A)
     → MatchOption found ⊤ (λ q. GivesNone n q r) → A
 meaning-from_GivesNone n r None A query_exact none = query_exact
 meaning-from_GivesNone n r (Some q) A query_exact none = query_exact.0 none

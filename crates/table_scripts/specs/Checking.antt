@@ -29,13 +29,13 @@ missing_text s table [] = []
 missing_text s table (k ∷ ms) = codes "-- no value is missing\n" ++ check_line (missing_query s table k ms)
 
 -- a query for the values of an integer column that are none
-unfoldable pub integer_text : Naming → List ℕ → List ℕ → List ℕ
-integer_text naming table name =
+unfoldable pub integer_check_text : Naming → List ℕ → List ℕ → List ℕ
+integer_check_text naming table name =
     codes "-- " ++ spelling naming name ++ codes " is an integer\n"
     ++ check_line (integer_query table (named_column (codes "r") name))
 
 abbrev pub value_text : Schema → List ℕ → ℕ → List ℕ
-value_text s table k = if is_integer (type_at s k) then integer_text (naming_of s) table (name_at s k) else []
+value_text s table k = if is_integer (type_at s k) then integer_check_text (naming_of s) table (name_at s k) else []
 
 -- ---- rules
 -- after a rule the query for what breaks it, if there is one

@@ -3,8 +3,8 @@ ghost use Rattle.dep_model.specs.Schemas.{width_of, LegalFor};
 ghost use Rattle.dep_model.specs.Tuples.{Relation, IsOver};
 ghost use Rattle.sql_evaluation.specs.Cells.{Cell};
 ghost use Rattle.sql_evaluation.specs.Evaluation.{Engine};
-ghost use Rattle.check_laws.specs.Holding.{Holds, CastsIntegers};
-ghost use Rattle.check_laws.specs.Telling.{NoBreachShown, RulesHold, NothingShown};
+ghost use Rattle.check_laws.specs.HeldRelations.{Holds, CastsIntegers};
+ghost use Rattle.check_laws.specs.CheckedRules.{NoBreachShown, RulesHold, NothingShown};
 ghost use Rattle.table_scripts.specs.Naming.{is_table_name, quoted_table};
 ghost use Rattle.table_scripts.specs.Checking.{check_text, rules_text, NothingBreaks};
 

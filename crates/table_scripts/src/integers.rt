@@ -7,7 +7,7 @@ ghost use Rattle.sql_syntax.specs.Printing.{query_text};
 ghost use Rattle.check_queries.specs.Columns.{named_column};
 ghost use Rattle.check_queries.specs.Checks.{integer_query};
 ghost use Rattle.table_scripts.specs.Listing.{integer_test};
-ghost use Rattle.table_scripts.specs.Checking.{integer_text, value_text};
+ghost use Rattle.table_scripts.specs.Checking.{integer_check_text, value_text};
 
 use crate::listing::column_text;
 use crate::selecting::{line_of_query, selected_text};
@@ -45,7 +45,7 @@ fn value_text(
     if !is_integer(schema.column(attribute)) {
         return Ok(Vec::new(alloc));
     }
-    integer_text(alloc, schema.naming(), table, schema.name(attribute))
+    integer_check_text(alloc, schema.naming(), table, schema.name(attribute))
 }
 
 pub fn is_integer(column: ColumnType) -> bool
@@ -58,13 +58,13 @@ pub fn is_integer(column: ColumnType) -> bool
 }
 
 // The query for the values of a column that are no integers.
-fn integer_text(
+fn integer_check_text(
     alloc: Global,
     naming: Naming,
     table: &[u8],
     name: &Name,
 ) -> Result<Vec<u8>, OutOfMemory>
-    ensures text { IfOk result (λ text. text.items ≡ integer_text naming table.now name.now) }
+    ensures text { IfOk result (λ text. text.items ≡ integer_check_text naming table.now name.now) }
 {
     let query = integer_query(alloc, table, name)?;
     let comment = integer_comment(alloc, naming, name)?;

@@ -9,7 +9,7 @@ ghost use Rattle.sql_syntax.specs.Printing.{query_text, scalar_text};
 ghost use Rattle.sql_syntax.specs.Statements.{create_view, statement_text};
 ghost use Rattle.sql_evaluation.specs.Cells.{Cell};
 ghost use Rattle.sql_evaluation.specs.Running.{State, Cast, Fails, engine_at, ended, stopped, outcome};
-ghost use Rattle.check_laws.specs.Holding.{Holds};
+ghost use Rattle.check_laws.specs.HeldRelations.{Holds};
 ghost use Rattle.migrate_queries.specs.Script.{copy_query, fill_query, view_name, view_query, width_query, table_rows, viewed_rows, migration};
 ghost use Rattle.migrate_laws.specs.Moved.{HasMoved, LeavesOthers};
 ghost use Rattle.ending_laws.specs.Ending.{IsSoundRun};

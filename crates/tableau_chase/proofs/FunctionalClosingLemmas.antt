@@ -7,7 +7,7 @@ use Rattle.std.specs.Prelude.{Contains}
 use Rattle.attr_sets.specs.Attributes.{Attributes}
 use Rattle.dep_model.specs.Dependencies.{Dependency, fd}
 use Rattle.chase_laws.specs.Tableaux.{SymbolRow, Tableau, symbol_at, IsTableauOver}
-use Rattle.chase_laws.specs.Steps.{IsFunctionalStep, IsFunctionallyClosed, LeadsTo}
+use Rattle.chase_laws.specs.Steps.{IsFunctionalStep, HasNoFunctionalStep, LeadsTo}
 use Rattle.chase_laws.specs.Rounds.{ClosesFunctionallyTo}
 use Rattle.chase_laws.proofs.TableauLemmas.{cons_cases, Same-refl}
 use Rattle.chase_laws.proofs.InvariantLemmas.{Each, HasLength, HasAtMost, most-functional}
@@ -48,7 +48,7 @@ pub record IsClosingFunctionally (n : ℕ) (ds : List Dependency) (t s : Tableau
   pub leads : LeadsTo (IsFunctionalStep ds) t s
   pub count : length s ≡ length t
   pub over : IsTableauOver n s
-  pub functionally_closed : changed ≡ false → IsFunctionallyClosed ds s
+  pub functionally_closed : changed ≡ false → HasNoFunctionalStep ds s
 
 pub functional_closing_first : (n : ℕ) (ds : List Dependency) (t : Tableau) → IsTableauOver n t → IsClosingFunctionally n ds t t true
 functional_closing_first n ds t over = record { leads = (0, Same-refl t); count = refl; over = over; functionally_closed = λ e. absurd (true≢false e) }
@@ -60,7 +60,7 @@ changes_leads ds false t m s one same = subst (λ (u : Tableau). LeadsTo (IsFunc
 Contains-row : (t : Tableau) (p : SymbolRow) (h : Contains t p) → symbol_row_at t h.0 ≡ p
 Contains-row t p h = get_or_default t h.0 [] p h.1 ∙ h.2
 
-agrees_functionally_closed : (ds : List Dependency) (t : Tableau) → ((x y : Attributes) → Contains ds (fd x y) → AgreesBy x y t) → IsFunctionallyClosed ds t
+agrees_functionally_closed : (ds : List Dependency) (t : Tableau) → ((x y : Attributes) → Contains ds (fd x y) → AgreesBy x y t) → HasNoFunctionalStep ds t
 agrees_functionally_closed ds t agrees = functionally_closed_from ds t (λ x y p q given p_in q_in agree k m.
     let p_is : symbol_row_at t p_in.0 ≡ p = Contains-row t p p_in in
     let q_is : symbol_row_at t q_in.0 ≡ q = Contains-row t q q_in in
@@ -74,7 +74,7 @@ functional_closing_next n ds t m s before changed old changes keeps obeyed = rec
   leads = changes_leads ds changed t m s old.leads changes;
   count = keeps.one_each ∙ old.count;
   over = keeps.over n old.over;
-  functionally_closed = λ e. let same : s ≡ m = subst (λ (b : Bool). Changes ds b m s) e changes in subst (λ (u : Tableau). IsFunctionallyClosed ds u) (sym same) (agrees_functionally_closed ds m (obeyed e));
+  functionally_closed = λ e. let same : s ≡ m = subst (λ (b : Bool). Changes ds b m s) e changes in subst (λ (u : Tableau). HasNoFunctionalStep ds u) (sym same) (agrees_functionally_closed ds m (obeyed e));
 }
 
 -- fewer symbols are in use after each change

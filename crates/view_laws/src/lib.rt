@@ -6,14 +6,6 @@
 //! Promises: a cross join stands only between parts of the plan that share nothing.
 #![tactic(auto)]
 
-ghost use Rattle.std.specs.Prelude.{List};
-ghost use Rattle.attr_sets.specs.Attributes.{none};
-ghost use Rattle.migrate_queries.specs.ViewOrder.{view_order};
-ghost use Rattle.migrate_queries.specs.declared.joining.JoinedTable.{JoinedTable};
-ghost use Rattle.view_laws.specs.Crossing.{PartsAreCrossed};
+mod crossing;
 
-/// A table that shares no attribute with those before it comes only where none of those that are left shares
-/// one with them. So a cross join stands only between parts of the plan that share nothing.
-pub fn cross_joins_part_the_plan()
-    ensures law { (tables : List JoinedTable) → PartsAreCrossed none (view_order tables) }
-{}
+pub use crossing::cross_joins_part_the_plan;

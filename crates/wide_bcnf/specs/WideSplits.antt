@@ -37,7 +37,7 @@ IsWideSplitOf n ds scheme (q ∷ later) =
     ⊎ ((a : ℕ) × IsCore n ds scheme q a × IsWideSplitOf n ds (difference scheme (only a)) later)
 
 -- the plan of a wide split of the universe: its schemes, without contained ones
-pub record IsWidePlan (n : ℕ) (ds : List Dependency) (plan : List AttrSet) : Type 0 where
+pub record IsWideSplitPlan (n : ℕ) (ds : List Dependency) (plan : List AttrSet) : Type 0 where
   pub all : List AttrSet
   pub split : IsWideSplitOf n ds (below n) (schemes_of all)
   pub kept : plan ≡ without_contained all

@@ -7,7 +7,7 @@ ghost use Rattle.dep_model.specs.Projections.{IsLossless};
 ghost use Rattle.dep_model.specs.Schemas.{width_of, universe_of, theory_of};
 ghost use Rattle.plans.specs.Plans.{scheme_sets, plan_of, IsPlanOver};
 ghost use Rattle.wide_bcnf.specs.Pairs.{IsFirstPair};
-ghost use Rattle.wide_bcnf.specs.WideSplits.{IsCore, IsWideSplitOf, IsWidePlan};
+ghost use Rattle.wide_bcnf.specs.WideSplits.{IsCore, IsWideSplitOf, IsWideSplitPlan};
 
 use crate::pairs::{Pair, first_pair};
 use attr_sets::AttrSet;
@@ -21,20 +21,20 @@ use std::alloc::Global;
 pub fn split_wide(alloc: Global, schema: &Schema) -> Result<Plan, OutOfMemory>
     ensures universe { IfOk result (λ plan. IsPlanOver schema.now plan) }
     ensures split { IfOk result (λ plan.
-        IsWidePlan (width_of schema.now) (theory_of schema.now) (scheme_sets plan)) }
+        IsWideSplitPlan (width_of schema.now) (theory_of schema.now) (scheme_sets plan)) }
     ensures lossless { IfOk result (λ plan.
         IsLossless (width_of schema.now) (theory_of schema.now) (plan_of plan)) }
     ensures bcnf { IfOk result (λ plan.
         All (IsBcnf (width_of schema.now) (theory_of schema.now)) (plan_of plan)) }
     ensures at_most_width { IfOk result (λ plan. length (scheme_sets plan) ≤ width_of schema.now) }
 {
-    let schemes = wide_schemes(alloc, schema)?;
+    let schemes = wide_split_schemes(alloc, schema)?;
     Ok(drop_contained(schema, Plan::new(schema, schemes)))
 }
 
 // The schemes of the wide split of the universe. What is left of a scheme has no pair before the
 // first one of the scheme, so the search goes on there.
-fn wide_schemes(alloc: Global, schema: &Schema) -> Result<Vec<AttrSet>, OutOfMemory>
+fn wide_split_schemes(alloc: Global, schema: &Schema) -> Result<Vec<AttrSet>, OutOfMemory>
     ensures split { IfOk result (λ schemes. IsWideSplitOf (width_of schema.now) (theory_of schema.now)
         (universe_of schema.now) (schemes_of schemes.items)) }
 {

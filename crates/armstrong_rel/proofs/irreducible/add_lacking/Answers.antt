@@ -9,7 +9,7 @@ use Rattle.attr_sets.proofs.AttributesLemmas.{same_at}
 use Rattle.dep_model.specs.Schemas.{width_of, theory_of}
 use Rattle.fd_closure.specs.LeftSides.{left_sides}
 use Rattle.armstrong_rel.specs.Parts.{in_no_left_side}
-use Rattle.armstrong_rel.specs.Searching.{AreFound}
+use Rattle.armstrong_rel.specs.Searching.{AreTriedIrreducible}
 use Rattle.armstrong_rel.proofs.PartLemmas.{schema_within}
 use Rattle.armstrong_rel.proofs.FoundLemmas.{IsTriedBelow, lacking_start, lacking_pass, lacking_push, last_pass, last_push}
 use Rattle.dep_model.specs.Dependencies.{Dependency}
@@ -45,13 +45,13 @@ loop-attribute-preserved c =
           let in_lacking : attributes c.args.lacking a ≡ true = grind (arith, yes) in
           let in_rest : attributes c.difference-rest.result a ≡ true = grind (arith, yes) in
           let is = w.without.ensures.members ∙ ap (λ (x : Attributes). difference x (only a)) whole in
-          subst (λ (v : Vec AttrSet Global). AreFound n ds (IsTriedBelow n ds z (a + 1)) v.items) (sym w.found-is)
+          subst (λ (v : Vec AttrSet Global). AreTriedIrreducible n ds (IsTriedBelow n ds z (a + 1)) v.items) (sym w.found-is)
           (lacking_push n ds (schema_within s) c.requires.functional z c.requires.part a c.loop-attribute.found.items w.add_set.new.found.items w.without.result
           c.requires.closed (omega arith) (sym (same_at rest a) ∙ in_rest) ((c.requires.lacking a).0 in_lacking) is
           w.in_ok-add_set.ensures.added w.in_ok-add_set.ensures.full before)
       | else-contains w ↦
           let no = sym at ∙ w.if-contains.false in
-          subst (λ (v : Vec AttrSet Global). AreFound n ds (IsTriedBelow n ds z (a + 1)) v.items) (sym w.found-is)
+          subst (λ (v : Vec AttrSet Global). AreTriedIrreducible n ds (IsTriedBelow n ds z (a + 1)) v.items) (sym w.found-is)
           (lacking_pass n ds (schema_within s) c.requires.functional z c.requires.part a c.loop-attribute.found.items
           (λ unused lacking.
           let in_lacking = (c.requires.lacking a).1 lacking in
@@ -69,7 +69,7 @@ returns-in_ok-add_set-2 c =
     c.full.ensures.members c.width.ensures.count c.requires.used c.difference-rest.ensures.members in
     let whole = c.union-whole.ensures.members ∙ ap (union z) rest in
     let end : c.loop-attribute.attribute ≡ n = omega (arith, c.loop-attribute-test.false, c.loop-attribute.auto.attribute-end, c.width-attribute-end.ensures.count) in
-    let before = subst (λ (most : ℕ). AreFound n ds (IsTriedBelow n ds z most) c.loop-attribute.found.items) end c.loop-attribute.invariant in
+    let before = subst (λ (most : ℕ). AreTriedIrreducible n ds (IsTriedBelow n ds z most) c.loop-attribute.found.items) end c.loop-attribute.invariant in
     let both = c.intersects.ensures.intersects.0 c.if-intersects.true in
     record {
       found = last_push n ds (schema_within s) c.requires.functional z c.requires.part both.0 c.loop-attribute.found.items c.add_set-then-intersects.new.found.items c.union-whole.result
@@ -84,7 +84,7 @@ returns-else-intersects c =
     let ds = theory_of s in
     let z = attributes c.args.part in
     let end : c.loop-attribute.attribute ≡ n = omega (arith, c.loop-attribute-test.false, c.loop-attribute.auto.attribute-end, c.width-attribute-end.ensures.count) in
-    let before = subst (λ (most : ℕ). AreFound n ds (IsTriedBelow n ds z most) c.loop-attribute.found.items) end c.loop-attribute.invariant in
+    let before = subst (λ (most : ℕ). AreTriedIrreducible n ds (IsTriedBelow n ds z most) c.loop-attribute.found.items) end c.loop-attribute.invariant in
     record {
       found = last_pass n ds (schema_within s) c.requires.functional z c.requires.part c.loop-attribute.found.items
           (λ b used lacking. true≢false (sym (c.intersects.ensures.intersects.1 (b, (c.requires.lacking b).1 lacking, same_at c.requires.used b ∙ used)) ∙ c.if-intersects.false)) before;

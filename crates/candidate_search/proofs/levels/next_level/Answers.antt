@@ -3,7 +3,7 @@ use Rattle.std.proofs.Common.{◌≡◌, ◌∙◌, ℕ, replicate, subst}
 use Rattle.attr_sets.specs.Sets.{attributes}
 use Rattle.attr_sets.proofs.AttributesLemmas.{same_at}
 use Rattle.dep_model.specs.Tuples.{Relation}
-use Rattle.fd_discovery.specs.Leaders.{AreLeaders}
+use Rattle.fd_discovery.specs.Leaders.{AreLeadersOn}
 use Rattle.fd_discovery.proofs.LeaderLemmas.{first_leads}
 use Rattle.candidate_search.specs.Levels.{AreTabled}
 use Rattle.candidate_search.proofs.levels.next_level.Goals as goal
@@ -11,7 +11,7 @@ use Rattle.candidate_search.proofs.levels.next_level.Goals.{In_ok-leaders}
 
 -- the first row leads all others on the empty set
 led : (c : In_ok-leaders) (r : Relation) → AreTabled c.args.width r c.args.table.now
-    → AreLeaders r (attributes c.empty-set.result) c.in_ok-leaders.leaders.items
+    → AreLeadersOn r (attributes c.empty-set.result) c.in_ok-leaders.leaders.items
 led c r tabled = first_leads r (attributes c.empty-set.result) c.in_ok-leaders.leaders.items
     (same_at c.empty-set.ensures.members)
     (subst (λ (n : ℕ). c.in_ok-leaders.leaders.items ≡ replicate n 0) (c.count.ensures.count ∙ tabled.table.codes.count)

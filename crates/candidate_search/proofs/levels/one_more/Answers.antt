@@ -1,7 +1,7 @@
 -- What is left to prove of `one_more`: its clause `level`, by the lemmas of `fd_discovery` on leaders.
 use Rattle.std.proofs.Common.{sym, subst}
 use Rattle.attr_sets.specs.Sets.{attributes}
-use Rattle.fd_discovery.specs.Leaders.{AreLeaders}
+use Rattle.fd_discovery.specs.Leaders.{AreLeadersOn}
 use Rattle.fd_discovery.proofs.LeaderLemmas.{leaders_with}
 use Rattle.candidate_search.proofs.levels.one_more.Goals as goal
 
@@ -13,5 +13,5 @@ returns c = record {
       tabled.table c.requires.column c.column-codes.ensures.codes c.rows-order.ensures.rows c.index.ensures
       c.with-set.ensures.members
       (c.in_ok-leaders.ensures.leaders r (attributes c.args.level.now.set) c.args.column
-      (subst (AreLeaders r (attributes c.args.level.now.set)) (sym c.deref.ensures.value) led));
+      (subst (AreLeadersOn r (attributes c.args.level.now.set)) (sym c.deref.ensures.value) led));
 }

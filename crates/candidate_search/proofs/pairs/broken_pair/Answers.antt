@@ -2,14 +2,14 @@
 use Rattle.attr_sets.specs.Sets.{attributes}
 use Rattle.csv_rows.specs.Interning.{IsInterned, firsts_of, groups_of}
 use Rattle.dep_model.specs.Tuples.{Relation}
-use Rattle.fd_discovery.specs.Leaders.{AreLeaders}
+use Rattle.fd_discovery.specs.Leaders.{AreLeadersOn}
 use Rattle.candidate_search.proofs.LevelLemmas.{firsts_lead}
 use Rattle.candidate_search.proofs.pairs.broken_pair.Goals as goal
 use Rattle.candidate_search.proofs.pairs.broken_pair.Goals.{In_ok-leaders}
 
 -- the rows by the first rows of their groups
 led : (c : In_ok-leaders) (r : Relation) → IsInterned c.args.width r c.args.codes.now
-    → AreLeaders r (attributes c.args.set) c.in_ok-leaders.leaders.items
+    → AreLeadersOn r (attributes c.args.set) c.in_ok-leaders.leaders.items
 led c r coded =
     let groups = c.in_ok-groups.groups in
     firsts_lead r (attributes c.args.set) (groups_of groups) (firsts_of groups) c.in_ok-leaders.leaders.items

@@ -15,7 +15,7 @@ use Rattle.min_cover.specs.Covers.{IsFixedWholeCover}
 use Rattle.min_cover.proofs.CoverLemmas.{fixed_is_whole, whole_is_minimal}
 use Rattle.cover_steps.specs.declared.shortening.ShortMember.{ShortMember}
 use Rattle.cover_steps.specs.declared.thinning.PlacedDep.{PlacedDep}
-use Rattle.cover_steps.specs.Steps.{AreCoverSteps, AreShortMembers, IsParted, Placed, without_positions, places_of, placed_from, placed_members, is_multivalued, short_of, shortened_list}
+use Rattle.cover_steps.specs.Steps.{AreCoverSteps, AreShortMembers, IsThinnedInto, Placed, without_positions, places_of, placed_from, placed_members, is_multivalued, short_of, shortened_list}
 use Rattle.cover_steps.specs.Gathering.{IsPlacedWithin, deps_of_places}
 use Rattle.cover_steps.proofs.PlaceLemmas.{positions_gone, stands_after}
 use Rattle.cover_steps.proofs.MemberLemmas.{steps_cover}
@@ -58,12 +58,12 @@ account c =
         shortened = subst (λ (ps : List Placed). AreShortMembers n ds (flat_map (placed_members n) ps) (shortened_list members)) firsts c.in_ok-members.ensures.members;
         cover = places_of rest;
         gone_members = first.0;
-        thinned = subst (λ (ms : List ShortMember). IsParted n [] (map short_of (shortened_list ms)) (places_of rest) first.0) c.deref-2.ensures.value first.2;
+        thinned = subst (λ (ms : List ShortMember). IsThinnedInto n [] (map short_of (shortened_list ms)) (places_of rest) first.0) c.deref-2.ensures.value first.2;
         whole = places_of c.in_ok-kept.kept.items;
         gone_later = second.0;
         multivalued =
-            subst (λ (ps : List Placed). IsParted n (places_of rest) ps (places_of c.in_ok-kept.kept.items) second.0) later
-            (subst (λ (ps : List PlacedDep). IsParted n (places_of ps) (places_of (drop (length rest) all)) (places_of c.in_ok-kept.kept.items) second.0) c.in_ok-add_multivalued.ensures.front
+            subst (λ (ps : List Placed). IsThinnedInto n (places_of rest) ps (places_of c.in_ok-kept.kept.items) second.0) later
+            (subst (λ (ps : List PlacedDep). IsThinnedInto n (places_of ps) (places_of (drop (length rest) all)) (places_of c.in_ok-kept.kept.items) second.0) c.in_ok-add_multivalued.ensures.front
             (rw from_is at second.2));
         all = second.1 ∙ ap (λ (ps : List Placed). ps ++ second.0) (first.1 ∙ ap (λ (ps : List PlacedDep). places_of ps ++ first.0) c.new-gone.ensures.items);
       };

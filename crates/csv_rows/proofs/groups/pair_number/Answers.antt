@@ -5,7 +5,8 @@ use Rattle.std.proofs.lemmas.Bool.{cases_lt}
 use Rattle.std.proofs.lemmas.Option.{slice_get-get_or, slice_get_within}
 use Rattle.csv_rows.specs.Numberings.{number_at}
 use Rattle.csv_rows.specs.Pairs.{Gets}
-use Rattle.csv_rows.proofs.NumberingLemmas.{at_last, pair-Gets, same_default}
+use Rattle.csv_rows.proofs.NumberingLemmas.{at_last, pair-Gets}
+use Rattle.dep_model.proofs.ListLemmas.{same_default}
 use Rattle.csv_rows.proofs.PairLemmas.{lead_new, lead_same, other_pair}
 use Rattle.csv_rows.proofs.groups.pair_number.Goals as goal
 

@@ -11,7 +11,7 @@ unfolding members_below
 loop-attribute-init c = record { so_far = c.new-order.ensures.items }
 
 pub loop-attribute-preserved : goal.loop-attribute-preserved
-loop-attribute-preserved c = elim c.match-column_of.branch [
+loop-attribute-preserved c = elim c.match-first_column_of.branch [
   | in-Some+in_ok-push-in-Some w ↦
       record { so_far = rw w.order-is (w.in_ok-push-in-Some.ensures.items ∙ order_more _ _ _ _ c.loop-attribute.invariant.so_far (sym w.in-Some.ensures.column)) }
   | in-None w ↦

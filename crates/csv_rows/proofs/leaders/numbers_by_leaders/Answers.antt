@@ -3,7 +3,7 @@
 use Rattle.std.proofs.Common.{arith, ◌≡◌, ◌<◌, ◌+◌, ◌∷◌, ◌++◌, [], ℕ, List, length, length-append, ap, subst, ◌∙◌}
 use Rattle.csv_rows.specs.Numberings.{AreNumbered, number_at}
 use Rattle.csv_rows.proofs.LeaderLemmas.{first_led, later_led}
-use Rattle.csv_rows.proofs.NumberingLemmas.{same_default}
+use Rattle.dep_model.proofs.ListLemmas.{same_default}
 use Rattle.csv_rows.proofs.leaders.numbers_by_leaders.Goals as goal
 use Rattle.csv_rows.proofs.leaders.numbers_by_leaders.Goals.{then-leader-row+in_ok-push, else-leader-row+in_ok-push-2}
 

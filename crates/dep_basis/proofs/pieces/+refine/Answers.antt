@@ -13,7 +13,7 @@ use Rattle.dep_model.specs.declared.dep.Dep.TheVariants.{Fd, Mvd}
 use Rattle.dep_model.specs.Dependencies.{fd, mvd}
 use Rattle.dep_model.specs.Deps.{dependency_of, dependencies_of, IsDepWithin}
 use Rattle.dep_model.specs.Implication.{Implies}
-use Rattle.dep_basis.specs.CutProofs.{IsCutting}
+use Rattle.dep_basis.specs.Cuts.{IsCutting}
 use Rattle.dep_basis.proofs.PieceLemmas.{given_implied_at, block_refined, fd_refined, mvd_refined, sides_count, outside_fewer, inside_fewer}
 use Rattle.dep_basis.proofs.pieces.+refine.Goals as goal
 use Rattle.dep_basis.proofs.pieces.+refine.Goals.{In-Fd, In-Mvd}

@@ -5,7 +5,8 @@ use Rattle.attr_sets.specs.Sets.{attributes}
 use Rattle.attr_sets.specs.declared.set.TheConstants.{MOST_ATTRIBUTES}
 use Rattle.dep_model.specs.declared.dep.Dep.TheVariants.{Fd}
 use Rattle.derivation.specs.Derivs.{tree_of}
-use Rattle.dep_basis.proofs.ShowingLemmas.{given_within, IfOk_both, part_size, size_grows}
+use Rattle.dep_basis.proofs.ShowingLemmas.{given_within, part_size, size_grows}
+use Rattle.dep_model.proofs.FailureLemmas.{IfOk_both}
 use Rattle.dep_basis.proofs.showing.cut_closed.Goals as goal
 
 pub coalesce_with_given-requires-clause-rhs : goal.coalesce_with_given-requires-clause-rhs

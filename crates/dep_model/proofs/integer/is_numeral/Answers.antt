@@ -2,7 +2,7 @@
 -- keeps the invariant, by `digits_value-take` and `digits_value-next`.
 use Rattle.std.proofs.Common.{◌+◌, ◌∙◌, sym, arith, refl}
 use Rattle.std.proofs.lemmas.Bool.{false≢true}
-use Rattle.dep_model.specs.Integers.{IsNumeral}
+use Rattle.dep_model.specs.Integers.{IsPositiveNumeral}
 use Rattle.std.specs.Char.{is_ascii_digit}
 use Rattle.std.proofs.lemmas.List.Folds.{list_all_more}
 use Rattle.dep_model.proofs.NumeralLemmas.{digits_value-take, digits_value-next}
@@ -25,4 +25,4 @@ returns-then-value-most c =
     let digit = sym c.is_ascii_digit.ensures.value ∙ c.if-not-is_ascii_digit.false in
     let next = digits_value-next c.args.digits.now c.loop-b.b-index c.loop-b-test.true digit in
     let front = digits_value-take c.args.digits.now (c.loop-b.b-index + 1) in
-    record { numeral = (λ h. absurd (false≢true h), λ (h : IsNumeral c.args.most c.args.digits.now). absurd (omega (arith, h.value, next, front, c.loop-b.invariant.value, c.if-value-most.true))) }
+    record { numeral = (λ h. absurd (false≢true h), λ (h : IsPositiveNumeral c.args.most c.args.digits.now). absurd (omega (arith, h.value, next, front, c.loop-b.invariant.value, c.if-value-most.true))) }

@@ -1,7 +1,7 @@
 -- What is left to prove of `queries_response`: its clause `response`, by what `check_script` tells.
 use Rattle.std.proofs.Common.{◌↔◌, ℕ, List, sym, ap, subst, ◌∙◌}
-use Rattle.check_laws.specs.Holding.{Holds}
-use Rattle.check_laws.specs.Telling.{NoBreachShown, RulesHold, NothingShown}
+use Rattle.check_laws.specs.HeldRelations.{Holds}
+use Rattle.check_laws.specs.CheckedRules.{NoBreachShown, RulesHold, NothingShown}
 use Rattle.dep_model.specs.Schemas.{LegalFor}
 use Rattle.table_scripts.specs.Checking.{check_text}
 use Rattle.table_scripts.specs.Naming.{quoted_table}

@@ -1,7 +1,7 @@
 -- What is left to prove of `statements_response`: its clause `response`, by what `migrate_script` does.
 use Rattle.std.proofs.Common.{◌≡◌, ℕ, List, length, subst, ap, ◌∙◌}
 use Rattle.dep_model.specs.Schemas.{width_of}
-use Rattle.check_laws.specs.Holding.{Holds}
+use Rattle.check_laws.specs.HeldRelations.{Holds}
 use Rattle.sql_evaluation.specs.Running.{State, engine_at, ended, stopped, outcome}
 use Rattle.migrate_queries.specs.Script.{migration}
 use Rattle.migrate_laws.specs.Moved.{HasMoved, LeavesOthers}

@@ -3,7 +3,7 @@ use Rattle.std.proofs.Common.{◌≡◌, ℕ, List, ap, subst, ◌∙◌}
 use Rattle.attr_sets.specs.Attributes.{Attributes, difference}
 use Rattle.attr_sets.specs.Sets.{attributes}
 use Rattle.closure_steps.specs.declared.steps.ClosureStep.{ClosureStep}
-use Rattle.closure_steps.specs.Steps.{reached, steps_of}
+use Rattle.closure_steps.specs.Steps.{reached, closure_step_values}
 use Rattle.schema_printer.specs.Spelling.{printed_names_of}
 use Rattle.desk_implication.specs.Closures.{IsBesideText, closure_text}
 use Rattle.desk_implication.proofs.closures.closure_lines.Goals as goal
@@ -15,18 +15,18 @@ returns c =
     let found = c.in_ok-found in
     let closed = attributes c.closure-closed.result in
     let beside = c.in_ok-beside.beside.items in
-    let rest : attributes c.difference.result ≡ difference closed (reached x (steps_of found.found.steps.items)) =
+    let rest : attributes c.difference.result ≡ difference closed (reached x (closure_step_values found.found.steps.items)) =
     c.difference.ensures.members ∙ ap (λ (y : Attributes). difference closed y) found.ensures.reached in
     record {
       text = record {
-        steps = steps_of found.found.steps.items;
+        steps = closure_step_values found.found.steps.items;
         are_steps = found.ensures.steps;
         closed = closed;
         is_closure = c.closure-closed.ensures.closure;
         beside = beside;
         is_beside = subst (λ (y : Attributes). IsBesideText (printed_names_of s) y beside) rest c.in_ok-beside.ensures.text;
         reads = c.in_ok-text.ensures.text
-            ∙ ap (λ (steps : List ClosureStep). closure_text s x (steps_of steps) c.deref-2.result.now closed) c.deref.ensures.value
-            ∙ ap (λ (b : List ℕ). closure_text s x (steps_of found.found.steps.items) b closed) c.deref-2.ensures.value;
+            ∙ ap (λ (steps : List ClosureStep). closure_text s x (closure_step_values steps) c.deref-2.result.now closed) c.deref.ensures.value
+            ∙ ap (λ (b : List ℕ). closure_text s x (closure_step_values found.found.steps.items) b closed) c.deref-2.ensures.value;
       };
     }

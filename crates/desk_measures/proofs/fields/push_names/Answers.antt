@@ -1,7 +1,7 @@
 -- What is left to prove of `push_names`: that a round of its loop keeps the invariant.
 use Rattle.std.proofs.Common.{List, ℕ, ◌++◌, ◌∷◌, [], take, ap, sym, ◌∙◌}
 use Rattle.std.proofs.lemmas.List.{append_assoc}
-use Rattle.csv_rows.proofs.RowLemmas.{take_next}
+use Rattle.dep_model.proofs.ListLemmas.{take_next}
 use Rattle.dep_model.specs.Schemas.{names_of}
 use Rattle.dep_model.specs.Tuples.{Tuple}
 use Rattle.desk_measures.proofs.fields.push_names.Goals as goal

@@ -9,7 +9,7 @@ use Rattle.dep_model.specs.declared.dep.Dep.{Dep}
 use Rattle.fd_closure.proofs.ClosedSets.{all_functional}
 use Rattle.legality.specs.Parts.{flag_at}
 use Rattle.removal_laws.specs.Removals.{rows_at}
-use Rattle.row_measures.specs.Answers.{AreKept}
+use Rattle.row_measures.specs.Answers.{AreKeptFlags}
 use Rattle.row_measures.proofs.LawLemmas.{kept_legal}
 use Rattle.desk_responses.specs.ResponseValues.{text_only}
 use Rattle.desk_responses.specs.declared.status.Status.TheVariants.{Yes}
@@ -26,8 +26,8 @@ returns c =
     let s = c.args.schema.now in
     let rows = c.args.rows.now in
     let flags = c.in_ok-kept.kept.items in
-    let are : AreKept (theory_of s) rows flags =
-    subst (λ (ds : List Dep). AreKept (dependencies_of ds) rows flags) c.deps.ensures.deps c.in_ok-kept.ensures.kept in
+    let are : AreKeptFlags (theory_of s) rows flags =
+    subst (λ (ds : List Dep). AreKeptFlags (dependencies_of ds) rows flags) c.deps.ensures.deps c.in_ok-kept.ensures.kept in
     record {
       response = (
         rows_at (flag_at flags) rows,

@@ -1,6 +1,6 @@
 -- What is left to prove of `put_each`: that a round of its loop keeps the invariant, by `adds_step`.
 use Rattle.desk_measures.specs.Offences.{OfDependency}
-use Rattle.desk_measures.specs.Telling.{Tells}
+use Rattle.desk_measures.specs.BreachFindings.{Tells}
 use Rattle.desk_measures.proofs.FindingLemmas.{adds_step}
 use Rattle.desk_measures.proofs.telling.put_each.Goals as goal
 

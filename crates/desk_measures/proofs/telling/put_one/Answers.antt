@@ -4,7 +4,7 @@ use Rattle.std.specs.Borrow.{Bor}
 use Rattle.std.specs.List.{HoldsAt}
 use Rattle.std.specs.Prelude.{MatchOption}
 use Rattle.dep_model.specs.declared.dep.Dep.{Dep}
-use Rattle.desk_measures.specs.Telling.{Tells}
+use Rattle.desk_measures.specs.BreachFindings.{Tells}
 use Rattle.desk_measures.proofs.FindingLemmas.{adds_if_given, adds_of_none, given_none, given_some, given_within}
 use Rattle.desk_measures.proofs.telling.put_one.Goals as goal
 

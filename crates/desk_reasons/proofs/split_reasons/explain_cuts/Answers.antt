@@ -5,7 +5,7 @@ use Rattle.dep_model.proofs.FailureLemmas.{refused_is}
 use Rattle.dep_model.specs.Plans.{schemes_of}
 use Rattle.dep_model.specs.Schemas.{width_of, theory_of}
 use Rattle.dep_model.specs.declared.schema.Schema.{Schema}
-use Rattle.normal_forms.specs.declared.forms.Form.{Form}
+use Rattle.normal_forms.specs.declared.form.Form.{Form}
 use Rattle.split_forms.specs.Refusals.{IsWithinLimits}
 use Rattle.split_forms.specs.Steps.{AreSplitSteps, cuttings_of}
 use Rattle.desk_designs.specs.declared.decomposition.TheConstants.{MOST_SPLIT_SCHEMES}

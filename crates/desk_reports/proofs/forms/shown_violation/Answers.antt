@@ -6,7 +6,7 @@ use Rattle.std.proofs.lemmas.Result.{IfOk-weaker}
 use Rattle.attr_sets.specs.Attributes.{Attributes, below}
 use Rattle.attr_sets.specs.Sets.{attributes}
 use Rattle.dep_model.specs.Schemas.{theory_of, universe_of, width_of}
-use Rattle.fd_closure.specs.LeftSides.{IsWide}
+use Rattle.fd_closure.specs.LeftSides.{IsWideScheme}
 use Rattle.normal_forms.specs.Chosen.{IsChosenViolation}
 use Rattle.normal_forms.specs.declared.forms.Breach.{Breach}
 use Rattle.desk_reports.specs.Forms.{ShowsTwice, ShowsViolation, ShowsWhy}
@@ -27,7 +27,7 @@ returns-in-Ok-Some c =
       shown = IfOk-weaker c.shown_breach.result (λ text. Then (ShowsWhy file s form x y) (ShowsTwice s x) text.items)
           (λ text. ShowsViolation file s form text.items)
           (λ text shown. inr (
-            (λ wide. false≢true (c.in-Ok-Some.ensures.too_wide.1 (subst (λ (u : Attributes). IsWide (theory_of s) u) (sym whole) wide))),
+            (λ wide. false≢true (c.in-Ok-Some.ensures.too_wide.1 (subst (λ (u : Attributes). IsWideScheme (theory_of s) u) (sym whole) wide))),
             (
               x,
               y,

@@ -3,7 +3,7 @@ use Rattle.std.proofs.Common.{◌≡◌, ◌<◌, ℕ, length}
 use Rattle.attr_sets.specs.Attributes.{Attributes, only}
 use Rattle.dep_model.specs.Tuples.{Relation}
 use Rattle.csv_rows.specs.Numberings.{AreGroups, number_at}
-use Rattle.fd_discovery.specs.Leaders.{AreLeaders, IsOrderOf}
+use Rattle.fd_discovery.specs.Leaders.{AreLeadersOn, IsOrderOf}
 use Rattle.fd_discovery.proofs.LeaderLemmas.{Refines}
 use Rattle.fd_discovery.proofs.leaders.refine_leaders.Given as goal
 
@@ -13,7 +13,7 @@ invariant-loop-next l = record {
   latest_size : length l.latest.items ≡ length l.leaders;
   finer_size : length l.finer.items ≡ length l.leaders;
   latest_in : (i : ℕ) → i < length l.leaders → number_at l.latest.items i < length l.leaders;
-  refines : (r : Relation) (x : Attributes) (k : ℕ) → AreLeaders r x l.leaders → AreGroups r (only k) l.codes
+  refines : (r : Relation) (x : Attributes) (k : ℕ) → AreLeadersOn r x l.leaders → AreGroups r (only k) l.codes
       → IsOrderOf l.codes l.order
       → Refines (length l.leaders) (length l.order) (number_at l.leaders) (number_at l.codes)
       (number_at l.order) l.next-index

@@ -12,7 +12,7 @@ use Rattle.dep_model.specs.Dependencies.{Dependency, fd}
 use Rattle.dep_model.specs.Deps.{dependency_of, dependencies_of}
 use Rattle.dep_model.specs.Schemas.{width_of, theory_of}
 use Rattle.fd_projection.specs.Projections.{IsMinimalWithin}
-use Rattle.fd_projection.specs.Closures.{AreFound}
+use Rattle.fd_projection.specs.Closures.{AreTriedMinimal}
 use Rattle.fd_projection.proofs.MinimalLemmas.{rights_minimal}
 use Rattle.fd_projection.proofs.FoundLemmas.{TriedTo, tried_begin, tried_push, tried_skip, tried_done}
 use Rattle.fd_projection.proofs.searching.add_minimal.Goals as goal
@@ -47,12 +47,12 @@ loop-attribute-preserved c =
           let listed : dependencies_of (c.loop-attribute.found.items ++ new ∷ []) ≡ dependencies_of c.loop-attribute.found.items ++ fd x (only m) ∷ [] =
           map_push dependency_of c.loop-attribute.found.items new
           ∙ ap (λ (right : Attributes). dependencies_of c.loop-attribute.found.items ++ fd x right ∷ []) w.single-rhs.ensures.members in
-          subst (λ (items : List Dep). AreFound n ds set (TriedTo x (m + 1)) (dependencies_of items)) (sym pushed)
-          (subst (λ (es : List Dependency). AreFound n ds set (TriedTo x (m + 1)) es) (sym listed)
+          subst (λ (items : List Dep). AreTriedMinimal n ds set (TriedTo x (m + 1)) (dependencies_of items)) (sym pushed)
+          (subst (λ (es : List Dependency). AreTriedMinimal n ds set (TriedTo x (m + 1)) es) (sym listed)
           (tried_push n ds set x m (dependencies_of c.loop-attribute.found.items) is c.loop-attribute.invariant))
       | else-contains w ↦
           let same = ap (λ v. v.items) w.found-is in
-          subst (λ (items : List Dep). AreFound n ds set (TriedTo x (m + 1)) (dependencies_of items)) (sym same)
+          subst (λ (items : List Dep). AreTriedMinimal n ds set (TriedTo x (m + 1)) (dependencies_of items)) (sym same)
           (tried_skip n ds set x m (dependencies_of c.loop-attribute.found.items)
           (λ is. true≢false (sym (exact.1 is) ∙ (sym c.contains.ensures.member ∙ w.if-contains.false))) c.loop-attribute.invariant)
     ]

@@ -7,7 +7,7 @@ use Rattle.attr_sets.specs.Attributes.{difference, IsSubset}
 use Rattle.attr_sets.specs.Sets.{attributes}
 use Rattle.dep_model.specs.Schemas.{width_of, theory_of}
 use Rattle.attr_sets.proofs.AttributesLemmas.{same_at}
-use Rattle.dep_basis.proofs.ShowingLemmas.{IfOk_both}
+use Rattle.dep_model.proofs.FailureLemmas.{IfOk_both}
 use Rattle.key_listing.proofs.SearchLemmas.{between_none, between_one, between_both, fewer_without, fewer_with}
 use Rattle.key_listing.proofs.searching.+add_keys.Goals as goal
 

@@ -5,7 +5,7 @@ use Rattle.std.proofs.lemmas.Bool.{true≢false}
 use Rattle.std.proofs.lemmas.Bool.Decides.{nat_tests}
 use Rattle.attr_sets.specs.Attributes.{Attributes, difference, IsFirstFrom}
 use Rattle.attr_sets.specs.Sets.{attributes}
-use Rattle.dep_model.specs.Keys.{IsBlockOn}
+use Rattle.dep_model.specs.Keys.{IsPartOn}
 use Rattle.dep_model.specs.Schemas.{width_of, theory_of, deps_of}
 use Rattle.attr_sets.proofs.AttributesLemmas.{same_at}
 use Rattle.dep_basis.proofs.DecidingLemmas.{least_same}
@@ -42,7 +42,7 @@ returns-in-Some-block-clause-part c _ =
     let p = attributes c.in-Some-block.found in
     let a = c.in-Some.first in
     let at : difference scheme x a ≡ true = sym (same_at c.difference.ensures.members a) ∙ c.in-Some.ensures.first.member in
-    subst (λ (q : Attributes). IsBlockOn n (theory_of s) scheme x q) (sym c.intersection.ensures.members)
+    subst (λ (q : Attributes). IsPartOn n (theory_of s) scheme x q) (sym c.intersection.ensures.members)
     (part_of_block n (deps_of s) scheme x s.valid.deps_within c.requires.scheme c.requires.lhs p a c.in-Some-block.ensures.block (grind (arith, at)) c.in-Some-block.ensures.member)
 
 pub returns-in-None-clause-part : goal.returns-in-None-clause-part
@@ -53,5 +53,5 @@ returns-in-None-clause-part c _ =
     let x = attributes c.args.lhs in
     let a = c.in-Some.first in
     let at : difference scheme x a ≡ true = sym (same_at c.difference.ensures.members a) ∙ c.in-Some.ensures.first.member in
-    subst (λ (q : Attributes). IsBlockOn n (theory_of s) scheme x q) (sym c.single.ensures.members)
+    subst (λ (q : Attributes). IsPartOn n (theory_of s) scheme x q) (sym c.single.ensures.members)
     (part_of_one n (deps_of s) scheme x s.valid.deps_within c.requires.scheme c.requires.lhs a (c.in-None.ensures.none.0 refl) (grind (arith, at)) (grind (arith, at)))

@@ -10,7 +10,7 @@ use Rattle.dep_model.specs.Projections.{Covers}
 use Rattle.dep_model.specs.Schemas.{naming_of, names_of, width_of}
 use Rattle.dep_model.specs.declared.naming.Naming.{Naming}
 use Rattle.lexer.specs.Lines.{line_texts, without_mark}
-use Rattle.plan_grammar.specs.declared.refusal.TheConstants.{MOST_SCHEMES}
+use Rattle.plan_grammar.specs.declared.bounds.TheConstants.{MOST_SCHEMES}
 use Rattle.plan_grammar.specs.Diagnostics.{uncovered_attributes}
 use Rattle.plan_grammar.specs.Meanings.{MeansTableLines, MeansPlan}
 use Rattle.plan_grammar.specs.Reading.{read_table_lines}

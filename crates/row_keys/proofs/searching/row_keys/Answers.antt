@@ -3,7 +3,7 @@ use Rattle.std.proofs.Common.{◌+◌, [], ◌∷◌, ℕ, List, Vec, Global, sy
 use Rattle.std.specs.Prelude.{Contains}
 use Rattle.attr_sets.specs.declared.set.AttrSet.{AttrSet}
 use Rattle.candidate_search.specs.Levels.{AreTabled}
-use Rattle.candidate_search.specs.Sides.{IsExceeded}
+use Rattle.candidate_search.specs.Sides.{IsTooManyLeftSides}
 use Rattle.candidate_search.specs.declared.side.Side.{Side}
 use Rattle.candidate_search.specs.declared.side.TooManyLeftSides.{TooManyLeftSides}
 use Rattle.dep_model.specs.Failures.{RefusesAs}
@@ -52,7 +52,7 @@ returns-in-Err-Refused-clause-refusal c =
     let found = named_rows ((goal.at.returns-in-Err-Refused-clause-refusal c).In_ok-table) in
     let named_so = subst (λ (failure : Failure TooManyLeftSides). RefusesAs (λ refusal. Contains (c.args.width ∷ []) refusal.right) failure)
     c.in-Err-Refused.field-0-is c.in-Err-Refused.ensures.named in
-    let exceeded = subst (λ (failure : Failure TooManyLeftSides). RefusesAs (IsExceeded (c.args.width + 1) c.args.width (with_names found.name rows)) failure)
+    let exceeded = subst (λ (failure : Failure TooManyLeftSides). RefusesAs (IsTooManyLeftSides (c.args.width + 1) c.args.width (with_names found.name rows)) failure)
     c.in-Err-Refused.field-0-is
     (c.in-Err-Refused.ensures.refusal (with_names found.name rows) found.tabled (λ k d l. absurd (omega (arith, l)))) in
     keys_refused found.name c.args.width rows c.requires.over found.names c.in-Err-Refused.field-0-0 named_so exceeded

@@ -3,7 +3,7 @@
 use Rattle.std.proofs.Common.{◌≡◌, ◌<◌, ℕ, List, length, ap, ◌∙◌, arith}
 use Rattle.std.proofs.lemmas.List.{length-set}
 use Rattle.csv_rows.specs.Numberings.{number_at}
-use Rattle.csv_rows.proofs.NumberingLemmas.{same_default}
+use Rattle.dep_model.proofs.ListLemmas.{same_default}
 use Rattle.row_measures.proofs.ChosenLemmas.{class_kept, class_replaced}
 use Rattle.row_measures.proofs.by_class.choose_largest.Goals as goal
 use Rattle.row_measures.proofs.by_class.choose_largest.Goals.{then-sizes-class, else-sizes-class}

@@ -11,7 +11,7 @@ use Rattle.dep_model.specs.Dependencies.{Dependency}
 use Rattle.dep_model.specs.Deps.{IsDepWithin, dependencies_of, dependency_of}
 use Rattle.legality.specs.Parts.{flag_at}
 use Rattle.removal_laws.specs.Classes.{in_chosen}
-use Rattle.row_measures.specs.Answers.{AreKept}
+use Rattle.row_measures.specs.Answers.{AreKeptFlags}
 use Rattle.row_measures.specs.ByClass.{classes_of}
 use Rattle.row_measures.proofs.KeptLemmas.{all_kept, kept_beside, kept_by_classes}
 use Rattle.row_measures.proofs.SortedLemmas.{even, groups_below}
@@ -59,14 +59,14 @@ loop-dep-preserved c =
     let i : ℕ = c.loop-dep.dep-index in
     let deps : List Dep = c.args.deps.now in
     let low : i < length deps = c.loop-dep-test.true in
-    let before : AreKept (dependencies_of (take i deps)) c.args.rows.now c.loop-dep.kept.items = c.loop-dep.invariant.kept in
+    let before : AreKeptFlags (dependencies_of (take i deps)) c.args.rows.now c.loop-dep.kept.items = c.loop-dep.invariant.kept in
     elim c.match-dep.branch [
       | in-Fd+in_ok-sorted-in-Fd w ↦
           let are = w.in_ok-sorted-in-Fd.ensures.sorted in
           let out = w.remove_outside.ensures in
           record {
             kept = rw w.kept-is
-                (subst (λ (ds : List Dependency). AreKept ds c.args.rows.now w.remove_outside.new.kept.items) (next_one deps i (Fd w.in-Fd.lhs w.in-Fd.rhs) nothing low w.in-Fd.is)
+                (subst (λ (ds : List Dependency). AreKeptFlags ds c.args.rows.now w.remove_outside.new.kept.items) (next_one deps i (Fd w.in-Fd.lhs w.in-Fd.rhs) nothing low w.in-Fd.is)
                 (kept_by_classes (dependencies_of (take i deps)) c.args.rows.now c.loop-dep.kept.items w.remove_outside.new.kept.items
                 (attributes w.in-Fd.lhs) (attributes w.in-Fd.rhs) (classes_of are) before out.count
                 (λ k k_in.
@@ -77,13 +77,13 @@ loop-dep-preserved c =
           }
       | in-Mvd w ↦ record {
         kept = rw w.kept-is
-            (subst (λ (ds : List Dependency). AreKept ds c.args.rows.now c.loop-dep.kept.items) (next_one deps i (Mvd w.in-Mvd.lhs w.in-Mvd.rhs) nothing low w.in-Mvd.is)
+            (subst (λ (ds : List Dependency). AreKeptFlags ds c.args.rows.now c.loop-dep.kept.items) (next_one deps i (Mvd w.in-Mvd.lhs w.in-Mvd.rhs) nothing low w.in-Mvd.is)
             (kept_beside (dependencies_of (take i deps)) c.args.rows.now c.loop-dep.kept.items (attributes w.in-Mvd.lhs) (attributes w.in-Mvd.rhs) before));
       }
     ]
 
 pub returns : goal.returns
 returns c = record {
-  kept = subst (λ (ds : List Dep). AreKept (dependencies_of ds) c.args.rows.now c.loop-dep.kept.items)
+  kept = subst (λ (ds : List Dep). AreKeptFlags (dependencies_of ds) c.args.rows.now c.loop-dep.kept.items)
       (take_all c.loop-dep.dep-index c.args.deps.now c.loop-dep-test.false) c.loop-dep.invariant.kept;
 }

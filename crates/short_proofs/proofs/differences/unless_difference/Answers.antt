@@ -4,7 +4,7 @@ use Rattle.attr_sets.specs.Sets.{attributes}
 use Rattle.dep_model.specs.Dependencies.{mvd}
 use Rattle.derivation.specs.Trees.{Tree}
 use Rattle.derivation.specs.Derivs.{tree_of}
-use Rattle.short_proofs.specs.Short.{start, difference_of}
+use Rattle.short_proofs.specs.Short.{start, transitivity_of}
 use Rattle.short_proofs.proofs.PairLemmas.{four_kept}
 use Rattle.short_proofs.proofs.differences.unless_difference.Goals as goal
 
@@ -12,7 +12,7 @@ pub returns : goal.returns
 returns c =
     let s = c.args.schema.now in
     let d = mvd (attributes c.args.half.lhs) (attributes c.args.half.rhs) in
-    let all = four_kept s d (λ (r co : Bool) (u : Tree). (lifted widened : Bool) × ((turned again : Bool) × (u ≡ difference_of (attributes c.args.half.lhs) (attributes c.args.half.rhs) (attributes c.args.half.middle) (start c.args.half.first.number c.args.half.first.replicated c.args.half.first.complemented) (start c.args.number r co) lifted widened turned again))) (tree_of c.args.deriv.value) (tree_of c.in_ok-one.one.value) (tree_of c.in_ok-two.two.value)
+    let all = four_kept s d (λ (r co : Bool) (u : Tree). (lifted widened : Bool) × ((turned again : Bool) × (u ≡ transitivity_of (attributes c.args.half.lhs) (attributes c.args.half.rhs) (attributes c.args.half.middle) (start c.args.half.first.number c.args.half.first.replicated c.args.half.first.complemented) (start c.args.number r co) lifted widened turned again))) (tree_of c.args.deriv.value) (tree_of c.in_ok-one.one.value) (tree_of c.in_ok-two.two.value)
     (tree_of c.in_ok-three.three.value) (tree_of c.in_ok-four.four.value)
     c.in_ok-one.ensures.kept c.in_ok-one.ensures.short c.in_ok-two.ensures.kept c.in_ok-two.ensures.short
     c.in_ok-three.ensures.kept c.in_ok-three.ensures.short c.in_ok-four.ensures.kept c.in_ok-four.ensures.short in

@@ -7,7 +7,7 @@ use Rattle.dep_model.specs.Deps.{dependency_of}
 use Rattle.dep_model.specs.Schemas.{universe_of}
 use Rattle.derivation.specs.Trees.{Tree}
 use Rattle.derivation.specs.Derivs.{tree_of}
-use Rattle.short_proofs.specs.Short.{start, SetsFit, FitBeyond, IsPair, IsCoalescence, IsNoLongerThan}
+use Rattle.short_proofs.specs.Short.{start, SetsFit, FitBeyond, IsJoinedTree, IsCoalescence, IsNoLongerThan}
 use Rattle.short_proofs.proofs.joints.unless_given.Goals as goal
 
 pub returns-then-not-fits-clause-short : goal.returns-then-not-fits-clause-short
@@ -24,7 +24,7 @@ returns-in_ok-joined-in-Mvd-clause-short c =
     let first = start c.args.first.number c.args.first.replicated c.args.first.complemented in
     subst
     (λ (e : Dep). IsNoLongerThan s (dependency_of e) (λ (u : Tree). SetsFit s (dependency_of e) (attributes c.args.middle) (dependency_of c.args.dep)
-    × IsPair (dependency_of e) first (attributes c.args.middle) c.args.number (dependency_of c.args.dep) u) (tree_of c.in_ok-joined-in-Mvd.joined.value))
+    × IsJoinedTree (dependency_of e) first (attributes c.args.middle) c.args.number (dependency_of c.args.dep) u) (tree_of c.in_ok-joined-in-Mvd.joined.value))
     (sym c.in-Mvd.is) (λ u is proves. c.in_ok-joined-in-Mvd.ensures.short u is.1 proves)
 
 pub returns-in_ok-joined-in-Fd-clause-short : goal.returns-in_ok-joined-in-Fd-clause-short
@@ -33,6 +33,6 @@ returns-in_ok-joined-in-Fd-clause-short c =
     let first = start c.args.first.number c.args.first.replicated c.args.first.complemented in
     subst
     (λ (e : Dep). IsNoLongerThan s (dependency_of e) (λ (u : Tree). SetsFit s (dependency_of e) (attributes c.args.middle) (dependency_of c.args.dep)
-    × IsPair (dependency_of e) first (attributes c.args.middle) c.args.number (dependency_of c.args.dep) u) (tree_of c.in_ok-joined-in-Fd.joined.value))
+    × IsJoinedTree (dependency_of e) first (attributes c.args.middle) c.args.number (dependency_of c.args.dep) u) (tree_of c.in_ok-joined-in-Fd.joined.value))
     (sym c.in-Fd.is) (λ u is proves. c.in_ok-joined-in-Fd.ensures.short u
     (subst (λ (r : Attributes). IsCoalescence (attributes c.in-Fd.lhs) (attributes c.in-Fd.rhs) r first c.args.number u) (sym c.sides-2.ensures.right) is.1) proves)

@@ -7,7 +7,7 @@ use Rattle.derivation.specs.Trees.{leaf, given}
 use Rattle.derivation.specs.Conclusions.{Proves}
 use Rattle.derivation.proofs.ChainLemmas.{given_proves}
 use Rattle.derivation.proofs.ConclusionLemmas.{Proves-one}
-use Rattle.short_proofs.specs.Short.{start, SetsFit, IsPair}
+use Rattle.short_proofs.specs.Short.{start, SetsFit, IsJoinedTree}
 use Rattle.short_proofs.proofs.joints.unless_pair.Goals as goal
 
 pub returns-in_ok-after-in-Some-clause-short : goal.returns-in_ok-after-in-Some-clause-short
@@ -18,7 +18,7 @@ returns-in_ok-after-in-Some-clause-short c = λ u is proves.
     let here : Proves s (leaf (given c.args.number)) (dependency_of c.in-Some.dep) = (rw c.in-Some.is at c.given_dep.ensures.only) in
     let same : is.0 ≡ dependency_of c.in-Some.dep = Proves-one s (leaf (given c.args.number)) is.0 (dependency_of c.in-Some.dep) (given_proves s c.args.number is.0 is.1) here in
     c.in_ok-after-in-Some.ensures.short u
-    (subst (λ (e : Dependency). SetsFit s d (attributes c.args.middle) e × IsPair d first (attributes c.args.middle) c.args.number e u) same (is.2, is.3)) proves
+    (subst (λ (e : Dependency). SetsFit s d (attributes c.args.middle) e × IsJoinedTree d first (attributes c.args.middle) c.args.number e u) same (is.2, is.3)) proves
 
 pub returns-in-None-clause-short : goal.returns-in-None-clause-short
 returns-in-None-clause-short c = λ u is proves.

@@ -6,7 +6,7 @@ use Rattle.row_store.proofs.flat_values.FlatValues.append.Goals as goal
 pub add_ends-requires-clause-fits_u32 : goal.add_ends-requires-clause-fits_u32
 add_ends-requires-clause-fits_u32 c =
     rw c.deref-2.ensures.value
-    (all_ends c.len-count.result _ 4294967295 _ c.other.invariant (omega (arith, c.len.ensures, c.other.inside.bytes.ok.0, c.if-count-len-gt-MOST.false)))
+    (all_ends c.len-count.result _ 4294967295 _ c.other.invariant (omega (arith, c.len.ensures, c.other.inside.bytes.ok.0, c.if-count-len-gt-MOST_STORED.false)))
 
 pub invariant_of-self-2 : goal.invariant_of-self-2
 invariant_of-self-2 c =

@@ -14,7 +14,7 @@ pub invariant_of-self-2 : goal.invariant_of-self-2
 invariant_of-self-2 c = (
   pushed_ends c.self.inside.values c.args.row.now _ c.self.inside.ends.items _ (c.len.result + c.len-2.result)
       c.self.invariant.0 c.in_ok-append.ensures.values (omega (arith, c.len.ensures.count, c.len-2.ensures.count)) (end_is c),
-  omega (arith, ap length c.in_ok-append.ensures.values, length-append c.self.inside.values c.args.row.now, c.len.ensures.count, c.len-2.ensures.count, c.if-end-gt-MOST.false),
+  omega (arith, ap length c.in_ok-append.ensures.values, length-append c.self.inside.values c.args.row.now, c.len.ensures.count, c.len-2.ensures.count, c.if-end-gt-MOST_STORED.false),
 )
 
 pub returns-clause-rows : goal.returns-clause-rows
