@@ -1,7 +1,7 @@
 # What bash offers after `desk`: first words, the words of each form, then files and folders.
 #
-# A line for each form of words, as `desk help` prints them: `|` stands between words of which one is typed there, and FILE,
-# FOLDER, NUMBER and TEXT for what is no fixed word; `FILE..` may be typed again.
+# A line for each form of words, as `desk help` prints them, which `tests/completion -w` writes: `|` stands between words of
+# which one is typed there, and FILE, FOLDER, NUMBER and TEXT for what is no fixed word; `FILE..` may be typed again.
 _desk_forms='
 implies FILE TEXT
 check proof FILE FILE TEXT
@@ -31,8 +31,8 @@ kept FILE FILE
 ddl 3nf|bcnf|4nf FILE
 ddl plan FILE FILE
 migrate 3nf|bcnf|4nf FILE FILE
-migrate 3nf|bcnf|4nf FILE FILE into FOLDER
 migrate plan FILE FILE FILE
+migrate 3nf|bcnf|4nf FILE FILE into FOLDER
 migrate plan FILE FILE FILE into FOLDER
 sample NUMBER
 discover FILE

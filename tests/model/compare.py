@@ -3,10 +3,10 @@
 
     compare.py PROGRAM FAMILY COUNT [SEED]
 
-FAMILY is one of those listed at the end of this file, or `all`. COUNT random cases are made; the first three
-differences are printed, and their files kept in a folder of their own. A case with a word that is not UTF-8 is left
-out: the program refuses such words, and the model reads them. The last line is `N same, N differ, N left out`, and how
-often each status came. DESK_KEEP=DIR keeps the files elsewhere. Runs one program at a time.
+FAMILY is a name of FAMILIES below, or `all`. COUNT random cases are made; the first three differences are printed, and
+their files kept in a folder of their own. A case with a word that is not UTF-8 is left out: the program refuses such
+words, and the model reads them. The last line is `N same, N differ, N left out`, and how often each status came.
+DESK_KEEP=DIR keeps the files elsewhere. Runs one program at a time.
 """
 import collections
 import functools
@@ -378,9 +378,8 @@ def f_derivation(m):
     return ["check", "derivation", "s", "d", goal], {"s": m.schema_text(s), "d": text}
 
 
-def f_keys(m):
-    s = m.schema(1, 8)
-    return ["keys", "s"], {"s": m.schema_text(s)}
+def of_a_schema(m, command):
+    return [command, "s"], {"s": m.schema_text(m.schema(1, 8))}
 
 
 def f_cover(m):
@@ -394,13 +393,8 @@ def f_explain_cover(m):
 
 
 def f_explain_keys(m):
-    words, files = (f_wide_keys if m.r.random() < .2 else f_keys)(m)
+    words, files = f_wide_keys(m) if m.r.random() < .2 else of_a_schema(m, "keys")
     return ["explain", *words], files
-
-
-def f_synthesize(m):
-    s = m.schema(1, 8)
-    return ["synthesize", "s"], {"s": m.schema_text(s)}
 
 
 def f_explain_synthesize(m):
@@ -866,6 +860,7 @@ def f_sql(m):
 ALL_WORDS = ["implies", "keys", "cover", "synthesize", "split", "bcnf", "4nf", "3nf", "wide-bcnf", "ddl", "plan", "check", "proof", "join", "form",
              "report", "rows", "same", "keeps", "migrate", "sample", "exhibit", "discover", "import", "csv", "sqlite", "postgres", "rejoin", "basis", "closure", "project", "key", "explain", "sql", "draw", "measure", "offences", "kept", "into", "help", "--help", "-h", "--version",
              "s", "p", "r", "A -> B", "1", "missing", "", "Keys", "table"]
+ALL_WORDS += [command for command in model.OF_A_SCHEMA if command not in ALL_WORDS]
 
 
 def f_words(m):
@@ -873,7 +868,9 @@ def f_words(m):
     return words, {"s": b"attributes A B\nA -> B\n", "p": b"scheme A B\n", "r": b"A,B\n1,2\n"}
 
 
-FAMILIES = {name[2:]: f for name, f in list(globals().items()) if name.startswith("f_")}
+# A command of a schema has the family of all of them, unless it has one of its own.
+FAMILIES = {command: functools.partial(of_a_schema, command=command) for command in model.OF_A_SCHEMA}
+FAMILIES.update({name[2:]: f for name, f in list(globals().items()) if name.startswith("f_")})
 
 
 # ---------------------------------------------------------------- comparing

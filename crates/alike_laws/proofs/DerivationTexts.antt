@@ -12,7 +12,7 @@ use Rattle.derivation.specs.declared.fault.FaultKind.TheVariants.{NoSuchGiven}
 use Rattle.derivation_grammar.specs.Derivations.{outcome_of_rule, outcome_of_line, AreDerived, Derives}
 use Rattle.derivation_grammar.specs.Lines.{DerivationBody, by_rule, by_decomposition, by_further, DerivationLine}
 use Rattle.derivation_grammar.specs.Refusals.{stated_by, Wrong, IsBadLine, IsWrongLine, IsRefusedDerivation}
-use Rattle.desk_derivations.specs.Derivations.{DerivationChecked, ChecksDerivation}
+use Rattle.desk_implication.specs.Derivations.{DerivationChecked, ChecksDerivation}
 use Rattle.desk_inputs.specs.FileKinds.{WithFile}
 use Rattle.desk_inputs.specs.Inputs.{derivation_file}
 use Rattle.desk_inputs.specs.Readings.{Reading}

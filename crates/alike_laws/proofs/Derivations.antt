@@ -6,8 +6,8 @@ use Rattle.dep_model.specs.Dependencies.{Dependency, fd, mvd, functional_part}
 use Rattle.dep_model.specs.Implication.{Implies}
 use Rattle.dep_model.specs.Schemas.{width_of, theory_of, universe_of}
 use Rattle.dep_model.specs.declared.schema.Schema.{Schema}
-use Rattle.dep_basis.specs.JoinedProofs.{IsProofOf}
-use Rattle.dep_basis.specs.Proofs.{IsChainIfFunctional, IsDirectUnlessChain, IsFirstGiven}
+use Rattle.basis_proofs.specs.JoinedProofs.{IsProofOf}
+use Rattle.basis_proofs.specs.Proofs.{IsChainIfFunctional, IsDirectUnlessChain, IsFirstGiven}
 use Rattle.derivation.specs.Chains.{IsFirstOut, IsFunctionalChain, Reaches, Stage}
 use Rattle.derivation.specs.Conclusions.{Proves, conclusion_after, at_node, ◌>>=◌}
 use Rattle.derivation.specs.Direct.{IsDirect}

@@ -6,10 +6,10 @@ use Rattle.std.specs.declared.alloc.Global.{Global}
 use Rattle.attr_sets.specs.Attributes.{Attributes, difference}
 use Rattle.attr_sets.specs.Sets.{attributes, is_disjoint}
 use Rattle.attr_sets.specs.declared.set.AttrSet.{AttrSet}
-use Rattle.check_laws.specs.HeldRelations.{Holds}
-use Rattle.check_laws.specs.CheckedRules.{NoBreachShown, NothingShown, RulesHold, ShowsNothing}
-use Rattle.check_queries.specs.Columns.{name_at, type_at}
-use Rattle.check_queries.specs.Checks.{check_query, missing_among, missing_query, required_of, values_query, groups_of_several, count_of_several, counts_query, three_counts, groups_of_unpaired, count_of_unpaired}
+use Rattle.sql_check_laws.specs.HeldRelations.{Holds}
+use Rattle.sql_check_laws.specs.CheckedRules.{NoBreachShown, NothingShown, RulesHold, ShowsNothing}
+use Rattle.sql_check.specs.Columns.{name_at, type_at}
+use Rattle.sql_check.specs.Checks.{check_query, missing_among, missing_query, required_of, values_query, groups_of_several, count_of_several, counts_query, three_counts, groups_of_unpaired, count_of_unpaired}
 use Rattle.ddl_text.specs.Ddl.{column_element, column_type, comment, ddl_text, sql_type, element_lines, is_empty, key_comment, key_element, key_elements, keys_elements, left_out_line, unique_element, reference_element, reference_elements, table_text}
 use Rattle.primary_keys.specs.PrimaryKeys.{IsPrimaryKey}
 use Rattle.ddl_text.specs.Designs.{AreOtherKeys, IsDesign, IsTableOf, known_keys, without_key}
@@ -29,10 +29,10 @@ use Rattle.desk_designs.specs.Designs.{AreNeverMissing, IsDesignOf, IsSoundDesig
 use Rattle.desk_designs.specs.Decompositions.{WithPlanInForm}
 use Rattle.desk_designs.specs.Joins.{WithoutLoss}
 use Rattle.desk_designs.specs.Drawings.{DrawsForm, DrawsSchemes, DrawsTables}
-use Rattle.desk_designs.specs.Scripts.{MetNameStops, AsksTable, IsSoundScript, MakesSchemes, MakesTables, ScriptsCheck, ScriptsMigration, ScriptsMigrationByPlan, TellLegal, WithTableName}
+use Rattle.desk_scripts.specs.Scripts.{MetNameStops, AsksTable, IsSoundScript, MakesSchemes, MakesTables, ScriptsCheck, ScriptsMigration, ScriptsMigrationByPlan, TellLegal, WithTableName}
 use Rattle.desk_responses.specs.ResponseValues.{Unless, Allowed, ResponseValue, text_only}
 use Rattle.desk_responses.specs.declared.status.Status.TheVariants.{Refused, Yes}
-use Rattle.ending_laws.specs.Ending.{FitsRelations, IsSoundRun}
+use Rattle.sql_migrate_laws.specs.Ending.{FitsRelations, IsSoundRun}
 use Rattle.missing_values.specs.Missing.{FindsMissing, NeverMissing}
 use Rattle.missing_values.specs.Refusals.{missing_text as refused_text, refusal_text}
 use Rattle.missing_values.specs.declared.refusal.MissingRefusal.{MissingRefusal}
@@ -40,27 +40,27 @@ use Rattle.missing_values.specs.declared.refusal.MissingRefusal.TheVariants.{InK
 use Rattle.fd_closure.specs.LeftSides.{IsWideScheme}
 use Rattle.key_listing.specs.Listing.{AreAllKeys, AreManyKeys}
 use Rattle.key_listing.specs.declared.refusal.TheConstants.{MOST_KEYS}
-use Rattle.normal_forms.specs.declared.form.Form.{Form}
+use Rattle.dep_model.specs.declared.form.Form.{Form}
 use Rattle.schema_printer.specs.Printing.{dependency_text}
 use Rattle.schema_printer.specs.Spelling.{printed_names_of}
 use Rattle.sql_evaluation.specs.Cells.{Cell, is_none}
 use Rattle.sql_evaluation.specs.Evaluation.{Engine}
 use Rattle.sql_evaluation.specs.Running.{State, Cast, Fails, engine_at, outcome}
 use Rattle.sql_evaluation.specs.Rules.{RefusesBroken}
-use Rattle.migrate_queries.specs.Created.{column_made, key_made, keys_made, left_out_words, references_made, remarks_made, table_made}
-use Rattle.migrate_queries.specs.Moving.{attribute_names}
-use Rattle.migrate_queries.specs.Script.{copy_name, view_name, copy_query, fill_query, fill, view_query, width_query, table_rows, viewed_rows, testing, migration}
-use Rattle.migrate_laws.specs.Moved.{HasMoved}
-use Rattle.sql_names.specs.Names.{quoted_name}
+use Rattle.sql_migrate.specs.Created.{column_made, key_made, keys_made, left_out_words, references_made, remarks_made, table_made}
+use Rattle.sql_migrate.specs.Moving.{attribute_names}
+use Rattle.sql_migrate.specs.Script.{copy_name, view_name, copy_query, fill_query, fill, view_query, width_query, table_rows, viewed_rows, testing, migration}
+use Rattle.sql_migrate_laws.specs.Moved.{HasMoved}
+use Rattle.sql_syntax.specs.Names.{quoted_name}
 use Rattle.sql_syntax.specs.Syntax.{Query, attribute}
 use Rattle.sql_syntax.specs.Statements.{Element, column_definition, unique_key, Statement, remark, begin, commit, create_table, create_from, create_view, script_text}
 use Rattle.table_drawing.specs.Drawing.{node_head, drawing_text, edge_text, node_text, row_text}
-use Rattle.table_queries.specs.Meanings.{IsGiven, GivesNone}
-use Rattle.table_queries.specs.Queries.{breaches_of, rows_of}
-use Rattle.table_scripts.specs.Checking.{breaches_text, check_text, missing_text, rule_text, rules_text, value_text}
-use Rattle.table_scripts.specs.Migrating.{FillsTables, ViewIs, ViewIsTable, migrate_text, stored_of}
+use Rattle.relation_queries.specs.Meanings.{IsGiven, GivesNone}
+use Rattle.relation_queries.specs.Queries.{breaches_of, rows_of}
+use Rattle.sql_scripts.specs.Checking.{breaches_text, check_text, missing_text, rule_text, rules_text, value_text}
+use Rattle.sql_scripts.specs.Migrating.{FillsTables, ViewIs, ViewIsTable, migrate_text, stored_of}
 use Rattle.table_names.specs.TableNames.{GivenNames}
-use Rattle.table_scripts.specs.Naming.{met_name, quoted_table}
+use Rattle.sql_scripts.specs.Naming.{met_name, quoted_table}
 use Rattle.alike_laws.proofs.Derivations.{said, said_back}
 use Rattle.alike_laws.proofs.Keys.{wide_scheme_back}
 use Rattle.alike_laws.proofs.Plans.{with_plan_moved, without_loss_moved}

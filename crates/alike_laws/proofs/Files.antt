@@ -41,7 +41,7 @@ use Rattle.proof_grammar.specs.declared.line_kind.LineKind.TheVariants.{Blank, O
 use Rattle.schema_grammar.specs.Rests.{rest_from, ◌>>=◌}
 use Rattle.schema_printer.specs.Spelling.{printed_names_of}
 use Rattle.alike_laws.proofs.Derivations.{leaf_moved, said}
-use Rattle.named_plans.specs.NamedPlans.{NamedSchemes}
+use Rattle.plan_printer.specs.NamedPlans.{NamedSchemes}
 use Rattle.design_order.specs.Order.{AreNamesInOrder}
 use Rattle.alike_laws.proofs.Rebuilt.{Frame, rebuilt}
 

@@ -8,7 +8,7 @@ use Rattle.desk_responses.specs.ResponseValues.{Allowed, ResponseValue}
 use Rattle.desk_tables.specs.Migrations.{MigratesPlan, MigratesRows}
 use Rattle.desk_tables.specs.Overwriting.{KeepsFiles, MigratesHere, MigratesPlanHere}
 use Rattle.table_names.specs.TableNames.{GivenNames}
-use Rattle.normal_forms.specs.declared.form.Form.{Form}
+use Rattle.dep_model.specs.declared.form.Form.{Form}
 use Rattle.alike_laws.proofs.Designs.{missing_moved, plan_and_missing_moved}
 use Rattle.alike_laws.proofs.Rebuilt.{Frame, rebuilt}
 use Rattle.alike_laws.proofs.Rows.{migrated_moved, plan_migrated_moved}

@@ -16,7 +16,7 @@ use Rattle.dep_model.specs.Keys.{InClosure, IsSuperkey, IsKey, IsGreedyKey}
 use Rattle.dep_model.specs.Schemas.{width_of, theory_of, lines_of, universe_of}
 use Rattle.dep_model.specs.declared.schema.Schema.{Schema}
 use Rattle.desk_implication.specs.Closures.{ComesAbout, GivesClosure, TellsClosure, closure_text, step_text}
-use Rattle.desk_discovery.specs.Exhibits.{Exhibits}
+use Rattle.desk_exhibits.specs.Exhibits.{Exhibits}
 use Rattle.desk_keys.specs.KeyChecks.{ChecksKey, HasKeyWithin, IsKeyText, IsNoSuperkey, TestsKey}
 use Rattle.desk_keys.specs.Keys.{EndsKeys, HasKeys, IsListed, KeyedScheme, ListsKeys, ListsKeysOfPlan}
 use Rattle.desk_responses.specs.Lines.{line_number_text}

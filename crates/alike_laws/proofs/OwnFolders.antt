@@ -10,7 +10,7 @@ use Rattle.desk_designs.specs.Joins.{WithoutLoss}
 use Rattle.desk_responses.specs.ResponseValues.{OwnFolder, ResponseValue, Unless}
 use Rattle.desk_tables.specs.OwnFolders.{FolderStops, IsFolderOf, Looks, MigratesInto, MigratesPlanInto, MigratesRowsInto, MigratesSchemesInto}
 use Rattle.table_names.specs.TableNames.{GivenNames}
-use Rattle.normal_forms.specs.declared.form.Form.{Form}
+use Rattle.dep_model.specs.declared.form.Form.{Form}
 use Rattle.alike_laws.proofs.Designs.{ddl_text_moved, missing_moved, plan_and_missing_moved, sound_design_moved}
 use Rattle.alike_laws.proofs.Plans.{without_loss_moved}
 use Rattle.alike_laws.proofs.Rebuilt.{Frame, rebuilt}

@@ -6,11 +6,11 @@ use Rattle.dep_model.specs.Schemas.{width_of, theory_of, nullable_of}
 use Rattle.dep_model.specs.declared.schema.Schema.{Schema}
 use Rattle.desk_designs.specs.Decompositions.{Splits}
 use Rattle.desk_designs.specs.Synthesis.{Synthesizes}
-use Rattle.desk_reasons.specs.SplitReasons.{AreSplitReasons, ExplainsSplit}
-use Rattle.desk_reasons.specs.SynthesisReasons.{AreSynthesisReasons, ExplainsSynthesis}
+use Rattle.desk_designs.specs.SplitReasons.{AreSplitReasons, ExplainsSplit}
+use Rattle.desk_designs.specs.SynthesisReasons.{AreSynthesisReasons, ExplainsSynthesis}
 use Rattle.desk_responses.specs.ResponseValues.{ResponseValue}
-use Rattle.normal_forms.specs.declared.form.Form.{Form}
-use Rattle.normal_forms.specs.declared.form.Form.TheVariants.{Third, Bcnf, Fourth}
+use Rattle.dep_model.specs.declared.form.Form.{Form}
+use Rattle.dep_model.specs.declared.form.Form.TheVariants.{Third, Bcnf, Fourth}
 use Rattle.schema_printer.specs.Spelling.{printed_names_of}
 use Rattle.split_forms.specs.Steps.{AreSplitSteps}
 use Rattle.synthesis_3nf.specs.GroupedPlans.{AreSynthesisSteps}

@@ -25,8 +25,8 @@ use Rattle.desk_responses.specs.ResponseValues.{Allowed, ResponseValue, Says, te
 use Rattle.desk_responses.specs.declared.status.Status.TheVariants.{Yes, No}
 use Rattle.desk_texts.specs.Texts.{line}
 use Rattle.normal_forms.specs.Chosen.{IsInForm, IsChosenViolation}
-use Rattle.normal_forms.specs.declared.form.Form.{Form}
-use Rattle.normal_forms.specs.declared.form.Form.TheVariants.{Third, Bcnf, Fourth}
+use Rattle.dep_model.specs.declared.form.Form.{Form}
+use Rattle.dep_model.specs.declared.form.Form.TheVariants.{Third, Bcnf, Fourth}
 use Rattle.preservation.specs.Keeping.{LossesOf}
 use Rattle.preservation.specs.declared.losing.Loss.{Loss}
 use Rattle.schema_printer.specs.Spelling.{printed_names_of}
@@ -39,7 +39,7 @@ use Rattle.alike_laws.proofs.Implication.{dep_text_moved}
 use Rattle.alike_laws.proofs.Keys.{first_failing_moved, wide_scheme_moved, wide_scheme_back}
 use Rattle.alike_laws.proofs.Rebuilt.{Frame, rebuilt}
 use Rattle.alike_laws.proofs.Values.{fits_moved}
-use Rattle.shown_rows.specs.Shown.{shown_relation}
+use Rattle.typed_rows.specs.Shown.{shown_relation}
 use Rattle.dep_model.specs.Implication.{IsLegal}
 
 module _ (s : Schema) (f : Frame s) where

@@ -11,7 +11,7 @@ use Rattle.desk_responses.specs.declared.status.Status.TheVariants.{Yes}
 use Rattle.fd_closure.specs.LeftSides.{IsWideScheme}
 use Rattle.fd_projection.specs.Projections.{IsProjection, IsCoverWithin}
 use Rattle.fd_projection.specs.Refusals.{AreTooMany}
-use Rattle.schema_parts.specs.Parts.{part_declared_text, rules_text}
+use Rattle.schema_printer.specs.Parts.{part_declared_text, rules_text}
 use Rattle.schema_printer.specs.Printing.{lines_text, members_from, nullable_lines}
 use Rattle.schema_printer.specs.Spelling.{printed_names_of}
 use Rattle.alike_laws.proofs.Derivations.{said, said_back}

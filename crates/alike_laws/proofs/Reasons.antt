@@ -1,7 +1,7 @@
 -- The answers of `explain` move to a schema that is built again.
 use Rattle.std.proofs.Common.{◌≡◌, ◌↔◌, ◌<◌, ℕ, List, true, inl, inr}
 use Rattle.attr_sets.specs.Attributes.{Attributes}
-use Rattle.cover_steps.specs.Steps.{AreCoverSteps}
+use Rattle.cover_accounts.specs.Steps.{AreCoverSteps}
 use Rattle.dep_model.specs.Keys.{IsKey, IsPrime}
 use Rattle.dep_model.specs.Schemas.{universe_of, width_of}
 use Rattle.dep_model.specs.declared.schema.Schema.{Schema}

@@ -1,5 +1,5 @@
 -- An Armstrong relation: its rows for `exhibit` and the command of that name
--- (`desk_discovery/Exhibits`), and what the laws of armstrong_rel say of it.
+-- (`desk_exhibits/Exhibits`), and what the laws of armstrong_rel say of it.
 use Rattle.std.specs.Prelude.{◌≡◌, ℕ, ◌+◌, ◌↔◌, if◌then◌else◌, List, [], ◌∷◌, map}
 use Rattle.std.specs.Fmt.{decimal}
 use Rattle.std.specs.List.{range_with_len}

@@ -1,5 +1,5 @@
 -- Why a schema has no exhibit: for `exhibit` and the command of that name
--- (`desk_discovery/Exhibits`).
+-- (`desk_exhibits/Exhibits`).
 use Rattle.std.specs.Prelude.{◌≡◌, ℕ, ◌<◌, ◌≤◌, true, Some, List, length, All, AllPairs, slice_get, take}
 use Rattle.attr_sets.specs.Attributes.{Attributes, IsBefore, count_below}
 use Rattle.attr_sets.specs.declared.set.TheConstants.{MOST_ATTRIBUTES}

@@ -7,7 +7,7 @@ use Rattle.attr_sets.specs.Sets.{attributes}
 use Rattle.attr_sets.specs.declared.set.AttrSet.{AttrSet}
 use Rattle.attr_sets.specs.declared.set.TheConstants.{MOST_ATTRIBUTES}
 use Rattle.dep_model.proofs.ListLemmas.{Contains-map}
-use Rattle.candidate_laws.specs.Standing.{IsCandidate}
+use Rattle.candidate_sets.specs.Standing.{IsCandidate}
 use Rattle.candidate_search.specs.Asking.{AsksAll, IsAskedWithin}
 use Rattle.candidate_search.specs.Sides.{HasCandidates, lefts_of}
 use Rattle.candidate_search.specs.declared.asking.Asked.{Asked}

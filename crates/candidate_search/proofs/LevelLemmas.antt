@@ -2,7 +2,7 @@
 use Rattle.std.proofs.Common.{◌≡◌, ◌<◌, ℕ, List, length, map, sym, ap, ◌∙◌, arith}
 use Rattle.std.proofs.lemmas.List.{get_or-map, length-map}
 use Rattle.attr_sets.specs.Attributes.{Attributes}
-use Rattle.csv_rows.specs.Numberings.{AreFirsts, AreGroups, number_at}
+use Rattle.row_groups.specs.Numberings.{AreFirsts, AreGroups, number_at}
 use Rattle.dep_model.specs.Tuples.{Relation}
 use Rattle.fd_discovery.specs.Leaders.{AreLeadersOn}
 use Rattle.fd_discovery.specs.declared.table.CodeColumns.{CodeColumns}

@@ -5,14 +5,14 @@ use Rattle.std.proofs.lemmas.Bool.{cases_eq, eq-eqb, eqb-true, ltb-true, true≢
 use Rattle.std.proofs.lemmas.Bool.Decides.{nat_tests}
 use Rattle.attr_sets.specs.Attributes.{Attributes, none, only, union}
 use Rattle.attr_sets.proofs.AttributesLemmas.{same_from_within}
-use Rattle.csv_rows.specs.Interning.{IsInterned, codes_at}
-use Rattle.csv_rows.specs.Numberings.{number_at}
-use Rattle.csv_rows.specs.declared.interning.Interned.{Interned}
+use Rattle.row_groups.specs.Interning.{IsInterned, codes_at}
+use Rattle.row_groups.specs.Numberings.{number_at}
+use Rattle.row_groups.specs.declared.interning.Interned.{Interned}
 use Rattle.dep_model.specs.Dependencies.{ObeysFd}
 use Rattle.dep_model.specs.Tuples.{Relation, value_at}
 use Rattle.row_store.specs.Rows.{row_at}
-use Rattle.candidate_laws.specs.Evidence.{agreement}
-use Rattle.candidate_laws.proofs.EvidenceLemmas.{agreement-from, agreement-to}
+use Rattle.candidate_sets.specs.Evidence.{agreement}
+use Rattle.candidate_sets.proofs.EvidenceLemmas.{agreement-from, agreement-to}
 use Rattle.fd_discovery.specs.Leaders.{AreLeadersOn}
 use Rattle.fd_discovery.proofs.LeaderLemmas.{led_obeys}
 use Rattle.candidate_search.specs.Pairs.{IsBroken, same_codes}

@@ -16,9 +16,9 @@ use Rattle.dep_model.specs.declared.failure.Failure.{Failure}
 use Rattle.dep_model.proofs.FailureLemmas.{refuses_also}
 use Rattle.dep_model.proofs.ListLemmas.{Contains-cases, Contains-head, Contains-later, Contains-map}
 use Rattle.candidate_sets.specs.declared.refusal.TheConstants.{MOST_CANDIDATES}
-use Rattle.candidate_laws.specs.Evidence.{AreEvidence, IsEvidence}
-use Rattle.candidate_laws.specs.Standing.{AreCandidates, ExceedsCandidates, HasMoreCandidates, IsCandidate, Stands}
-use Rattle.candidate_laws.proofs.StandingLemmas.{candidate_within, obeyed_minimal}
+use Rattle.candidate_sets.specs.Evidence.{AreEvidence, IsEvidence}
+use Rattle.candidate_sets.specs.Standing.{AreCandidates, ExceedsCandidates, HasMoreCandidates, IsCandidate, Stands}
+use Rattle.candidate_sets.proofs.StandingLemmas.{candidate_within, obeyed_minimal}
 use Rattle.candidate_search.specs.Sides.{AreMinimalLeftSides, AreTested, HasCandidates, HasMinimal, IsAnswered, IsAnsweredAt, IsTested, lefts_of, rights_of}
 use Rattle.candidate_search.specs.declared.side.Side.{Side}
 use Rattle.candidate_search.specs.declared.side.TooManyLeftSides.{TooManyLeftSides}

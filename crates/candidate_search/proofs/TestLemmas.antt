@@ -13,9 +13,9 @@ use Rattle.dep_model.specs.Plans.{schemes_of}
 use Rattle.dep_model.specs.Tuples.{Relation, IsOver}
 use Rattle.dep_model.proofs.ListLemmas.{map-member}
 use Rattle.row_store.specs.Rows.{row_at}
-use Rattle.candidate_laws.specs.Evidence.{AreEvidence, IsEvidence, agreement}
-use Rattle.candidate_laws.specs.Standing.{IsCandidate}
-use Rattle.candidate_laws.proofs.EvidenceLemmas.{agreement-from, agreement-to, agreement_exact}
+use Rattle.candidate_sets.specs.Evidence.{AreEvidence, IsEvidence, agreement}
+use Rattle.candidate_sets.specs.Standing.{IsCandidate}
+use Rattle.candidate_sets.proofs.EvidenceLemmas.{agreement-from, agreement-to, agreement_exact}
 use Rattle.candidate_search.specs.Pairs.{IsBroken}
 use Rattle.candidate_search.specs.Sides.{IsAnswered, IsAnsweredAt, HasCandidates, lefts_of}
 use Rattle.candidate_search.specs.Asking.{AsksAll, IsAskedWithin, IsRefutation, HasAnswer}

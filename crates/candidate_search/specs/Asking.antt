@@ -5,7 +5,7 @@ use Rattle.attr_sets.specs.Attributes.{Attributes, below, IsSubset, count_below}
 use Rattle.attr_sets.specs.Sets.{attributes}
 use Rattle.attr_sets.specs.declared.set.TheConstants.{MOST_ATTRIBUTES}
 use Rattle.attr_sets.specs.declared.set.AttrSet.{AttrSet}
-use Rattle.candidate_laws.specs.Evidence.{IsEvidence}
+use Rattle.candidate_sets.specs.Evidence.{IsEvidence}
 use Rattle.dep_model.specs.Tuples.{Relation}
 use Rattle.candidate_search.specs.Sides.{IsAnswered}
 use Rattle.candidate_search.specs.declared.asking.Asked.{Asked}

@@ -2,9 +2,9 @@
 -- does not cite it.
 use Rattle.std.specs.Prelude.{◌≡◌, ◌<◌, ◌==◌, ◌&&◌, ℕ, Option, Some, None, length, nat_lt}
 use Rattle.attr_sets.specs.Attributes.{Attributes, only}
-use Rattle.csv_rows.specs.Interning.{codes_at}
-use Rattle.csv_rows.specs.Numberings.{number_at}
-use Rattle.csv_rows.specs.declared.interning.Interned.{Interned}
+use Rattle.row_groups.specs.Interning.{codes_at}
+use Rattle.row_groups.specs.Numberings.{number_at}
+use Rattle.row_groups.specs.declared.interning.Interned.{Interned}
 use Rattle.dep_model.specs.Dependencies.{ObeysFd}
 use Rattle.dep_model.specs.Tuples.{Relation, AgreeOn, value_at}
 use Rattle.row_store.specs.Rows.{row_at}

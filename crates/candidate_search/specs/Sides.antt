@@ -2,11 +2,11 @@
 -- `minimal_left_sides` and the functions below it, and for the refusal of `discover` (`IsTooManyLeftSides`).
 use Rattle.std.specs.Prelude.{◌≡◌, ℕ, ◌<◌, ◌≤◌, ◌⊎◌, ◌↔◌, false, List, length, map, All, AllPairs, Contains}
 use Rattle.attr_sets.specs.Attributes.{Attributes, only, IsSubset, IsBefore, count_below}
-use Rattle.candidate_laws.specs.Evidence.{AreEvidence}
-use Rattle.candidate_laws.specs.Standing.{AreCandidates, ExceedsCandidates}
+use Rattle.candidate_sets.specs.Evidence.{AreEvidence}
+use Rattle.candidate_sets.specs.Standing.{AreCandidates, ExceedsCandidates}
 use Rattle.candidate_sets.specs.declared.refusal.TheConstants.{MOST_CANDIDATES}
-use Rattle.csv_rows.specs.Interning.{IsInterned}
-use Rattle.csv_rows.specs.declared.interning.Interned.{Interned}
+use Rattle.row_groups.specs.Interning.{IsInterned}
+use Rattle.row_groups.specs.declared.interning.Interned.{Interned}
 use Rattle.dep_model.specs.Dependencies.{ObeysFd}
 use Rattle.dep_model.specs.Plans.{schemes_of}
 use Rattle.dep_model.specs.Tuples.{Relation, IsOver}

@@ -1,8 +1,8 @@
 ghost use Rattle.std.specs.Prelude.{◌≡◌, ℕ, ◌+◌, ◌++◌, ◌<◌, ◌≤◌, List, length, All, Contains, IfOk, IfErr};
 ghost use Rattle.attr_sets.specs.Attributes.{Attributes};
 ghost use Rattle.attr_sets.specs.declared.set.TheConstants.{MOST_ATTRIBUTES};
-ghost use Rattle.candidate_laws.specs.Evidence.{AreEvidence};
-ghost use Rattle.candidate_laws.specs.Standing.{AreCandidates, ExceedsCandidates};
+ghost use Rattle.candidate_sets.specs.Evidence.{AreEvidence};
+ghost use Rattle.candidate_sets.specs.Standing.{AreCandidates, ExceedsCandidates};
 ghost use Rattle.candidate_sets.specs.declared.refusal.TheConstants.{MOST_CANDIDATES};
 ghost use Rattle.candidate_search.specs.Sides.{HasCandidates, IsAnsweredAt, IsTooManyLeftSides, IsTested, lefts_of, rights_of};
 ghost use Rattle.dep_model.specs.Failures.{RefusesAs};

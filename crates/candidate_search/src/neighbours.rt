@@ -1,13 +1,13 @@
 ghost use Rattle.std.specs.Prelude.{◌≡◌, ℕ, ◌+◌, ◌<◌, ◌≤◌, ◌^◌, All, length, IfOk, OnOk};
 ghost use Rattle.attr_sets.specs.declared.set.TheConstants.{MOST_ATTRIBUTES};
-ghost use Rattle.csv_rows.specs.Interning.{count_of, width_of_rows};
+ghost use Rattle.row_groups.specs.Interning.{count_of, width_of_rows};
 ghost use Rattle.candidate_search.specs.Pairs.{IsRowPair};
 
 use crate::orders::{all_rows, order_by};
 use attr_sets::MOST_ATTRIBUTES;
-use csv_rows::Interned;
 use dep_model::OutOfMemory;
 use indexmap::IndexSet;
+use row_groups::Interned;
 use row_store::Hashing;
 use std::alloc::Global;
 

@@ -2,18 +2,18 @@ ghost use Rattle.std.specs.Prelude.{◌≡◌, ◌<◌, ◌≤◌, ℕ, length, 
 ghost use Rattle.attr_sets.specs.Attributes.{IsSubset, below};
 ghost use Rattle.attr_sets.specs.Sets.{attributes};
 ghost use Rattle.attr_sets.specs.declared.set.TheConstants.{MOST_ATTRIBUTES};
-ghost use Rattle.csv_rows.specs.Interning.{IsInterned, count_of, firsts_of, groups_of, width_of_rows};
-ghost use Rattle.csv_rows.specs.Numberings.{number_at};
+ghost use Rattle.row_groups.specs.Interning.{IsInterned, count_of, firsts_of, groups_of, width_of_rows};
+ghost use Rattle.row_groups.specs.Numberings.{number_at};
 ghost use Rattle.dep_model.specs.Tuples.{Relation};
 ghost use Rattle.row_store.specs.Rows.{row_at};
-ghost use Rattle.candidate_laws.specs.Evidence.{agreement};
+ghost use Rattle.candidate_sets.specs.Evidence.{agreement};
 ghost use Rattle.candidate_search.specs.Levels.{IsLevel};
 ghost use Rattle.candidate_search.specs.Pairs.{FindsBroken};
 
 use crate::levels::Level;
 use attr_sets::{AttrSet, MOST_ATTRIBUTES};
-use csv_rows::{Groups, Interned};
 use dep_model::OutOfMemory;
+use row_groups::{Groups, Interned};
 use std::alloc::Global;
 
 /// The columns on which two rows agree.

@@ -1,17 +1,17 @@
 ghost use Rattle.std.specs.Prelude.{◌≤◌, All, IfOk};
 ghost use Rattle.attr_sets.specs.declared.set.TheConstants.{MOST_ATTRIBUTES};
-ghost use Rattle.candidate_laws.specs.Evidence.{AreEvidence};
+ghost use Rattle.candidate_sets.specs.Evidence.{AreEvidence};
 ghost use Rattle.candidate_search.specs.Pairs.{IsRowPair};
 ghost use Rattle.candidate_search.specs.Sides.{AreCoded};
-ghost use Rattle.csv_rows.specs.Interning.{count_of};
+ghost use Rattle.row_groups.specs.Interning.{count_of};
 ghost use Rattle.dep_model.specs.Plans.{schemes_of};
 ghost use Rattle.dep_model.specs.Tuples.{Relation};
 
 use crate::neighbours::neighbour_pairs;
 use crate::pairs::row_agreement;
 use attr_sets::{AttrSet, MOST_ATTRIBUTES};
-use csv_rows::Interned;
 use dep_model::OutOfMemory;
+use row_groups::Interned;
 use std::alloc::Global;
 
 // Evidence to begin with: what neighbours in the orders of the columns agree on, and what is given.

@@ -1,6 +1,6 @@
 ghost use Rattle.std.specs.Prelude.{◌≡◌, ◌<◌, ◌≤◌, All, Contains, IfOk, IfErr};
 ghost use Rattle.attr_sets.specs.declared.set.TheConstants.{MOST_ATTRIBUTES};
-ghost use Rattle.candidate_laws.specs.Evidence.{AreEvidence};
+ghost use Rattle.candidate_sets.specs.Evidence.{AreEvidence};
 ghost use Rattle.candidate_search.specs.Levels.{AreTabled};
 ghost use Rattle.candidate_search.specs.Sides.{HasMinimal, IsTooManyLeftSides, rights_of};
 ghost use Rattle.dep_model.specs.Failures.{RefusesAs};

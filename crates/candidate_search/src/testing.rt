@@ -1,7 +1,7 @@
 ghost use Rattle.std.specs.Prelude.{◌≡◌, ◌<◌, ◌≤◌, true, All, IfOk};
 ghost use Rattle.attr_sets.specs.Sets.{attributes};
 ghost use Rattle.attr_sets.specs.declared.set.TheConstants.{MOST_ATTRIBUTES};
-ghost use Rattle.candidate_laws.specs.Evidence.{AreEvidence};
+ghost use Rattle.candidate_sets.specs.Evidence.{AreEvidence};
 ghost use Rattle.candidate_search.specs.Asking.{IsAskedWithin, HasAnswer, AnswersOrRefutes};
 ghost use Rattle.candidate_search.specs.Findings.{AreFindings};
 ghost use Rattle.candidate_search.specs.Levels.{AreTabled, IsLevel};

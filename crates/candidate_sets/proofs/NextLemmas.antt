@@ -19,9 +19,9 @@ use Rattle.dep_model.specs.Plans.{schemes_of}
 use Rattle.dep_model.proofs.DistinctLemmas.{filter-keeps, filter-member}
 use Rattle.dep_model.proofs.ListLemmas.{Contains-map, map-member}
 use Rattle.dep_model.proofs.PermutationLemmas.{AllPairs-permutation}
-use Rattle.candidate_laws.specs.Standing.{AreCandidates, HasMoreCandidates, IsCandidate}
-use Rattle.candidate_laws.specs.Steps.{IsNotHit, IsNew, IsCandidateStep}
-use Rattle.candidate_laws.proofs.StepLemmas.{kept_candidate, new_candidate, step_candidates}
+use Rattle.candidate_sets.specs.Standing.{AreCandidates, HasMoreCandidates, IsCandidate}
+use Rattle.candidate_sets.specs.Steps.{IsNotHit, IsNew, IsCandidateStep}
+use Rattle.candidate_sets.proofs.StepLemmas.{kept_candidate, new_candidate, step_candidates}
 use Rattle.candidate_sets.specs.Cuts.{Ascend}
 use Rattle.candidate_sets.specs.Growing.{AreDifferent, AreFresh, HasManyFresh, HasWithin, IsFreshFrom, can_grow, is_apart}
 use Rattle.candidate_sets.specs.declared.refusal.TheConstants.{MOST_CANDIDATES}

@@ -2,3 +2,6 @@
 -- that a step keeps and adds.
 pub mod Cuts
 pub mod Growing
+pub mod Evidence
+pub mod Standing
+pub mod Steps

@@ -4,7 +4,7 @@ ghost use Rattle.attr_sets.specs.Sets.{attributes};
 ghost use Rattle.attr_sets.specs.declared.set.TheConstants.{MOST_ATTRIBUTES};
 ghost use Rattle.dep_model.specs.Failures.{RefusesAs};
 ghost use Rattle.dep_model.specs.Plans.{schemes_of};
-ghost use Rattle.candidate_laws.specs.Standing.{AreCandidates, HasMoreCandidates};
+ghost use Rattle.candidate_sets.specs.Standing.{AreCandidates, HasMoreCandidates};
 ghost use Rattle.candidate_sets.specs.declared.refusal.TheConstants.{MOST_CANDIDATES};
 
 use crate::asking::is_any_within;

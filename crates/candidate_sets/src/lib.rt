@@ -1,22 +1,30 @@
 //! The candidates for the left sides of the minimal dependencies of an attribute, as an ascending
-//! list of sets.
+//! list of sets, and the laws on which a search with them stands (Papenbrock and Naumann 2016).
 //!
-//! `first_candidates` gives those without evidence, and `add_evidence` makes of them those with one
-//! piece of evidence more. `is_any_within` asks a list by halves, at the greatest attribute in
-//! which its first and its last set differ: so most of a list is never looked at. `candidate_laws`
-//! says what candidates are, and why this is what a search for dependencies needs.
+//! `first_candidates` gives those without evidence, which is what pairs of rows agree on, and
+//! `add_evidence` makes of them those with one piece of evidence more. `is_any_within` asks a list by
+//! halves, at the greatest attribute in which its first and its last set differ: so most of a list
+//! is never looked at.
 //!
 //! Promises: exactly the candidates of the evidence so far, or a refusal where there are more than
-//! 1,000,000; whether one of them lies within a set.
+//! 1,000,000; whether one of them lies within a set. What rows obey stands against their evidence;
+//! where all candidates are obeyed they are exactly the minimal dependencies, and a candidate that
+//! is not obeyed gives more evidence.
 #![tactic(auto)]
 
 mod adding;
 mod asking;
 mod cutting;
 mod growing;
+mod laws;
 mod parting;
 mod refusal;
 
 pub use adding::{add_evidence, first_candidates};
 pub use asking::is_any_within;
+pub use laws::{
+    empty_set_comes_first, evidence_with_it_changes_nothing, grown_sets_arise_once, listed_or_more,
+    obeyed_candidates_are_minimal, obeyed_sets_stand, room_falls, standing_sets_hold_candidates,
+    step_gives_candidates, unobeyed_candidates_give_evidence,
+};
 pub use refusal::{MOST_CANDIDATES, TooManyCandidates};

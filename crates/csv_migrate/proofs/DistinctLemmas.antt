@@ -8,7 +8,7 @@ use Rattle.std.proofs.lemmas.List.Folds.{list_any_at, Any-from_list_any}
 use Rattle.std.proofs.Math.Seq.{take-suc}
 use Rattle.dep_model.specs.Tuples.{Tuple, Relation, same_tuple, distinct_tuples}
 use Rattle.dep_model.proofs.DistinctLemmas.{same_tuple-decides}
-use Rattle.csv_rows.specs.Numberings.{number_at, AreInOrder, AreFirsts}
+use Rattle.row_groups.specs.Numberings.{number_at, AreInOrder, AreFirsts}
 use Rattle.row_store.specs.Rows.{row_at}
 use Rattle.dep_model.proofs.ListLemmas.{same_default}
 

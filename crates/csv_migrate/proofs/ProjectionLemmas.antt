@@ -13,7 +13,7 @@ use Rattle.dep_model.proofs.SchemeLemmas.{members_below-member, members_below-ou
 use Rattle.dep_model.proofs.JoinLemmas.{project_tuple-same, agree-from_projections}
 use Rattle.schema_printer.specs.Printing.{members_from}
 use Rattle.schema_printer.proofs.MemberLemmas.{names_inside, names_outside}
-use Rattle.csv_rows.specs.Numberings.{number_at, AreGroups, AreFirsts}
+use Rattle.row_groups.specs.Numberings.{number_at, AreGroups, AreFirsts}
 use Rattle.row_store.specs.Rows.{row_at}
 use Rattle.dep_model.proofs.ListLemmas.{same_default}
 use Rattle.csv_migrate.proofs.DistinctLemmas.{AreClasses, distinct_values}

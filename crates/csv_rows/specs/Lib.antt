@@ -4,8 +4,4 @@ pub mod Records
 pub mod Quotes
 pub mod Columns
 pub mod Reading
-pub mod Numberings
-pub mod Buckets
-pub mod Pairs
-pub mod Interning
 pub mod RefusalTexts

@@ -15,7 +15,7 @@ use Rattle.dep_model.specs.Schemas.{names_of}
 use Rattle.dep_model.specs.declared.schema.Schema.{Schema}
 use Rattle.schema_printer.specs.Printing.{members_from}
 use Rattle.schema_printer.proofs.MemberLemmas.{members_each}
-use Rattle.sql_names.specs.Names.{comma_list, name_list, quoted_name, separator}
+use Rattle.sql_syntax.specs.Names.{comma_list, name_list, quoted_name, separator}
 use Rattle.sql_lexemes.specs.Bytes.{is_line_feed}
 use Rattle.sql_lexemes.specs.Pieces.{front_piece}
 use Rattle.sql_lexemes.specs.Statements.{Scan, after_gap, led_by, statements_after}

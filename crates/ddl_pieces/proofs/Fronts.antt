@@ -8,7 +8,7 @@ use Rattle.std.proofs.lemmas.Bool.Decides.{nat_tests}
 use Rattle.std.proofs.lemmas.List.{take-append-drop}
 use Rattle.std.proofs.lemmas.List.Folds.{length-prefix_len}
 use Rattle.dep_model.specs.Names.{is_type_byte, quotes_doubled}
-use Rattle.sql_names.specs.Names.{quoted_name}
+use Rattle.sql_syntax.specs.Names.{quoted_name}
 use Rattle.sql_lexemes.specs.Bytes.{begins_word, is_blank, is_number_byte, is_strange, is_word_byte}
 use Rattle.sql_lexemes.specs.Ends.{quote_end}
 use Rattle.sql_lexemes.specs.Pieces.{closed_or_open, front_piece, is_sqlite}

@@ -11,7 +11,7 @@ use Rattle.dep_model.specs.declared.column_type.ColumnType.{ColumnType}
 use Rattle.dep_model.specs.declared.column_type.ColumnType.TheVariants as type
 use Rattle.dep_model.specs.declared.schema.Schema.{Schema}
 use Rattle.schema_printer.specs.Printing.{members_from}
-use Rattle.sql_names.specs.Names.{comma_list, name_list, quoted_name, separator}
+use Rattle.sql_syntax.specs.Names.{comma_list, name_list, quoted_name, separator}
 use Rattle.ddl_text.specs.Ddl.{column_element, column_type, comment, element_lines, elements, is_empty, is_never_missing, key_element, keys_elements, reference_element, sql_type, table_text, unique_element}
 use Rattle.ddl_text.specs.Designs.{known_keys}
 use Rattle.ddl_text.specs.declared.table.TableDesign.{TableDesign}

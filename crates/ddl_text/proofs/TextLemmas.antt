@@ -17,12 +17,12 @@ use Rattle.dep_model.specs.Plans.{schemes_of}
 use Rattle.dep_model.specs.Schemas.{names_of, types_of, nullable_of}
 use Rattle.dep_model.specs.Projections.{members_below}
 use Rattle.dep_model.proofs.SchemeLemmas.{members_below-member, members_below-outside}
-use Rattle.sql_names.specs.Names.{quoted_name, name_list, is_not_empty}
+use Rattle.sql_syntax.specs.Names.{quoted_name, name_list, is_not_empty}
 use Rattle.ddl_text.specs.declared.table.TableDesign.{TableDesign}
 use Rattle.ddl_text.specs.Ddl.{column_type, column_element, is_empty, key_element, key_elements, unique_element, is_never_missing, unique_elements, reference_element, reference_elements, elements, opening, element_lines, left_out_line, left_out_lines, key_comment, comment, table_text}
 use Rattle.std.specs.List.{flat_map}
-use Rattle.sql_names.proofs.ListLemmas.{append_two}
-use Rattle.sql_names.proofs.NameLemmas.{or_true, not_empty_more, name_is}
+use Rattle.sql_syntax.proofs.ListLemmas.{append_two}
+use Rattle.sql_syntax.proofs.NameLemmas.{or_true, not_empty_more, name_is}
 
 -- ---- the members of a set
 pub members_inside : (f : ℕ → List ℕ) (n : ℕ) (x : Attributes) → x n ≡ true

@@ -12,7 +12,7 @@ use Rattle.dep_model.specs.declared.schema.Schema.{Schema}
 use Rattle.dep_model.specs.Plans.{schemes_of}
 use Rattle.dep_model.specs.Projections.{members_below}
 use Rattle.dep_model.specs.Schemas.{names_of, width_of, types_of, nullable_of}
-use Rattle.sql_names.specs.Names.{name_list, quoted_name}
+use Rattle.sql_syntax.specs.Names.{name_list, quoted_name}
 use Rattle.ddl_text.specs.Designs.{known_keys}
 use Rattle.ddl_text.specs.declared.table.TableDesign.{TableDesign}
 

@@ -3,13 +3,13 @@ ghost use Rattle.attr_sets.specs.Sets.{attributes};
 ghost use Rattle.dep_model.specs.Columns.{is_column_type};
 ghost use Rattle.dep_model.specs.Schemas.{width_of};
 ghost use Rattle.ddl_text.specs.Ddl.{column_element, column_elements, column_type, sql_type, element_lines};
-ghost use Rattle.sql_names.specs.Names.{is_not_empty};
+ghost use Rattle.sql_syntax.specs.Names.{is_not_empty};
 
 use crate::elements::add_opening;
 use attr_sets::AttrSet;
+use byte_texts::{add, add_digit};
 use dep_model::{ColumnType, OutOfMemory, Schema};
-use schema_printer::{add, add_digit};
-use sql_names::add_quoted;
+use sql_syntax::add_quoted;
 
 // Adds the columns of a scheme as the first elements, and says whether there are some.
 pub fn add_columns(

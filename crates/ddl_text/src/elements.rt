@@ -2,16 +2,16 @@ ghost use Rattle.std.specs.Prelude.{◌≡◌, ◌<◌, ◌++◌, ◌||◌, fals
 ghost use Rattle.attr_sets.specs.Sets.{attributes};
 ghost use Rattle.dep_model.specs.Plans.{schemes_of};
 ghost use Rattle.ddl_text.specs.Ddl.{opening, elements, element_lines, key_elements, keys_elements, unique_element, unique_elements};
-ghost use Rattle.sql_names.specs.Names.{is_not_empty};
+ghost use Rattle.sql_syntax.specs.Names.{is_not_empty};
 
 use crate::TableDesign;
 use crate::columns::add_columns;
 use crate::other_keys::may_be_missing;
 use crate::references::add_references;
 use attr_sets::AttrSet;
+use byte_texts::add;
 use dep_model::{OutOfMemory, Schema};
-use schema_printer::add;
-use sql_names::add_name_list;
+use sql_syntax::add_name_list;
 
 // Adds the columns, the keys and the references of a table.
 pub fn add_elements(

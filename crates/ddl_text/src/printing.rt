@@ -8,9 +8,9 @@ use crate::elements::add_elements;
 use crate::other_keys::may_be_missing;
 use crate::{DesignList, TableDesign};
 use attr_sets::AttrSet;
+use byte_texts::add;
 use dep_model::{OutOfMemory, Schema};
-use schema_printer::add;
-use sql_names::{add_name_list, add_quoted};
+use sql_syntax::{add_name_list, add_quoted};
 use std::alloc::Global;
 
 /// A `CREATE TABLE` statement for each table of a design, in order: its columns, its key, if this is not

@@ -3,9 +3,9 @@ ghost use Rattle.ddl_text.specs.Ddl.{element_lines, reference_element, reference
 
 use crate::TableDesign;
 use crate::elements::add_opening;
+use byte_texts::add;
 use dep_model::{OutOfMemory, Schema};
-use schema_printer::add;
-use sql_names::{add_name_list, add_quoted};
+use sql_syntax::{add_name_list, add_quoted};
 
 // Adds the references to the tables at these positions, in order, where other elements stand before or not.
 pub fn add_references(

@@ -4,12 +4,8 @@ pub mod GatheringLemmas
 pub mod BasisLemmas
 pub mod DecidingLemmas
 pub mod WitnessLemmas
-pub mod LeadLemmas
 pub mod CutLemmas
-pub mod ShowingLemmas
-pub mod JoiningLemmas
 pub mod PieceLemmas
 pub mod PartLemmas
 pub mod RestLemmas
-pub mod ProvingLemmas
 pub mod OneBlock

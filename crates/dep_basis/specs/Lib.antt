@@ -8,8 +8,4 @@ pub mod Bases
 pub mod Firsts
 pub mod Breaking
 pub mod Decisions
-pub mod CutProofs
 pub mod Cuts
-pub mod Leads
-pub mod JoinedProofs
-pub mod Proofs

@@ -1,44 +1,34 @@
 //! Dependency bases: the closed set and the blocks of a left side, by which implication by
-//! functional and multivalued dependencies is decided (Beeri 1980); decisions, proofs and
-//! witnesses.
+//! functional and multivalued dependencies is decided (Beeri 1980); decisions and witnesses.
 //!
 //! `basis` gives exactly the closed set and the blocks, `trace_basis_by` what a scheme has of them,
-//! and so its parts; `closure_of` and `block` give one of them alone, and `has_two_parts` stops as
-//! soon as it knows. `is_superkey` says whether a set determines a scheme. The calls named `.._by`
-//! ask the same of a list of dependencies over a number of attributes. `witness`, `prove` and
-//! `functional_chain` take memory, and no other call does. `laws` has what holds of bases beside
-//! what the calls say.
+//! and so its parts; `has_two_parts` stops as soon as it knows. `is_superkey` says whether a set
+//! determines a scheme. The calls named `.._by` ask the same of a list of dependencies over a
+//! number of attributes. `witness` takes memory, and no other call does. `laws` has what holds of
+//! bases beside what the calls say.
 //!
 //! Promises: `decide` says exactly whether a schema implies a dependency, and where it does not,
-//! names two rows that obey the schema and break it, which `witness` makes; `prove` gives a
-//! derivation of each dependency that is implied, and `functional_chain` that of a functional one
-//! which the functional ones alone imply.
+//! names two rows that obey the schema and break it, which `witness` makes.
 #![tactic(auto)]
 
 mod bases;
-mod chains;
 mod cutting;
 mod deciding;
 mod gathering;
 mod implying;
-mod joining;
 pub mod laws;
-mod makers;
 mod parts;
 mod pieces;
-mod proving;
 mod refining;
-mod showing;
 mod superkeys;
 mod witnessing;
 
 pub use bases::{basis, basis_by, block, block_by, closure, closure_by, trace_basis_by};
-pub use chains::functional_chain;
+pub use cutting::best_cut;
 pub use deciding::{Decision, decide, decide_by};
 pub use gathering::Blocks;
 pub use implying::{is_implied, is_implied_by};
 pub use parts::{has_two_parts, has_two_parts_by};
 pub use pieces::MOST_BLOCKS;
-pub use proving::{Proof, prove};
 pub use superkeys::is_superkey;
 pub use witnessing::witness;

@@ -11,6 +11,7 @@
 mod column_type;
 mod dep;
 mod failure;
+mod form;
 mod held_bytes;
 mod integer;
 pub mod laws;
@@ -27,6 +28,7 @@ mod value;
 pub use column_type::{ColumnType, MOST_SCALE};
 pub use dep::{Dep, sides};
 pub use failure::Failure;
+pub use form::Form;
 pub use integer::is_integer_text;
 pub use memory::OutOfMemory;
 pub use name::{MOST_BARE_NAME_BYTES, MOST_NAME_BYTES, Name, is_bare_name};

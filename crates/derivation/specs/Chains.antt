@@ -1,5 +1,5 @@
 -- The functional chain, which is the run of the closure algorithm as a derivation: for `implies`,
--- by `dep_basis/Proofs`, and for the laws of `chain_laws`.
+-- by `basis_proofs/Proofs`, and for the laws of `chain_laws`.
 use Rattle.std.specs.Prelude.{◌≡◌, ℕ, zero, suc, ◌<◌, Some, slice_get}
 use Rattle.attr_sets.specs.Attributes.{Attributes, union, IsSubset}
 use Rattle.dep_model.specs.declared.schema.Schema.{Schema}

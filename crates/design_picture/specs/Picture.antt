@@ -8,7 +8,7 @@ use Rattle.dep_model.specs.declared.schema.Schema.{Schema}
 use Rattle.dep_model.specs.Projections.{members_below}
 use Rattle.dep_model.specs.Schemas.{names_of, width_of}
 use Rattle.ddl_text.specs.declared.table.TableDesign.{TableDesign}
-use Rattle.html_escapes.specs.Escapes.{html_text}
+use Rattle.html_pages.specs.Escapes.{html_text}
 use Rattle.design_picture.specs.Places.{place_at, places_of, whole_height, whole_width}
 use Rattle.design_picture.specs.declared.places.TablePlace.{TablePlace}
 

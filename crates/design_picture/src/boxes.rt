@@ -11,10 +11,10 @@ use crate::places::{TablePlace, place_at};
 use crate::points::add_point;
 use crate::rows::row_of;
 use crate::sums::{product, sum};
+use byte_texts::add;
 use ddl_text::TableDesign;
 use dep_model::{OutOfMemory, Schema};
-use html_escapes::add_html;
-use schema_printer::add;
+use html_pages::add_html;
 use std::alloc::Global;
 
 // Adds the boxes of these tables, in order.

@@ -5,9 +5,9 @@ use crate::boxes::add_boxes;
 use crate::lines::add_lines;
 use crate::places::{TablePlace, place_tables, whole_height, whole_width};
 use crate::points::add_point;
+use byte_texts::add;
 use ddl_text::{DesignList, TableDesign};
 use dep_model::{OutOfMemory, Schema};
-use schema_printer::add;
 use std::alloc::Global;
 
 /// The SVG text of a design, in a division of a page: a line for each reference of each table, in order, and

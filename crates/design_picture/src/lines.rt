@@ -10,9 +10,9 @@ use crate::points::add_point;
 use crate::rows::row_of;
 use crate::sums::{product, sum};
 use attr_sets::AttrSet;
+use byte_texts::add;
 use ddl_text::TableDesign;
 use dep_model::OutOfMemory;
-use schema_printer::add;
 use std::alloc::Global;
 
 // Adds the lines of the references of these tables, in order.

@@ -1,8 +1,8 @@
 ghost use Rattle.std.specs.Prelude.{◌≡◌, ◌++◌, decimal, OnOk};
 ghost use Rattle.design_picture.specs.Picture.{point_text};
 
+use byte_texts::{add, add_number};
 use dep_model::OutOfMemory;
-use schema_printer::{add, add_number};
 use std::alloc::Global;
 
 // Adds two numbers, each with what stands before it.

@@ -12,9 +12,10 @@
 mod words;
 
 use crate::words::words;
+use arguments::Argument;
 use dep_model::OutOfMemory;
 use desk_cli::desk;
-use desk_outside::{Argument, FileFolder, ProgressLine, RealFiles, StdoutSink};
+use desk_outside::{FileFolder, ProgressLine, RealFiles, StdoutSink};
 use desk_process::{NoticeSink, exit_code};
 use destinations::{Destination, FileDestination, TableFormat};
 use own_folder::{OwnFolderWriter, RealFolders};

@@ -1,5 +1,5 @@
+use arguments::Argument;
 use dep_model::OutOfMemory;
-use desk_outside::Argument;
 use desk_process::words_given;
 use std::env;
 use std::rt::Runtime;

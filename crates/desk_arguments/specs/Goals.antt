@@ -13,7 +13,7 @@ use Rattle.schema_grammar.specs.Sets.{MeansSet, RefusesSet}
 use Rattle.desk_responses.specs.declared.status.Status.TheVariants.{Refused}
 use Rattle.desk_responses.specs.ResponseValues.{Allowed, Says, With}
 use Rattle.desk_texts.specs.Texts.{goal_too_long_text, set_too_long_text}
-use Rattle.desk_texts.specs.Refusals.{goal_refusal_text, set_refusal_text}
+use Rattle.desk_refusals.specs.Refusals.{goal_refusal_text, set_refusal_text}
 
 -- ---- goals
 -- a goal is refused so

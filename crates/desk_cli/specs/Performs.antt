@@ -3,7 +3,7 @@ use Rattle.std.specs.Prelude.{ℕ, List, [], ◌∷◌, MatchOption}
 use Rattle.dep_model.specs.Tuples.{Relation}
 use Rattle.dep_model.specs.declared.schema.Schema.{Schema}
 use Rattle.table_join.specs.Tables.{tables_of}
-use Rattle.named_plans.specs.NamedPlans.{NamedSchemes}
+use Rattle.plan_printer.specs.NamedPlans.{NamedSchemes}
 use Rattle.desk_responses.specs.declared.status.Status.TheVariants.{Yes, Refused}
 use Rattle.desk_responses.specs.ResponseValues.{Allowed, Says}
 use Rattle.desk_implication.specs.Bases.{GivesBasis}
@@ -18,14 +18,14 @@ use Rattle.desk_discovery.specs.AllDiscoveries.{FindsAllRules}
 use Rattle.desk_discovery.specs.NearDiscoveries.{FindsNearRules}
 use Rattle.desk_discovery.specs.Discoveries.{FindsRules, FindsSmallRules}
 use Rattle.desk_discovery.specs.KeyDiscoveries.{FindsRowKeys}
-use Rattle.desk_derivations.specs.Derivations.{ChecksDerivation}
+use Rattle.desk_implication.specs.Derivations.{ChecksDerivation}
 use Rattle.desk_designs.specs.Drawings.{DrawsForm, DrawsSchemes}
-use Rattle.desk_discovery.specs.Exhibits.{Exhibits}
+use Rattle.desk_exhibits.specs.Exhibits.{Exhibits}
 use Rattle.desk_words.specs.Forms as form
 use Rattle.desk_words.specs.Forms.{CommandForm, PlanQuestion, RowsQuestion, RulesQuestion, SchemaQuestion, Task, form_of}
-use Rattle.fd_discovery.specs.declared.headed_rows.Headed.{Headed}
+use Rattle.headed_rows.specs.declared.headed_rows.Headed.{Headed}
 use Rattle.desk_inputs.specs.FileKinds.{WithFile}
-use Rattle.desk_columns.specs.Imports.{ImportsColumns}
+use Rattle.desk_imports.specs.Columns.{ImportsColumns}
 use Rattle.desk_imports.specs.Imports.{ImportsTable}
 use Rattle.desk_inputs.specs.Headed.{headed_file, imported_file, whole_file}
 use Rattle.desk_inputs.specs.Sql.{sql_file}
@@ -42,8 +42,8 @@ use Rattle.desk_measures.specs.Keeping.{KeepsRows}
 use Rattle.desk_measures.specs.Measures.{MeasuresRows}
 use Rattle.desk_measures.specs.Offences.{ListsOffences, ListsOffencesByRow}
 use Rattle.desk_measures.specs.Untyped.{HasTextsAlone}
-use Rattle.desk_reasons.specs.SplitReasons.{ExplainsSplit}
-use Rattle.desk_reasons.specs.SynthesisReasons.{ExplainsSynthesis}
+use Rattle.desk_designs.specs.SplitReasons.{ExplainsSplit}
+use Rattle.desk_designs.specs.SynthesisReasons.{ExplainsSynthesis}
 use Rattle.desk_reports.specs.Reports.{ReportsPlan, ReportsSchema}
 use Rattle.desk_tables.specs.Migrations.{Samples}
 use Rattle.desk_tables.specs.Overwriting.{MigratesHere, MigratesPlanHere}
@@ -56,7 +56,7 @@ use Rattle.desk_inputs.specs.Readings.{Reading}
 use Rattle.desk_tables.specs.Rejoining.{JoinsTables}
 use Rattle.desk_inputs.specs.Rows.{rows_file}
 use Rattle.desk_covers.specs.Sameness.{ChecksSame}
-use Rattle.desk_designs.specs.Scripts.{ScriptsCheck, ScriptsMigration, ScriptsMigrationByPlan}
+use Rattle.desk_scripts.specs.Scripts.{ScriptsCheck, ScriptsMigration, ScriptsMigrationByPlan}
 use Rattle.desk_designs.specs.Synthesis.{Synthesizes}
 use Rattle.desk_texts.specs.Texts.{unknown_words_text}
 

@@ -4,8 +4,8 @@ ghost use Rattle.desk_responses.specs.ResponseValues.{Says};
 ghost use Rattle.desk_cli.specs.Help.{help_text, version_text};
 ghost use Rattle.desk_responses.specs.Responses.{RespondsAs};
 
+use arguments::Argument;
 use dep_model::OutOfMemory;
-use desk_outside::Argument;
 use desk_responses::{EarlyExit, Response, Status};
 use nearest_lines::nearest;
 use std::alloc::Global;

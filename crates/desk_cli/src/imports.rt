@@ -1,7 +1,7 @@
 //! The commands that make a schema of a file.
 
 ghost use Rattle.std.specs.Prelude.{◌≡◌, ◌≤◌, ◌∷◌, []};
-ghost use Rattle.desk_columns.specs.Imports.{ImportsColumns};
+ghost use Rattle.desk_imports.specs.Columns.{ImportsColumns};
 ghost use Rattle.desk_imports.specs.Imports.{ImportsTable};
 ghost use Rattle.desk_inputs.specs.FileKinds.{WithFile};
 ghost use Rattle.desk_inputs.specs.FilesBegun.{BeginsFront};
@@ -10,10 +10,10 @@ ghost use Rattle.desk_inputs.specs.Readings.{Reading, Shows};
 ghost use Rattle.desk_inputs.specs.Sql.{sql_file};
 ghost use Rattle.desk_responses.specs.Responses.{RespondsAs};
 
-use desk_columns::import_columns;
-use desk_imports::import_table;
+use arguments::Argument;
+use desk_imports::{import_columns, import_table};
 use desk_inputs::{Purpose, open_headed, open_sql};
-use desk_outside::{Argument, FileSource};
+use desk_outside::FileSource;
 use desk_responses::{EarlyExit, Response};
 use sql_lexemes::Dialect;
 use std::alloc::Global;

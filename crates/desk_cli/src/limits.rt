@@ -16,16 +16,16 @@ ghost use Rattle.desk_discovery.specs.declared.discovering.TheConstants.{WIDEST_
 ghost use Rattle.desk_tables.specs.declared.rejoining.TheConstants.{MOST_JOINED_ROWS};
 ghost use Rattle.desk_inputs.specs.declared.rows.TheConstants.{MOST_CSV_BYTES};
 ghost use Rattle.desk_words.specs.declared.command.TheConstants.{MOST_FILES};
-ghost use Rattle.fd_discovery.specs.declared.limits.TheConstants.{MOST_HEADED_ROWS, MOST_ROWS_WITH_ALL, WIDEST_HEADED, WIDEST_WITH_ALL};
+ghost use Rattle.row_store.specs.declared.limits.TheConstants.{MOST_HEADED_ROWS, MOST_ROWS_WITH_ALL, WIDEST_HEADED, WIDEST_WITH_ALL};
 ghost use Rattle.fd_closure.specs.declared.left_sides.TheConstants.{WIDEST_SEARCHED};
 ghost use Rattle.key_listing.specs.declared.refusal.TheConstants.{MOST_KEYS};
-ghost use Rattle.plan_grammar.specs.declared.bounds.TheConstants.{MOST_SCHEMES};
+ghost use Rattle.plans.specs.declared.bounds.TheConstants.{MOST_SCHEMES};
 ghost use Rattle.proof_text.specs.declared.text.TheConstants.{MOST_PROOF_BYTES};
 ghost use Rattle.sample_rows.specs.declared.rows.TheConstants.{MOST_PERSONS};
 ghost use Rattle.schema_reader.specs.declared.goal.TheConstants.{MOST_GOAL_BYTES};
 ghost use Rattle.schema_reader.specs.declared.set.TheConstants.{MOST_SET_BYTES};
 ghost use Rattle.schema_reader.specs.declared.text.TheConstants.{MOST_TEXT_BYTES};
-ghost use Rattle.table_scripts.specs.declared.naming.TheConstants.{MOST_PART_BYTES};
+ghost use Rattle.sql_scripts.specs.declared.naming.TheConstants.{MOST_PART_BYTES};
 ghost use Rattle.table_words.specs.declared.parts.TheConstants.{MOST_PARTS};
 
 /// What a schema and its text may have, and how many bytes a name.

@@ -10,12 +10,12 @@ ghost use Rattle.desk_responses.specs.Responses.{RespondsAs};
 ghost use Rattle.desk_tables.specs.Overwriting.{MigratesHere, MigratesPlanHere};
 ghost use Rattle.desk_tables.specs.OwnFolders.{MigratesInto, MigratesPlanInto};
 
-use dep_model::Schema;
+use arguments::Argument;
+use dep_model::{Form, Schema};
 use desk_inputs::{open_plan, open_rows};
-use desk_outside::{Argument, FileSource};
+use desk_outside::FileSource;
 use desk_responses::{EarlyExit, Response};
 use desk_tables::{migrate_form_here, migrate_form_into, migrate_plan_here, migrate_plan_into};
-use normal_forms::Form;
 use own_folder::FolderMaker;
 use row_store::Hashing;
 use std::alloc::Global;

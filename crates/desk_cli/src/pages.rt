@@ -8,9 +8,10 @@ ghost use Rattle.desk_inputs.specs.Readings.{Reading, Shows};
 ghost use Rattle.desk_reports.specs.Reports.{ReportsPlan};
 ghost use Rattle.desk_responses.specs.Responses.{RespondsAs};
 
+use arguments::Argument;
 use dep_model::Schema;
 use desk_inputs::open_plan;
-use desk_outside::{Argument, FileSource};
+use desk_outside::FileSource;
 use desk_reports::report_plan;
 use desk_responses::{EarlyExit, Response};
 use std::alloc::Global;

@@ -4,36 +4,34 @@ ghost use Rattle.std.specs.Prelude.{◌≤◌, ◌<◌, ◌^◌, length};
 ghost use Rattle.dep_model.specs.Projections.{Covers};
 ghost use Rattle.dep_model.specs.Schemas.{width_of};
 ghost use Rattle.dep_model.specs.Tuples.{IsOver};
-ghost use Rattle.named_plans.specs.NamedPlans.{named_schemes};
-ghost use Rattle.fd_discovery.specs.Headers.{IsColumnHeader};
-ghost use Rattle.fd_discovery.specs.Headings.{names_under, rows_under};
-ghost use Rattle.fd_discovery.specs.declared.limits.TheConstants.{MOST_HEADED_ROWS};
+ghost use Rattle.plan_printer.specs.NamedPlans.{named_schemes};
+ghost use Rattle.headed_rows.specs.Headers.{IsColumnHeader};
+ghost use Rattle.headed_rows.specs.Headings.{names_under, rows_under};
+ghost use Rattle.row_store.specs.declared.limits.TheConstants.{MOST_HEADED_ROWS};
 ghost use Rattle.plans.specs.Plans.{IsPlanOver, plan_of};
 ghost use Rattle.desk_words.specs.Commands.{plan_question, rows_question, rules_question, schema_question};
 ghost use Rattle.desk_cli.specs.Performs.{AnswersPlan, AnswersRows, AnswersRules, AnswersSchema};
 ghost use Rattle.desk_responses.specs.Responses.{RespondsAs};
 
+use arguments::Argument;
 use dep_model::{Name, Schema};
 use desk_covers::{cover, explain_cover};
 use desk_designs::{
-    check_form, check_join, check_keeps, draw_form, draw_plan, script_check, script_migration,
-    script_migration_by_plan, split_by_pairs, split_in_form, synthesize_plan, write_form,
-    write_plan,
+    check_form, check_join, check_keeps, draw_form, draw_plan, explain_split, explain_synthesis,
+    split_by_pairs, split_in_form, synthesize_plan, write_form, write_plan,
 };
-use desk_discovery::{
-    discover_keys, discover_near_rules, discover_rules, discover_small_rules, exhibit_relation,
-};
+use desk_discovery::{discover_keys, discover_near_rules, discover_rules, discover_small_rules};
+use desk_exhibits::exhibit_relation;
 use desk_implication::{give_basis, give_closure, give_projection, implies};
 use desk_keys::{check_key, explain_keys, list_keys, list_keys_of_plan};
 use desk_measures::{keep_rows, list_offences, list_offences_by_row};
-use desk_outside::Argument;
-use desk_reasons::{explain_split, explain_synthesis};
 use desk_responses::{EarlyExit, Response};
+use desk_scripts::{script_check, script_migration, script_migration_by_plan};
 use desk_tables::check_rows;
 use desk_words::{PlanQuestion, RowsQuestion, RulesQuestion, SchemaQuestion};
-use fd_discovery::Headed;
-use named_plans::NamedPlan;
-use plan_reader::MOST_SCHEMES;
+use headed_rows::Headed;
+use plan_printer::NamedPlan;
+use plans::MOST_SCHEMES;
 use row_store::{Hashing, Rows};
 use std::alloc::Global;
 

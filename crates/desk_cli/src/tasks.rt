@@ -11,7 +11,7 @@ ghost use Rattle.desk_inputs.specs.FileKinds.{WithFile};
 ghost use Rattle.desk_inputs.specs.FilesBegun.{BeginsFront};
 ghost use Rattle.desk_discovery.specs.AllDiscoveries.{FindsAllRules};
 ghost use Rattle.desk_inputs.specs.Headed.{headed_file, whole_file};
-ghost use Rattle.desk_derivations.specs.Derivations.{ChecksDerivation};
+ghost use Rattle.desk_implication.specs.Derivations.{ChecksDerivation};
 ghost use Rattle.desk_inputs.specs.Inputs.{derivation_file, proof_file, schema_file};
 ghost use Rattle.desk_inputs.specs.Parts.{WithParts};
 ghost use Rattle.desk_cli.specs.FilesRead.{files_of_task};
@@ -27,17 +27,17 @@ ghost use Rattle.desk_covers.specs.Sameness.{ChecksSame};
 use crate::migrations::{of_plan_and_rows, of_plan_and_rows_into, of_rows_in_form, of_rows_into};
 use crate::pages::of_page_and_plan;
 use crate::questions::{answer_plan, answer_rows, answer_rules, answer_schema};
+use arguments::Argument;
 use dep_model::Schema;
 use desk_covers::{check_cover, check_same};
-use desk_derivations::check_derivation;
 use desk_discovery::discover_all_rules;
-use desk_implication::check_proof;
+use desk_implication::{check_derivation, check_proof};
 use desk_inputs::{
     Purpose, open_derivation, open_headed, open_parts, open_plan, open_proof, open_rows,
     open_schema,
 };
 use desk_measures::{measure_rows, text_columns_alone};
-use desk_outside::{Argument, FileSource};
+use desk_outside::FileSource;
 use desk_reports::report_schema;
 use desk_responses::{EarlyExit, Response};
 use desk_tables::rejoin;

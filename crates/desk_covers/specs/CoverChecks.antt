@@ -2,9 +2,9 @@
 use Rattle.std.specs.Prelude.{◌≡◌, ◌⊎◌, ℕ, List, [], ◌++◌, codes, slice_get}
 use Rattle.std.specs.List.{flat_map}
 use Rattle.attr_sets.specs.Attributes.{only}
-use Rattle.cover_check.specs.CoverDiagnostics.{AreCoverDiagnostics}
-use Rattle.cover_check.specs.declared.diagnostic.CoverDiagnostic.{CoverDiagnostic}
-use Rattle.cover_check.specs.declared.diagnostic.CoverDiagnostic.TheVariants.{SeveralOnRight, NotNeeded, Follows}
+use Rattle.cover_accounts.specs.CoverDiagnostics.{AreCoverDiagnostics}
+use Rattle.cover_accounts.specs.declared.diagnostic.CoverDiagnostic.{CoverDiagnostic}
+use Rattle.cover_accounts.specs.declared.diagnostic.CoverDiagnostic.TheVariants.{SeveralOnRight, NotNeeded, Follows}
 use Rattle.dep_model.specs.Schemas.{deps_of, lines_of, width_of, theory_of}
 use Rattle.dep_model.specs.declared.schema.Schema.{Schema}
 use Rattle.schema_printer.specs.Printing.{set_text}

@@ -2,7 +2,7 @@
 use Rattle.std.specs.Prelude.{◌≡◌, ℕ, List, ◌++◌, codes, slice_get}
 use Rattle.std.specs.List.{flat_map}
 use Rattle.attr_sets.specs.Attributes.{Attributes, below, only, difference, intersection}
-use Rattle.cover_steps.specs.Steps.{Placed, Shortened, AreCoverSteps, placed}
+use Rattle.cover_accounts.specs.Steps.{Placed, Shortened, AreCoverSteps, placed}
 use Rattle.dep_model.specs.Dependencies.{fd}
 use Rattle.dep_model.specs.Projections.{members_below}
 use Rattle.dep_model.specs.Schemas.{width_of, theory_of, lines_of}

@@ -1,17 +1,18 @@
 ghost use Rattle.std.specs.Prelude.{◌≡◌, All, IfOk};
-ghost use Rattle.cover_check.specs.CoverDiagnostics.{NamesAttribute};
+ghost use Rattle.cover_accounts.specs.CoverDiagnostics.{NamesAttribute};
 ghost use Rattle.desk_covers.specs.CoverChecks.{ChecksCover, TestsCover, TestsMinimal, diagnostic_text, diagnostics_text, placed_dep_text};
 ghost use Rattle.desk_responses.specs.Responses.{response_value, RespondsAs};
 ghost use Rattle.schema_match.specs.Columns.{SameNames};
 
 use crate::sameness::{difference_lines, test_names};
+use arguments::Argument;
 use attr_sets::AttrSet;
-use cover_check::{CoverDiagnostic, diagnostics};
+use byte_texts::add;
+use cover_accounts::{CoverDiagnostic, diagnostics};
 use dep_model::{OutOfMemory, Schema};
-use desk_outside::Argument;
 use desk_responses::{EarlyExit, Response, Status, put_dep, put_line};
 use desk_texts::line_of;
-use schema_printer::{add, add_set};
+use schema_printer::add_set;
 use std::alloc::Global;
 
 /// Whether a second schema is a minimal cover of the first, if they have the same names, and what keeps

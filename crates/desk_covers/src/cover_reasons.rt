@@ -2,15 +2,16 @@ ghost use Rattle.std.specs.Prelude.{◌≡◌, ◌++◌, ◌<◌, [], if◌then�
 ghost use Rattle.attr_sets.specs.Attributes.{difference};
 ghost use Rattle.attr_sets.specs.Sets.{attributes};
 ghost use Rattle.attr_sets.specs.declared.set.TheConstants.{MOST_ATTRIBUTES};
-ghost use Rattle.cover_steps.specs.Steps.{place_of, places_of, shortened_list, shortened_of};
+ghost use Rattle.cover_accounts.specs.Steps.{place_of, places_of, shortened_list, shortened_of};
 ghost use Rattle.desk_covers.specs.CoverReasons.{ExplainsCover, all_gone_text, gone_text, member_before, member_text, members_text, needless_text, placed_text};
 ghost use Rattle.desk_responses.specs.Responses.{response_value, RespondsAs};
 
 use attr_sets::AttrSet;
-use cover_steps::{PlacedDep, ShortMember, cover_steps};
+use byte_texts::add;
+use cover_accounts::{PlacedDep, ShortMember, cover_steps};
 use dep_model::{Dep, OutOfMemory, Schema};
 use desk_responses::{EarlyExit, Response, Status, put_line};
-use schema_printer::{add, add_dep, add_set, print_deps};
+use schema_printer::{add_dep, add_set, print_deps};
 use std::alloc::Global;
 
 /// A cover of a schema, below how it comes about: which attributes of left sides are not needed, and which

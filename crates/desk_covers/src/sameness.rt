@@ -6,12 +6,12 @@ ghost use Rattle.schema_match.specs.Columns.{SameNames};
 ghost use Rattle.schema_printer.specs.Spelling.{printed_names_of};
 ghost use Rattle.desk_responses.specs.Lines.{attribute_name};
 
+use arguments::Argument;
+use byte_texts::add;
 use dep_model::{OutOfMemory, Schema};
-use desk_outside::Argument;
 use desk_responses::{EarlyExit, Response, Status, put_dep, put_line, put_name};
 use desk_texts::line_of;
 use schema_match::{differences, first_undeclared};
-use schema_printer::add;
 use std::alloc::Global;
 
 /// Whether two schemas say the same, if they have the same names. Each comes with the name of its file.

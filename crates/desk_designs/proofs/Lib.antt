@@ -2,3 +2,4 @@ pub mod LossLemmas
 pub mod SplitLemmas
 pub mod MissingLemmas
 mod ShownLosses
+pub mod StatusLemmas

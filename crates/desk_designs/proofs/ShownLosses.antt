@@ -14,8 +14,8 @@ use Rattle.dep_model.specs.Tuples.{Relation}
 use Rattle.dep_model.specs.TwoTuples.{all_zeros}
 use Rattle.dep_model.specs.declared.schema.Schema.{Schema}
 use Rattle.dep_model.proofs.TwoTupleLemmas.{length-all_zeros}
-use Rattle.numeral_laws.proofs.HeldNumerals.{tableau_holds}
-use Rattle.shown_rows.specs.Shown.{shown_relation, shown_zeros}
+use Rattle.typed_rows.proofs.HeldNumerals.{tableau_holds}
+use Rattle.typed_rows.specs.Shown.{shown_relation, shown_zeros}
 use Rattle.typed_rows.specs.Typed.{HoldsNumerals}
 use Rattle.typed_rows.proofs.NumeralLemmas.{zeros_are_numerals}
 use Rattle.typed_rows.proofs.RelationLemmas.{contains-from, fits_schema, joins-to, legal-to, made_up_for}

@@ -4,8 +4,8 @@ use Rattle.std.proofs.lemmas.List.Elements.{All-contains, Contains-append_right}
 use Rattle.std.specs.Prelude.{All, Contains}
 use Rattle.attr_sets.specs.Attributes.{Attributes, below, IsSubset}
 use Rattle.dep_model.specs.Dependencies.{Dependency}
-use Rattle.normal_forms.specs.declared.form.Form.{Form}
-use Rattle.normal_forms.specs.declared.form.Form.TheVariants.{Third}
+use Rattle.dep_model.specs.declared.form.Form.{Form}
+use Rattle.dep_model.specs.declared.form.Form.TheVariants.{Third}
 use Rattle.split_forms.specs.Splitting.{IsTooWideAt}
 use Rattle.split_forms.proofs.WalkLemmas.{reached_plan}
 

@@ -8,10 +8,10 @@ use Rattle.dep_model.specs.Projections.{IsLossless}
 use Rattle.dep_model.specs.Schemas.{width_of, theory_of}
 use Rattle.dep_model.specs.declared.schema.Schema.{Schema}
 use Rattle.schema_printer.specs.Spelling.{printed_names_of}
-use Rattle.normal_forms.specs.declared.form.Form.{Form}
-use Rattle.normal_forms.specs.declared.form.Form.TheVariants.{Third, Bcnf, Fourth}
+use Rattle.dep_model.specs.declared.form.Form.{Form}
+use Rattle.dep_model.specs.declared.form.Form.TheVariants.{Third, Bcnf, Fourth}
 use Rattle.normal_forms.specs.Chosen.{IsInForm}
-use Rattle.plans.specs.Printing.{plan_text}
+use Rattle.plan_printer.specs.Printing.{plan_text}
 use Rattle.split_forms.specs.Refusals.{IsWithinLimits}
 use Rattle.split_forms.specs.Splitting.{IsSplitPlan, IsTooWideAt, HasTooManySchemes}
 use Rattle.wide_bcnf.specs.WideSplits.{IsWideSplitPlan}

@@ -11,7 +11,7 @@ use Rattle.ddl_text.specs.Ddl.{ddl_text}
 use Rattle.ddl_text.specs.Designs.{IsDesign}
 use Rattle.ddl_text.specs.Laws.{KeysHold, OtherKeysHold, ReferencesHold}
 use Rattle.design_order.specs.Order.{IsInDesignOrder}
-use Rattle.normal_forms.specs.declared.form.Form.{Form}
+use Rattle.dep_model.specs.declared.form.Form.{Form}
 use Rattle.missing_values.specs.Missing.{FindsMissing, NeverMissing}
 use Rattle.missing_values.specs.Refusals.{refusal_text}
 use Rattle.missing_values.specs.declared.refusal.MissingRefusal.{MissingRefusal}

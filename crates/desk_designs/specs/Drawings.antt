@@ -6,7 +6,7 @@ use Rattle.dep_model.specs.Plans.{schemes_of}
 use Rattle.dep_model.specs.declared.schema.Schema.{Schema}
 use Rattle.table_names.specs.TableNames.{GivenNames}
 use Rattle.ddl_text.specs.declared.table.TableDesign.{TableDesign}
-use Rattle.normal_forms.specs.declared.form.Form.{Form}
+use Rattle.dep_model.specs.declared.form.Form.{Form}
 use Rattle.table_drawing.specs.Drawing.{drawing_text}
 use Rattle.desk_responses.specs.declared.status.Status.TheVariants.{Yes}
 use Rattle.desk_responses.specs.ResponseValues.{Allowed, Says}

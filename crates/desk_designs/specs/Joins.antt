@@ -10,7 +10,7 @@ use Rattle.dep_model.specs.Projections.{InJoin, IsLossless, projections}
 use Rattle.dep_model.specs.Schemas.{names_of, width_of, theory_of, LegalFor}
 use Rattle.dep_model.specs.declared.schema.Schema.{Schema}
 use Rattle.dep_model.specs.Tuples.{Relation, Tuple}
-use Rattle.shown_rows.specs.Shown.{shown_relation, shown_zeros}
+use Rattle.typed_rows.specs.Shown.{shown_relation, shown_zeros}
 use Rattle.tableau_chase.specs.RefusalTexts.{chase_refusal_text}
 use Rattle.tableau_chase.specs.declared.outcome.ChaseRefusal.TheVariants.{TooManyRows}
 use Rattle.desk_designs.specs.declared.join.TheConstants.{MOST_TABLEAU_ROWS}

@@ -6,7 +6,7 @@ use Rattle.attr_sets.specs.Sets.{attributes}
 use Rattle.csv_text.specs.Rows.{rows_text}
 use Rattle.dep_model.specs.Preservation.{KeepsDependencies}
 use Rattle.dep_model.specs.Schemas.{names_of, width_of, theory_of, deps_of, lines_of}
-use Rattle.shown_rows.specs.Shown.{shown_tuples}
+use Rattle.typed_rows.specs.Shown.{shown_tuples}
 use Rattle.dep_model.specs.declared.schema.Schema.{Schema}
 use Rattle.schema_printer.specs.Spelling.{printed_names_of}
 use Rattle.preservation.specs.declared.losing.Loss.{Loss}

@@ -5,5 +5,7 @@ pub mod NormalForms
 pub mod Joins
 pub mod Keeping
 pub mod Designs
-pub mod Scripts
 pub mod Drawings
+pub mod LeftOut
+pub mod SynthesisReasons
+pub mod SplitReasons

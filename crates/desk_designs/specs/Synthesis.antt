@@ -9,7 +9,7 @@ use Rattle.dep_model.specs.Projections.{IsLossless}
 use Rattle.dep_model.specs.Schemas.{width_of, theory_of, nullable_of}
 use Rattle.dep_model.specs.declared.schema.Schema.{Schema}
 use Rattle.schema_printer.specs.Spelling.{printed_names_of}
-use Rattle.plans.specs.Printing.{plan_text}
+use Rattle.plan_printer.specs.Printing.{plan_text}
 use Rattle.synthesis_3nf.specs.GroupedPlans.{IsGroupedPlan}
 use Rattle.desk_responses.specs.declared.status.Status.TheVariants.{Yes}
 use Rattle.desk_responses.specs.ResponseValues.{Allowed, Says}

@@ -12,12 +12,10 @@ use crate::decomposition::plan_in_form;
 use crate::join::test_loss;
 use crate::missing::required_design;
 use ddl_text::{DesignList, design, print_ddl};
-use dep_model::{Name, OutOfMemory, Schema};
+use dep_model::{Form, Name, OutOfMemory, Schema};
 use design_order::in_design_order;
 use desk_responses::{EarlyExit, Response, Status};
-use normal_forms::Form;
-use plan_reader::MOST_SCHEMES;
-use plans::Plan;
+use plans::{MOST_SCHEMES, Plan};
 use std::alloc::Global;
 use table_names::MOST_TABLES;
 

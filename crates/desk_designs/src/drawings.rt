@@ -5,9 +5,8 @@ ghost use Rattle.desk_responses.specs.Responses.{response_value, RespondsAs};
 
 use crate::decomposition::plan_in_form;
 use crate::designs::design_of_plan;
-use dep_model::{Name, OutOfMemory, Schema};
+use dep_model::{Form, Name, OutOfMemory, Schema};
 use desk_responses::{EarlyExit, Response, Status};
-use normal_forms::Form;
 use plans::Plan;
 use std::alloc::Global;
 use table_drawing::draw;

@@ -13,12 +13,13 @@ ghost use Rattle.desk_responses.specs.Responses.{response_value, RespondsAs, Exi
 ghost use Rattle.desk_texts.specs.Texts.{line};
 
 use attr_sets::AttrSet;
-use dep_model::{Dep, OutOfMemory, Schema};
+use byte_texts::add;
+use dep_model::{Dep, Form, OutOfMemory, Schema};
 use desk_responses::{EarlyExit, Response, Status, too_wide_exit};
 use desk_texts::line_of;
-use normal_forms::{Breach, Form, violation};
+use normal_forms::{Breach, violation};
 use plans::Plan;
-use schema_printer::{add, add_dep, add_set};
+use schema_printer::{add_dep, add_set};
 use std::alloc::Global;
 
 /// Whether each scheme of a plan is in a normal form.

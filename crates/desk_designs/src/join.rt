@@ -10,15 +10,14 @@ ghost use Rattle.desk_designs.specs.Joins.{IsShownLossless, JudgesJoin, LossStop
 ghost use Rattle.desk_responses.specs.Responses.{response_value, RespondsAs, ExitsAs};
 
 use attr_sets::AttrSet;
+use byte_texts::add;
 use dep_model::{Failure, OutOfMemory, Row, Schema};
 use desk_responses::{EarlyExit, Response, Status};
 use desk_texts::line_of;
-use plan_reader::MOST_SCHEMES;
-use plans::Plan;
-use schema_printer::add;
-use shown_rows::{print_made_up, print_zeros};
+use plans::{MOST_SCHEMES, Plan};
 use std::alloc::Global;
 use tableau_chase::{ChaseRefusal, Chased, chase};
+use typed_rows::{print_made_up, print_zeros};
 
 /// The most rows of a tableau.
 pub const MOST_TABLEAU_ROWS: u32 = 1_024;

@@ -9,14 +9,14 @@ ghost use Rattle.desk_designs.specs.Keeping.{JudgesKeeping, loss_text, two_tuple
 ghost use Rattle.desk_responses.specs.Responses.{response_value, RespondsAs};
 
 use attr_sets::AttrSet;
+use byte_texts::add;
 use dep_model::{OutOfMemory, Schema};
 use desk_responses::{EarlyExit, Response, Status, put_dep, put_line};
 use desk_texts::line_of;
 use plans::Plan;
 use preservation::{Loss, losses};
-use schema_printer::add;
-use shown_rows::print_two_rows;
 use std::alloc::Global;
+use typed_rows::print_two_rows;
 
 /// Whether a plan keeps the functional dependencies.
 pub fn check_keeps(alloc: Global, schema: &Schema, plan: &Plan) -> Result<Response, EarlyExit>

@@ -1,5 +1,5 @@
 //! Plans and what is made of them: the answers about normal forms, lossless joins, kept
-//! dependencies, SQL tables, scripts and pictures.
+//! dependencies, SQL tables and pictures, and how a split or a synthesis comes about.
 //!
 //! Each is a pure function of values.
 //!
@@ -12,9 +12,11 @@ mod drawings;
 mod form;
 mod join;
 mod keeping;
+mod left_out;
 mod missing;
-mod scripts;
+mod split_reasons;
 mod synthesis;
+mod synthesis_reasons;
 
 pub use decomposition::{
     MOST_SPLIT_SCHEMES, plan_in_form, split_by_pairs, split_exit, split_in_form,
@@ -25,5 +27,6 @@ pub use form::{check_form, violation_dependency, word_of};
 pub use join::{check_join, test_loss};
 pub use keeping::check_keeps;
 pub use missing::{required_design, test_missing};
-pub use scripts::{script_check, script_migration, script_migration_by_plan};
+pub use split_reasons::explain_split;
 pub use synthesis::synthesize_plan;
+pub use synthesis_reasons::explain_synthesis;

@@ -5,7 +5,7 @@ ghost use Rattle.desk_designs.specs.Synthesis.{Synthesizes};
 use crate::decomposition::third_form_plan;
 use dep_model::{OutOfMemory, Schema};
 use desk_responses::{EarlyExit, Response, Status};
-use plans::print_plan;
+use plan_printer::print_plan;
 use std::alloc::Global;
 
 /// A plan in third normal form that loses nothing and keeps the functional dependencies.

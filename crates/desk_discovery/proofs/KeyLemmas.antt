@@ -8,7 +8,7 @@ use Rattle.dep_model.specs.Plans.{schemes_of}
 use Rattle.dep_model.specs.Schemas.{names_of}
 use Rattle.dep_model.specs.declared.naming.Naming.{Naming}
 use Rattle.dep_model.specs.declared.schema.Schema.{Schema}
-use Rattle.fd_discovery.specs.Headers.{naming_under}
+use Rattle.headed_rows.specs.Headers.{naming_under}
 use Rattle.schema_printer.specs.Printing.{set_text}
 use Rattle.schema_printer.specs.Spelling.{spelling, printed_names_of}
 use Rattle.desk_texts.specs.Texts.{line}

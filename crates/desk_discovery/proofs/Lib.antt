@@ -1,4 +1,3 @@
 pub mod RuleLemmas
-mod ExhibitLemmas
 mod KeyLemmas
 mod NearLemmas

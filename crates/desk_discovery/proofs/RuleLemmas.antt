@@ -18,7 +18,7 @@ use Rattle.dep_model.specs.declared.column_type.ColumnType.TheVariants.{Text}
 use Rattle.dep_model.specs.declared.naming.Naming.{Naming}
 use Rattle.dep_model.specs.declared.naming.Naming.TheVariants.{Bare, Any}
 use Rattle.dep_model.specs.declared.schema.Schema.{Schema}
-use Rattle.fd_discovery.specs.Headers.{is_plain_name, naming_under}
+use Rattle.headed_rows.specs.Headers.{is_plain_name, naming_under}
 use Rattle.schema_grammar.specs.Words.{is_reserved}
 use Rattle.schema_grammar.specs.declared.format.Format.TheVariants as format
 use Rattle.schema_printer.specs.Printing.{Run, schema_text, schema_lines, declaring_lines, nullable_lines, dependency_text, lines_text, words_text, members_from, runs_of, run_line, in_front, is_integer}

@@ -2,8 +2,8 @@
 use Rattle.std.specs.Prelude.{ℕ, List, length}
 use Rattle.dep_model.specs.Dependencies.{Dependency}
 use Rattle.dep_model.specs.Tuples.{Relation}
-use Rattle.fd_discovery.specs.declared.headed_rows.Headed.{Headed}
-use Rattle.fd_discovery.specs.Headings.{names_under, rows_under}
+use Rattle.headed_rows.specs.declared.headed_rows.Headed.{Headed}
+use Rattle.headed_rows.specs.Headings.{names_under, rows_under}
 use Rattle.mvd_discovery.specs.Finding.{AreAllRules}
 use Rattle.mvd_laws.specs.Covers.{IsCoverOfAll}
 use Rattle.desk_responses.specs.declared.status.Status.TheVariants.{Yes}

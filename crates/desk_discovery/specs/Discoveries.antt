@@ -12,9 +12,9 @@ use Rattle.dep_model.specs.declared.column_type.ColumnType.TheVariants.{Text}
 use Rattle.dep_model.specs.declared.naming.Naming.{Naming}
 use Rattle.dep_model.specs.declared.naming.Naming.TheVariants.{Bare, Any}
 use Rattle.dep_model.specs.declared.schema.Schema.{Schema}
-use Rattle.fd_discovery.specs.declared.headed_rows.Headed.{Headed}
-use Rattle.fd_discovery.specs.Headers.{naming_under}
-use Rattle.fd_discovery.specs.Headings.{names_under, rows_under}
+use Rattle.headed_rows.specs.declared.headed_rows.Headed.{Headed}
+use Rattle.headed_rows.specs.Headers.{naming_under}
+use Rattle.headed_rows.specs.Headings.{names_under, rows_under}
 use Rattle.fd_discovery.specs.Minimal.{AreAllMinimal}
 use Rattle.fd_search.specs.Small.{AreAllSmall}
 use Rattle.schema_printer.specs.Printing.{words_text, dependency_text, lines_text}

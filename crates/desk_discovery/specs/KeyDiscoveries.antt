@@ -2,10 +2,10 @@
 use Rattle.std.specs.Prelude.{◌⊎◌, ℕ, List, ◌++◌, codes, length, map}
 use Rattle.std.specs.List.{flat_map}
 use Rattle.attr_sets.specs.Attributes.{Attributes}
-use Rattle.fd_discovery.specs.declared.headed_rows.Headed.{Headed}
-use Rattle.fd_discovery.specs.Headers.{naming_under}
-use Rattle.fd_discovery.specs.Headings.{names_under, rows_under}
-use Rattle.row_keys.specs.Keys.{AreRowKeys, HasTooManyKeys}
+use Rattle.headed_rows.specs.declared.headed_rows.Headed.{Headed}
+use Rattle.headed_rows.specs.Headers.{naming_under}
+use Rattle.headed_rows.specs.Headings.{names_under, rows_under}
+use Rattle.fd_search.specs.Keys.{AreRowKeys, HasTooManyKeys}
 use Rattle.schema_printer.specs.Printing.{set_text}
 use Rattle.schema_printer.specs.Spelling.{spelling}
 use Rattle.desk_responses.specs.declared.status.Status.TheVariants.{Yes, Refused}

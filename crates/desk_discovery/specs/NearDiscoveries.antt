@@ -3,9 +3,9 @@ use Rattle.std.specs.Prelude.{◌⊎◌, ◌==◌, ℕ, List, [], ◌∷◌, ◌
 use Rattle.std.specs.Fmt.{decimal}
 use Rattle.dep_model.specs.Dependencies.{Dependency}
 use Rattle.dep_model.specs.declared.naming.Naming.{Naming}
-use Rattle.fd_discovery.specs.declared.headed_rows.Headed.{Headed}
-use Rattle.fd_discovery.specs.Headers.{naming_under}
-use Rattle.fd_discovery.specs.Headings.{names_under, rows_under}
+use Rattle.headed_rows.specs.declared.headed_rows.Headed.{Headed}
+use Rattle.headed_rows.specs.Headers.{naming_under}
+use Rattle.headed_rows.specs.Headings.{names_under, rows_under}
 use Rattle.near_rules.specs.NearRules.{AreNearRules, IsFirstExceeded, IsTriedWhole}
 use Rattle.near_rules.specs.declared.found.TooManyTried.{TooManyTried}
 use Rattle.schema_printer.specs.Printing.{dependency_text, lines_text}

@@ -1,14 +1,14 @@
 ghost use Rattle.std.specs.Prelude.{◌≤◌, ◌<◌, length};
 ghost use Rattle.dep_model.specs.Tuples.{IsOver};
-ghost use Rattle.fd_discovery.specs.Headers.{IsHeaderWithin};
-ghost use Rattle.fd_discovery.specs.Headings.{names_under, rows_under};
-ghost use Rattle.fd_discovery.specs.declared.limits.TheConstants.{MOST_ROWS_WITH_ALL, WIDEST_WITH_ALL};
+ghost use Rattle.headed_rows.specs.Headers.{IsHeaderWithin};
+ghost use Rattle.headed_rows.specs.Headings.{names_under, rows_under};
+ghost use Rattle.row_store.specs.declared.limits.TheConstants.{MOST_ROWS_WITH_ALL, WIDEST_WITH_ALL};
 ghost use Rattle.desk_discovery.specs.AllDiscoveries.{FindsAllRules};
 ghost use Rattle.desk_responses.specs.Responses.{RespondsAs};
 
 use crate::discovering::rules_response;
 use desk_responses::{EarlyExit, Response};
-use fd_discovery::Headed;
+use headed_rows::Headed;
 use mvd_discovery::discover_all;
 use row_store::Hashing;
 use std::alloc::Global;

@@ -6,24 +6,26 @@ ghost use Rattle.dep_model.specs.Deps.{dependencies_of, IsDepWithin};
 ghost use Rattle.dep_model.specs.Failures.{RefusesAs};
 ghost use Rattle.dep_model.specs.Implication.{Implies};
 ghost use Rattle.dep_model.specs.Tuples.{IsOver};
-ghost use Rattle.fd_discovery.specs.Headers.{IsColumnHeader};
-ghost use Rattle.fd_discovery.specs.Headings.{names_under, rows_under};
+ghost use Rattle.headed_rows.specs.Headers.{IsColumnHeader};
+ghost use Rattle.headed_rows.specs.Headings.{names_under, rows_under};
 ghost use Rattle.fd_discovery.specs.Minimal.{AreAllMinimal};
-ghost use Rattle.fd_discovery.specs.declared.limits.TheConstants.{MOST_HEADED_ROWS, WIDEST_HEADED};
+ghost use Rattle.row_store.specs.declared.limits.TheConstants.{MOST_HEADED_ROWS, WIDEST_HEADED};
 ghost use Rattle.desk_discovery.specs.Discoveries.{FindsRules, HasTextColumns, column_text, found_text, left_sides_text, rules_text};
 ghost use Rattle.desk_responses.specs.ResponseValues.{Says};
 ghost use Rattle.desk_responses.specs.Responses.{response_value, ExitsAs, RespondsAs};
 
+use arguments::Argument;
 use attr_sets::AttrSet;
+use byte_texts::add;
 use candidate_search::TooManyLeftSides;
 use dep_model::{ColumnType, Dep, Failure, Name, OutOfMemory, Schema};
-use desk_outside::Argument;
 use desk_responses::{EarlyExit, Response, Status};
 use desk_texts::overlong_comment;
-use fd_discovery::{Headed, discover, naming_under};
+use fd_discovery::discover;
 use fd_search::minimal_dependencies;
+use headed_rows::{Headed, naming_under};
 use row_store::{Hashing, Rows};
-use schema_printer::{add, add_name, print_deps};
+use schema_printer::{add_name, print_deps};
 use std::alloc::Global;
 
 /// The most columns of which all sets are tried; of more columns the candidates are tried that the rows

@@ -2,9 +2,9 @@ ghost use Rattle.std.specs.Prelude.{◌≡◌, ◌≤◌, ◌<◌, length, flat_
 ghost use Rattle.attr_sets.specs.Sets.{attributes};
 ghost use Rattle.dep_model.specs.Plans.{schemes_of};
 ghost use Rattle.dep_model.specs.Tuples.{IsOver};
-ghost use Rattle.fd_discovery.specs.Headers.{IsColumnHeader};
-ghost use Rattle.fd_discovery.specs.Headings.{names_under, rows_under};
-ghost use Rattle.fd_discovery.specs.declared.limits.TheConstants.{MOST_HEADED_ROWS};
+ghost use Rattle.headed_rows.specs.Headers.{IsColumnHeader};
+ghost use Rattle.headed_rows.specs.Headings.{names_under, rows_under};
+ghost use Rattle.row_store.specs.declared.limits.TheConstants.{MOST_HEADED_ROWS};
 ghost use Rattle.schema_printer.specs.Printing.{set_text};
 ghost use Rattle.schema_printer.specs.Spelling.{printed_names_of};
 ghost use Rattle.desk_discovery.specs.KeyDiscoveries.{FindsRowKeys, row_keys_text, too_many_row_keys_text};
@@ -13,15 +13,16 @@ ghost use Rattle.desk_responses.specs.Responses.{response_value, ExitsAs, Respon
 ghost use Rattle.desk_texts.specs.Texts.{line};
 
 use crate::discovering::schema_of_columns;
+use arguments::Argument;
 use attr_sets::AttrSet;
+use byte_texts::add;
 use dep_model::{Failure, Name, OutOfMemory, Schema};
-use desk_outside::Argument;
 use desk_responses::{EarlyExit, Response, Status};
 use desk_texts::line_of;
-use fd_discovery::Headed;
-use row_keys::row_keys;
+use fd_search::row_keys;
+use headed_rows::Headed;
 use row_store::Hashing;
-use schema_printer::{add, add_set};
+use schema_printer::add_set;
 use std::alloc::Global;
 
 /// The minimal keys of rows, each on a line, by the names of their columns.

@@ -1,6 +1,5 @@
-//! Between dependencies and relations: the relation that exhibits a schema, and what the rows of a
-//! file obey: their minimal dependencies, those of few attributes on the left, those that nearly
-//! hold, all of either kind, and their minimal keys.
+//! What the rows of a file obey: their minimal dependencies, those of few attributes on the left,
+//! those that nearly hold, all of either kind, and their minimal keys.
 //!
 //! Each is a pure function of values.
 //!
@@ -9,16 +8,12 @@
 
 mod all;
 mod discovering;
-mod exhibits;
-mod multivalued;
 mod keys;
 mod near;
 mod small;
 
 pub use all::discover_all_rules;
 pub use discovering::{WIDEST_TRIED, discover_rules};
-pub use exhibits::exhibit_relation;
 pub use keys::discover_keys;
 pub use near::discover_near_rules;
 pub use small::discover_small_rules;
-pub use multivalued::multivalued_exit;

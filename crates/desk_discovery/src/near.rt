@@ -1,9 +1,9 @@
 ghost use Rattle.std.specs.Prelude.{◌≡◌, ◌++◌, ◌≤◌, ◌<◌, length, IfOk, OnOk};
 ghost use Rattle.dep_model.specs.Deps.{dependencies_of};
 ghost use Rattle.dep_model.specs.Tuples.{IsOver};
-ghost use Rattle.fd_discovery.specs.Headers.{IsColumnHeader};
-ghost use Rattle.fd_discovery.specs.Headings.{names_under, rows_under};
-ghost use Rattle.fd_discovery.specs.declared.limits.TheConstants.{MOST_HEADED_ROWS};
+ghost use Rattle.headed_rows.specs.Headers.{IsColumnHeader};
+ghost use Rattle.headed_rows.specs.Headings.{names_under, rows_under};
+ghost use Rattle.row_store.specs.declared.limits.TheConstants.{MOST_HEADED_ROWS};
 ghost use Rattle.schema_printer.specs.Printing.{lines_text};
 ghost use Rattle.schema_printer.specs.Spelling.{printed_names_of};
 ghost use Rattle.desk_discovery.specs.NearDiscoveries.{FindsNearRules, change_text, near_lines, near_text};
@@ -11,14 +11,15 @@ ghost use Rattle.desk_responses.specs.ResponseValues.{Says};
 ghost use Rattle.desk_responses.specs.Responses.{response_value, RespondsAs};
 
 use crate::discovering::{left_sides_exit, schema_of_columns};
+use arguments::Argument;
+use byte_texts::{add, add_number};
 use dep_model::{Dep, Failure, Name, OutOfMemory, Schema};
-use desk_outside::Argument;
 use desk_responses::{EarlyExit, Response, Status};
 use desk_texts::overlong_comment;
-use fd_discovery::Headed;
+use headed_rows::Headed;
 use near_rules::{NearRules, near_rules};
 use row_store::Hashing;
-use schema_printer::{add, add_dep, add_number, print_deps};
+use schema_printer::{add_dep, print_deps};
 use std::alloc::Global;
 
 /// The minimal functional dependencies that rows obey but for at most `limit` of them, of at most `most` attributes

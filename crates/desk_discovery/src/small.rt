@@ -5,21 +5,22 @@ ghost use Rattle.candidate_search.specs.Sides.{IsTooManyLeftSides};
 ghost use Rattle.dep_model.specs.Deps.{dependencies_of, IsDepWithin};
 ghost use Rattle.dep_model.specs.Failures.{RefusesAs};
 ghost use Rattle.dep_model.specs.Tuples.{IsOver};
-ghost use Rattle.fd_discovery.specs.Headers.{IsColumnHeader};
-ghost use Rattle.fd_discovery.specs.Headings.{names_under, rows_under};
-ghost use Rattle.fd_discovery.specs.declared.limits.TheConstants.{MOST_HEADED_ROWS, WIDEST_HEADED};
+ghost use Rattle.headed_rows.specs.Headers.{IsColumnHeader};
+ghost use Rattle.headed_rows.specs.Headings.{names_under, rows_under};
+ghost use Rattle.row_store.specs.declared.limits.TheConstants.{MOST_HEADED_ROWS, WIDEST_HEADED};
 ghost use Rattle.fd_search.specs.Small.{AreAllSmall};
 ghost use Rattle.desk_discovery.specs.Discoveries.{FindsSmallRules};
 ghost use Rattle.desk_discovery.specs.declared.discovering.TheConstants.{WIDEST_TRIED};
 ghost use Rattle.desk_responses.specs.Responses.{RespondsAs};
 
 use crate::discovering::{WIDEST_TRIED, left_sides_exit, rules_response};
+use arguments::Argument;
 use candidate_search::TooManyLeftSides;
 use dep_model::{Dep, Failure};
-use desk_outside::Argument;
 use desk_responses::{EarlyExit, Response};
-use fd_discovery::{Headed, discover};
+use fd_discovery::discover;
 use fd_search::{few_on_the_left, small_dependencies};
+use headed_rows::Headed;
 use row_store::{Hashing, Rows};
 use std::alloc::Global;
 

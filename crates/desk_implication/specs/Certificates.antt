@@ -9,7 +9,7 @@ use Rattle.derivation.specs.Trees.{Tree}
 use Rattle.desk_responses.specs.declared.status.Status.TheVariants.{Yes, No}
 use Rattle.desk_responses.specs.ResponseValues.{Allowed, Says}
 use Rattle.desk_arguments.specs.Goals.{WithGoal}
-use Rattle.desk_texts.specs.Conclusions.{checked_text, concludes_text}
+use Rattle.desk_implication.specs.Conclusions.{checked_text, concludes_text}
 
 -- yes exactly where the certificate concludes the goal, which is then implied; else no, with both
 abbrev pub Checked : Schema → Tree → Dependency → Allowed

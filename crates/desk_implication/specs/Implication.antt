@@ -7,15 +7,15 @@ use Rattle.dep_model.specs.declared.schema.Schema.{Schema}
 use Rattle.derivation.specs.declared.deriv.Deriv.{Deriv}
 use Rattle.derivation.specs.Derivs.{tree_of}
 use Rattle.dep_basis.specs.Decisions.{IsBrokenBy}
-use Rattle.dep_basis.specs.JoinedProofs.{IsProofOf}
-use Rattle.dep_basis.specs.Proofs.{IsChainIfFunctional, IsDirectUnlessChain}
+use Rattle.basis_proofs.specs.JoinedProofs.{IsProofOf}
+use Rattle.basis_proofs.specs.Proofs.{IsChainIfFunctional, IsDirectUnlessChain}
 use Rattle.short_proofs.specs.Short.{IsShort}
 use Rattle.proof_grammar.specs.Printing.{canonical_certificate}
 use Rattle.desk_responses.specs.declared.status.Status.TheVariants.{Yes, No}
 use Rattle.desk_responses.specs.ResponseValues.{Allowed, Says}
 use Rattle.desk_arguments.specs.Goals.{WithGoal}
 use Rattle.desk_texts.specs.Texts.{yes_text, no_text}
-use Rattle.shown_rows.specs.Shown.{shown_tuples}
+use Rattle.typed_rows.specs.Shown.{shown_tuples}
 
 -- yes exactly where every relation that obeys the schema's dependencies obeys the goal, with a derivation
 -- of the goal, which is the functional chain where the functional part alone implies it, and else a direct

@@ -4,3 +4,5 @@ pub mod Certificates
 pub mod Bases
 pub mod Closures
 pub mod Projections
+pub mod Derivations
+pub mod Conclusions

@@ -8,7 +8,7 @@ use Rattle.fd_closure.specs.LeftSides.{IsWideScheme}
 use Rattle.fd_projection.specs.Projections.{IsProjection, IsCoverWithin}
 use Rattle.fd_projection.specs.Refusals.{IsRefusedProjection}
 use Rattle.fd_projection.specs.declared.refusal.ProjectionRefusal.TheVariants.{TooWide, TooMany}
-use Rattle.schema_parts.specs.Parts.{part_text}
+use Rattle.schema_printer.specs.Parts.{part_text}
 use Rattle.schema_printer.specs.Spelling.{printed_names_of}
 use Rattle.desk_responses.specs.declared.status.Status.TheVariants.{Yes, Refused}
 use Rattle.desk_responses.specs.ResponseValues.{Allowed, Says}

@@ -6,11 +6,11 @@ ghost use Rattle.schema_printer.specs.Spelling.{printed_names_of};
 ghost use Rattle.desk_implication.specs.Bases.{GivesBasis, TellsBasis, basis_text, blocks_text};
 ghost use Rattle.desk_responses.specs.Responses.{response_value, RespondsAs};
 
+use arguments::Argument;
 use attr_sets::AttrSet;
 use dep_basis::basis;
 use dep_model::{OutOfMemory, Schema};
 use desk_arguments::set_of;
-use desk_outside::Argument;
 use desk_responses::{EarlyExit, Response, Status, put_set_line};
 use std::alloc::Global;
 

@@ -6,11 +6,11 @@ ghost use Rattle.derivation.specs.Trees.{Tree};
 ghost use Rattle.desk_implication.specs.Certificates.{Checked, ChecksProof};
 ghost use Rattle.desk_responses.specs.Responses.{response_value, RespondsAs};
 
+use crate::{checked_line, concludes_lines};
+use arguments::Argument;
 use dep_model::{Dep, OutOfMemory, Schema};
 use desk_arguments::goal_of;
-use desk_outside::Argument;
 use desk_responses::{EarlyExit, Response, Status};
-use desk_texts::{checked_line, concludes_lines};
 use proof_text::same_dependency;
 use std::alloc::Global;
 

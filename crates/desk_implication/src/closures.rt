@@ -7,14 +7,15 @@ ghost use Rattle.schema_printer.specs.Spelling.{printed_names_of};
 ghost use Rattle.desk_implication.specs.Closures.{GivesClosure, TellsClosure, ComesAbout, IsBesideText, closure_text, step_text, steps_text};
 ghost use Rattle.desk_responses.specs.Responses.{response_value, RespondsAs};
 
+use arguments::Argument;
 use attr_sets::AttrSet;
+use byte_texts::add;
 use closure_steps::{ClosureStep, closure_steps};
 use dep_basis::closure;
 use dep_model::{OutOfMemory, Schema};
 use desk_arguments::set_of;
-use desk_outside::Argument;
 use desk_responses::{EarlyExit, Response, Status, put_dep, put_line, put_set_line};
-use schema_printer::{add, add_set};
+use schema_printer::add_set;
 use std::alloc::Global;
 
 /// How the closure of a set comes about, step by step.

@@ -10,21 +10,21 @@ ghost use Rattle.desk_responses.specs.ResponseValues.{Says};
 ghost use Rattle.desk_implication.specs.Implication.{Decided, DecidesGoal};
 ghost use Rattle.desk_responses.specs.Responses.{response_value, RespondsAs};
 ghost use Rattle.desk_texts.specs.Texts.{yes_text, no_text};
-ghost use Rattle.shown_rows.specs.Shown.{shown_tuples};
+ghost use Rattle.typed_rows.specs.Shown.{shown_tuples};
 
+use arguments::Argument;
 use attr_sets::AttrSet;
-use dep_basis::Proof;
+use basis_proofs::Proof;
+use byte_texts::add;
 use dep_model::{Dep, OutOfMemory, Schema};
 use derivation::{Deriv, MOST_LEVELS, MOST_NODES};
 use desk_arguments::goal_of;
-use desk_outside::Argument;
 use desk_responses::{EarlyExit, Response, Status};
 use desk_texts::line_of;
 use proof_text::print_proof;
-use schema_printer::add;
 use short_proofs::prove_shortly;
-use shown_rows::print_two_rows;
 use std::alloc::Global;
+use typed_rows::print_two_rows;
 
 /// Whether a schema implies a goal: `yes` with a certificate, or `no` with two tuples that obey the
 /// schema and break the goal.

@@ -8,15 +8,15 @@ ghost use Rattle.fd_projection.specs.Refusals.{IsRefusedProjection};
 ghost use Rattle.desk_responses.specs.ResponseValues.{Says};
 ghost use Rattle.desk_responses.specs.Responses.{response_value, RespondsAs, ExitsAs};
 
+use arguments::Argument;
 use attr_sets::AttrSet;
+use byte_texts::add;
 use dep_model::{Dep, Failure, OutOfMemory, Schema};
 use desk_arguments::set_of;
-use desk_outside::Argument;
 use desk_responses::{EarlyExit, Response, Status, too_wide_exit};
 use desk_texts::{line_of, overlong_comment};
 use fd_projection::{ProjectionRefusal, project};
-use schema_parts::print_part;
-use schema_printer::add;
+use schema_printer::print_part;
 use std::alloc::Global;
 
 /// The functional dependencies inside a set, as a schema of its attributes.

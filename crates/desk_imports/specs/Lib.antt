@@ -1,2 +1,3 @@
 -- The definitions of desk_imports.
 pub mod Imports
+pub mod Columns

@@ -6,8 +6,8 @@ ghost use Rattle.desk_imports.specs.Imports.{ImportsTable, import_response};
 ghost use Rattle.desk_responses.specs.Responses.{RespondsAs};
 
 use crate::refusals::import_refusal_exit;
+use arguments::Argument;
 use dep_model::Failure;
-use desk_outside::Argument;
 use desk_responses::{EarlyExit, Response, Status, bad_table_exit};
 use lexer::without_mark;
 use sql_definitions::{Refusal, Wanted, read_definition, wanted_table};

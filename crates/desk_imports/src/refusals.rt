@@ -5,10 +5,10 @@ ghost use Rattle.desk_imports.specs.Imports.{import_refusal_text, line_and_colum
 ghost use Rattle.desk_responses.specs.ResponseValues.{Says};
 ghost use Rattle.desk_responses.specs.Responses.{ExitsAs};
 
+use arguments::Argument;
+use byte_texts::{add, add_number};
 use dep_model::OutOfMemory;
-use desk_outside::Argument;
 use desk_responses::{EarlyExit, Status};
-use schema_printer::{add, add_number};
 use sql_definitions::{Reason, Refusal};
 use sql_lexemes::{column_at, line_at};
 use std::alloc::Global;

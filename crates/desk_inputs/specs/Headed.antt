@@ -2,12 +2,12 @@
 use Rattle.std.specs.Prelude.{ℕ, List, ◌++◌, codes}
 use Rattle.std.specs.Fmt.{decimal}
 use Rattle.attr_sets.specs.declared.set.TheConstants.{MOST_ATTRIBUTES}
-use Rattle.fd_discovery.specs.declared.headed_rows.Headed.{Headed}
-use Rattle.fd_discovery.specs.declared.headed_rows.Limits.{Limits}
-use Rattle.fd_discovery.specs.declared.limits.TheConstants.{MOST_HEADED_ROWS, MOST_ROWS_WITH_ALL, WIDEST_WITH_ALL}
-use Rattle.fd_discovery.specs.declared.refusal.HeaderRefusal.{HeaderRefusal}
-use Rattle.fd_discovery.specs.Headings.{IsHeadedWithin, IsRefusedWithin, discovered}
-use Rattle.fd_discovery.specs.RefusalTexts.{headed_reason_text, headed_refusal_number}
+use Rattle.headed_rows.specs.declared.headed_rows.Headed.{Headed}
+use Rattle.headed_rows.specs.declared.headed_rows.Limits.{Limits}
+use Rattle.row_store.specs.declared.limits.TheConstants.{MOST_HEADED_ROWS, MOST_ROWS_WITH_ALL, WIDEST_WITH_ALL}
+use Rattle.headed_rows.specs.declared.refusal.HeaderRefusal.{HeaderRefusal}
+use Rattle.headed_rows.specs.Headings.{IsHeadedWithin, IsRefusedWithin, discovered}
+use Rattle.headed_rows.specs.RefusalTexts.{headed_reason_text, headed_refusal_number}
 use Rattle.desk_inputs.specs.declared.headed.Purpose.{Purpose}
 use Rattle.desk_inputs.specs.declared.headed.Purpose.TheVariants as purpose
 use Rattle.desk_inputs.specs.declared.rows.TheConstants.{MOST_CSV_BYTES}

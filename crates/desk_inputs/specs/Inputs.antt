@@ -15,8 +15,8 @@ use Rattle.proof_grammar.specs.Refusals.{IsRefusedCertificate}
 use Rattle.derivation_grammar.specs.Derivations.{Derives}
 use Rattle.derivation_grammar.specs.Refusals.{IsRefusedDerivation}
 use Rattle.desk_inputs.specs.FileKinds.{FileKind}
-use Rattle.desk_texts.specs.ProofTexts.{proof_refusal_text, derivation_refusal_text}
-use Rattle.desk_texts.specs.Refusals.{refusal_text}
+use Rattle.desk_refusals.specs.ProofTexts.{proof_refusal_text, derivation_refusal_text}
+use Rattle.desk_refusals.specs.Refusals.{refusal_text}
 
 -- schemas
 abbrev pub schema_file : FileKind Schema SchemaRefusal

@@ -6,7 +6,7 @@ use Rattle.dep_model.specs.declared.schema.Schema.{Schema}
 use Rattle.schema_printer.specs.Spelling.{printed_names_of}
 use Rattle.plan_reader.specs.declared.reading.TheConstants.{MOST_PLAN_BYTES}
 use Rattle.plan_grammar.specs.Diagnostics.{RefusesPlan}
-use Rattle.named_plans.specs.NamedPlans.{NamedSchemes}
+use Rattle.plan_printer.specs.NamedPlans.{NamedSchemes}
 use Rattle.design_order.specs.Order.{AreNamesInOrder}
 use Rattle.plan_grammar.specs.Meanings.{MeansPlan}
 use Rattle.plan_grammar.specs.Refusals.{plan_diagnostic_kind}

@@ -4,7 +4,7 @@ ghost use Rattle.dep_model.specs.Schemas.{universe_of, ImpliedBy};
 ghost use Rattle.schema_printer.specs.Spelling.{printed_names_of};
 ghost use Rattle.proof_grammar.specs.Diagnostics.{line_diagnostic_of, IsRefusalWithin};
 ghost use Rattle.desk_responses.specs.ResponseValues.{Says};
-ghost use Rattle.desk_texts.specs.ProofTexts.{derivation_refusal_text};
+ghost use Rattle.desk_refusals.specs.ProofTexts.{derivation_refusal_text};
 ghost use Rattle.desk_outside.specs.Begun.{Begins};
 ghost use Rattle.desk_inputs.specs.FilesBegun.{BeginsFront};
 ghost use Rattle.desk_inputs.specs.FileKinds.{FileStops, IsFile};
@@ -13,11 +13,12 @@ ghost use Rattle.desk_inputs.specs.Readings.{Reading, files_in, Shows};
 ghost use Rattle.desk_responses.specs.Responses.{ExitsAs};
 
 use crate::read::open_file;
+use arguments::Argument;
 use dep_model::{Dep, Failure, Schema};
 use derivation_text::read_derivation;
-use desk_outside::{Argument, FileSource};
+use desk_outside::FileSource;
+use desk_refusals::derivation_refusal_line;
 use desk_responses::{EarlyExit, Status};
-use desk_texts::derivation_refusal_line;
 use proof_text::{MOST_PROOF_BYTES, ProofRefusal};
 use std::alloc::Global;
 

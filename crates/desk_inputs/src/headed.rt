@@ -1,8 +1,8 @@
 ghost use Rattle.std.specs.Prelude.{◌≡◌, ◌≤◌, ◌<◌, ◌∷◌, [], length, OnOk, IfOk, IfErr};
 ghost use Rattle.dep_model.specs.Tuples.{IsOver};
-ghost use Rattle.fd_discovery.specs.Headers.{IsHeaderWithin};
-ghost use Rattle.fd_discovery.specs.Headings.{names_under, rows_under};
-ghost use Rattle.fd_discovery.specs.declared.limits.TheConstants.{MOST_HEADED_ROWS};
+ghost use Rattle.headed_rows.specs.Headers.{IsHeaderWithin};
+ghost use Rattle.headed_rows.specs.Headings.{names_under, rows_under};
+ghost use Rattle.row_store.specs.declared.limits.TheConstants.{MOST_HEADED_ROWS};
 ghost use Rattle.desk_outside.specs.Begun.{Begins};
 ghost use Rattle.desk_inputs.specs.FilesBegun.{BeginsFront};
 ghost use Rattle.desk_inputs.specs.FileKinds.{FileStops, IsFile};
@@ -13,16 +13,15 @@ ghost use Rattle.desk_responses.specs.Responses.{ExitsAs};
 
 use crate::read::open_file;
 use crate::rows::MOST_CSV_BYTES;
+use arguments::Argument;
 use attr_sets::MOST_ATTRIBUTES;
+use byte_texts::{add, add_number};
 use dep_model::{Failure, OutOfMemory};
-use desk_outside::{Argument, FileSource};
+use desk_outside::FileSource;
 use desk_responses::{EarlyExit, Status};
 use desk_texts::add_displayed;
-use fd_discovery::{
-    HeaderRefusal, Headed, Limits, MOST_HEADED_ROWS, MOST_ROWS_WITH_ALL, WIDEST_HEADED,
-    WIDEST_WITH_ALL, read_headed,
-};
-use schema_printer::{add, add_number};
+use headed_rows::{Headed, HeaderRefusal, Limits, read_headed};
+use row_store::{MOST_HEADED_ROWS, MOST_ROWS_WITH_ALL, WIDEST_HEADED, WIDEST_WITH_ALL};
 use std::alloc::Global;
 
 /// What the rows of a file under names of their own are read for.

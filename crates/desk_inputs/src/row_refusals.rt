@@ -6,10 +6,11 @@ ghost use Rattle.csv_rows.specs.RefusalTexts.{row_reason_text, type_of};
 ghost use Rattle.schema_printer.specs.Printing.{type_word};
 ghost use Rattle.desk_inputs.specs.Rows.{row_refusal_text};
 
+use byte_texts::{add, add_number};
 use csv_rows::{RowRefusal, type_of};
 use dep_model::{OutOfMemory, Schema};
 use desk_responses::put_name;
-use schema_printer::{add, add_number, add_type_word};
+use schema_printer::add_type_word;
 use std::alloc::Global;
 
 /// The line that words a refusal of rows.

@@ -13,9 +13,10 @@ ghost use Rattle.desk_inputs.specs.Rows.{rows_file, row_refusal_text};
 
 use crate::read::open_file;
 use crate::row_refusals::row_refusal_line;
+use arguments::Argument;
 use csv_rows::{RowRefusal, read_rows};
 use dep_model::{Failure, Schema};
-use desk_outside::{Argument, FileSource};
+use desk_outside::FileSource;
 use desk_responses::{EarlyExit, Status};
 use row_store::Rows;
 use std::alloc::Global;

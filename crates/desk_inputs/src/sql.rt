@@ -9,7 +9,8 @@ ghost use Rattle.desk_inputs.specs.Sql.{sql_file};
 ghost use Rattle.desk_responses.specs.Responses.{ExitsAs};
 
 use crate::read::open_file;
-use desk_outside::{Argument, FileSource};
+use arguments::Argument;
+use desk_outside::FileSource;
 use desk_responses::EarlyExit;
 use std::alloc::Global;
 

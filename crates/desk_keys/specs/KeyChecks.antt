@@ -13,7 +13,7 @@ use Rattle.dep_model.specs.Schemas.{names_of, width_of, universe_of, theory_of}
 use Rattle.dep_model.specs.Tuples.{Relation}
 use Rattle.dep_model.specs.declared.schema.Schema.{Schema}
 use Rattle.schema_printer.specs.Printing.{set_text}
-use Rattle.shown_rows.specs.Shown.{shown_tuples}
+use Rattle.typed_rows.specs.Shown.{shown_tuples}
 use Rattle.schema_printer.specs.Spelling.{printed_names_of}
 use Rattle.desk_responses.specs.declared.status.Status.TheVariants.{Yes, No}
 use Rattle.desk_responses.specs.ResponseValues.{Allowed, Says}

@@ -7,21 +7,22 @@ ghost use Rattle.dep_model.specs.Dependencies.{fd};
 ghost use Rattle.dep_model.specs.Keys.{IsSuperkey};
 ghost use Rattle.dep_model.specs.Schemas.{width_of, universe_of, theory_of};
 ghost use Rattle.schema_printer.specs.Spelling.{printed_names_of};
-ghost use Rattle.shown_rows.specs.Shown.{shown_tuples};
+ghost use Rattle.typed_rows.specs.Shown.{shown_tuples};
 ghost use Rattle.desk_keys.specs.KeyChecks.{ChecksKey, TestsKey, IsKeyText, IsNoSuperkey, key_within_text, no_superkey_text, without_text};
 ghost use Rattle.desk_responses.specs.Responses.{response_value, RespondsAs};
 
+use arguments::Argument;
 use attr_sets::AttrSet;
+use byte_texts::add;
 use closure_steps::{Without, closures_without};
 use dep_basis::{Decision, closure, decide};
 use dep_model::{Dep, OutOfMemory, Schema};
 use desk_arguments::set_of;
-use desk_outside::Argument;
 use desk_responses::{EarlyExit, Response, Status};
 use key_listing::one_key;
-use schema_printer::{add, add_set};
-use shown_rows::print_two_rows;
+use schema_printer::add_set;
 use std::alloc::Global;
+use typed_rows::print_two_rows;
 
 /// Whether a set is a key of the universe by all dependencies, and why.
 pub fn check_key(alloc: Global, schema: &Schema, set: &Argument) -> Result<Response, EarlyExit>

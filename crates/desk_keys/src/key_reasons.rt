@@ -13,10 +13,10 @@ ghost use Rattle.desk_responses.specs.Responses.{response_value, RespondsAs};
 
 use crate::keys::{keys_exit, set_lines};
 use attr_sets::AttrSet;
+use byte_texts::add;
 use dep_model::{Failure, OutOfMemory, Schema};
 use desk_responses::{EarlyExit, Response, Status, put_set_line};
 use key_listing::keys;
-use schema_printer::add;
 use std::alloc::Global;
 
 /// All keys of a schema's universe, below what they have in common and what is in none of them.

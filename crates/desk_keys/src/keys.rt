@@ -10,11 +10,12 @@ ghost use Rattle.desk_keys.specs.Keys.{ListsKeys, RefusesKeys, sets_text, too_ma
 ghost use Rattle.desk_responses.specs.Responses.{response_value, RespondsAs, ExitsAs};
 
 use attr_sets::AttrSet;
+use byte_texts::add;
 use dep_model::{Failure, OutOfMemory, Schema};
 use desk_responses::{EarlyExit, Response, Status, too_wide_exit};
 use desk_texts::line_of;
 use key_listing::{KeyRefusal, keys};
-use schema_printer::{add, add_set};
+use schema_printer::add_set;
 use std::alloc::Global;
 
 /// All keys of a schema's universe, each on a line.

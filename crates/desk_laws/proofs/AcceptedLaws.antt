@@ -12,7 +12,7 @@ use Rattle.derivation.specs.Conclusions.{Proves}
 use Rattle.derivation.specs.Derivs.{tree_of}
 use Rattle.derivation.specs.Trees.{Tree}
 use Rattle.derivation.proofs.RuleTableLemmas.{the_ok}
-use Rattle.dep_basis.specs.JoinedProofs.{IsProofOf}
+use Rattle.basis_proofs.specs.JoinedProofs.{IsProofOf}
 use Rattle.desk_outside.specs.Files.{Files, bytes_of_file}
 use Rattle.schema_grammar.proofs.DeclaredNames.{declared_read_back}
 use Rattle.schema_reader.specs.declared.goal.TheConstants.{MOST_GOAL_BYTES}

@@ -34,7 +34,7 @@ use Rattle.key_listing.specs.Listing.{AreManyKeys}
 use Rattle.fd_closure.specs.LeftSides.{IsWideScheme}
 use Rattle.key_listing.specs.Refusals.{IsTooWide}
 use Rattle.chase_laws.specs.Rounds.{RoundsExceed}
-use Rattle.named_plans.specs.NamedPlans.{NamedSchemes}
+use Rattle.plan_printer.specs.NamedPlans.{NamedSchemes}
 use Rattle.design_order.specs.Order.{AreNamesInOrder}
 use Rattle.design_order.proofs.OrderLemmas.{one_names}
 use Rattle.desk_outside.specs.Files.{Files}

@@ -14,7 +14,7 @@ use Rattle.proof_text.specs.declared.text.TheConstants.{MOST_PROOF_BYTES}
 use Rattle.schema_grammar.specs.Texts.{declarations_of}
 use Rattle.desk_arguments.specs.Goals.{IsGoal, WithGoal}
 use Rattle.desk_cli.specs.Performs.{Answers, Performs, Does}
-use Rattle.desk_derivations.specs.Derivations.{DerivationChecked}
+use Rattle.desk_implication.specs.Derivations.{DerivationChecked}
 use Rattle.desk_inputs.specs.FileKinds.{IsFile, WithFile}
 use Rattle.desk_inputs.specs.Inputs.{derivation_file, schema_file}
 use Rattle.desk_inputs.specs.Readings.{known_files}

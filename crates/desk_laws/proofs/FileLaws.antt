@@ -16,13 +16,13 @@ use Rattle.dep_model.specs.Projections.{Covers}
 use Rattle.dep_model.specs.Schemas.{names_of, width_of}
 use Rattle.dep_model.specs.Tuples.{Relation}
 use Rattle.dep_model.specs.declared.schema.Schema.{Schema}
-use Rattle.fd_discovery.proofs.UniqueHeaded.{never_both}
-use Rattle.fd_discovery.specs.Headings.{discovered, IsRefusedWithin, names_under, rows_under}
-use Rattle.fd_discovery.specs.declared.headed_rows.Headed.{Headed}
+use Rattle.headed_rows.proofs.UniqueHeaded.{never_both}
+use Rattle.headed_rows.specs.Headings.{discovered, IsRefusedWithin, names_under, rows_under}
+use Rattle.headed_rows.specs.declared.headed_rows.Headed.{Headed}
 use Rattle.lexer.specs.Bytes.{number_of}
 use Rattle.near_rules.specs.NearRules.{IsFirstExceeded, IsTriedWhole}
-use Rattle.row_keys.specs.Keys.{HasTooManyKeys}
-use Rattle.fd_discovery.specs.declared.headed_rows.Limits.{Limits}
+use Rattle.fd_search.specs.Keys.{HasTooManyKeys}
+use Rattle.headed_rows.specs.declared.headed_rows.Limits.{Limits}
 use Rattle.table_join.specs.Answers.{IsBeyondLimit, IsWithinLimit, tables_from_last}
 use Rattle.table_join.specs.declared.refusal.JoinRefusal.TheVariants.{NotCovered, TooManyRows}
 use Rattle.table_join.specs.Tables.{PartialRelation, table_of_part, tables_of, plan_of_tables}
@@ -39,7 +39,7 @@ use Rattle.desk_inputs.specs.FileKinds.{FileStops, IsFile, WithFile}
 use Rattle.desk_inputs.specs.Headed.{headed_file, headed_file_for, imported, imported_file, whole_file, wholly_discovered}
 use Rattle.desk_words.specs.Forms.{after_discover, form_of, form_over_rows, form_over_schema, schema_and_several, are_one_to_64, after_import, word_alone}
 use Rattle.desk_words.specs.Numbers.{is_left_bound, is_short_number, is_row_bound}
-use Rattle.desk_columns.specs.Imports.{ImportsColumns}
+use Rattle.desk_imports.specs.Columns.{ImportsColumns}
 use Rattle.desk_inputs.specs.Inputs.{schema_file}
 use Rattle.desk_cli.specs.Performs.{Answers, AnswersRules, Performs, Does}
 use Rattle.desk_inputs.specs.Readings.{known_files}

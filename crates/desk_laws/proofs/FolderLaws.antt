@@ -5,10 +5,10 @@ use Rattle.attr_sets.specs.declared.set.AttrSet.{AttrSet}
 use Rattle.dep_model.specs.Plans.{schemes_of}
 use Rattle.dep_model.specs.Tuples.{Relation}
 use Rattle.dep_model.specs.declared.schema.Schema.{Schema}
-use Rattle.normal_forms.specs.declared.form.Form.{Form}
-use Rattle.normal_forms.specs.declared.form.Form.TheVariants.{Third, Bcnf, Fourth}
+use Rattle.dep_model.specs.declared.form.Form.{Form}
+use Rattle.dep_model.specs.declared.form.Form.TheVariants.{Third, Bcnf, Fourth}
 use Rattle.table_names.specs.TableNames.{GivenNames}
-use Rattle.named_plans.specs.NamedPlans.{NamedSchemes}
+use Rattle.plan_printer.specs.NamedPlans.{NamedSchemes}
 use Rattle.desk_cli.specs.Performs.{Answers, Does, Performs}
 use Rattle.desk_designs.specs.Designs.{WithoutMissing}
 use Rattle.desk_designs.specs.Joins.{IsTooLarge, WithoutLoss}

@@ -19,16 +19,16 @@ use Rattle.import_laws.specs.PrintedDesigns.{IsPrintedDesign}
 use Rattle.import_laws.specs.ReadTables.{named}
 use Rattle.lexer.specs.Lines.{without_mark}
 use Rattle.missing_values.specs.Missing.{NeverMissing}
-use Rattle.named_plans.specs.NamedPlans.{AreApart, NamedSchemes}
-use Rattle.normal_forms.specs.declared.form.Form.{Form}
-use Rattle.normal_forms.specs.declared.form.Form.TheVariants.{Third, Bcnf, Fourth}
+use Rattle.plan_printer.specs.NamedPlans.{AreApart, NamedSchemes}
+use Rattle.dep_model.specs.declared.form.Form.{Form}
+use Rattle.dep_model.specs.declared.form.Form.TheVariants.{Third, Bcnf, Fourth}
 use Rattle.plan_grammar.proofs.PlanLaws.{plan_names_apart}
 use Rattle.plan_laws.proofs.FormPlans.{form_is_plan}
 use Rattle.plan_laws.proofs.MissingAnswers.{finds_there, one_design_of}
 use Rattle.plan_laws.proofs.NameLaws.{none_given}
 use Rattle.plan_laws.proofs.OrderedNames.{stay_apart}
 use Rattle.plan_laws.proofs.PlanLengths.{form_length, ordered_length}
-use Rattle.plan_grammar.specs.declared.bounds.TheConstants.{MOST_SCHEMES}
+use Rattle.plans.specs.declared.bounds.TheConstants.{MOST_SCHEMES}
 use Rattle.plan_reader.specs.declared.reading.TheConstants.{MOST_PLAN_BYTES}
 use Rattle.plans.proofs.PlanLemmas.{plan_are_schemes}
 use Rattle.schema_grammar.proofs.DeclaredNames.{declared_are_names}

@@ -12,8 +12,8 @@ use Rattle.dep_model.specs.declared.schema.Schema.{Schema}
 use Rattle.derivation.specs.Trees.{Tree}
 use Rattle.derivation_grammar.specs.Derivations.{Derives}
 use Rattle.desk_outside.specs.Files.{Files}
-use Rattle.fd_discovery.specs.declared.headed_rows.Headed.{Headed}
-use Rattle.fd_discovery.specs.declared.headed_rows.Limits.{Limits}
+use Rattle.headed_rows.specs.declared.headed_rows.Headed.{Headed}
+use Rattle.headed_rows.specs.declared.headed_rows.Limits.{Limits}
 use Rattle.implication_laws.specs.OneAnswer.{AllowsOne}
 use Rattle.implication_laws.proofs.StepLaws.{With-alike}
 use Rattle.plan_grammar.proofs.PlanLaws.{lines_within, lines_not_empty}
@@ -30,7 +30,7 @@ use Rattle.desk_inputs.specs.Headed.{headed_file_for}
 use Rattle.desk_inputs.specs.Inputs.{derivation_file, proof_file, schema_file}
 use Rattle.desk_inputs.specs.Parts.{ArePartFiles, PartsStop, WithParts, part_file}
 use Rattle.desk_inputs.specs.Plans.{MeansTables, plan_file}
-use Rattle.named_plans.specs.NamedPlans.{NamedSchemes}
+use Rattle.plan_printer.specs.NamedPlans.{NamedSchemes}
 use Rattle.desk_inputs.specs.Rows.{rows_file}
 use Rattle.desk_laws.proofs.OneFile.{goes, one_after, one_stop, one_view}
 use Rattle.desk_laws.proofs.OneText.{derivation_text_once, headed_text_once, names_and_rows, part_text_once, plan_tables_once, proof_text_once, rows_text_once, schema_text_once, MeansNamesAndRows, MeansTable}

@@ -20,7 +20,7 @@ use Rattle.alike_laws.specs.SameDeclarations.{DeclareTheSame}
 use Rattle.implication_laws.specs.OneAnswer.{AllowsOne}
 use Rattle.implication_laws.proofs.OneAnswer.{one_mvd, not_functional}
 use Rattle.implication_laws.proofs.StepLaws.{same_says}
-use Rattle.desk_discovery.specs.Multivalued.{multivalued_text}
+use Rattle.desk_responses.specs.Multivalued.{multivalued_text}
 use Rattle.desk_responses.specs.ResponseValues.{ResponseValue, Says, text_only}
 use Rattle.desk_responses.specs.declared.status.Status.TheVariants.{Yes, Refused}
 use Rattle.desk_measures.specs.Findings.{Finding, FindsBelow, status_of}

@@ -1,7 +1,7 @@
 -- Two answers where a page is asked for are equal, or both say yes.
 use Rattle.std.proofs.Common.{◌≡◌, ℕ, List, refl, inl, inr}
 use Rattle.dep_model.specs.declared.schema.Schema.{Schema}
-use Rattle.named_plans.specs.NamedPlans.{NamedSchemes}
+use Rattle.plan_printer.specs.NamedPlans.{NamedSchemes}
 use Rattle.alike_laws.proofs.Files.{with_plan_file_moved}
 use Rattle.alike_laws.proofs.Rebuilt.{carried, own_frame, rebuilt}
 use Rattle.alike_laws.specs.SameDeclarations.{DeclareTheSame}

@@ -8,7 +8,7 @@ use Rattle.dep_model.specs.Schemas.{width_of}
 use Rattle.dep_model.specs.Tuples.{Relation}
 use Rattle.dep_model.specs.declared.column_type.ColumnType.TheVariants.{Text}
 use Rattle.dep_model.specs.declared.schema.Schema.{Schema}
-use Rattle.named_plans.specs.NamedPlans.{NamedSchemes}
+use Rattle.plan_printer.specs.NamedPlans.{NamedSchemes}
 use Rattle.desk_outside.specs.Files.{Files}
 use Rattle.schema_grammar.specs.Declarations.{Declarations}
 use Rattle.schema_grammar.specs.Schemas.{MeansSchema}
@@ -54,7 +54,7 @@ use Rattle.desk_cli.specs.Performs.{AnswersPlan, AnswersRows, AnswersSchema, Doe
 use Rattle.desk_measures.specs.Measures.{MeasuresRows}
 use Rattle.desk_measures.specs.Untyped.{HasTextsAlone}
 use Rattle.desk_implication.specs.Certificates.{ChecksProof}
-use Rattle.desk_derivations.specs.Derivations.{ChecksDerivation}
+use Rattle.desk_implication.specs.Derivations.{ChecksDerivation}
 use Rattle.desk_covers.specs.CoverChecks.{ChecksCover}
 use Rattle.desk_implication.specs.Implication.{DecidesGoal}
 use Rattle.desk_covers.specs.Sameness.{ChecksSame}

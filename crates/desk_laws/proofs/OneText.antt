@@ -17,10 +17,10 @@ use Rattle.derivation_grammar.proofs.TextLaws.{reading_law, refusal_law}
 use Rattle.derivation_grammar.specs.Derivations.{Derives}
 use Rattle.derivation_grammar.specs.Refusals.{IsRefusedDerivation}
 use Rattle.derivation_grammar.specs.Texts.{read_derivation}
-use Rattle.fd_discovery.proofs.UniqueHeaded.{names_same, rows_same, refused_same, never_both}
-use Rattle.fd_discovery.specs.Headings.{IsHeadedWithin, IsRefusedWithin, names_under, rows_under}
-use Rattle.fd_discovery.specs.declared.headed_rows.Headed.{Headed}
-use Rattle.fd_discovery.specs.declared.headed_rows.Limits.{Limits}
+use Rattle.headed_rows.proofs.UniqueHeaded.{names_same, rows_same, refused_same, never_both}
+use Rattle.headed_rows.specs.Headings.{IsHeadedWithin, IsRefusedWithin, names_under, rows_under}
+use Rattle.headed_rows.specs.declared.headed_rows.Headed.{Headed}
+use Rattle.headed_rows.specs.declared.headed_rows.Limits.{Limits}
 use Rattle.plan_grammar.proofs.ExactLaws.{plan_one_meaning, plan_one_refusal, plan_never_both}
 use Rattle.plan_grammar.specs.Diagnostics.{RefusesPlan}
 use Rattle.plan_grammar.specs.Meanings.{MeansPlan}
@@ -34,7 +34,7 @@ use Rattle.schema_grammar.proofs.SchemaLaws.{schema-law}
 use Rattle.schema_grammar.specs.Schemas.{MeansSchema, RefusesSchema}
 use Rattle.schema_grammar.specs.Texts.{read_text}
 use Rattle.table_join.specs.Tables.{PartialRelation, table_of_part}
-use Rattle.named_plans.specs.NamedPlans.{NamedSchemes}
+use Rattle.plan_printer.specs.NamedPlans.{NamedSchemes}
 use Rattle.design_order.specs.Order.{AreNamesInOrder}
 use Rattle.design_order.proofs.OrderLemmas.{one_names}
 use Rattle.desk_inputs.specs.Plans.{MeansTables}

@@ -9,12 +9,12 @@ use Rattle.dep_model.specs.Dependencies.{Dependency}
 use Rattle.dep_model.specs.Tuples.{Relation}
 use Rattle.dep_model.specs.declared.schema.Schema.{Schema}
 use Rattle.desk_outside.specs.Files.{Files}
-use Rattle.fd_discovery.specs.Headings.{discovered, names_under}
-use Rattle.fd_discovery.specs.declared.headed_rows.Headed.{Headed}
+use Rattle.headed_rows.specs.Headings.{discovered, names_under}
+use Rattle.headed_rows.specs.declared.headed_rows.Headed.{Headed}
 use Rattle.fd_search.specs.Small.{AreAllSmall}
 use Rattle.near_rules.specs.NearRules.{AreNearRules, IsFirstExceeded, IsTriedWhole}
 use Rattle.near_rules.specs.declared.found.TooManyTried.{TooManyTried}
-use Rattle.row_keys.specs.Keys.{AreRowKeys, HasTooManyKeys}
+use Rattle.fd_search.specs.Keys.{AreRowKeys, HasTooManyKeys}
 use Rattle.sample_rows.specs.declared.rows.TheConstants.{MOST_PERSONS}
 use Rattle.implication_laws.proofs.OneAnswer.{one_near_answer, one_row_keys_answer, one_rules_answer, one_small_answer, one_whole_answer}
 use Rattle.plan_laws.proofs.SampleAnswers.{one_sampled}
@@ -25,8 +25,8 @@ use Rattle.desk_discovery.specs.NearDiscoveries.{near_text}
 use Rattle.desk_discovery.specs.KeyDiscoveries.{row_keys_text, too_many_row_keys_text}
 use Rattle.desk_discovery.specs.declared.discovering.TheConstants.{WIDEST_TRIED}
 use Rattle.desk_inputs.specs.FileKinds.{IsFile}
-use Rattle.desk_columns.proofs.LawLemmas.{import_once}
-use Rattle.desk_columns.specs.Imports.{ImportsColumns}
+use Rattle.desk_imports.proofs.LawLemmas.{import_once}
+use Rattle.desk_imports.specs.Columns.{ImportsColumns}
 use Rattle.desk_inputs.specs.Headed.{headed_file, imported, wholly_discovered}
 use Rattle.desk_inputs.specs.Inputs.{schema_file}
 use Rattle.desk_inputs.specs.Readings.{known_files}

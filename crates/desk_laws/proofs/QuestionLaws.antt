@@ -15,7 +15,7 @@ use Rattle.schema_grammar.specs.Declarations.{Declarations}
 use Rattle.schema_grammar.specs.Sets.{MeansSet, read_set}
 use Rattle.schema_grammar.proofs.SetLaws.{set-law, set-refusal-law}
 use Rattle.schema_match.specs.Columns.{SameNames, undeclared_attributes}
-use Rattle.named_plans.specs.NamedPlans.{NamedSchemes}
+use Rattle.plan_printer.specs.NamedPlans.{NamedSchemes}
 use Rattle.desk_outside.specs.Files.{Files}
 use Rattle.desk_responses.specs.ResponseValues.{ResponseValue, Allowed}
 use Rattle.desk_implication.specs.Bases.{TellsBasis}

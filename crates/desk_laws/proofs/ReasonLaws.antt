@@ -14,12 +14,12 @@ use Rattle.desk_inputs.specs.Readings.{known_files}
 use Rattle.desk_outside.specs.Files.{Files}
 use Rattle.desk_designs.specs.Decompositions.{IsSplitInForm, SplitStops, ShowsPlan, WithPlanInForm}
 use Rattle.desk_designs.specs.Synthesis.{Synthesizes}
-use Rattle.desk_reasons.specs.SplitReasons.{AreSplitReasons, ExplainsCuts}
-use Rattle.desk_reasons.specs.SynthesisReasons.{AreSynthesisReasons, ExplainsSynthesis}
+use Rattle.desk_designs.specs.SplitReasons.{AreSplitReasons, ExplainsCuts}
+use Rattle.desk_designs.specs.SynthesisReasons.{AreSynthesisReasons, ExplainsSynthesis}
 use Rattle.desk_responses.specs.Reasons.{Explained}
 use Rattle.desk_responses.specs.ResponseValues.{ResponseValue, Allowed, With}
-use Rattle.normal_forms.specs.declared.form.Form.{Form}
-use Rattle.normal_forms.specs.declared.form.Form.TheVariants.{Bcnf, Fourth}
+use Rattle.dep_model.specs.declared.form.Form.{Form}
+use Rattle.dep_model.specs.declared.form.Form.TheVariants.{Bcnf, Fourth}
 use Rattle.desk_responses.specs.declared.status.Status.{Status}
 use Rattle.desk_words.specs.Forms.{form_of, form_over_schema, after_explain, after_explain_split, schema_alone}
 use Rattle.desk_laws.specs.Completeness.{IsYesOrNo, IsAnswered, HasPlanInForm}

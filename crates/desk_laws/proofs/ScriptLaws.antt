@@ -4,12 +4,12 @@ use Rattle.std.specs.Prelude.{codes, IsTrue}
 use Rattle.attr_sets.specs.declared.set.AttrSet.{AttrSet}
 use Rattle.dep_model.specs.Plans.{schemes_of}
 use Rattle.dep_model.specs.declared.schema.Schema.{Schema}
-use Rattle.normal_forms.specs.declared.form.Form.{Form}
-use Rattle.normal_forms.specs.declared.form.Form.TheVariants.{Third, Bcnf, Fourth}
+use Rattle.dep_model.specs.declared.form.Form.{Form}
+use Rattle.dep_model.specs.declared.form.Form.TheVariants.{Third, Bcnf, Fourth}
 use Rattle.table_names.specs.TableNames.{GivenNames}
-use Rattle.named_plans.specs.NamedPlans.{NamedSchemes}
+use Rattle.plan_printer.specs.NamedPlans.{NamedSchemes}
 use Rattle.desk_outside.specs.Files.{Files}
-use Rattle.table_scripts.specs.Naming.{is_table_name, met_name}
+use Rattle.sql_scripts.specs.Naming.{is_table_name, met_name}
 use Rattle.desk_responses.specs.ResponseValues.{Unless, ResponseValue, Allowed}
 use Rattle.desk_designs.specs.Decompositions.{WithPlanInForm}
 use Rattle.desk_designs.specs.Drawings.{DrawsTables, DrawsSchemes}
@@ -21,7 +21,7 @@ use Rattle.desk_designs.specs.NormalForms.{form_word}
 use Rattle.desk_cli.specs.Performs.{Answers, Performs, Does, AnswersSchema, AnswersPlan}
 use Rattle.desk_inputs.specs.Plans.{plan_file}
 use Rattle.desk_inputs.specs.Readings.{known_files}
-use Rattle.desk_designs.specs.Scripts.{MetNameStops, AsksTable, MakesSchemes, MakesTables, ScriptsMigrationByPlan, WithTableName}
+use Rattle.desk_scripts.specs.Scripts.{MetNameStops, AsksTable, MakesSchemes, MakesTables, ScriptsMigrationByPlan, WithTableName}
 use Rattle.desk_designs.specs.Designs.{WithoutMissing}
 use Rattle.desk_laws.specs.Completeness.{IsYesOrNo, IsAnswered, HasPlanInForm, RequiresAll}
 use Rattle.desk_laws.proofs.CompleteLaws.{after_schema, after_plan}

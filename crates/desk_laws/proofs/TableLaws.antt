@@ -19,19 +19,19 @@ use Rattle.ddl_text.specs.declared.table.TableDesign.{TableDesign}
 use Rattle.missing_values.specs.Missing.{FindsMissing}
 use Rattle.missing_values.specs.declared.refusal.MissingRefusal.{MissingRefusal}
 use Rattle.missing_values.specs.declared.refusal.MissingRefusal.TheVariants.{InKey, InTwo}
-use Rattle.normal_forms.specs.declared.form.Form.{Form}
-use Rattle.normal_forms.specs.declared.form.Form.TheVariants.{Third, Bcnf, Fourth}
+use Rattle.dep_model.specs.declared.form.Form.{Form}
+use Rattle.dep_model.specs.declared.form.Form.TheVariants.{Third, Bcnf, Fourth}
 use Rattle.schema_grammar.specs.Declarations.{Declarations}
 use Rattle.split_forms.proofs.SplitLemmas.{too_many_short}
 use Rattle.split_forms.specs.Splitting.{IsTooWideAt, HasTooManySchemes}
 use Rattle.table_names.specs.TableNames.{GivenNames}
-use Rattle.named_plans.specs.NamedPlans.{NamedSchemes}
+use Rattle.plan_printer.specs.NamedPlans.{NamedSchemes}
 use Rattle.desk_outside.specs.Files.{Files}
 use Rattle.desk_designs.specs.declared.decomposition.TheConstants.{MOST_SPLIT_SCHEMES}
 use Rattle.desk_responses.specs.ResponseValues.{ResponseValue, Allowed}
 use Rattle.desk_designs.specs.Decompositions.{SplitStops, WithPlanInForm, ShowsPlan, SplitsWide}
 use Rattle.desk_designs.specs.Designs.{WithoutMissing, WritesPlan, WritesSchemes, WritesTables}
-use Rattle.desk_discovery.specs.Exhibits.{Exhibits}
+use Rattle.desk_exhibits.specs.Exhibits.{Exhibits}
 use Rattle.desk_words.specs.Forms.{form_of, form_over_rows, form_over_schema, after_check, after_check_form, after_split, after_ddl, after_migrate, after_migrate_form, after_migrate_plan, normal_form, schema_alone, persons_alone, schema_and_plan}
 use Rattle.desk_inputs.specs.FileKinds.{IsFile, WithFile}
 use Rattle.desk_inputs.specs.Inputs.{schema_file}

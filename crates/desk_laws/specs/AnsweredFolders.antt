@@ -2,8 +2,8 @@
 use Rattle.std.specs.Prelude.{ℕ, IsTrue, false, List, [], ◌∷◌, codes}
 use Rattle.dep_model.specs.Tuples.{Relation}
 use Rattle.dep_model.specs.declared.schema.Schema.{Schema}
-use Rattle.normal_forms.specs.declared.form.Form.{Form}
-use Rattle.named_plans.specs.NamedPlans.{NamedSchemes}
+use Rattle.dep_model.specs.declared.form.Form.{Form}
+use Rattle.plan_printer.specs.NamedPlans.{NamedSchemes}
 use Rattle.desk_outside.specs.Files.{Files}
 use Rattle.desk_inputs.specs.FileKinds.{IsFile}
 use Rattle.desk_inputs.specs.Inputs.{schema_file}

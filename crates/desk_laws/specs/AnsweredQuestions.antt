@@ -10,7 +10,7 @@ use Rattle.key_listing.specs.Listing.{AreManyKeys}
 use Rattle.fd_closure.specs.LeftSides.{IsWideScheme}
 use Rattle.fd_projection.specs.Refusals.{AreTooMany}
 use Rattle.schema_match.specs.Columns.{SameNames}
-use Rattle.named_plans.specs.NamedPlans.{NamedSchemes}
+use Rattle.plan_printer.specs.NamedPlans.{NamedSchemes}
 use Rattle.desk_outside.specs.Files.{Files}
 use Rattle.desk_inputs.specs.FileKinds.{IsFile}
 use Rattle.desk_inputs.specs.Inputs.{schema_file}

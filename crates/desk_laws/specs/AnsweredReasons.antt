@@ -7,7 +7,7 @@ use Rattle.desk_inputs.specs.FileKinds.{IsFile}
 use Rattle.desk_inputs.specs.Inputs.{schema_file}
 use Rattle.desk_inputs.specs.Readings.{known_files}
 use Rattle.desk_keys.specs.Keys.{HasManyKeys}
-use Rattle.normal_forms.specs.declared.form.Form.TheVariants as forms
+use Rattle.dep_model.specs.declared.form.Form.TheVariants as forms
 use Rattle.desk_laws.specs.Completeness.{IsAnswered, HasPlanInForm}
 
 -- `explain cover` is answered where the schema file means a schema

@@ -1,10 +1,10 @@
 -- When words are answered, as the laws of `complete_scripts` say it: scripts and pictures. `Desk` does not cite it.
 use Rattle.std.specs.Prelude.{◌≡◌, None, ℕ, List, [], ◌∷◌, IsTrue, codes}
 use Rattle.dep_model.specs.declared.schema.Schema.{Schema}
-use Rattle.normal_forms.specs.declared.form.Form.{Form}
-use Rattle.named_plans.specs.NamedPlans.{NamedSchemes}
+use Rattle.dep_model.specs.declared.form.Form.{Form}
+use Rattle.plan_printer.specs.NamedPlans.{NamedSchemes}
 use Rattle.desk_outside.specs.Files.{Files}
-use Rattle.table_scripts.specs.Naming.{is_table_name, met_name}
+use Rattle.sql_scripts.specs.Naming.{is_table_name, met_name}
 use Rattle.desk_inputs.specs.FileKinds.{IsFile}
 use Rattle.desk_inputs.specs.Inputs.{schema_file}
 use Rattle.desk_designs.specs.Joins.{IsTooLarge}

@@ -8,17 +8,17 @@ use Rattle.dep_model.specs.Projections.{Covers}
 use Rattle.dep_model.specs.Schemas.{width_of, theory_of}
 use Rattle.dep_model.specs.Tuples.{Relation}
 use Rattle.dep_model.specs.declared.schema.Schema.{Schema}
-use Rattle.fd_discovery.specs.declared.headed_rows.Headed.{Headed}
-use Rattle.fd_discovery.specs.Headings.{names_under, rows_under}
+use Rattle.headed_rows.specs.declared.headed_rows.Headed.{Headed}
+use Rattle.headed_rows.specs.Headings.{names_under, rows_under}
 use Rattle.fd_closure.specs.LeftSides.{IsWideScheme}
 use Rattle.lexer.specs.Bytes.{number_of}
 use Rattle.lexer.specs.Lines.{without_mark}
-use Rattle.row_keys.specs.Keys.{HasTooManyKeys}
-use Rattle.normal_forms.specs.declared.form.Form.{Form}
-use Rattle.normal_forms.specs.declared.form.Form.TheVariants as forms
+use Rattle.fd_search.specs.Keys.{HasTooManyKeys}
+use Rattle.dep_model.specs.declared.form.Form.{Form}
+use Rattle.dep_model.specs.declared.form.Form.TheVariants as forms
 use Rattle.table_join.specs.Answers.{IsWithinLimit, tables_from_last}
 use Rattle.table_join.specs.Tables.{tables_of, plan_of_tables}
-use Rattle.named_plans.specs.NamedPlans.{NamedSchemes}
+use Rattle.plan_printer.specs.NamedPlans.{NamedSchemes}
 use Rattle.desk_outside.specs.Files.{Files}
 use Rattle.near_rules.specs.NearRules.{IsTriedWhole}
 use Rattle.desk_discovery.specs.Discoveries.{HasTooManyLeftSides}

@@ -4,8 +4,8 @@ use Rattle.std.specs.Prelude.{◌≡◌, ◌⊎◌, ℕ, true, List, Some}
 use Rattle.attr_sets.specs.Attributes.{Attributes}
 use Rattle.dep_model.specs.Schemas.{width_of, theory_of, nullable_of}
 use Rattle.dep_model.specs.declared.schema.Schema.{Schema}
-use Rattle.normal_forms.specs.declared.form.Form.{Form}
-use Rattle.normal_forms.specs.declared.form.Form.TheVariants.{Third, Bcnf, Fourth}
+use Rattle.dep_model.specs.declared.form.Form.{Form}
+use Rattle.dep_model.specs.declared.form.Form.TheVariants.{Third, Bcnf, Fourth}
 use Rattle.split_forms.specs.Splitting.{IsTooWideAt, HasTooManySchemes}
 use Rattle.desk_designs.specs.declared.decomposition.TheConstants.{MOST_SPLIT_SCHEMES}
 use Rattle.desk_outside.specs.Causes.{ErrorCountIncreased}

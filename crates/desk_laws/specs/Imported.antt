@@ -7,8 +7,8 @@ use Rattle.dep_model.specs.declared.schema.Schema.{Schema}
 use Rattle.import_laws.specs.ImportedTables.{imported_table}
 use Rattle.import_laws.specs.ReadTables.{named}
 use Rattle.import_laws.specs.StatedTypes.{states_a_type}
-use Rattle.named_plans.specs.NamedPlans.{NamedSchemes}
-use Rattle.normal_forms.specs.declared.form.Form.{Form}
+use Rattle.plan_printer.specs.NamedPlans.{NamedSchemes}
+use Rattle.dep_model.specs.declared.form.Form.{Form}
 use Rattle.schema_grammar.specs.Schemas.{MeansSchema}
 use Rattle.sql_definitions.specs.Wanted.{wanted_table}
 use Rattle.sql_lexemes.specs.declared.dialect.Dialect.{Dialect}

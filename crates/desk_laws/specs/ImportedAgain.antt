@@ -1,6 +1,6 @@
 -- What the laws of `imported` say: of what was printed. `Desk` does not cite it.
 use Rattle.std.specs.Prelude.{◌≡◌, ◌≤◌, ℕ, List, [], ◌∷◌, length, Some, codes}
-use Rattle.normal_forms.specs.declared.form.Form.{Form}
+use Rattle.dep_model.specs.declared.form.Form.{Form}
 use Rattle.desk_cli.specs.Performs.{Answers}
 use Rattle.desk_designs.specs.NormalForms.{form_word}
 use Rattle.desk_inputs.specs.Readings.{known_files}

@@ -3,8 +3,8 @@ use Rattle.std.specs.Prelude.{◌≡◌, ◌⊎◌, ℕ, List, Some, length}
 use Rattle.dep_model.specs.Dependencies.{Dependency}
 use Rattle.dep_model.specs.Schemas.{ImpliedBy}
 use Rattle.dep_model.specs.declared.schema.Schema.{Schema}
-use Rattle.fd_discovery.specs.Headings.{names_under}
-use Rattle.fd_discovery.specs.declared.headed_rows.Headed.{Headed}
+use Rattle.headed_rows.specs.Headings.{names_under}
+use Rattle.headed_rows.specs.declared.headed_rows.Headed.{Headed}
 use Rattle.implication_laws.specs.OneAnswer.{HasFixedProof}
 use Rattle.desk_arguments.specs.Goals.{IsGoal}
 use Rattle.desk_discovery.specs.Discoveries.{RefusesRules}

@@ -8,7 +8,7 @@ use Rattle.dep_model.specs.declared.schema.Schema.{Schema}
 use Rattle.legality.specs.Parts.{flag_at}
 use Rattle.removal_laws.specs.Removals.{rows_at}
 use Rattle.row_measures.specs.Answers.{AreKeptFlags}
-use Rattle.desk_discovery.specs.Multivalued.{multivalued_text}
+use Rattle.desk_responses.specs.Multivalued.{multivalued_text}
 use Rattle.desk_responses.specs.declared.status.Status.TheVariants.{Yes, Refused}
 use Rattle.desk_responses.specs.ResponseValues.{Allowed, Says}
 

@@ -11,12 +11,13 @@ ghost use Rattle.desk_measures.specs.Measures.{AreMistyped, IsColumnFound, flags
 
 use crate::fields::value_of;
 use crate::telling::both;
+use byte_texts::add;
 use column_values::fits_column;
 use csv_rows::type_of;
 use dep_model::{ColumnType, OutOfMemory, Schema};
 use itoa::Buffer;
 use row_store::Rows;
-use schema_printer::{add, add_name, add_type_word};
+use schema_printer::{add_name, add_type_word};
 use std::alloc::Global;
 
 // A line for each column with such values, at the end of a text, and whether there are none.

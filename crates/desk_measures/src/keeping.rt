@@ -12,11 +12,10 @@ ghost use Rattle.desk_measures.specs.Keeping.{AreKeptRows, KeepsRows};
 
 use crate::fields::{push_names, value_of};
 use armstrong_rel::first_mvd;
-use csv_rows::Interned;
 use csv_text::add_row;
 use dep_model::{OutOfMemory, Schema};
-use desk_discovery::multivalued_exit;
-use desk_responses::{EarlyExit, Response, Status};
+use desk_responses::{EarlyExit, Response, Status, multivalued_exit};
+use row_groups::Interned;
 use row_measures::kept_rows;
 use row_store::{FlatValues, Hashing, Rows};
 use std::alloc::Global;

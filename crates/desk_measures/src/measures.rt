@@ -1,7 +1,7 @@
 ghost use Rattle.std.specs.Prelude.{◌≡◌, ◌<◌, ◌^◌, ◌++◌, ◌==◌, ◌&&◌, [], Bool, length, nat_lt, if◌then◌else◌, IfOk, OnOk};
 ghost use Rattle.attr_sets.specs.Attributes.{IsSubset, count_below};
 ghost use Rattle.attr_sets.specs.Sets.{attributes};
-ghost use Rattle.csv_rows.specs.Interning.{IsInterned};
+ghost use Rattle.row_groups.specs.Interning.{IsInterned};
 ghost use Rattle.dep_model.specs.Deps.{IsDepWithin, dependency_of};
 ghost use Rattle.dep_model.specs.Schemas.{universe_of, width_of};
 ghost use Rattle.dep_model.specs.Tuples.{IsOver};
@@ -13,13 +13,14 @@ ghost use Rattle.desk_measures.specs.Offences.{OfDependency, OfEachDependency};
 use crate::columns::{put_columns, put_name};
 use crate::telling::{Told, both, put_each, status_of};
 use attr_sets::{AttrSet, MOST_ATTRIBUTES};
-use csv_rows::Interned;
+use byte_texts::add;
 use dep_model::{Dep, OutOfMemory, Schema};
 use desk_responses::{EarlyExit, Response, put_line};
 use itoa::Buffer;
+use row_groups::Interned;
 use row_measures::{Measure, measure};
 use row_store::{Hashing, Rows};
-use schema_printer::{add, add_dep};
+use schema_printer::add_dep;
 use std::alloc::Global;
 
 /// How far rows are from legal, of which some values may not be of their column's type.

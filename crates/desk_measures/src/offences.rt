@@ -1,7 +1,7 @@
 ghost use Rattle.std.specs.Prelude.{◌≡◌, ◌<◌, ◌^◌, ◌++◌, length, IfOk, OnOk};
 ghost use Rattle.std.specs.List.{flat_map};
 ghost use Rattle.attr_sets.specs.Sets.{attributes};
-ghost use Rattle.csv_rows.specs.Interning.{IsInterned};
+ghost use Rattle.row_groups.specs.Interning.{IsInterned};
 ghost use Rattle.csv_text.specs.Rows.{csv_row};
 ghost use Rattle.dep_model.specs.Deps.{IsDepWithin, dependency_of};
 ghost use Rattle.dep_model.specs.Schemas.{universe_of, width_of};
@@ -16,10 +16,10 @@ use crate::fields::{
 };
 use crate::telling::{Told, put_each, status_of};
 use attr_sets::AttrSet;
-use csv_rows::Interned;
 use csv_text::add_row;
 use dep_model::{Dep, OutOfMemory, Schema};
 use desk_responses::{EarlyExit, Response};
+use row_groups::Interned;
 use row_measures::{BrokenPart, BrokenRow, broken_parts, broken_rows};
 use row_store::{FlatValues, Hashing, Rows};
 use std::alloc::Global;

@@ -1,7 +1,7 @@
 //! What is told of each dependency of a schema, one after the other.
 
 ghost use Rattle.std.specs.Prelude.{◌≡◌, ◌&&◌, IfOk};
-ghost use Rattle.csv_rows.specs.Interning.{IsInterned};
+ghost use Rattle.row_groups.specs.Interning.{IsInterned};
 ghost use Rattle.dep_model.specs.Deps.{IsDepWithin, dependency_of};
 ghost use Rattle.dep_model.specs.Schemas.{universe_of, width_of};
 ghost use Rattle.desk_measures.specs.Findings.{Adds, status_of};
@@ -10,9 +10,9 @@ ghost use Rattle.desk_measures.specs.BreachFindings.{Tells};
 
 use crate::measures::put_measure_of;
 use crate::offences::{put_parts_of, put_rows_of};
-use csv_rows::Interned;
 use dep_model::{Dep, OutOfMemory, Schema};
 use desk_responses::Status;
+use row_groups::Interned;
 use row_store::{FlatValues, Rows};
 use std::alloc::Global;
 

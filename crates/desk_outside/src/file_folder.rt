@@ -1,11 +1,11 @@
 ghost use Rattle.std.specs.Prelude.{◌≡◌, ◌≤◌, ◌↔◌, ◌⊎◌, false, [], None, IsTrue, IsOk, IsErrAnd, IfOk, is_some, length};
 ghost use Rattle.std.specs.IoError.{error_kind};
 
-use crate::argument::Argument;
-use crate::held_file::HeldFile;
 use crate::failure::OutsideFault;
 use crate::folder::Folder;
+use crate::held_file::HeldFile;
 use crate::progress::ProgressLine;
+use arguments::Argument;
 use std::alloc::Global;
 use std::fs::{OpenFile, OpenOptions};
 use std::io;

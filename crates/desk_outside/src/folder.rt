@@ -4,8 +4,8 @@ ghost use Rattle.desk_outside.specs.Causes.{HasOutsideCause};
 ghost use Rattle.desk_outside.specs.Files.{files_of};
 ghost use Rattle.desk_outside.specs.Folders.{FolderContents, with_begun, with_bytes, with_ended, with_none_open, BeginsName};
 
-use crate::held_file::HeldFile;
 use crate::failure::OutsideFault;
+use crate::held_file::HeldFile;
 
 /// Files to write, one at a time.
 ///

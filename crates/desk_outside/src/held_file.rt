@@ -1,5 +1,4 @@
-ghost use Rattle.std.specs.Prelude.{◌≡◌};
-
+use arguments::Argument;
 
 /// A file that is held in memory.
 #[derive(Debug, Drop)]

@@ -17,13 +17,12 @@
 //! each fault that is answered was one: the object's error count increased in that call.
 #![tactic(auto)]
 
-mod argument;
-mod held_file;
 mod failure;
 mod fault_plan;
 mod file_folder;
 mod file_source;
 mod folder;
+mod held_file;
 mod memory;
 mod memory_folder;
 mod memory_series;
@@ -32,12 +31,12 @@ mod real_files;
 mod sink;
 mod transfer;
 
-pub use argument::Argument;
 pub use failure::{CannotWrite, Failed, LoadRefusal, OutsideFault};
 pub use fault_plan::PlannedFaults;
 pub use file_folder::FileFolder;
 pub use file_source::FileSource;
 pub use folder::Folder;
+pub use held_file::HeldFile;
 pub use memory::{MemoryFiles, MemorySink};
 pub use memory_folder::MemoryFolder;
 pub use memory_series::MemorySeries;
@@ -45,4 +44,3 @@ pub use progress::ProgressLine;
 pub use real_files::{RealFiles, StdoutSink};
 pub use sink::Sink;
 pub use transfer::{load, send, write_all};
-pub use held_file::HeldFile;

@@ -4,10 +4,10 @@ ghost use Rattle.desk_outside.specs.Files.{bytes_of_file, files_of};
 ghost use Rattle.desk_outside.specs.Memory.{new_source, new_sink, room, bytes_at, IsBegun};
 ghost use Rattle.desk_outside.specs.Planned.{FailsNext, NeverFails, CountsCall};
 
-use crate::held_file::HeldFile;
 use crate::failure::{Failed, OutsideFault};
 use crate::fault_plan::PlannedFaults;
 use crate::file_source::FileSource;
+use crate::held_file::HeldFile;
 use crate::sink::Sink;
 use dep_model::OutOfMemory;
 use std::alloc::Global;

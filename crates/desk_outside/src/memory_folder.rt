@@ -7,11 +7,11 @@ ghost use Rattle.desk_outside.specs.Folders.{more_bytes, BeginsName};
 ghost use Rattle.desk_outside.specs.Memory.{new_folder, contents_of};
 ghost use Rattle.desk_outside.specs.Planned.{FailsNext, CountsCall};
 
-use crate::argument::Argument;
-use crate::held_file::HeldFile;
 use crate::failure::OutsideFault;
 use crate::folder::Folder;
+use crate::held_file::HeldFile;
 use crate::memory_series::MemorySeries;
+use arguments::Argument;
 use std::alloc::Global;
 use std::marker::Model;
 

@@ -1,11 +1,11 @@
 ghost use Rattle.std.specs.Prelude.{◌≡◌, [], None, refl};
 ghost use Rattle.std.specs.Io.{ReadsAtMost};
 
-use crate::argument::Argument;
 use crate::failure::{Failed, OutsideFault};
 use crate::file_source::FileSource;
 use crate::progress::ProgressLine;
 use crate::sink::Sink;
+use arguments::Argument;
 use std::alloc::Global;
 use std::fs::OpenFile;
 use std::io::Read;

@@ -2,8 +2,8 @@ ghost use Rattle.std.specs.Prelude.{◌≡◌, ◌≢◌, drop, map, string_byte
 ghost use Rattle.std.specs.IoError.{error_kind};
 ghost use Rattle.desk_process.specs.Running.{words_in};
 
+use arguments::Argument;
 use dep_model::OutOfMemory;
-use desk_outside::Argument;
 use std::alloc::Global;
 use std::io;
 use std::io::ErrorKind;

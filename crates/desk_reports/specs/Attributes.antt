@@ -7,7 +7,7 @@ use Rattle.dep_model.specs.Schemas.{nullable_of, theory_of, types_of, universe_o
 use Rattle.dep_model.specs.declared.column_type.ColumnType.TheVariants.{Text}
 use Rattle.dep_model.specs.declared.schema.Schema.{Schema}
 use Rattle.design_picture.specs.Picture.{texts_below}
-use Rattle.html_escapes.specs.Escapes.{html_text}
+use Rattle.html_pages.specs.Escapes.{html_text}
 use Rattle.key_listing.specs.Listing.{AreAllKeys}
 use Rattle.key_listing.specs.Refusals.{IsTooWide}
 use Rattle.key_listing.specs.declared.refusal.TheConstants.{MOST_KEYS}

@@ -8,8 +8,8 @@ use Rattle.fd_closure.specs.LeftSides.{IsWideScheme}
 use Rattle.html_pages.specs.Commands.{shell_word}
 use Rattle.html_pages.specs.Pages.{title_with_words}
 use Rattle.normal_forms.specs.Chosen.{IsChosenViolation, IsInForm}
-use Rattle.normal_forms.specs.declared.form.Form.{Form}
-use Rattle.normal_forms.specs.declared.form.Form.TheVariants.{Third, Bcnf, Fourth}
+use Rattle.dep_model.specs.declared.form.Form.{Form}
+use Rattle.dep_model.specs.declared.form.Form.TheVariants.{Third, Bcnf, Fourth}
 use Rattle.schema_printer.specs.Printing.{dependency_text}
 use Rattle.schema_printer.specs.Spelling.{printed_names_of}
 use Rattle.desk_designs.specs.NormalForms.{JudgesForm, violation_of}

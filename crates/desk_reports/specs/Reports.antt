@@ -1,12 +1,12 @@
 -- A page that says of a schema, or of a schema and a plan, all that the commands say: for `report`.
 use Rattle.std.specs.Prelude.{ℕ, List, ◌++◌, codes}
 use Rattle.dep_model.specs.declared.schema.Schema.{Schema}
-use Rattle.named_plans.specs.NamedPlans.{NamedSchemes}
+use Rattle.plan_printer.specs.NamedPlans.{NamedSchemes}
 use Rattle.html_pages.specs.Commands.{shell_word}
 use Rattle.html_pages.specs.Pages.{page_text, title_with_words}
-use Rattle.normal_forms.specs.declared.form.Form.TheVariants.{Third, Bcnf, Fourth}
+use Rattle.dep_model.specs.declared.form.Form.TheVariants.{Third, Bcnf, Fourth}
 use Rattle.desk_covers.specs.Covering.{GivesCover}
-use Rattle.desk_discovery.specs.Exhibits.{Exhibits}
+use Rattle.desk_exhibits.specs.Exhibits.{Exhibits}
 use Rattle.desk_keys.specs.Keys.{ListsKeys}
 use Rattle.desk_responses.specs.declared.status.Status.TheVariants.{Yes}
 use Rattle.desk_responses.specs.ResponseValues.{Allowed, Says}

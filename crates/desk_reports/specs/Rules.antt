@@ -5,7 +5,7 @@ use Rattle.dep_model.specs.Dependencies.{Dependency}
 use Rattle.dep_model.specs.Implication.{Implies}
 use Rattle.dep_model.specs.Schemas.{deps_of, lines_of, theory_of, width_of}
 use Rattle.dep_model.specs.declared.schema.Schema.{Schema}
-use Rattle.html_escapes.specs.Escapes.{html_text}
+use Rattle.html_pages.specs.Escapes.{html_text}
 use Rattle.schema_printer.specs.Spelling.{printed_names_of}
 use Rattle.desk_responses.specs.Lines.{dep_text, line_number_text}
 use Rattle.desk_reports.specs.Pieces.{EachBelow, Just, Section, Shown, Then}

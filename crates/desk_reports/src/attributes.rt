@@ -6,15 +6,15 @@ ghost use Rattle.attr_sets.specs.declared.set.TheConstants.{MOST_ATTRIBUTES};
 ghost use Rattle.dep_model.specs.Schemas.{width_of};
 ghost use Rattle.design_picture.specs.Picture.{texts_below};
 ghost use Rattle.desk_reports.specs.Attributes.{AreListedMembers, AttributesSection, ShowsAttributes, attribute_row, attributes_text, cell_text, key_cell, mark, members_of, missing_cell, name_cell, type_cell};
-ghost use Rattle.html_escapes.specs.Escapes.{html_text};
+ghost use Rattle.html_pages.specs.Escapes.{html_text};
 
 use attr_sets::AttrSet;
+use byte_texts::add;
 use dep_model::{Failure, OutOfMemory, Schema};
 use desk_responses::put_name;
-use html_escapes::add_html;
-use html_pages::section;
+use html_pages::{add_html, section};
 use key_listing::keys;
-use schema_printer::{add, add_type_word};
+use schema_printer::add_type_word;
 use std::alloc::Global;
 
 /// The section on the attributes of a schema.

@@ -7,22 +7,23 @@ ghost use Rattle.dep_model.specs.Deps.{dependency_of};
 ghost use Rattle.dep_model.specs.Dependencies.{fd};
 ghost use Rattle.dep_model.specs.Schemas.{universe_of};
 ghost use Rattle.html_pages.specs.Pages.{title_with_words};
-ghost use Rattle.normal_forms.specs.declared.form.Form.TheVariants as forms;
+ghost use Rattle.dep_model.specs.declared.form.Form.TheVariants as forms;
 ghost use Rattle.plans.specs.Plans.{IsPlanOver, plan_of};
 ghost use Rattle.desk_designs.specs.NormalForms.{JudgesForm, violation_of};
 ghost use Rattle.desk_reports.specs.Forms.{FormsSection, ShowsForm, ShowsTwice, ShowsViolation, ShowsWhy, form_title, goal_text, goal_words};
 ghost use Rattle.desk_reports.specs.Pieces.{Opens, Then};
 
 use crate::pieces::{both, folded, opened};
+use arguments::Argument;
 use attr_sets::AttrSet;
-use dep_model::{Dep, OutOfMemory, Schema};
+use byte_texts::add;
+use dep_model::{Dep, Form, OutOfMemory, Schema};
 use desk_designs::{check_form, violation_dependency};
 use desk_implication::implies;
-use desk_outside::Argument;
 use html_pages::{add_shell_word, section, titled};
-use normal_forms::{Breach, Form, violation};
+use normal_forms::{Breach, violation};
 use plans::Plan;
-use schema_printer::{add, add_dep};
+use schema_printer::add_dep;
 use std::alloc::Global;
 
 /// The section on the normal forms of the universe of a schema.

@@ -6,11 +6,11 @@ ghost use Rattle.html_pages.specs.Pages.{title_with_words};
 ghost use Rattle.desk_reports.specs.Answers.{FoldsText, IsTextOf, OpensText};
 ghost use Rattle.desk_reports.specs.Tables.{two_files};
 
+use arguments::Argument;
+use byte_texts::add;
 use dep_model::OutOfMemory;
-use desk_outside::Argument;
 use desk_responses::{EarlyExit, Response};
 use html_pages::{add_shell_word, folded_piece, open_piece, titled};
-use schema_printer::add;
 use std::alloc::Global;
 
 // The text of an answer; running out of memory is none.

@@ -4,7 +4,7 @@ ghost use Rattle.std.specs.Prelude.{◌≡◌, ◌≤◌, codes, length, IfOk};
 ghost use Rattle.dep_model.specs.Projections.{Covers};
 ghost use Rattle.dep_model.specs.Schemas.{width_of};
 ghost use Rattle.plans.specs.Plans.{IsPlanOver, plan_of};
-ghost use Rattle.named_plans.specs.NamedPlans.{named_schemes};
+ghost use Rattle.plan_printer.specs.NamedPlans.{named_schemes};
 ghost use Rattle.desk_designs.specs.Joins.{JudgesJoin};
 ghost use Rattle.desk_designs.specs.Keeping.{JudgesKeeping};
 ghost use Rattle.desk_designs.specs.Designs.{WritesPlan};
@@ -15,14 +15,12 @@ ghost use Rattle.desk_reports.specs.Tables.{PlanSection, ShowsFormOf, ShowsForms
 use crate::forms::title_of_form;
 use crate::pieces::{both, folded, opened, title_of_two};
 use crate::tables::shown_picture;
-use dep_model::{OutOfMemory, Schema};
+use arguments::Argument;
+use dep_model::{Form, OutOfMemory, Schema};
 use desk_designs::{check_form, check_join, check_keeps, write_plan};
-use desk_outside::Argument;
 use html_pages::section;
-use named_plans::NamedPlan;
-use normal_forms::Form;
-use plan_reader::MOST_SCHEMES;
-use plans::Plan;
+use plan_printer::NamedPlan;
+use plans::{MOST_SCHEMES, Plan};
 use std::alloc::Global;
 
 /// The section on the tables of a plan.

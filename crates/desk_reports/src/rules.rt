@@ -6,13 +6,12 @@ ghost use Rattle.desk_reports.specs.Pieces.{EachBelow};
 ghost use Rattle.desk_reports.specs.Rules.{FollowsFromOthers, RulesSection, ShowsRule, ShowsRules, follows_mark, rule_text};
 
 use crate::pieces::both;
-use cover_check::dependency_and_others;
+use byte_texts::add;
+use cover_accounts::dependency_and_others;
 use dep_basis::is_implied_by;
 use dep_model::{OutOfMemory, Schema};
 use desk_responses::{put_dep, put_line};
-use html_escapes::add_html;
-use html_pages::section;
-use schema_printer::add;
+use html_pages::{add_html, section};
 use std::alloc::Global;
 
 /// The section on the dependencies of a schema.

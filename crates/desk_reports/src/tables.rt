@@ -9,15 +9,14 @@ ghost use Rattle.desk_responses.specs.Responses.{RespondsAs};
 ghost use Rattle.desk_reports.specs.Tables.{GivesPlan, ShowsPicture, ShowsSql, ShowsTables, ShowsTablesIfAny, ShowsPlan, TablesSection, ddl_words, plan_words, tables_heading};
 
 use crate::pieces::{both, folded, opened, title_of};
-use dep_model::{Name, OutOfMemory, Schema};
+use arguments::Argument;
+use dep_model::{Form, Name, OutOfMemory, Schema};
 use design_picture::draw_design;
 use desk_designs::{
     check_keeps, design_of_plan, plan_in_form, split_in_form, synthesize_plan, write_form,
 };
-use desk_outside::Argument;
 use desk_responses::{EarlyExit, Response};
 use html_pages::section;
-use normal_forms::Form;
 use plans::Plan;
 use std::alloc::Global;
 

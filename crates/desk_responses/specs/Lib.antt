@@ -4,3 +4,4 @@ pub mod ResponseValues
 pub mod Lines
 pub mod Responses
 pub mod Reasons
+pub mod Multivalued

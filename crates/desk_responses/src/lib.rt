@@ -9,11 +9,11 @@
 #![tactic(auto)]
 
 mod lines;
-mod refused;
+mod multivalued;
 mod response;
 mod status;
 
 pub use lines::{bad_table_exit, put_dep, put_line, put_name, put_set_line, too_wide_exit};
+pub use multivalued::multivalued_exit;
 pub use response::{EarlyExit, OwnFolder, Response};
 pub use status::Status;
-pub use refused::refusal_exit;

@@ -13,9 +13,10 @@ ghost use Rattle.desk_responses.specs.Responses.{ExitsAs};
 use crate::Status;
 use crate::response::EarlyExit;
 use attr_sets::AttrSet;
+use byte_texts::{add, add_number};
 use dep_model::{OutOfMemory, Schema};
 use desk_texts::line_of;
-use schema_printer::{add, add_dep, add_name, add_number, add_set, print_set};
+use schema_printer::{add_dep, add_name, add_set, print_set};
 use std::alloc::Global;
 
 /// The line of a dependency of a schema, at the end of a text.

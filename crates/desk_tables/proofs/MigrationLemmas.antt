@@ -7,7 +7,7 @@ use Rattle.dep_model.specs.declared.naming.Naming.{Naming}
 use Rattle.dep_model.specs.declared.schema.Schema.{Schema}
 use Rattle.schema_printer.specs.Printing.{words_text}
 use Rattle.schema_printer.specs.Spelling.{spelling}
-use Rattle.normal_forms.specs.declared.form.Form.TheVariants.{Fourth}
+use Rattle.dep_model.specs.declared.form.Form.TheVariants.{Fourth}
 use Rattle.sample_rows.specs.Sample.{sample_relation}
 use Rattle.desk_designs.specs.Decompositions.{WithPlanInForm}
 use Rattle.desk_responses.specs.declared.response.Response.{Response}

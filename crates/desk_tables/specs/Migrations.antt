@@ -11,7 +11,7 @@ use Rattle.dep_model.specs.declared.naming.Naming.TheVariants.{Bare}
 use Rattle.dep_model.specs.declared.schema.Schema.{Schema}
 use Rattle.dep_model.specs.Tuples.{Relation}
 use Rattle.design_order.specs.Order.{IsInDesignOrder}
-use Rattle.normal_forms.specs.declared.form.Form.TheVariants.{Fourth}
+use Rattle.dep_model.specs.declared.form.Form.TheVariants.{Fourth}
 use Rattle.table_names.specs.TableNames.{GivenNames}
 use Rattle.sample_rows.specs.Sample.{sample_names, sample_theory, sample_relation}
 use Rattle.schema_printer.specs.Printing.{words_text}

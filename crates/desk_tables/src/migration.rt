@@ -13,6 +13,7 @@ ghost use Rattle.desk_responses.specs.Responses.{response_value, RespondsAs};
 ghost use Rattle.desk_texts.specs.Texts.{line};
 
 use crate::rows::test_rows;
+use byte_texts::add;
 use csv_migrate::tables;
 use dep_model::{Name, Naming, OutOfMemory, Schema};
 use design_order::in_design_order;
@@ -21,10 +22,9 @@ use desk_responses::{EarlyExit, Response};
 use desk_texts::line_of;
 use itoa::Buffer;
 use named_tables::{ChosenTable, ChosenTables};
-use plan_reader::MOST_SCHEMES;
-use plans::Plan;
+use plans::{MOST_SCHEMES, Plan};
 use row_store::{Hashing, Rows};
-use schema_printer::{add, add_name};
+use schema_printer::add_name;
 use std::alloc::Global;
 use table_names::MOST_TABLES;
 

@@ -9,11 +9,11 @@ ghost use Rattle.desk_responses.specs.Responses.{ExitsAs};
 ghost use Rattle.desk_responses.specs.declared.status.Status.TheVariants.{Refused};
 ghost use Rattle.desk_tables.specs.Overwriting.{IsTableFile, OverStops, is_file_of, plain_name, written_over_text};
 
+use byte_texts::add;
 use dep_model::{Name, OutOfMemory};
 use desk_responses::{EarlyExit, Status};
 use desk_texts::line_of;
 use plans::Plan;
-use schema_printer::add;
 use std::alloc::Global;
 use table_names::{MOST_TABLES, name_of_table};
 

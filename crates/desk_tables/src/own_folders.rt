@@ -14,15 +14,13 @@ ghost use Rattle.desk_responses.specs.declared.status.Status.TheVariants.{Refuse
 ghost use Rattle.desk_tables.specs.OwnFolders.{FolderStops, IsFolderOf, Looks, MigratesInto, MigratesPlanInto, MigratesRowsInto, not_empty_text};
 
 use crate::migration::migrate_rows;
+use arguments::Argument;
 use ddl_text::{DesignList, print_ddl};
-use dep_model::{Name, OutOfMemory, Schema};
+use dep_model::{Form, Name, OutOfMemory, Schema};
 use desk_designs::{plan_in_form, required_design, test_loss};
-use desk_outside::Argument;
 use desk_responses::{EarlyExit, OwnFolder, Response, Status};
 use desk_texts::line_of;
-use normal_forms::Form;
-use plan_reader::MOST_SCHEMES;
-use plans::Plan;
+use plans::{MOST_SCHEMES, Plan};
 use row_store::{Hashing, Rows};
 use std::alloc::Global;
 

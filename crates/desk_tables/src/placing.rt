@@ -10,12 +10,10 @@ ghost use Rattle.desk_tables.specs.Overwriting.{MigratesHere, MigratesPlanHere};
 
 use crate::migration::{migrate_by_plan, migrate_rows};
 use crate::overwriting::test_file;
-use dep_model::{Name, Schema};
+use dep_model::{Form, Name, Schema};
 use desk_designs::{plan_in_form, test_missing};
 use desk_responses::{EarlyExit, Response};
-use normal_forms::Form;
-use plan_reader::MOST_SCHEMES;
-use plans::Plan;
+use plans::{MOST_SCHEMES, Plan};
 use row_store::{Hashing, Rows};
 use std::alloc::Global;
 

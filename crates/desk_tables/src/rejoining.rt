@@ -11,11 +11,11 @@ ghost use Rattle.desk_responses.specs.ResponseValues.{Says};
 ghost use Rattle.desk_tables.specs.Rejoining.{JoinsTables, join_refusal_text};
 ghost use Rattle.desk_responses.specs.Responses.{response_value, RespondsAs, ExitsAs};
 
+use byte_texts::{add, add_number};
 use csv_rows::{PartialRows, print_rows};
 use dep_model::{Failure, OutOfMemory, Schema};
 use desk_responses::{EarlyExit, Response, Status, put_name};
 use row_store::{Hashing, Rows};
-use schema_printer::{add, add_number};
 use std::alloc::Global;
 use table_join::{JoinRefusal, join};
 

@@ -5,12 +5,12 @@ ghost use Rattle.desk_tables.specs.Legality.{JudgesRows, OffenceStops, legal_tex
 ghost use Rattle.desk_responses.specs.ResponseValues.{Says};
 ghost use Rattle.desk_responses.specs.Responses.{response_value, RespondsAs, ExitsAs};
 
+use byte_texts::{add, add_number};
 use dep_model::{OutOfMemory, Schema};
 use desk_responses::{EarlyExit, Response, Status, put_dep, put_line};
 use desk_texts::line_of;
 use legality::{Offence, offences};
 use row_store::{Hashing, Rows};
-use schema_printer::{add, add_number};
 use std::alloc::Global;
 
 /// Whether rows are legal for a schema.

@@ -2,12 +2,11 @@ ghost use Rattle.desk_tables.specs.Migrations.{Samples};
 ghost use Rattle.desk_responses.specs.Responses.{RespondsAs};
 
 use crate::migration::migrate_rows;
+use dep_model::Form;
 use desk_designs::plan_in_form;
 use desk_responses::{EarlyExit, Response};
-use desk_words::Persons;
-use normal_forms::Form;
 use row_store::Hashing;
-use sample_rows::{sample_rows, sample_schema};
+use sample_rows::{Persons, sample_rows, sample_schema};
 use std::alloc::Global;
 
 /// The rows of so many invented persons, as tables in fourth normal form.

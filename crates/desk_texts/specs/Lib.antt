@@ -1,6 +1,3 @@
 -- The definitions of desk_texts, in reading order: pieces of what is printed, and how refusals are
 -- worded.
 pub mod Texts
-pub mod Refusals
-pub mod ProofTexts
-pub mod Conclusions

@@ -2,8 +2,8 @@ ghost use Rattle.std.specs.Prelude.{◌≡◌, ◌++◌, [], ◌∷◌, IfOk, If
 ghost use Rattle.dep_model.specs.Deps.{dependencies_of};
 ghost use Rattle.desk_texts.specs.Texts.{line, overlong_text};
 
+use byte_texts::add;
 use dep_model::{Dep, MOST_DEPENDENCIES, OutOfMemory};
-use schema_printer::add;
 use std::alloc::Global;
 use std::fmt::Display;
 

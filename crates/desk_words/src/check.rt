@@ -7,7 +7,7 @@ ghost use Rattle.desk_words.specs.Forms as forms;
 use crate::command::Command;
 use crate::questions::{PlanQuestion, RowsQuestion, SchemaQuestion, Task};
 use crate::shapes::{is_word, normal_form, over, schema_and_plan, schema_and_rows};
-use desk_outside::Argument;
+use arguments::Argument;
 
 /// After `check`.
 #[tactic(auto, unfolding(crate::specs::Forms::after_check))]

@@ -7,14 +7,14 @@ use crate::explain::after_explain;
 use crate::imports::after_import;
 use crate::pages::after_report;
 use crate::persons::count_of;
-use crate::counted::Persons;
 use crate::questions::{RulesQuestion, SchemaQuestion, Task};
 use crate::rows::over_rows;
 use crate::rules::after_discover;
 use crate::sets::{after_basis, after_closure, after_implies, after_project};
 use crate::shapes::{is_word, no_more_arguments, schema_alone};
 use crate::tables::{after_ddl, after_draw, after_keys, after_split, after_sql};
-use desk_outside::Argument;
+use arguments::Argument;
+use sample_rows::Persons;
 use sql_lexemes::Dialect;
 
 /// The most files of a command.

@@ -7,8 +7,8 @@ ghost use Rattle.desk_words.specs.Forms as forms;
 use crate::command::Command;
 use crate::questions::SchemaQuestion;
 use crate::shapes::{is_word, schema_alone};
-use desk_outside::Argument;
-use normal_forms::Form;
+use arguments::Argument;
+use dep_model::Form;
 
 /// After `explain`.
 #[tactic(auto, unfolding(crate::specs::Forms::after_explain))]

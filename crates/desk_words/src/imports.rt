@@ -6,7 +6,7 @@ ghost use Rattle.desk_words.specs.Forms as forms;
 
 use crate::command::Command;
 use crate::shapes::is_word;
-use desk_outside::Argument;
+use arguments::Argument;
 use sql_lexemes::Dialect;
 
 /// Of what kind the file is, the file, and for SQL the table.

@@ -8,8 +8,8 @@ ghost use Rattle.desk_words.specs.Forms.{where_into};
 use crate::command::Command;
 use crate::questions::Task;
 use crate::shapes::{is_word, normal_form, over};
-use desk_outside::Argument;
-use normal_forms::Form;
+use arguments::Argument;
+use dep_model::Form;
 
 /// After `migrate`.
 #[tactic(auto, unfolding(crate::specs::Forms::after_migrate))]

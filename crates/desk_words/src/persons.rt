@@ -3,9 +3,9 @@ ghost use Rattle.lexer.specs.Bytes.{number_of};
 ghost use Rattle.desk_words.specs.Numbers.{is_count};
 ghost use Rattle.sample_rows.specs.declared.rows.TheConstants.{MOST_PERSONS};
 
-use crate::counted::Persons;
 use crate::numbers::is_short_number;
 use lexer::number_of;
+use sample_rows::Persons;
 
 /// A number of one to five digits, from 1 to `MOST_PERSONS`.
 #[tactic(auto, using(crate::proofs::NumberLemmas::short_number), unfolding(crate::specs::Numbers::is_count))]

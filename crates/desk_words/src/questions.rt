@@ -1,6 +1,6 @@
 use crate::bounds::LeftBound;
-use desk_outside::Argument;
-use normal_forms::Form;
+use arguments::Argument;
+use dep_model::Form;
 
 /// What is asked of a schema alone, with the words that go with it.
 #[derive(Clone, Copy, Debug)]

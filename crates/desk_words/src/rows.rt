@@ -8,7 +8,7 @@ use crate::command::{Command, MOST_FILES};
 use crate::migrate::after_migrate;
 use crate::questions::{RowsQuestion, Task};
 use crate::shapes::{is_word, over, schema_and_rows};
-use desk_outside::Argument;
+use arguments::Argument;
 
 /// What is asked of a schema, to the rows of a file.
 #[tactic(auto, unfolding(crate::specs::Forms::form_over_rows))]

@@ -8,7 +8,7 @@ use crate::bounds::{left_bound_of, row_bound_of};
 use crate::command::Command;
 use crate::questions::RulesQuestion;
 use crate::shapes::is_word;
-use desk_outside::Argument;
+use arguments::Argument;
 
 /// After `discover`.
 #[tactic(auto, unfolding(crate::specs::Forms::after_discover))]

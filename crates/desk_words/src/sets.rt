@@ -7,7 +7,7 @@ ghost use Rattle.desk_words.specs.Forms as forms;
 use crate::command::Command;
 use crate::questions::{SchemaQuestion, Task};
 use crate::shapes::over;
-use desk_outside::Argument;
+use arguments::Argument;
 
 /// After `implies`.
 #[tactic(auto, unfolding(crate::specs::Forms::schema_and_word))]

@@ -6,8 +6,8 @@ ghost use Rattle.desk_words.specs.Forms as forms;
 
 use crate::command::Command;
 use crate::questions::{PlanQuestion, RowsQuestion, SchemaQuestion, Task};
-use desk_outside::Argument;
-use normal_forms::Form;
+use arguments::Argument;
+use dep_model::Form;
 
 /// Whether a word is this one.
 pub fn is_word(word: &Argument, name: &[u8]) -> bool

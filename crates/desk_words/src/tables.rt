@@ -7,8 +7,8 @@ ghost use Rattle.desk_words.specs.Forms as forms;
 use crate::command::Command;
 use crate::questions::{PlanQuestion, SchemaQuestion, Task};
 use crate::shapes::{is_word, normal_form, over, schema_alone, schema_and_plan};
-use desk_outside::Argument;
-use normal_forms::Form;
+use arguments::Argument;
+use dep_model::Form;
 
 /// After `keys`.
 #[tactic(auto, unfolding(crate::specs::Forms::after_keys))]

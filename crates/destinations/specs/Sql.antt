@@ -4,7 +4,7 @@ use Rattle.std.specs.List.{list_any}
 use Rattle.std.specs.Str.{is_utf8}
 use Rattle.hex.specs.Hex.{encode_upper}
 use Rattle.dep_model.specs.Tuples.{Tuple}
-use Rattle.sql_names.specs.Names.{comma_list, quoted_name}
+use Rattle.sql_syntax.specs.Names.{comma_list, quoted_name}
 
 -- a byte between single quotes: a single quote is doubled
 abbrev pub escape_quote : ℕ → List ℕ

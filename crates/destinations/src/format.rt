@@ -2,9 +2,9 @@ ghost use Rattle.std.specs.Prelude.{◌≡◌, ◌++◌, IfOk, OnOk};
 ghost use Rattle.destinations.specs.Formats.{ending, opening, line_front, row_line};
 
 use crate::sql_line;
+use byte_texts::add;
 use dep_model::{Name, OutOfMemory};
 use row_store::FlatValues;
-use schema_printer::add;
 use std::alloc::Global;
 
 /// How a table is written to a file of its own.

@@ -2,12 +2,12 @@ ghost use Rattle.std.specs.Prelude.{◌≡◌, ◌==◌, false, [], ◌++◌, if
 ghost use Rattle.std.specs.List.{list_any};
 ghost use Rattle.std.specs.Str.{is_utf8};
 ghost use Rattle.destinations.specs.Sql.{escape_after, escaped_after, quoted_text, is_sql_text, sql_value, sql_cell, sql_cells, sql_head, sql_row};
-ghost use Rattle.sql_names.specs.Names.{comma_list, separator};
+ghost use Rattle.sql_syntax.specs.Names.{comma_list, separator};
 
+use byte_texts::add;
 use dep_model::{Name, OutOfMemory};
 use row_store::FlatValues;
-use schema_printer::add;
-use sql_names::{add_names, add_quoted};
+use sql_syntax::{add_names, add_quoted};
 use std::alloc::Global;
 
 /// The front of each line of a table with these columns.

@@ -23,4 +23,6 @@ pub use counting::{Counters, functional_closure_with};
 pub use greedy_key::functional_key;
 pub use kinds::is_functional;
 pub use known::{KnownClosure, known_closure};
-pub use left_sides::{WIDEST_SEARCHED, functional_left_attributes, is_wide_scheme, left_attributes};
+pub use left_sides::{
+    WIDEST_SEARCHED, functional_left_attributes, is_wide_scheme, left_attributes,
+};

@@ -7,13 +7,13 @@ use Rattle.std.proofs.lemmas.List.Elements.{Contains-get_or}
 use Rattle.attr_sets.specs.Attributes.{Attributes, IsEmpty, only, union}
 use Rattle.dep_model.specs.Tuples.{Tuple, Relation, AgreeOn}
 use Rattle.dep_model.specs.Dependencies.{ObeysFd}
-use Rattle.csv_rows.specs.Numberings.{number_at, AreGroups}
+use Rattle.row_groups.specs.Numberings.{number_at, AreGroups}
 use Rattle.row_store.specs.Rows.{row_at}
-use Rattle.csv_rows.specs.Interning.{codes_at}
+use Rattle.row_groups.specs.Interning.{codes_at}
 use Rattle.fd_discovery.specs.Leaders.{AreLeadersOn, AreLed, IsOrderOf, IsTableOfRows, order_at}
 use Rattle.fd_discovery.specs.declared.table.CodeColumns.{CodeColumns}
 use Rattle.dep_model.proofs.TwoRowLemmas.{AgreeOn-union, AgreeOn-left, AgreeOn-right}
-use Rattle.csv_rows.proofs.NumberingLemmas.{row_of}
+use Rattle.row_groups.proofs.NumberingLemmas.{row_of}
 
 module _ (r : Relation) (x : Attributes) (leaders : List ℕ) (led : AreLeadersOn r x leaders) where
   abbrev lead : ℕ → ℕ

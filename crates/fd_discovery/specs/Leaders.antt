@@ -3,9 +3,9 @@
 use Rattle.std.specs.Prelude.{◌≡◌, ◌<◌, ◌≤◌, ℕ, List, [], length, slice_index_or, All, Contains}
 use Rattle.attr_sets.specs.Attributes.{Attributes}
 use Rattle.dep_model.specs.Tuples.{Relation, AgreeOn}
-use Rattle.csv_rows.specs.Numberings.{number_at}
+use Rattle.row_groups.specs.Numberings.{number_at}
 use Rattle.row_store.specs.Rows.{row_at}
-use Rattle.csv_rows.specs.Interning.{IsInterned, codes_at}
+use Rattle.row_groups.specs.Interning.{IsInterned, codes_at}
 use Rattle.fd_discovery.specs.declared.table.CodeColumns.{CodeColumns}
 
 -- each row's leader on a set: one row that agrees with it there, the same for all rows that agree

@@ -1,8 +1,5 @@
 -- The definitions of fd_discovery, in reading order: files whose header is free, minimal functional
 -- dependencies of rows, and the search for them.
-pub mod Headers
-pub mod Headings
 pub mod Minimal
 pub mod Leaders
 pub mod Searching
-pub mod RefusalTexts

@@ -6,12 +6,11 @@ ghost use Rattle.dep_model.specs.Implication.{Implies};
 ghost use Rattle.dep_model.specs.Tuples.{IsOver};
 ghost use Rattle.fd_discovery.specs.Minimal.{AreAllMinimal};
 
-use crate::limits::WIDEST_HEADED;
 use crate::searching::{add_minimal, search_above};
 use crate::table::CodeColumns;
 use attr_sets::AttrSet;
 use dep_model::{Dep, OutOfMemory};
-use row_store::{Hashing, Rows};
+use row_store::{Hashing, Rows, WIDEST_HEADED};
 use std::alloc::Global;
 
 /// All minimal functional dependencies that rows of `width` columns obey, each with one attribute on

@@ -1,6 +1,6 @@
 ghost use Rattle.std.specs.Prelude.{◌≡◌, ◌<◌, ◌^◌, ◌↔◌, ℕ, All, List, length, IsTrue, IfOk};
 ghost use Rattle.attr_sets.specs.Attributes.{Attributes, only, union};
-ghost use Rattle.csv_rows.specs.Numberings.{AreGroups};
+ghost use Rattle.row_groups.specs.Numberings.{AreGroups};
 ghost use Rattle.dep_model.specs.Dependencies.{ObeysFd};
 ghost use Rattle.dep_model.specs.Tuples.{Relation};
 ghost use Rattle.fd_discovery.specs.Leaders.{AreLeadersOn, IsOrderOf};

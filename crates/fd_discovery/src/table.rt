@@ -1,11 +1,11 @@
 ghost use Rattle.std.specs.Prelude.{◌≡◌, ◌<◌, ◌≤◌, ◌^◌, ℕ, length, IfOk};
-ghost use Rattle.csv_rows.specs.Interning.{codes_at, width_of_rows};
+ghost use Rattle.row_groups.specs.Interning.{codes_at, width_of_rows};
 ghost use Rattle.dep_model.specs.Tuples.{IsOver};
 ghost use Rattle.fd_discovery.specs.Leaders.{IsTableOfRows, order_at};
 
 use crate::ordering::RowOrder;
-use csv_rows::Interned;
 use dep_model::OutOfMemory;
+use row_groups::Interned;
 use row_store::{Hashing, Rows};
 use std::alloc::Global;
 

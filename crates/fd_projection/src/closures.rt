@@ -11,12 +11,7 @@ use dep_model::Schema;
 use fd_closure::{KnownClosure, known_closure};
 
 // What a set determines, by a table where the set stands there at a position. The position is a guess.
-fn closed_at(
-    schema: &Schema,
-    table: &[KnownClosure],
-    set: AttrSet,
-    position: usize,
-) -> AttrSet
+fn closed_at(schema: &Schema, table: &[KnownClosure], set: AttrSet, position: usize) -> AttrSet
     requires table { All (IsKnownClosure (width_of schema.now) (theory_of schema.now)) table.now }
     requires set { IsSubset (attributes set) (universe_of schema.now) }
     ensures closure { IsClosureOf (width_of schema.now) (theory_of schema.now) (attributes set)

@@ -22,8 +22,8 @@ use Rattle.dep_model.specs.Dependencies.{fd}
 use Rattle.dep_model.specs.Tuples.{Relation}
 use Rattle.dep_model.proofs.ListLemmas.{Contains-cases, Contains-head, Contains-later, Contains-map, map-member}
 use Rattle.dep_model.proofs.PermutationLemmas.{AllPairs-permutation}
-use Rattle.candidate_laws.proofs.CountLemmas.{first_pairs, later_pairs}
-use Rattle.candidate_laws.proofs.StandingLemmas.{Contains-nil}
+use Rattle.candidate_sets.proofs.CountLemmas.{first_pairs, later_pairs}
+use Rattle.candidate_sets.proofs.StandingLemmas.{Contains-nil}
 use Rattle.candidate_search.specs.Sides.{HasMinimal, rights_of}
 use Rattle.candidate_search.specs.declared.side.Side.{Side}
 use Rattle.fd_discovery.specs.Minimal.{IsMinimalWithin, Precedes}

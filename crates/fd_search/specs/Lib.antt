@@ -2,3 +2,5 @@
 -- attributes in one list.
 pub mod Small
 pub mod Listing
+pub mod Keys
+pub mod Numbered

@@ -3,3 +3,4 @@
 pub mod Commands
 pub mod Style
 pub mod Pages
+pub mod Escapes

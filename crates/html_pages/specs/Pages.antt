@@ -1,6 +1,6 @@
 -- A page of HTML that is whole by itself, and its pieces: for `desk_reports`.
 use Rattle.std.specs.Prelude.{ℕ, List, ◌++◌, codes}
-use Rattle.html_escapes.specs.Escapes.{html_text}
+use Rattle.html_pages.specs.Escapes.{html_text}
 use Rattle.html_pages.specs.Style.{style_text}
 
 -- ---- pieces

@@ -4,8 +4,8 @@ ghost use Rattle.std.specs.Prelude.{◌≡◌, ◌++◌, OnOk};
 ghost use Rattle.std.specs.List.{flat_map, list_all};
 ghost use Rattle.html_pages.specs.Commands.{is_plain_byte, is_plain_word, quoted_byte, shell_word, single_quoted};
 
+use byte_texts::add;
 use dep_model::OutOfMemory;
-use schema_printer::add;
 
 /// Adds a word as a shell takes it.
 #[tactic(auto, unfolding(crate::specs::Commands::shell_word))]

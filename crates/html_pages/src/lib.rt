@@ -1,5 +1,5 @@
 //! Pages of HTML that a browser shows without anything else: no script, no link out, light and
-//! dark.
+//! dark; and texts within HTML, where `&`, `<`, `>` and `"` stand as entities.
 //!
 //! A page is its frame around sections, a section a heading above pieces, and a piece a text that
 //! was printed, below its title, open or folded.
@@ -9,12 +9,14 @@
 #![tactic(auto)]
 
 mod commands;
+mod escapes;
 pub mod laws;
 mod page;
 mod pieces;
 mod style;
 
 pub use commands::add_shell_word;
+pub use escapes::add_html;
 pub use page::{close_page, open_page, section};
 pub use pieces::{folded_piece, open_piece, titled};
 pub use style::page_style;

@@ -1,10 +1,10 @@
 ghost use Rattle.std.specs.Prelude.{◌≡◌, ◌++◌, codes, IfOk, OnOk};
 ghost use Rattle.html_pages.specs.Pages.{front_text, section_text};
 
+use crate::add_html;
 use crate::style::page_style;
+use byte_texts::add;
 use dep_model::OutOfMemory;
-use html_escapes::add_html;
-use schema_printer::add;
 use std::alloc::Global;
 
 /// A section: its heading, which is HTML, and its pieces.

@@ -1,9 +1,9 @@
 ghost use Rattle.std.specs.Prelude.{◌≡◌, ◌++◌, IfOk, OnOk};
 ghost use Rattle.html_pages.specs.Pages.{folded_text, open_text, printed_text, title_with_words};
 
+use crate::add_html;
+use byte_texts::add;
 use dep_model::OutOfMemory;
-use html_escapes::add_html;
-use schema_printer::add;
 use std::alloc::Global;
 
 /// A title beside the words by which a user has the same, without that of the program.

@@ -11,7 +11,7 @@ use Rattle.dep_model.specs.declared.schema.Schema.{Schema}
 use Rattle.dep_model.proofs.TwoTupleLemmas.{two_tuples-over}
 use Rattle.typed_rows.proofs.NumeralLemmas.{two_tuples_hold}
 use Rattle.typed_rows.proofs.RelationLemmas.{IsMadeUp, fits_schema, legal-to, obeys-from}
-use Rattle.shown_rows.specs.Shown.{shown_tuples}
+use Rattle.typed_rows.specs.Shown.{shown_tuples}
 use Rattle.implication_laws.specs.Counterexamples.{IsCounterexample}
 
 pub counterexample : (s : Schema) (goal : Dependency) (x : Attributes)

@@ -13,12 +13,12 @@ use Rattle.dep_model.specs.declared.schema.Schema.{Schema}
 use Rattle.dep_model.proofs.ImplicationLemmas.{legal_for_implied}
 use Rattle.dep_model.proofs.PreservationLemmas.{fd-obeys, fd-obeyed}
 use Rattle.fd_closure.proofs.ClosedSets.{all_functional}
-use Rattle.fd_discovery.specs.Headings.{names_under, rows_under}
-use Rattle.fd_discovery.specs.declared.headed_rows.Headed.{Headed}
+use Rattle.headed_rows.specs.Headings.{names_under, rows_under}
+use Rattle.headed_rows.specs.declared.headed_rows.Headed.{Headed}
 use Rattle.min_cover.specs.Covers.{HaveSameLegal}
 use Rattle.schema_match.proofs.MatchLemmas.{theory_within}
 use Rattle.desk_discovery.specs.Discoveries.{AreRulesOf, FindsRules, RefusesRules, found_text}
-use Rattle.desk_discovery.specs.Exhibits.{IsExample, Exhibits}
+use Rattle.desk_exhibits.specs.Exhibits.{IsExample, Exhibits}
 use Rattle.desk_arguments.specs.Goals.{IsGoal}
 use Rattle.desk_implication.specs.Implication.{Decided, DecidesGoal}
 use Rattle.desk_tables.specs.Legality.{JudgesRows}

@@ -14,7 +14,7 @@ use Rattle.dep_model.specs.declared.column_type.ColumnType.TheVariants.{Text}
 use Rattle.dep_model.specs.declared.naming.Naming.{Naming}
 use Rattle.dep_model.specs.declared.naming.Naming.TheVariants.{Bare, Any}
 use Rattle.dep_model.specs.declared.schema.Schema.{Schema}
-use Rattle.fd_discovery.specs.Headers.{IsColumnHeader, is_plain_name, naming_under}
+use Rattle.headed_rows.specs.Headers.{IsColumnHeader, is_plain_name, naming_under}
 use Rattle.schema_grammar.specs.Declarations.{Declarations}
 use Rattle.schema_grammar.specs.Printed.{IsReadBack}
 use Rattle.schema_grammar.specs.Schemas.{MeansSchema}

@@ -25,8 +25,8 @@ use Rattle.derivation.specs.Trees.{Tree}
 use Rattle.derivation.proofs.ConclusionLemmas.{Proves-one}
 use Rattle.derivation.proofs.RuleTableLemmas.{the_ok}
 use Rattle.fd_closure.proofs.ClosedSets.{all_functional}
-use Rattle.fd_discovery.specs.Headings.{names_under, rows_under}
-use Rattle.fd_discovery.specs.declared.headed_rows.Headed.{Headed}
+use Rattle.headed_rows.specs.Headings.{names_under, rows_under}
+use Rattle.headed_rows.specs.declared.headed_rows.Headed.{Headed}
 use Rattle.key_listing.specs.Listing.{AreAllKeys, AreManyKeys}
 use Rattle.key_listing.specs.declared.refusal.TheConstants.{MOST_KEYS}
 use Rattle.dep_model.specs.declared.naming.Naming.{Naming}
@@ -40,9 +40,9 @@ use Rattle.schema_printer.specs.Spelling.{printed_names_of}
 use Rattle.desk_responses.specs.Lines.{attribute_name}
 use Rattle.desk_responses.specs.ResponseValues.{ResponseValue, Allowed}
 use Rattle.desk_responses.specs.declared.status.Status.TheVariants.{Yes, No, Refused}
-use Rattle.desk_texts.specs.Conclusions.{concludes_text}
+use Rattle.desk_implication.specs.Conclusions.{concludes_text}
 use Rattle.desk_texts.specs.Texts.{line, set_line}
-use Rattle.desk_texts.specs.Refusals.{goal_refusal_text, set_refusal_text}
+use Rattle.desk_refusals.specs.Refusals.{goal_refusal_text, set_refusal_text}
 use Rattle.desk_implication.specs.Bases.{TellsBasis, GivesBasis, blocks_text}
 use Rattle.desk_implication.specs.Certificates.{Checked, ChecksProof}
 use Rattle.desk_covers.specs.Covering.{GivesCover}
@@ -53,8 +53,8 @@ use Rattle.desk_discovery.specs.AllDiscoveries.{FindsAllRules}
 use Rattle.desk_discovery.specs.NearDiscoveries.{FindsNearRules, near_text}
 use Rattle.desk_discovery.specs.KeyDiscoveries.{FindsRowKeys, GivesRowKeys, RefusesRowKeys, row_keys_text}
 use Rattle.desk_discovery.specs.declared.discovering.TheConstants.{WIDEST_TRIED}
-use Rattle.desk_discovery.specs.Exhibits.{Exhibits, IsExample}
-use Rattle.desk_discovery.specs.Multivalued.{multivalued_text}
+use Rattle.desk_exhibits.specs.Exhibits.{Exhibits, IsExample}
+use Rattle.desk_responses.specs.Multivalued.{multivalued_text}
 use Rattle.desk_arguments.specs.Goals.{GoalStops, IsGoal, SetStops, IsSetText, WithGoal}
 use Rattle.desk_keys.specs.Keys.{ListsKeys}
 use Rattle.desk_covers.specs.Sameness.{LacksName, NameStops, Compares, ChecksSame, different_text, not_in_text}
@@ -67,7 +67,7 @@ use Rattle.implication_laws.proofs.OneKey.{one_keys, before_one_way, ascends, ea
 use Rattle.implication_laws.proofs.OneList.{one_differences, one_near_rules, one_row_keys, one_rules, one_small_rules, one_list_of_all}
 use Rattle.implication_laws.proofs.OrderedLists.{no_longer}
 use Rattle.implication_laws.proofs.StepLaws.{same_says, With-one, Unless-one, same_texts}
-use Rattle.shown_rows.specs.Shown.{shown_relation}
+use Rattle.typed_rows.specs.Shown.{shown_relation}
 use Rattle.typed_rows.specs.Typed.{typed_tuple}
 
 -- ---- goals and sets

@@ -4,7 +4,7 @@ use mathlib.Core.Path.{fun_ext}
 use Rattle.std.specs.List.{AllZip, flat_map}
 use Rattle.attr_sets.specs.Attributes.{Attributes}
 use Rattle.dep_model.specs.Dependencies.{Dependency, fd, left_of, right_of}
-use Rattle.cover_steps.proofs.MemberLemmas.{shorts_agree}
+use Rattle.cover_accounts.proofs.MemberLemmas.{shorts_agree}
 use Rattle.min_cover.specs.Covers.{IsThinned, IsFixedCover, IsFixedWholeCover, multivalued_part}
 use Rattle.min_cover.specs.Members.{members_of, IsLeftReducedDependency}
 

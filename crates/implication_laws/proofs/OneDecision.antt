@@ -7,14 +7,14 @@ use Rattle.dep_model.specs.declared.schema.Schema.{Schema}
 use Rattle.derivation.specs.Derivs.{tree_of}
 use Rattle.derivation.specs.Trees.{Tree}
 use Rattle.derivation.proofs.ChainLemmas.{chain_one}
-use Rattle.dep_basis.specs.Proofs.{IsChainIfFunctional, IsDirectUnlessChain}
+use Rattle.basis_proofs.specs.Proofs.{IsChainIfFunctional, IsDirectUnlessChain}
 use Rattle.proof_grammar.specs.Printing.{canonical_certificate}
 use Rattle.desk_responses.specs.ResponseValues.{ResponseValue}
 use Rattle.desk_responses.specs.declared.status.Status.TheVariants.{Yes, No}
 use Rattle.desk_texts.specs.Texts.{yes_text, no_text}
 use Rattle.desk_arguments.specs.Goals.{IsGoal}
 use Rattle.desk_implication.specs.Implication.{Decided, DecidesGoal}
-use Rattle.shown_rows.specs.Shown.{shown_tuples}
+use Rattle.typed_rows.specs.Shown.{shown_tuples}
 use Rattle.implication_laws.specs.OneAnswer.{HasFixedProof}
 use Rattle.implication_laws.proofs.GoalLemmas.{says-status, one_goal, goal_goes}
 use Rattle.implication_laws.proofs.OneBasis.{one_refuted}

@@ -16,7 +16,7 @@ use Rattle.mvd_discovery.specs.Finding.{AreAllRules}
 use Rattle.mvd_laws.specs.Reduced.{AreAllReduced, BeginsBefore, IsReducedMvd, PrecedesByBlock}
 use Rattle.near_rules.specs.NearRules.{AreErrors, AreNearRules, IsNearFd}
 use Rattle.near_rules.proofs.RightLemmas.{same_errors}
-use Rattle.row_keys.specs.Keys.{AreRowKeys, IsRowKey}
+use Rattle.fd_search.specs.Keys.{AreRowKeys, IsRowKey}
 use Rattle.schema_match.specs.Differences.{AreDifferences}
 use Rattle.implication_laws.proofs.OneCover.{one_thinned}
 use Rattle.implication_laws.proofs.OneKey.{before_one_way}

@@ -2,8 +2,8 @@
 use Rattle.std.proofs.Common.{◌≡◌, ◌↔◌, ℕ, true, List, ◌++◌, sym, ap, ◌∙◌, inl, inr}
 use Rattle.attr_sets.specs.Attributes.{Attributes}
 use Rattle.attr_sets.proofs.AttributesLemmas.{same_from_within}
-use Rattle.cover_steps.specs.Steps.{Placed, Shortened}
-use Rattle.cover_steps.proofs.MemberLemmas.{one_account_members, one_account_gone}
+use Rattle.cover_accounts.specs.Steps.{Placed, Shortened}
+use Rattle.cover_accounts.proofs.MemberLemmas.{one_account_members, one_account_gone}
 use Rattle.dep_model.specs.Schemas.{width_of, theory_of}
 use Rattle.dep_model.specs.declared.schema.Schema.{Schema}
 use Rattle.schema_printer.specs.Spelling.{printed_names_of}

@@ -11,8 +11,8 @@ use Rattle.closure_steps.specs.declared.without.Without.{Without}
 use Rattle.closure_steps.specs.Steps.{ClosureStepValue, reached}
 use Rattle.closure_steps.specs.Without.{IsClosureWithout, AreClosuresWithout}
 use Rattle.closure_steps.proofs.StepLemmas.{one_list}
-use Rattle.cover_check.specs.declared.diagnostic.CoverDiagnostic.{CoverDiagnostic}
-use Rattle.cover_check.specs.CoverDiagnostics.{IsCoverDiagnostic, IsBeforePlace, AreCoverDiagnostics, position_of, rank_of}
+use Rattle.cover_accounts.specs.declared.diagnostic.CoverDiagnostic.{CoverDiagnostic}
+use Rattle.cover_accounts.specs.CoverDiagnostics.{IsCoverDiagnostic, IsBeforePlace, AreCoverDiagnostics, position_of, rank_of}
 use Rattle.dep_model.specs.Dependencies.{Dependency, fd}
 use Rattle.dep_model.specs.Keys.{InClosure}
 use Rattle.dep_model.specs.Schemas.{names_of, width_of, universe_of, theory_of, naming_of}
@@ -28,7 +28,7 @@ use Rattle.desk_keys.specs.KeyChecks.{IsKeyText, IsNoSuperkey, HasKeyWithin, Tes
 use Rattle.desk_covers.specs.Sameness.{NameStops, different_text}
 use Rattle.desk_responses.specs.declared.status.Status.TheVariants.{Yes, No}
 use Rattle.desk_texts.specs.Texts.{line, set_line}
-use Rattle.shown_rows.specs.Shown.{shown_tuples}
+use Rattle.typed_rows.specs.Shown.{shown_tuples}
 use Rattle.implication_laws.specs.OneAnswer.{AllowsOne}
 use Rattle.implication_laws.proofs.OneAnswer.{one_set_stop, set_goes, one_set, one_name_stop}
 use Rattle.implication_laws.proofs.OneBasis.{one_refuted}

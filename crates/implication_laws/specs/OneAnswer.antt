@@ -5,7 +5,7 @@ use Rattle.dep_model.specs.Dependencies.{Dependency, fd, mvd, functional_part}
 use Rattle.dep_model.specs.Implication.{Implies}
 use Rattle.dep_model.specs.Schemas.{width_of, theory_of}
 use Rattle.dep_model.specs.declared.schema.Schema.{Schema}
-use Rattle.dep_basis.specs.Proofs.{IsFirstGiven}
+use Rattle.basis_proofs.specs.Proofs.{IsFirstGiven}
 use Rattle.desk_responses.specs.ResponseValues.{ResponseValue, Allowed}
 
 -- any two answers that are allowed are equal

@@ -6,7 +6,7 @@ ghost use Rattle.dep_model.specs.Dependencies.{Dependency};
 ghost use Rattle.dep_model.specs.Schemas.{theory_of};
 ghost use Rattle.dep_model.specs.declared.column_type.ColumnType.TheVariants.{Text};
 ghost use Rattle.dep_model.specs.declared.schema.Schema.{Schema};
-ghost use Rattle.fd_discovery.specs.Headers.{IsColumnHeader, naming_under};
+ghost use Rattle.headed_rows.specs.Headers.{IsColumnHeader, naming_under};
 ghost use Rattle.schema_grammar.specs.Schemas.{MeansSchema};
 ghost use Rattle.schema_grammar.specs.declared.format.TheConstants.{MOST_DEPENDENCY_LINES};
 ghost use Rattle.schema_printer.specs.Printing.{schema_text};

@@ -13,7 +13,7 @@ ghost use Rattle.desk_implication.specs.Implication.{Decided, DecidesGoal};
 ghost use Rattle.desk_tables.specs.Legality.{JudgesRows};
 ghost use Rattle.desk_responses.specs.ResponseValues.{ResponseValue};
 ghost use Rattle.desk_responses.specs.declared.status.Status.TheVariants.{Yes, No};
-ghost use Rattle.shown_rows.specs.Shown.{shown_tuples};
+ghost use Rattle.typed_rows.specs.Shown.{shown_tuples};
 ghost use Rattle.implication_laws.specs.Counterexamples.{IsCounterexample};
 ghost use Rattle.implication_laws.specs.Rewriting.{HaveSameDependencies};
 

@@ -3,10 +3,10 @@ use Rattle.std.proofs.Common.{◌≡◌, ◌<◌, ◌≤◌, ◌∙◌, ℕ, fal
 use Rattle.attr_sets.specs.declared.set.AttrSet.{AttrSet}
 use Rattle.dep_model.specs.Names.{same_name}
 use Rattle.dep_model.specs.declared.schema.Schema.{Schema}
-use Rattle.named_plans.specs.NamedPlans.{AreApart}
+use Rattle.plan_printer.specs.NamedPlans.{AreApart}
 use Rattle.table_names.specs.TableNames.{GivenNames, name_of_table}
 use Rattle.table_names.specs.declared.numbered.TheConstants.{MOST_TABLES}
-use Rattle.table_name_laws.proofs.NameLemmas.{tables_named_apart}
+use Rattle.plan_printer.proofs.NameLemmas.{tables_named_apart}
 use Rattle.ddl_text.specs.Designs.{IsDesign}
 use Rattle.ddl_text.specs.declared.table.TableDesign.{TableDesign}
 use Rattle.import_laws.proofs.StatementLemmas.{NamesApart}

@@ -8,7 +8,7 @@ use Rattle.dep_model.specs.Columns.{is_column_type}
 use Rattle.dep_model.specs.Names.{IsName}
 use Rattle.dep_model.specs.declared.column_type.ColumnType.{ColumnType}
 use Rattle.dep_model.specs.declared.schema.TheConstants.{MOST_DEPENDENCIES}
-use Rattle.sql_names.specs.Names.{quoted_name}
+use Rattle.sql_syntax.specs.Names.{quoted_name}
 use Rattle.sql_lexemes.specs.declared.dialect.Dialect.{Dialect}
 use Rattle.sql_lexemes.specs.Lexemes.{Lexed}
 use Rattle.sql_definitions.specs.Elements.{element, has_column_named, key_of_parts, named_column}

@@ -5,7 +5,7 @@ use Rattle.std.proofs.lemmas.Bool.Decides.{nat_tests}
 use Rattle.dep_model.specs.Names.{IsName, quotes_doubled}
 use Rattle.lexer.proofs.Quoting.{name_test}
 use Rattle.lexer.specs.Quotes as quotes
-use Rattle.sql_names.specs.Names.{quoted_name}
+use Rattle.sql_syntax.specs.Names.{quoted_name}
 use Rattle.sql_lexemes.specs.declared.dialect.Dialect.{Dialect}
 use Rattle.sql_lexemes.specs.declared.lexeme.LexemeKind.TheVariants as kind
 use Rattle.sql_definitions.specs.Lists.{name_of}

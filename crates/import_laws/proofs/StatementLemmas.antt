@@ -7,7 +7,7 @@ use Rattle.std.proofs.lemmas.Option.{slice_get_within}
 use Rattle.std.proofs.lemmas.Slice.Eq.{bytes_eq-Decides}
 use Rattle.dep_model.specs.Names.{same_name}
 use Rattle.dep_model.specs.declared.schema.Schema.{Schema}
-use Rattle.sql_names.specs.Names.{quoted_name}
+use Rattle.sql_syntax.specs.Names.{quoted_name}
 use Rattle.ddl_text.specs.declared.table.TableDesign.{TableDesign}
 use Rattle.sql_lexemes.specs.declared.dialect.Dialect.{Dialect}
 use Rattle.sql_lexemes.specs.declared.lexeme.LexemeKind.TheVariants as kind
@@ -20,7 +20,7 @@ use Rattle.sql_definitions.specs.Tables.{create_table, elements, read_lexemes}
 use Rattle.ddl_pieces.specs.Created.{AreCreated, IsCreated}
 use Rattle.ddl_pieces.specs.Pieces.{TextPiece, blank, create_lexemes, elements_pieces, gap, lexeme_at, lexemes_from, lines_after, lines_pieces, mark, quoted_name_piece, word}
 use Rattle.import_laws.specs.ReadTables.{named}
-use Rattle.table_name_laws.proofs.NameLemmas.{apart_turned}
+use Rattle.plan_printer.proofs.NameLemmas.{apart_turned}
 use Rattle.import_laws.proofs.ChainLemmas.{Leads, closing, elements_read}
 use Rattle.import_laws.proofs.ElementLemmas.{Known, Reads}
 use Rattle.import_laws.proofs.NameLemmas.{unquoted_quoted}

@@ -5,7 +5,7 @@ use Rattle.dep_model.specs.Names.{IsName}
 use Rattle.dep_model.specs.Schemas.{names_of, types_of, width_of}
 use Rattle.dep_model.specs.declared.schema.Schema.{Schema}
 use Rattle.plans.specs.Schemes.{AreSchemes}
-use Rattle.named_plans.specs.NamedPlans.{AreApart}
+use Rattle.plan_printer.specs.NamedPlans.{AreApart}
 use Rattle.table_names.specs.TableNames.{GivenNames}
 use Rattle.table_names.specs.declared.numbered.TheConstants.{MOST_TABLES}
 use Rattle.ddl_text.specs.Designs.{IsDesign}

@@ -3,7 +3,7 @@ use Rattle.std.proofs.Common.{inl, inr, ◌≡◌, ◌<◌, ◌≤◌, ◌==◌,
 use Rattle.std.proofs.lemmas.Bool.{cases_Bool, eqb-true}
 use Rattle.attr_sets.specs.Attributes.{Attributes, only, difference, count_below}
 use Rattle.attr_sets.proofs.AttributesLemmas.{count_below-difference_only}
-use Rattle.csv_rows.specs.Numberings.{AreFirsts, number_at}
+use Rattle.row_groups.specs.Numberings.{AreFirsts, number_at}
 use Rattle.dep_model.proofs.SchemeLemmas.{count_below-start, count_below-one_more, count_below-no_more}
 
 pub other_number : (a b : ℕ) → (a ≡ b → ⊥) → (a == b) ≡ false

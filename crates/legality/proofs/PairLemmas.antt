@@ -5,9 +5,9 @@ use Rattle.std.proofs.lemmas.Bool.{cases_lt}
 use Rattle.attr_sets.specs.Attributes.{Attributes}
 use Rattle.dep_model.specs.Tuples.{Tuple, Relation, AgreeOn, value_at}
 use Rattle.dep_model.specs.Dependencies.{fd}
-use Rattle.csv_rows.specs.Numberings.{number_at, AreGroups, AreFirsts}
+use Rattle.row_groups.specs.Numberings.{number_at, AreGroups, AreFirsts}
 use Rattle.row_store.specs.Rows.{row_at}
-use Rattle.csv_rows.proofs.NumberingLemmas.{row_of}
+use Rattle.row_groups.proofs.NumberingLemmas.{row_of}
 use Rattle.dep_model.proofs.ListLemmas.{same_default}
 use Rattle.legality.specs.Answers.{IsLeastOffence}
 use Rattle.legality.specs.declared.pair.Pair.{Pair}

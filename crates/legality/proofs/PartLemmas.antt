@@ -8,9 +8,9 @@ use Rattle.attr_sets.specs.Attributes.{Attributes, IsSubset, below, union, diffe
 use Rattle.attr_sets.proofs.AttributesLemmas.{tell_member, count_below-difference_only, count_below-member, count_below-outside, union_within, same_at}
 use Rattle.dep_model.specs.Tuples.{Tuple, Relation, AgreeOn, value_at}
 use Rattle.dep_model.specs.Dependencies.{mvd, Obeys}
-use Rattle.csv_rows.specs.Numberings.{number_at, AreGroups, AreFirsts}
+use Rattle.row_groups.specs.Numberings.{number_at, AreGroups, AreFirsts}
 use Rattle.row_store.specs.Rows.{row_at}
-use Rattle.csv_rows.proofs.NumberingLemmas.{zeros_at, row_of}
+use Rattle.row_groups.proofs.NumberingLemmas.{zeros_at, row_of}
 use Rattle.legality.specs.Offences.{BreaksAt}
 use Rattle.legality.specs.Answers.{IsLeastOffence}
 use Rattle.legality.specs.Parts.{part_count, ArePartCounts, IsFirstShort, flag_at, AreBeside, IsFirstMissing}

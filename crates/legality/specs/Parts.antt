@@ -2,7 +2,7 @@
 -- dependencies. `Desk` does not cite it.
 use Rattle.std.specs.Prelude.{◌≡◌, ◌<◌, ◌≤◌, ◌==◌, ℕ, Bool, true, false, List, length, slice_index_or, Option, None, Some}
 use Rattle.attr_sets.specs.Attributes.{count_below}
-use Rattle.csv_rows.specs.Numberings.{number_at}
+use Rattle.row_groups.specs.Numberings.{number_at}
 use Rattle.legality.specs.declared.pair.Pair.{Pair}
 
 -- each number is below a bound

@@ -1,10 +1,10 @@
 ghost use Rattle.std.specs.Prelude.{◌≡◌, ◌<◌, ◌^◌, length, replicate, IfOk};
-ghost use Rattle.csv_rows.specs.Interning.{firsts_of, groups_of};
-ghost use Rattle.csv_rows.specs.Numberings.{AreFirsts};
+ghost use Rattle.row_groups.specs.Interning.{firsts_of, groups_of};
+ghost use Rattle.row_groups.specs.Numberings.{AreFirsts};
 ghost use Rattle.legality.specs.Parts.{ArePartCounts};
 
-use csv_rows::Groups;
 use dep_model::OutOfMemory;
+use row_groups::Groups;
 use std::alloc::Global;
 
 /// How many of the parts each group has. A part stands in the group of its first row.

@@ -1,6 +1,6 @@
 ghost use Rattle.std.specs.Prelude.{◌≡◌, ◌+◌, ◌<◌, ◌≤◌, ◌^◌, ◌↔◌, [], length, IfOk};
 ghost use Rattle.attr_sets.specs.Attributes.{below};
-ghost use Rattle.csv_rows.specs.Interning.{IsInterned};
+ghost use Rattle.row_groups.specs.Interning.{IsInterned};
 ghost use Rattle.dep_model.specs.Deps.{IsDepWithin, dependency_of};
 ghost use Rattle.dep_model.specs.Schemas.{LegalFor, theory_of, width_of};
 ghost use Rattle.dep_model.specs.Tuples.{IsOver};
@@ -12,8 +12,8 @@ use crate::multivalued::least_multivalued_pair;
 use crate::offence::Offence;
 use crate::pair::Pair;
 use attr_sets::MOST_ATTRIBUTES;
-use csv_rows::Interned;
 use dep_model::{Dep, OutOfMemory, Schema};
+use row_groups::Interned;
 use row_store::{Hashing, Rows};
 use std::alloc::Global;
 

@@ -1,7 +1,7 @@
 ghost use Rattle.std.specs.Prelude.{◌≡◌, ◌<◌, ◌≤◌, true, false, length, Some, None, IfOk};
 ghost use Rattle.attr_sets.specs.Attributes.{IsSubset, below};
 ghost use Rattle.attr_sets.specs.Sets.{attributes};
-ghost use Rattle.csv_rows.specs.Interning.{IsInterned};
+ghost use Rattle.row_groups.specs.Interning.{IsInterned};
 ghost use Rattle.row_store.specs.Rows.{row_at};
 ghost use Rattle.dep_model.specs.Dependencies.{fd};
 ghost use Rattle.dep_model.specs.Tuples.{AgreeOn};
@@ -10,8 +10,8 @@ ghost use Rattle.legality.specs.declared.pair.Pair.{Pair};
 
 use crate::pair::Pair;
 use attr_sets::{AttrSet, MOST_ATTRIBUTES};
-use csv_rows::{Groups, Interned};
 use dep_model::OutOfMemory;
+use row_groups::{Groups, Interned};
 use row_store::Rows;
 use std::alloc::Global;
 

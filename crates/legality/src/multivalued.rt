@@ -1,7 +1,7 @@
 ghost use Rattle.std.specs.Prelude.{◌≡◌, ◌<◌, ◌≤◌, false, length, replicate, IfOk};
 ghost use Rattle.attr_sets.specs.Attributes.{IsSubset, below};
 ghost use Rattle.attr_sets.specs.Sets.{attributes};
-ghost use Rattle.csv_rows.specs.Interning.{IsInterned};
+ghost use Rattle.row_groups.specs.Interning.{IsInterned};
 ghost use Rattle.dep_model.specs.Dependencies.{mvd};
 ghost use Rattle.legality.specs.Answers.{IsLeastOffence};
 ghost use Rattle.legality.specs.Parts.{AreBelow, AreBeside, IsFirstMissing, IsFirstShort};
@@ -9,8 +9,8 @@ ghost use Rattle.legality.specs.Parts.{AreBelow, AreBeside, IsFirstMissing, IsFi
 use crate::counting::part_counts;
 use crate::pair::Pair;
 use attr_sets::{AttrSet, MOST_ATTRIBUTES};
-use csv_rows::{Groups, Interned};
 use dep_model::OutOfMemory;
+use row_groups::{Groups, Interned};
 use row_store::Rows;
 use std::alloc::Global;
 

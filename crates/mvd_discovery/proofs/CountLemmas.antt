@@ -6,7 +6,7 @@ use Rattle.attr_sets.specs.Sets.{attributes}
 use Rattle.attr_sets.specs.declared.set.AttrSet.{AttrSet}
 use Rattle.attr_sets.specs.declared.set.TheConstants.{MOST_ATTRIBUTES}
 use Rattle.attr_sets.proofs.AttributesLemmas.{union_within}
-use Rattle.csv_rows.specs.Numberings.{number_at}
+use Rattle.row_groups.specs.Numberings.{number_at}
 use Rattle.dep_model.specs.Dependencies.{ObeysFd, ObeysMvd}
 use Rattle.dep_model.specs.Tuples.{Relation}
 use Rattle.mvd_laws.specs.Sizes.{AreSizes}

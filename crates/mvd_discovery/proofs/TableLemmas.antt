@@ -6,7 +6,7 @@ use Rattle.std.proofs.lemmas.Bool.{cases_lt}
 use Rattle.std.proofs.lemmas.List.{get_or_append_left}
 use Rattle.attr_sets.specs.Attributes.{Attributes, below}
 use Rattle.attr_sets.specs.Sets.{attributes}
-use Rattle.csv_rows.specs.Numberings.{AreFirsts, AreGroups, number_at}
+use Rattle.row_groups.specs.Numberings.{AreFirsts, AreGroups, number_at}
 use Rattle.dep_model.specs.Tuples.{Relation}
 use Rattle.mvd_laws.specs.Sizes.{AreDifferentRows, AreSizes}
 use Rattle.mvd_discovery.specs.Counting.{ArePartSizes, set_of}

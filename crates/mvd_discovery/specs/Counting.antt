@@ -3,9 +3,9 @@
 use Rattle.std.specs.Prelude.{◌≡◌, ◌<◌, ◌≤◌, ◌^◌, ℕ, List, [], length, slice_index_or}
 use Rattle.attr_sets.specs.Sets.{attributes}
 use Rattle.attr_sets.specs.declared.set.AttrSet.{AttrSet}
-use Rattle.csv_rows.specs.Numberings.{number_at}
+use Rattle.row_groups.specs.Numberings.{number_at}
 use Rattle.dep_model.specs.Tuples.{Relation}
-use Rattle.fd_discovery.specs.declared.limits.TheConstants.{WIDEST_WITH_ALL}
+use Rattle.row_store.specs.declared.limits.TheConstants.{WIDEST_WITH_ALL}
 use Rattle.mvd_laws.specs.Sizes.{AreDifferentRows, AreSizes, size_at}
 use Rattle.mvd_discovery.specs.declared.counts.Counts.{Counts}
 

@@ -1,14 +1,14 @@
 ghost use Rattle.std.specs.Prelude.{◌≡◌, ◌<◌, ◌≤◌, ◌^◌, ℕ, length, IfOk};
-ghost use Rattle.csv_rows.specs.Interning.{firsts_of, groups_of};
-ghost use Rattle.csv_rows.specs.Numberings.{AreFirsts};
+ghost use Rattle.row_groups.specs.Interning.{firsts_of, groups_of};
+ghost use Rattle.row_groups.specs.Numberings.{AreFirsts};
 ghost use Rattle.dep_model.specs.Tuples.{IsOver};
 ghost use Rattle.mvd_discovery.specs.Counting.{ArePartSizes};
-ghost use Rattle.fd_discovery.specs.declared.limits.TheConstants.{WIDEST_WITH_ALL};
+ghost use Rattle.row_store.specs.declared.limits.TheConstants.{WIDEST_WITH_ALL};
 
 use attr_sets::AttrSet;
-use csv_rows::{Groups, Interned};
 use dep_model::OutOfMemory;
 use legality::part_counts;
+use row_groups::{Groups, Interned};
 use row_store::{Hashing, Rows};
 use std::alloc::Global;
 use std::marker::Model;

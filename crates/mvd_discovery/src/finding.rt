@@ -2,7 +2,7 @@ ghost use Rattle.std.specs.Prelude.{◌≡◌, ◌<◌, ◌≤◌, ◌^◌, ◌+
 ghost use Rattle.attr_sets.specs.Attributes.{below};
 ghost use Rattle.dep_model.specs.Deps.{IsDepWithin, dependencies_of};
 ghost use Rattle.dep_model.specs.Tuples.{IsOver};
-ghost use Rattle.fd_discovery.specs.declared.limits.TheConstants.{WIDEST_WITH_ALL};
+ghost use Rattle.row_store.specs.declared.limits.TheConstants.{WIDEST_WITH_ALL};
 ghost use Rattle.mvd_laws.specs.Covers.{IsCoverOfAll};
 ghost use Rattle.mvd_discovery.specs.Finding.{AreAllRules};
 

@@ -1,7 +1,7 @@
 ghost use Rattle.std.specs.Prelude.{◌≡◌, ◌*◌, ◌<◌, ◌↔◌, ℕ, length, IsTrue};
 ghost use Rattle.attr_sets.specs.Attributes.{IsSubset, below};
 ghost use Rattle.attr_sets.specs.Sets.{attributes};
-ghost use Rattle.csv_rows.specs.Numberings.{number_at};
+ghost use Rattle.row_groups.specs.Numberings.{number_at};
 ghost use Rattle.dep_model.specs.Dependencies.{ObeysFd, ObeysMvd};
 ghost use Rattle.dep_model.specs.Tuples.{Relation};
 ghost use Rattle.mvd_discovery.specs.Counting.{AreCounts};

@@ -6,8 +6,8 @@ use Rattle.std.specs.Prelude.{◌↔◌, if◌then◌else◌, Contains}
 use Rattle.std.proofs.lemmas.Bool.{cases_Bool, eq-eqb, eqb-true, true≢false, and_from}
 use Rattle.attr_sets.specs.Attributes.{Attributes, below, count_below, difference, union, IsSubset}
 use Rattle.attr_sets.proofs.AttributesLemmas.{count_below-equal, count_below-pos, count_below-none}
-use Rattle.csv_rows.specs.Numberings.{number_at}
-use Rattle.csv_rows.proofs.NumberingLemmas.{row_of}
+use Rattle.row_groups.specs.Numberings.{number_at}
+use Rattle.row_groups.proofs.NumberingLemmas.{row_of}
 use Rattle.dep_model.specs.Tuples.{Tuple, Relation, AgreeOn}
 use Rattle.dep_model.specs.Dependencies.{ObeysFd, ObeysMvd}
 use Rattle.dep_model.proofs.TwoRowLemmas.{AgreeOn-left, AgreeOn-union}

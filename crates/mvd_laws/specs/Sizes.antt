@@ -2,7 +2,7 @@
 -- dependency, and for the code that counts. `Desk` does not cite it.
 use Rattle.std.specs.Prelude.{◌≡◌, ◌<◌, ◌==◌, ◌↔◌, ℕ, List, length}
 use Rattle.attr_sets.specs.Attributes.{Attributes, below, count_below}
-use Rattle.csv_rows.specs.Numberings.{number_at}
+use Rattle.row_groups.specs.Numberings.{number_at}
 use Rattle.dep_model.specs.Tuples.{Relation, AgreeOn}
 use Rattle.row_store.specs.Rows.{row_at}
 

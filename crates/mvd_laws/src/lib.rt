@@ -12,7 +12,7 @@
 
 ghost use Rattle.std.specs.Prelude.{◌≡◌, ◌*◌, ◌<◌, ◌↔◌, ℕ, List, length, All};
 ghost use Rattle.attr_sets.specs.Attributes.{Attributes, below, union, difference, IsSubset};
-ghost use Rattle.csv_rows.specs.Numberings.{number_at};
+ghost use Rattle.row_groups.specs.Numberings.{number_at};
 ghost use Rattle.dep_model.specs.Tuples.{Relation, IsOver};
 ghost use Rattle.dep_model.specs.Dependencies.{Dependency, Obeys, ObeysFd, ObeysMvd};
 ghost use Rattle.min_cover.specs.Covers.{IsThinned};

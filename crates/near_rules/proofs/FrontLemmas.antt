@@ -8,7 +8,7 @@ use Rattle.attr_sets.specs.Attributes.{Attributes, IsSubset, IsEmpty, IsBefore, 
 use Rattle.attr_sets.proofs.AttributesLemmas.{count_below-lt, count_below-union_only, count_below-within, same_at}
 use Rattle.attr_sets.proofs.OrderLemmas.{IsBefore-trans, tell_before, next_subset-before}
 use Rattle.attr_sets.proofs.UpToLemmas.{IsUpTo, before_up_to, filled_in, holds_after, subset_up_to, up_to_before}
-use Rattle.csv_rows.specs.Numberings.{number_at}
+use Rattle.row_groups.specs.Numberings.{number_at}
 use Rattle.dep_model.specs.Tuples.{Relation}
 use Rattle.dep_model.specs.Dependencies.{Dependency, fd, left_of, right_of}
 use Rattle.dep_model.specs.Deps.{dependencies_of, dependency_of}

@@ -8,8 +8,8 @@ use Rattle.std.proofs.lemmas.List.{get_or-replicate, length-replicate}
 use Rattle.std.proofs.lemmas.List.Elements.{All-contains, All-weaker}
 use Rattle.attr_sets.specs.Attributes.{Attributes, IsEmpty, IsSubset, below, only, union}
 use Rattle.attr_sets.proofs.AttributesLemmas.{same_from_within, same_at}
-use Rattle.candidate_laws.proofs.CountLemmas.{different_no_longer}
-use Rattle.csv_rows.specs.Numberings.{number_at}
+use Rattle.candidate_sets.proofs.CountLemmas.{different_no_longer}
+use Rattle.row_groups.specs.Numberings.{number_at}
 use Rattle.dep_model.specs.Tuples.{Relation}
 use Rattle.dep_model.specs.Dependencies.{Dependency, IsWithin, fd}
 use Rattle.dep_model.specs.Deps.{dependencies_of}

@@ -3,9 +3,9 @@
 use Rattle.std.specs.Prelude.{◌≡◌, ◌≢◌, ◌<◌, ◌≤◌, ℕ, false, List, length, take, All, AllPairs, Contains}
 use Rattle.attr_sets.specs.Attributes.{Attributes, below, only, IsSubset, count_below}
 use Rattle.attr_sets.specs.declared.set.TheConstants.{MOST_ATTRIBUTES}
-use Rattle.csv_rows.specs.Interning.{IsInterned, firsts_of, groups_of}
-use Rattle.csv_rows.specs.Numberings.{AreFirsts, AreGroups, number_at}
-use Rattle.csv_rows.specs.declared.groups.Groups.{Groups}
+use Rattle.row_groups.specs.Interning.{IsInterned, firsts_of, groups_of}
+use Rattle.row_groups.specs.Numberings.{AreFirsts, AreGroups, number_at}
+use Rattle.row_groups.specs.declared.groups.Groups.{Groups}
 use Rattle.dep_model.specs.Dependencies.{Dependency, fd}
 use Rattle.dep_model.specs.Deps.{dependencies_of}
 use Rattle.dep_model.specs.Tuples.{Relation}

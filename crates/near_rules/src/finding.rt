@@ -11,8 +11,8 @@ use crate::found::{Found, NearRules, Sought, TooManyTried};
 use crate::front::front_rows;
 use crate::searching::{search_above, try_set};
 use attr_sets::AttrSet;
-use csv_rows::{Groups, Interned};
 use dep_model::{Failure, OutOfMemory};
+use row_groups::{Groups, Interned};
 use row_store::{Hashing, Rows};
 use std::alloc::Global;
 

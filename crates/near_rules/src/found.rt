@@ -1,5 +1,5 @@
-use csv_rows::Interned;
 use dep_model::Dep;
+use row_groups::Interned;
 
 /// The most sets that are tried for an attribute.
 pub const MOST_TRIED: usize = 1_000_000;

@@ -6,8 +6,8 @@ ghost use Rattle.near_rules.specs.Searching.{AreSought, IsSoughtNear};
 
 use crate::found::Sought;
 use attr_sets::AttrSet;
-use csv_rows::Groups;
 use dep_model::OutOfMemory;
+use row_groups::Groups;
 use row_measures::error_within;
 use row_store::{FlatValues, Rows, take_row};
 use std::alloc::Global;

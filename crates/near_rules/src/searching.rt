@@ -13,9 +13,9 @@ ghost use Rattle.near_rules.specs.Searching.{AreFoundBefore, AreFoundUpTo, AreGr
 use crate::found::{Found, MOST_TRIED, Sought, TooManyTried};
 use crate::front::is_far;
 use attr_sets::AttrSet;
-use csv_rows::Groups;
 use dep_model::{Dep, Failure};
 use fd_discovery::attributes_not_given;
+use row_groups::Groups;
 use row_measures::error_within;
 use std::alloc::Global;
 

@@ -7,7 +7,7 @@ ghost use Rattle.dep_model.specs.Names.{same_name};
 ghost use Rattle.nearest_lines.specs.Nearest.{hits, hits_in, is_blank, is_fixed, is_hit};
 ghost use Rattle.nearest_lines.specs.Words.{words_after};
 
-use desk_outside::Argument;
+use arguments::Argument;
 
 /// How many fixed words of the form that a line shows are among these words, in any case of letters. The form
 /// stands between the program's name and the first two blanks; its fixed words have a small letter and no capital one.

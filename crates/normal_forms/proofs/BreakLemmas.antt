@@ -21,8 +21,8 @@ use Rattle.dep_basis.specs.Bases.{IsSplitBy}
 use Rattle.dep_basis.proofs.BlockLemmas.{outside_of}
 use Rattle.dep_basis.proofs.BasisLemmas.{split_broken}
 use Rattle.dep_basis.proofs.PartLemmas.{parts_two}
-use Rattle.normal_forms.specs.declared.form.Form.{Form}
-use Rattle.normal_forms.specs.declared.form.Form.TheVariants.{Third, Bcnf, Fourth}
+use Rattle.dep_model.specs.declared.form.Form.{Form}
+use Rattle.dep_model.specs.declared.form.Form.TheVariants.{Third, Bcnf, Fourth}
 use Rattle.normal_forms.specs.Violations.{DeterminesBeyond, ViolatesBcnf, ViolatesFourth, Violates}
 use Rattle.normal_forms.specs.Adding.{AddOnlyThemselves}
 use Rattle.normal_forms.specs.Breaking.{Breaks, IsEnough}

@@ -16,8 +16,8 @@ use Rattle.dep_model.proofs.KeyLemmas.{superkey_more, fd_on-to, fd_on-from}
 use Rattle.fd_closure.proofs.ClosedSets.{closure_set}
 use Rattle.dep_basis.specs.Parts.{HasTwoParts}
 use Rattle.normal_forms.specs.declared.forms.Breach.{Breach}
-use Rattle.normal_forms.specs.declared.form.Form.{Form}
-use Rattle.normal_forms.specs.declared.form.Form.TheVariants.{Third, Bcnf, Fourth}
+use Rattle.dep_model.specs.declared.form.Form.{Form}
+use Rattle.dep_model.specs.declared.form.Form.TheVariants.{Third, Bcnf, Fourth}
 use Rattle.normal_forms.specs.Violations.{DeterminesBeyond, ViolatesThird, Violates}
 use Rattle.normal_forms.specs.Chosen.{IsInForm, IsChosenViolation, IsNoViolation}
 use Rattle.normal_forms.specs.Adding.{AddOnlyThemselves}

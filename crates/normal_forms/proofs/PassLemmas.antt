@@ -11,7 +11,7 @@ use Rattle.dep_model.specs.OnSchemes.{ImpliedOn}
 use Rattle.dep_model.specs.Keys.{IsSuperkey, InClosure}
 use Rattle.dep_model.proofs.KeyLemmas.{superkey_more, fd_on-to}
 use Rattle.dep_basis.specs.Parts.{HasTwoParts}
-use Rattle.normal_forms.specs.declared.form.Form.TheVariants.{Bcnf}
+use Rattle.dep_model.specs.declared.form.Form.TheVariants.{Bcnf}
 use Rattle.normal_forms.specs.Breaking.{Breaks}
 use Rattle.normal_forms.specs.Primes.{BecomesSuperkeyBy}
 use Rattle.normal_forms.specs.Passing.{LiesBetween, PassesOver, HasNoPartsAbout}

@@ -8,8 +8,8 @@ use Rattle.attr_sets.proofs.AttributesLemmas.{same_from_within, tell_least}
 use Rattle.attr_sets.proofs.OrderLemmas.{tell_before}
 use Rattle.dep_model.specs.Dependencies.{Dependency, left_of, functional_part}
 use Rattle.dep_model.proofs.PartLemmas.{parts_same}
-use Rattle.normal_forms.specs.declared.form.Form.{Form}
-use Rattle.normal_forms.specs.declared.form.Form.TheVariants.{Third, Bcnf, Fourth}
+use Rattle.dep_model.specs.declared.form.Form.{Form}
+use Rattle.dep_model.specs.declared.form.Form.TheVariants.{Third, Bcnf, Fourth}
 use Rattle.normal_forms.specs.Violations.{ViolatesThird, ViolatesFourth, Violates}
 use Rattle.normal_forms.specs.Chosen.{IsNoViolation, IsChosenViolation, IsVisibleViolation}
 use Rattle.normal_forms.proofs.ViolationLemmas.{bcnf_left_in, part_attribute}

@@ -15,8 +15,8 @@ use Rattle.dep_model.proofs.RuleLemmas.{reflexivity_obeyed, fd_union_obeyed, fd_
 use Rattle.dep_model.proofs.KeyLemmas.{superkey-from, fd_on-to, fd_on-from}
 use Rattle.dep_model.proofs.FormLemmas.{replicated_on}
 use Rattle.dep_model.proofs.PartLemmas.{parts_same}
-use Rattle.normal_forms.specs.declared.form.Form.{Form}
-use Rattle.normal_forms.specs.declared.form.Form.TheVariants.{Third, Bcnf, Fourth}
+use Rattle.dep_model.specs.declared.form.Form.{Form}
+use Rattle.dep_model.specs.declared.form.Form.TheVariants.{Third, Bcnf, Fourth}
 use Rattle.normal_forms.specs.Violations.{ViolatesBcnf, ViolatesFourth, Violates}
 use Rattle.normal_forms.specs.Chosen.{IsInForm}
 use Rattle.normal_forms.specs.Cuts.{IsCut}

@@ -5,8 +5,8 @@ use Rattle.attr_sets.specs.Attributes.{Attributes, intersection, IsSubset, IsBef
 use Rattle.dep_model.specs.Dependencies.{Dependency, functional_part}
 use Rattle.dep_model.specs.Keys.{IsSuperkey}
 use Rattle.dep_basis.specs.Parts.{HasTwoParts}
-use Rattle.normal_forms.specs.declared.form.Form.{Form}
-use Rattle.normal_forms.specs.declared.form.Form.TheVariants.{Third, Bcnf, Fourth}
+use Rattle.dep_model.specs.declared.form.Form.{Form}
+use Rattle.dep_model.specs.declared.form.Form.TheVariants.{Third, Bcnf, Fourth}
 use Rattle.normal_forms.specs.Violations.{DeterminesBeyond, DeterminesNonPrime}
 
 -- what shows that a left side which is no superkey violates a form

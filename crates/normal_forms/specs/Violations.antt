@@ -5,8 +5,8 @@ use Rattle.attr_sets.specs.Attributes.{Attributes, only, difference, IsEmpty, Is
 use Rattle.dep_model.specs.Dependencies.{Dependency, fd, functional_part}
 use Rattle.dep_model.specs.OnSchemes.{ImpliedOn}
 use Rattle.dep_model.specs.Keys.{IsSuperkey, IsPrime, IsPartOn}
-use Rattle.normal_forms.specs.declared.form.Form.{Form}
-use Rattle.normal_forms.specs.declared.form.Form.TheVariants.{Third, Bcnf, Fourth}
+use Rattle.dep_model.specs.declared.form.Form.{Form}
+use Rattle.dep_model.specs.declared.form.Form.TheVariants.{Third, Bcnf, Fourth}
 
 -- x determines on the scheme attribute a, which lies outside it
 abbrev pub DeterminesBeyond : ℕ → List Dependency → Attributes → Attributes → ℕ → Type 0

@@ -10,12 +10,11 @@ ghost use Rattle.normal_forms.specs.Passing.{LiesBetween, PassesOver};
 ghost use Rattle.normal_forms.specs.Violations.{Violates};
 
 use crate::beginning::{KnownPart, begun, closure_begun, first_few, next_part, no_part};
-use crate::form::Form;
 use crate::parting::parts_none;
 use crate::passing::{FEWEST_PASSED, determines_none, filled};
 use attr_sets::AttrSet;
 use dep_basis::{block, closure, has_two_parts};
-use dep_model::Schema;
+use dep_model::{Form, Schema};
 
 // Whether a left side violates Boyce-Codd or fourth form. Where all dependencies are functional
 // both are violated by a left side that determines some of the rest and not all. Else a left side

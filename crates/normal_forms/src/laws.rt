@@ -3,7 +3,7 @@
 ghost use Rattle.std.specs.Prelude.{◌≡◌, ℕ, List};
 ghost use Rattle.attr_sets.specs.Attributes.{Attributes, below, IsSubset};
 ghost use Rattle.dep_model.specs.Dependencies.{Dependency};
-ghost use Rattle.normal_forms.specs.declared.form.Form.{Form};
+ghost use Rattle.dep_model.specs.declared.form.Form.{Form};
 ghost use Rattle.normal_forms.specs.Violations.{Violates};
 ghost use Rattle.normal_forms.specs.Chosen.{IsInForm, IsChosenViolation, IsVisibleViolation};
 ghost use Rattle.normal_forms.specs.Cuts.{IsCut};

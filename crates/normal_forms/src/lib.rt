@@ -14,7 +14,6 @@
 mod beginning;
 mod breaking;
 mod forms;
-mod form;
 pub mod laws;
 mod narrowing;
 mod parting;
@@ -25,4 +24,3 @@ mod third;
 
 pub use forms::{Breach, TooWide};
 pub use testing::{violation, visible_violation};
-pub use form::Form;

@@ -7,9 +7,8 @@ ghost use Rattle.fd_closure.specs.LeftSides.{left_sides};
 ghost use Rattle.normal_forms.specs.Adding.{AddOnlyThemselves};
 ghost use Rattle.normal_forms.specs.Breaking.{IsEnough};
 
-use crate::form::Form;
 use attr_sets::AttrSet;
-use dep_model::Schema;
+use dep_model::{Form, Schema};
 use fd_closure::{functional_closure, functional_left_attributes, left_attributes};
 
 // The attributes of a scheme to whose subsets a search for violations can keep: those of the

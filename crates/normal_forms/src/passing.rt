@@ -3,7 +3,7 @@ ghost use Rattle.attr_sets.specs.Attributes.{Attributes, only, difference, IsSub
 ghost use Rattle.attr_sets.specs.Sets.{attributes};
 ghost use Rattle.dep_model.specs.Keys.{InClosure};
 ghost use Rattle.dep_model.specs.Schemas.{width_of, universe_of};
-ghost use Rattle.normal_forms.specs.declared.form.Form.TheVariants as forms;
+ghost use Rattle.dep_model.specs.declared.form.Form.TheVariants as forms;
 ghost use Rattle.normal_forms.specs.Breaking.{Breaks};
 ghost use Rattle.normal_forms.specs.Passing.{theory_by, LiesBetween};
 

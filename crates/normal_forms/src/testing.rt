@@ -9,11 +9,10 @@ ghost use Rattle.normal_forms.specs.Chosen.{IsVisibleViolation, HasNoVisibleViol
 use crate::beginning::no_part;
 use crate::breaking::{breaks, first_breaking, right_side};
 use crate::forms::{Breach, TooWide};
-use crate::form::Form;
 use crate::narrowing::searched_attributes;
 use crate::third::third_violation;
 use attr_sets::AttrSet;
-use dep_model::{Schema, sides};
+use dep_model::{Form, Schema, sides};
 use fd_closure::{is_functional, is_wide_scheme};
 
 /// The violation of a form on a scheme, where the scheme is not in the form: of its subsets, in

@@ -14,12 +14,11 @@ ghost use Rattle.normal_forms.specs.Chosen.{IsChosenViolation};
 
 use crate::beginning::{KnownPart, closure_begun, first_few, next_part, no_part};
 use crate::forms::Breach;
-use crate::form::Form;
 use crate::narrowing::functionally_searched_attributes;
 use crate::passing::{FEWEST_PASSED, determines_none, filled};
 use crate::primes::{Sifted, prime_or_not};
 use attr_sets::AttrSet;
-use dep_model::Schema;
+use dep_model::{Form, Schema};
 
 // The chosen violation of third normal form. Whether an attribute is prime is found out where it
 // is asked first, and kept.

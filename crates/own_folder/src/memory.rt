@@ -6,7 +6,8 @@ ghost use Rattle.desk_outside.specs.Planned.{FailsNext, CountsCall};
 ghost use Rattle.own_folder.specs.Places.{is_answer, is_below, is_free_among, is_taken_by, new_place};
 
 use crate::maker::FolderMaker;
-use desk_outside::{Argument, OutsideFault, PlannedFaults};
+use arguments::Argument;
+use desk_outside::{OutsideFault, PlannedFaults};
 use std::alloc::Global;
 use std::marker::Model;
 

@@ -5,8 +5,8 @@ ghost use Rattle.destinations.specs.Formats.{ending};
 ghost use Rattle.destinations.specs.declared.format.TableFormat.TheVariants.{Csv};
 ghost use Rattle.own_folder.specs.OwnFiles.{path_in};
 
+use byte_texts::add;
 use dep_model::{Name, OutOfMemory};
-use schema_printer::add;
 use std::alloc::Global;
 
 /// The path of the CSV file of a table.

@@ -1,7 +1,8 @@
 ghost use Rattle.std.specs.Prelude.{◌≡◌, [], true};
 
 use crate::maker::FolderMaker;
-use desk_outside::{Argument, OutsideFault};
+use arguments::Argument;
+use desk_outside::OutsideFault;
 use std::alloc::Global;
 use std::fs;
 use std::io::ErrorKind;

@@ -27,9 +27,9 @@ use Rattle.schema_grammar.specs.Meanings.{HasTokens, IsAttribute, attributes_of_
 use Rattle.schema_grammar.proofs.OneRefusal.{both_least, same_carried, same_refusal}
 use Rattle.plan_grammar.specs.declared.refusal.PlanRefusal.{PlanRefusal}
 use Rattle.plan_grammar.specs.declared.refusal.PlanRefusal.TheVariants as plan
-use Rattle.plan_grammar.specs.declared.bounds.TheConstants.{MOST_SCHEMES}
+use Rattle.plans.specs.declared.bounds.TheConstants.{MOST_SCHEMES}
 use Rattle.table_names.specs.TableNames.{is_given}
-use Rattle.named_plans.specs.NamedPlans.{NamedSchemes, PlannedTable, led_by_table}
+use Rattle.plan_printer.specs.NamedPlans.{NamedSchemes, PlannedTable, led_by_table}
 use Rattle.plan_grammar.specs.LineTokens.{is_keyword, is_scheme, is_table, lex_line}
 use Rattle.plan_grammar.specs.Meanings.{IsTableLine, MeansTable, MeansTableLines, MeansPlan, OpensScheme, OpensTable, is_kept_word}
 use Rattle.plan_grammar.specs.Refusals.{plan_diagnostic_kind}

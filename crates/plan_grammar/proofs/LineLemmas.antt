@@ -20,8 +20,8 @@ use Rattle.schema_grammar.specs.DiagnosticKinds.{DiagnosticKind, reserved_name, 
 use Rattle.schema_grammar.proofs.DeclaringLaws.{has_tokens}
 use Rattle.plan_grammar.specs.declared.refusal.PlanRefusal.{PlanRefusal}
 use Rattle.plan_grammar.specs.declared.refusal.PlanRefusal.TheVariants as plan
-use Rattle.plan_grammar.specs.declared.bounds.TheConstants.{MOST_SCHEMES}
-use Rattle.named_plans.specs.NamedPlans.{NamedSchemes, PlannedTable, led_by_table, no_tables, with_table}
+use Rattle.plans.specs.declared.bounds.TheConstants.{MOST_SCHEMES}
+use Rattle.plan_printer.specs.NamedPlans.{NamedSchemes, PlannedTable, led_by_table, no_tables, with_table}
 use Rattle.plan_grammar.specs.LineTokens.{is_scheme, is_table, lex_line}
 use Rattle.plan_grammar.specs.Meanings.{IsTableLine, MeansTableLines}
 use Rattle.plan_grammar.specs.Diagnostics.{FirstTokenDiagnostic, TableLineDiagnostic, SpansPosition, IsFine, IsFirstOf, RefusesLine, RefusesTableLines, RestDiagnostic, line_wanted, name_given, names_with, opens_line, wanted_rest}

@@ -19,7 +19,7 @@ use Rattle.schema_grammar.specs.Refusals.{refusal, refused_by, at}
 use Rattle.schema_grammar.specs.Rests.{◌>>=◌}
 use Rattle.schema_grammar.proofs.DiagnosticLaws.{flaw_carries, flaw_kind, flaw_least}
 use Rattle.table_names.specs.TableNames.{is_given}
-use Rattle.named_plans.specs.NamedPlans.{PlannedTable}
+use Rattle.plan_printer.specs.NamedPlans.{PlannedTable}
 use Rattle.plan_grammar.specs.declared.refusal.PlanRefusal.{PlanRefusal}
 use Rattle.plan_grammar.specs.declared.refusal.PlanRefusal.TheVariants as plan
 use Rattle.plan_grammar.specs.Refusals.{plan_diagnostic_kind}

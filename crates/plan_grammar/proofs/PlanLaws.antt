@@ -16,7 +16,7 @@ use Rattle.schema_grammar.proofs.WithinLemmas.{named_within}
 use Rattle.lexer.specs.Lines.{line_texts, without_mark}
 use Rattle.schema_grammar.specs.Words.{is_reserved}
 use Rattle.table_names.specs.TableNames.{is_given, is_taken}
-use Rattle.named_plans.specs.NamedPlans.{ApartFrom, AreApart, IsOwnName, NamedSchemes, PlannedTable}
+use Rattle.plan_printer.specs.NamedPlans.{ApartFrom, AreApart, IsOwnName, NamedSchemes, PlannedTable}
 use Rattle.plan_grammar.specs.Meanings.{IsTableLine, MeansPlan, MeansTableLines}
 
 line_within : (names : List (List ℕ)) (earlier : List (Option (List ℕ))) (ms : List Mark) (t : PlannedTable) → IsTableLine names earlier ms t → IsSubset t.scheme (below (length names))

@@ -20,11 +20,11 @@ use Rattle.schema_grammar.specs.Words.{is_word_token}
 use Rattle.schema_grammar.proofs.PrintedTexts.{Bytes, bytes_both, EachBytes, lines_cut}
 use Rattle.schema_grammar.proofs.SpelledSides.{kind_is_word, printed_side, printed_names}
 use Rattle.schema_grammar.proofs.SpelledWords.{kind_of, name_mark, name_marks, side_marks, members_spelled, named_line, names_bytes, nothing_left}
-use Rattle.plan_grammar.specs.declared.bounds.TheConstants.{MOST_SCHEMES}
-use Rattle.named_plans.specs.NamedPlans.{NamedSchemes, PlannedTable, unnamed}
+use Rattle.plans.specs.declared.bounds.TheConstants.{MOST_SCHEMES}
+use Rattle.plan_printer.specs.NamedPlans.{NamedSchemes, PlannedTable, unnamed}
 use Rattle.plan_grammar.specs.LineTokens.{is_keyword, is_table, lex_line, line_mode, mode_by_head}
 use Rattle.plan_grammar.specs.Meanings.{MeansTable, MeansTableLines, MeansPlan}
-use Rattle.plans.specs.Printing.{scheme_text, plan_text}
+use Rattle.plan_printer.specs.Printing.{scheme_text, plan_text}
 
 -- the words of a set with attributes are a side for it
 side_named : (naming : Naming) (names words : List (List ℕ)) (x : Attributes) → (IsEmpty x → ⊥)

@@ -17,10 +17,10 @@ use Rattle.schema_grammar.specs.Diagnostics.{DiagnosesOfWord, Carries, span_at}
 use Rattle.schema_grammar.specs.Words.{is_word_token, is_reserved_token}
 use Rattle.schema_grammar.specs.DiagnosticKinds.{DiagnosticKind, reserved_name, double_name, expected, empty_scheme, too_many_schemes, IsNoLater, diagnostic_of_flaw}
 use Rattle.table_names.specs.TableNames.{is_given}
-use Rattle.named_plans.specs.NamedPlans.{NamedSchemes}
+use Rattle.plan_printer.specs.NamedPlans.{NamedSchemes}
 use Rattle.plan_grammar.specs.declared.refusal.PlanRefusal.{PlanRefusal}
 use Rattle.plan_grammar.specs.declared.refusal.PlanRefusal.TheVariants as plan
-use Rattle.plan_grammar.specs.declared.bounds.TheConstants.{MOST_SCHEMES}
+use Rattle.plans.specs.declared.bounds.TheConstants.{MOST_SCHEMES}
 use Rattle.plan_grammar.specs.LineTokens.{is_scheme, is_table, lex_line}
 use Rattle.plan_grammar.specs.Meanings.{is_kept_word, MeansTableLines}
 use Rattle.plan_grammar.specs.Refusals.{plan_diagnostic_kind}

@@ -11,9 +11,9 @@ use Rattle.schema_grammar.specs.declared.format.Format.TheVariants as format
 use Rattle.schema_grammar.specs.Meanings.{HasTokens, IsAttribute, attributes_of_words}
 use Rattle.schema_grammar.specs.Words.{is_reserved}
 use Rattle.table_names.specs.TableNames.{is_given, is_taken}
-use Rattle.named_plans.specs.NamedPlans.{NamedSchemes, PlannedTable, led_by_table, no_tables}
+use Rattle.plan_printer.specs.NamedPlans.{NamedSchemes, PlannedTable, led_by_table, no_tables}
 use Rattle.plan_grammar.specs.LineTokens.{is_scheme, is_table, lex_line}
-use Rattle.plan_grammar.specs.declared.bounds.TheConstants.{MOST_SCHEMES}
+use Rattle.plans.specs.declared.bounds.TheConstants.{MOST_SCHEMES}
 
 -- a word that names no table: a reserved one, or one by which a script names a table or a view itself
 abbrev pub is_kept_word : List ℕ → Bool

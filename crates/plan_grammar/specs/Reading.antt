@@ -18,9 +18,9 @@ use Rattle.schema_grammar.specs.Rests.{attribute_of_word, Rest, ◌>>=◌}
 use Rattle.schema_grammar.specs.Words.{is_reserved_token}
 use Rattle.plan_grammar.specs.declared.refusal.PlanRefusal.{PlanRefusal}
 use Rattle.plan_grammar.specs.declared.refusal.PlanRefusal.TheVariants as plan
-use Rattle.plan_grammar.specs.declared.bounds.TheConstants.{MOST_SCHEMES}
+use Rattle.plans.specs.declared.bounds.TheConstants.{MOST_SCHEMES}
 use Rattle.table_names.specs.TableNames.{is_given}
-use Rattle.named_plans.specs.NamedPlans.{NamedSchemes, PlannedTable, with_table}
+use Rattle.plan_printer.specs.NamedPlans.{NamedSchemes, PlannedTable, with_table}
 use Rattle.plan_grammar.specs.LineTokens.{is_table, lex_line}
 use Rattle.plan_grammar.specs.Meanings.{is_kept_word}
 use Rattle.plan_grammar.specs.Diagnostics.{wanted_after, opens_line, is_colon}

@@ -4,16 +4,16 @@ ghost use Rattle.std.specs.Prelude.{◌≡◌, ◌≤◌, ℕ, List, [], length,
 ghost use Rattle.attr_sets.specs.Attributes.{Attributes};
 ghost use Rattle.dep_model.specs.Plans.{IsPlan};
 ghost use Rattle.schema_grammar.specs.Printed.{AreReadBack};
-ghost use Rattle.named_plans.specs.NamedPlans.{AreApart, NamedSchemes, no_tables, unnamed};
+ghost use Rattle.plan_printer.specs.NamedPlans.{AreApart, NamedSchemes, no_tables, unnamed};
 ghost use Rattle.plan_grammar.specs.Diagnostics.{RefusesTableLines, RefusesPlan};
 ghost use Rattle.plan_grammar.specs.Meanings.{MeansTableLines, MeansPlan};
-ghost use Rattle.plans.specs.Printing.{plan_text};
+ghost use Rattle.plan_printer.specs.Printing.{plan_text};
 ghost use Rattle.schema_printer.specs.Spelling.{spelling};
 ghost use Rattle.plan_grammar.specs.Reading.{read_table_lines};
 ghost use Rattle.plan_grammar.specs.declared.refusal.PlanRefusal.{PlanRefusal};
 
-use crate::MOST_SCHEMES;
 use dep_model::Naming;
+use plans::MOST_SCHEMES;
 use schema_grammar::Format;
 
 /// Lines are read as the tables that they mean.

@@ -11,11 +11,9 @@
 
 mod laws;
 mod refusal;
-mod bounds;
 
 pub use laws::{
     lines_are_read, lines_are_refused, names_are_apart, plan_texts_have_one_answer,
     printed_plan_means,
 };
 pub use refusal::PlanRefusal;
-pub use bounds::MOST_SCHEMES;

@@ -4,8 +4,8 @@ use Rattle.attr_sets.specs.Attributes.{Attributes}
 use Rattle.attr_sets.specs.declared.set.AttrSet.{AttrSet}
 use Rattle.dep_model.specs.Plans.{schemes_of}
 use Rattle.dep_model.specs.declared.schema.Schema.{Schema}
-use Rattle.normal_forms.specs.declared.form.Form.{Form}
-use Rattle.table_scripts.specs.Naming.{is_table_name, met_name, quoted_table}
+use Rattle.dep_model.specs.declared.form.Form.{Form}
+use Rattle.sql_scripts.specs.Naming.{is_table_name, met_name, quoted_table}
 use Rattle.table_names.specs.TableNames.{GivenNames}
 use Rattle.implication_laws.specs.OneAnswer.{AllowsOne}
 use Rattle.implication_laws.proofs.StepLaws.{same_says, Unless-one}
@@ -14,7 +14,7 @@ use Rattle.desk_responses.specs.declared.status.Status.TheVariants.{Yes, Refused
 use Rattle.desk_designs.specs.Designs.{WithoutMissing, WritesTables, WritesForm, WritesSchemes, WritesPlan}
 use Rattle.desk_designs.specs.Drawings.{DrawsTables, DrawsForm, DrawsSchemes}
 use Rattle.desk_designs.specs.Joins.{IsShownLossless, LossStops, WithoutLoss}
-use Rattle.desk_designs.specs.Scripts.{AsksTable, MetNameStops, MakesSchemes, MakesTables, ScriptsCheck, ScriptsMigration, ScriptsMigrationByPlan, TableNameStops, WithTableName, met_table_text}
+use Rattle.desk_scripts.specs.Scripts.{AsksTable, MetNameStops, MakesSchemes, MakesTables, ScriptsCheck, ScriptsMigration, ScriptsMigrationByPlan, TableNameStops, WithTableName, met_table_text}
 use Rattle.desk_designs.specs.Decompositions.{WithPlanInForm}
 use Rattle.plan_laws.proofs.DesignTexts.{ddl_same, drawing_same}
 use Rattle.plan_laws.proofs.MissingAnswers.{one_without_missing, same_without_missing}

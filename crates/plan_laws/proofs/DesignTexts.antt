@@ -11,7 +11,7 @@ use Rattle.dep_model.specs.declared.schema.Schema.{Schema}
 use Rattle.ddl_text.specs.Ddl.{column_elements, comment, ddl_text, element_lines, elements, is_empty, key_comment, key_elements, keys_elements, left_out_lines, unique_elements, reference_element, reference_elements, table_text}
 use Rattle.ddl_text.specs.Designs.{known_keys}
 use Rattle.ddl_text.specs.declared.table.TableDesign.{TableDesign}
-use Rattle.sql_names.specs.Names.{quoted_name}
+use Rattle.sql_syntax.specs.Names.{quoted_name}
 use Rattle.table_drawing.specs.Drawing.{node_head, node_text, edge_text, edges_text, drawing_text}
 use Rattle.plan_laws.specs.SameDesigns.{IsSameTable, AreSameTables}
 

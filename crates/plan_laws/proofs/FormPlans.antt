@@ -17,8 +17,8 @@ use Rattle.min_cover.proofs.ListLemmas.{All-flat_map-from, AllZip-to}
 use Rattle.min_cover.proofs.MemberLemmas.{members_are}
 use Rattle.min_cover.specs.Covers.{IsFixedCover}
 use Rattle.min_cover.specs.Members.{members_of, IsLeftReducedDependency}
-use Rattle.normal_forms.specs.declared.form.Form.{Form}
-use Rattle.normal_forms.specs.declared.form.Form.TheVariants.{Third, Bcnf, Fourth}
+use Rattle.dep_model.specs.declared.form.Form.{Form}
+use Rattle.dep_model.specs.declared.form.Form.TheVariants.{Third, Bcnf, Fourth}
 use Rattle.split_forms.proofs.WalkLemmas.{reached_plan}
 use Rattle.synthesis_3nf.proofs.CompleteLemmas.{IsSynthesized, whole}
 use Rattle.desk_designs.specs.Decompositions.{IsPlanInForm, IsSplitInForm}

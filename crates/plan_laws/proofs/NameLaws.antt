@@ -7,11 +7,11 @@ use Rattle.attr_sets.specs.Attributes.{Attributes, below}
 use Rattle.dep_model.specs.Names.{same_name}
 use Rattle.dep_model.specs.Tuples.{Relation}
 use Rattle.dep_model.specs.declared.schema.Schema.{Schema}
-use Rattle.named_plans.specs.NamedPlans.{AreApart}
+use Rattle.plan_printer.specs.NamedPlans.{AreApart}
 use Rattle.named_tables.specs.Tables.{TableValue}
 use Rattle.table_names.specs.TableNames.{GivenNames, name_of_table}
 use Rattle.desk_tables.specs.Migrations.{AreTablesOf}
-use Rattle.table_name_laws.proofs.NameLemmas.{same_itself, tables_named_apart}
+use Rattle.plan_printer.proofs.NameLemmas.{same_itself, tables_named_apart}
 use Rattle.plan_laws.proofs.DesignedLaws.{from_zero, tables_length, table_at}
 
 pub names_differ : (s : Schema) (names : GivenNames) (plan : List Attributes) (rows : Relation)

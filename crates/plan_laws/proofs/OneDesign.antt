@@ -18,7 +18,7 @@ use Rattle.design_order.specs.Order.{IsInDesignOrder}
 use Rattle.design_order.proofs.OrderLemmas.{one_order}
 use Rattle.split_forms.proofs.StepLemmas.{cons-head, cons-tail}
 use Rattle.table_names.specs.TableNames.{GivenNames, name_of_table}
-use Rattle.check_laws.proofs.EachLemmas.{filter-map}
+use Rattle.sql_check_laws.proofs.EachLemmas.{filter-map}
 use Rattle.implication_laws.proofs.OneAnswer.{all_or_many}
 use Rattle.implication_laws.proofs.OneKey.{one_keys}
 use Rattle.implication_laws.proofs.OrderedLists.{HoldsAll, one_ordered_list}

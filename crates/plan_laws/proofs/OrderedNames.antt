@@ -8,9 +8,9 @@ use Rattle.dep_model.specs.Dependencies.{Dependency}
 use Rattle.dep_model.proofs.DistinctLemmas.{all_pairs_cons}
 use Rattle.dep_model.proofs.ListLemmas.{Contains-head, Contains-later, Contains-cases}
 use Rattle.design_order.specs.Order.{AreNamesInOrder, grouped_below, with_number}
-use Rattle.named_plans.specs.NamedPlans.{ApartFrom, AreApart, IsOwnName}
+use Rattle.plan_printer.specs.NamedPlans.{ApartFrom, AreApart, IsOwnName}
 use Rattle.table_names.specs.TableNames.{GivenNames}
-use Rattle.table_name_laws.proofs.NameLemmas.{apart_turned as name_turned}
+use Rattle.plan_printer.proofs.NameLemmas.{apart_turned as name_turned}
 
 -- ---- apart both ways
 apart_turned : (one other : Option (List ℕ)) → ApartFrom one other → ApartFrom other one

@@ -18,8 +18,8 @@ use Rattle.implication_laws.proofs.OnePlanAnswer.{failing_in_plan}
 use Rattle.fd_closure.specs.LeftSides.{IsWideScheme}
 use Rattle.normal_forms.specs.Chosen.{IsInForm}
 use Rattle.normal_forms.specs.Violations.{Violates}
-use Rattle.normal_forms.specs.declared.form.Form.{Form}
-use Rattle.normal_forms.specs.declared.form.Form.TheVariants.{Third, Bcnf, Fourth}
+use Rattle.dep_model.specs.declared.form.Form.{Form}
+use Rattle.dep_model.specs.declared.form.Form.TheVariants.{Third, Bcnf, Fourth}
 use Rattle.normal_forms.proofs.ViolationLemmas.{not_in_form}
 use Rattle.plans.specs.Containing.{is_contained, without_contained_after, without_contained}
 use Rattle.split_forms.specs.Splitting.{StaysWhole}

@@ -8,7 +8,7 @@ use Rattle.dep_model.specs.declared.schema.Schema.{Schema}
 use Rattle.table_names.specs.TableNames.{GivenNames}
 use Rattle.implication_laws.specs.OneAnswer.{AllowsOne}
 use Rattle.implication_laws.proofs.StepLaws.{Unless-one}
-use Rattle.normal_forms.specs.declared.form.Form.{Form}
+use Rattle.dep_model.specs.declared.form.Form.{Form}
 use Rattle.desk_designs.specs.Designs.{WithoutMissing}
 use Rattle.desk_responses.specs.ResponseValues.{Allowed, ResponseValue}
 use Rattle.desk_tables.specs.Migrations.{MigratesPlan, MigratesRows}

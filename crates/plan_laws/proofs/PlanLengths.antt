@@ -20,8 +20,8 @@ use Rattle.wide_bcnf.proofs.SplitLemmas.{length-without_contained_after}
 use Rattle.design_order.specs.Order.{IsInDesignOrder, grouped_below, with_number}
 use Rattle.min_cover.specs.Covers.{IsThinned}
 use Rattle.min_cover.specs.Members.{IsLeftReducedDependency, members_of}
-use Rattle.normal_forms.specs.declared.form.Form.{Form}
-use Rattle.normal_forms.specs.declared.form.Form.TheVariants.{Third, Bcnf, Fourth}
+use Rattle.dep_model.specs.declared.form.Form.{Form}
+use Rattle.dep_model.specs.declared.form.Form.TheVariants.{Third, Bcnf, Fourth}
 use Rattle.plans.specs.Containing.{without_contained, without_contained_after}
 use Rattle.split_forms.proofs.StepLemmas.{reached_length}
 use Rattle.split_forms.specs.Lists.{ReachedIn}

@@ -11,8 +11,8 @@ use Rattle.dep_model.specs.Dependencies.{Dependency}
 use Rattle.dep_model.specs.Plans.{schemes_of}
 use Rattle.dep_model.specs.Schemas.{width_of, theory_of, nullable_of}
 use Rattle.dep_model.specs.declared.schema.Schema.{Schema}
-use Rattle.normal_forms.specs.declared.form.Form.{Form}
-use Rattle.normal_forms.specs.declared.form.Form.TheVariants.{Third, Bcnf, Fourth}
+use Rattle.dep_model.specs.declared.form.Form.{Form}
+use Rattle.dep_model.specs.declared.form.Form.TheVariants.{Third, Bcnf, Fourth}
 use Rattle.plans.specs.Containing.{lies_within, without_contained}
 use Rattle.schema_printer.specs.Printing.{set_text}
 use Rattle.schema_printer.specs.Spelling.{printed_names_of}
@@ -20,9 +20,9 @@ use Rattle.split_forms.specs.Steps.{Cutting}
 use Rattle.split_forms.proofs.LeadLemmas.{one_account}
 use Rattle.desk_designs.specs.Decompositions.{Splits}
 use Rattle.desk_designs.specs.Synthesis.{Synthesizes}
-use Rattle.desk_reasons.specs.LeftOut.{contained_after, holder_text, left_out_text, within_text}
-use Rattle.desk_reasons.specs.SplitReasons.{AreSplitReasons, ExplainsSplit, cut_text, split_text}
-use Rattle.desk_reasons.specs.SynthesisReasons.{AreSynthesisReasons, ExplainsSynthesis, added_text, cover_text, groups_text, synthesis_text}
+use Rattle.desk_designs.specs.LeftOut.{contained_after, holder_text, left_out_text, within_text}
+use Rattle.desk_designs.specs.SplitReasons.{AreSplitReasons, ExplainsSplit, cut_text, split_text}
+use Rattle.desk_designs.specs.SynthesisReasons.{AreSynthesisReasons, ExplainsSynthesis, added_text, cover_text, groups_text, synthesis_text}
 use Rattle.desk_texts.specs.Texts.{line}
 use Rattle.implication_laws.specs.OneAnswer.{AllowsOne}
 use Rattle.implication_laws.proofs.OneReasons.{Explained-one}

@@ -16,7 +16,7 @@ use Rattle.dep_model.specs.declared.schema.Schema.{Schema}
 use Rattle.design_order.specs.Order.{IsInDesignOrder}
 use Rattle.named_tables.specs.Tables.{TableValue}
 use Rattle.normal_forms.specs.Chosen.{IsInForm}
-use Rattle.normal_forms.specs.declared.form.Form.TheVariants.{Fourth}
+use Rattle.dep_model.specs.declared.form.Form.TheVariants.{Fourth}
 use Rattle.sample_rows.proofs.SampleLemmas.{rows_legal}
 use Rattle.sample_rows.specs.Sample.{sample_relation, sample_theory}
 use Rattle.schema_printer.specs.Printing.{members_from}

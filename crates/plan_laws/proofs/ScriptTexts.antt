@@ -11,15 +11,15 @@ use Rattle.dep_model.specs.Schemas.{universe_of}
 use Rattle.ddl_text.specs.Ddl.{is_empty}
 use Rattle.ddl_text.specs.Designs.{known_keys}
 use Rattle.ddl_text.specs.declared.table.TableDesign.{TableDesign}
-use Rattle.sql_names.specs.Names.{quoted_name}
+use Rattle.sql_syntax.specs.Names.{quoted_name}
 use Rattle.sql_syntax.specs.Syntax.{Link, Query, joined}
 use Rattle.sql_syntax.specs.Statements.{Element, unique_key, Statement, remark, begin, commit, create_table, create_from, create_view, script_text}
-use Rattle.migrate_queries.specs.declared.joining.JoinedTable.{JoinedTable}
-use Rattle.migrate_queries.specs.Moving.{attribute_names}
-use Rattle.migrate_queries.specs.Created.{columns_made, stated_keys, left_out_keys, key_made, keys_made, reference_made, references_made, elements_made, left_out_words, said_of, remarks_made, table_made, tables_made}
-use Rattle.migrate_queries.specs.ViewOrder.{share, put_first, of_first, joined_next, view_order}
-use Rattle.migrate_queries.specs.Script.{copy_name, view_name, copy_query, fill, link, links, join_of, joined_tables, view_query, testing}
-use Rattle.table_scripts.specs.Migrating.{migrate_text}
+use Rattle.sql_migrate.specs.declared.joining.JoinedTable.{JoinedTable}
+use Rattle.sql_migrate.specs.Moving.{attribute_names}
+use Rattle.sql_migrate.specs.Created.{columns_made, stated_keys, left_out_keys, key_made, keys_made, reference_made, references_made, elements_made, left_out_words, said_of, remarks_made, table_made, tables_made}
+use Rattle.sql_migrate.specs.ViewOrder.{share, put_first, of_first, joined_next, view_order}
+use Rattle.sql_migrate.specs.Script.{copy_name, view_name, copy_query, fill, link, links, join_of, joined_tables, view_query, testing}
+use Rattle.sql_scripts.specs.Migrating.{migrate_text}
 use Rattle.plan_laws.specs.SameDesigns.{IsSameTable, AreSameTables}
 
 -- ---- tables that are made

@@ -4,9 +4,9 @@ use Rattle.attr_sets.specs.declared.set.AttrSet.{AttrSet}
 use Rattle.dep_model.specs.Plans.{schemes_of}
 use Rattle.dep_model.specs.Schemas.{width_of, theory_of}
 use Rattle.dep_model.specs.declared.schema.Schema.{Schema}
-use Rattle.normal_forms.specs.declared.form.Form.{Form}
-use Rattle.normal_forms.specs.declared.form.Form.TheVariants.{Third, Bcnf, Fourth}
-use Rattle.plans.specs.Printing.{plan_text}
+use Rattle.dep_model.specs.declared.form.Form.{Form}
+use Rattle.dep_model.specs.declared.form.Form.TheVariants.{Third, Bcnf, Fourth}
+use Rattle.plan_printer.specs.Printing.{plan_text}
 use Rattle.schema_printer.specs.Spelling.{printed_names_of}
 use Rattle.split_forms.proofs.SplitLemmas.{one_stuck, stuck_within_limit}
 use Rattle.implication_laws.specs.OneAnswer.{AllowsOne}

@@ -19,8 +19,8 @@ use Rattle.dep_model.specs.Tuples.{Relation}
 use Rattle.dep_model.specs.TwoTuples.{two_tuples}
 use Rattle.dep_model.specs.declared.schema.Schema.{Schema}
 use Rattle.dep_model.proofs.ListLemmas.{Contains-head}
-use Rattle.normal_forms.specs.declared.form.Form.{Form}
-use Rattle.normal_forms.specs.declared.form.Form.TheVariants.{Third}
+use Rattle.dep_model.specs.declared.form.Form.{Form}
+use Rattle.dep_model.specs.declared.form.Form.TheVariants.{Third}
 use Rattle.primary_keys.proofs.PrimaryLemmas.{one_primary}
 use Rattle.plans.specs.Containing.{is_contained, without_contained_after, without_contained}
 use Rattle.preservation.specs.Keeping.{IsPreserved, IsLostOn, LossesFrom}
@@ -43,7 +43,7 @@ use Rattle.desk_designs.specs.Joins.{IsShownLossless, JudgesJoin, LossStops, los
 use Rattle.desk_texts.specs.Texts.{line}
 use Rattle.desk_designs.specs.NormalForms.{JudgesForm, EndsForm, PassesForm, violated_text}
 use Rattle.desk_designs.specs.Keeping.{JudgesKeeping, loss_text, two_tuples_text}
-use Rattle.shown_rows.specs.Shown.{shown_tuples}
+use Rattle.typed_rows.specs.Shown.{shown_tuples}
 
 -- ---- what is kept of a list rests on its sets alone
 any_map : {X Y : Type 0} (f : X → Y) (p : Y → Bool) (xs : List X) → list_any (λ x. p (f x)) xs ≡ list_any p (map f xs)

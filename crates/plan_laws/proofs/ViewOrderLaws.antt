@@ -5,8 +5,8 @@ use Rattle.std.specs.Prelude.{if◌then◌else◌, reverse}
 use Rattle.attr_sets.specs.Attributes.{Attributes, all_below, none, union}
 use Rattle.attr_sets.specs.Sets.{attributes, is_disjoint}
 use Rattle.attr_sets.specs.declared.set.TheConstants.{MOST_ATTRIBUTES}
-use Rattle.migrate_queries.specs.declared.joining.JoinedTable.{JoinedTable}
-use Rattle.migrate_queries.specs.ViewOrder.{share, view_order, put_first as view_put, of_first as view_first, joined_next as view_next}
+use Rattle.sql_migrate.specs.declared.joining.JoinedTable.{JoinedTable}
+use Rattle.sql_migrate.specs.ViewOrder.{share, view_order, put_first as view_put, of_first as view_first, joined_next as view_next}
 use Rattle.table_join.specs.Orders.{from_last, put_first, of_first, joined_next}
 
 or_false : (b : Bool) → (b || false) ≡ b

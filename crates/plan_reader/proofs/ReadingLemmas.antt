@@ -9,7 +9,7 @@ use Rattle.schema_grammar.specs.declared.refusal.SchemaRefusalKind.{SchemaRefusa
 use Rattle.schema_grammar.specs.declared.refusal.SchemaRefusalKind.TheVariants as kind
 use Rattle.schema_grammar.specs.declared.refusal.What.TheVariants as what
 use Rattle.schema_grammar.specs.Refusals.{refusal, at}
-use Rattle.named_plans.specs.NamedPlans.{NamedSchemes, PlannedTable, no_tables, with_table}
+use Rattle.plan_printer.specs.NamedPlans.{NamedSchemes, PlannedTable, no_tables, with_table}
 use Rattle.plan_grammar.specs.LineTokens.{lex_line}
 use Rattle.plan_grammar.specs.Diagnostics.{is_colon}
 use Rattle.schema_grammar.specs.Rests.{Rest, ◌>>=◌}

@@ -3,7 +3,7 @@ use Rattle.std.specs.Prelude.{ℕ, List, Option}
 use Rattle.attr_sets.specs.Sets.{attributes}
 use Rattle.attr_sets.specs.declared.set.AttrSet.{AttrSet}
 use Rattle.dep_model.specs.Plans.{schemes_of}
-use Rattle.named_plans.specs.NamedPlans.{NamedSchemes, PlannedTable}
+use Rattle.plan_printer.specs.NamedPlans.{NamedSchemes, PlannedTable}
 use Rattle.plan_reader.specs.declared.draft.Draft.{Draft}
 
 abbrev pub drafted : Draft → NamedSchemes

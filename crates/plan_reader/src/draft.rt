@@ -1,7 +1,7 @@
 //! What is read of a plan so far.
 
 ghost use Rattle.std.specs.Prelude.{◌≡◌, OnOk};
-ghost use Rattle.named_plans.specs.NamedPlans.{no_tables, with_table};
+ghost use Rattle.plan_printer.specs.NamedPlans.{no_tables, with_table};
 ghost use Rattle.plan_reader.specs.Drafts.{drafted, table_read};
 
 use attr_sets::AttrSet;

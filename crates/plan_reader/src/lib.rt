@@ -10,6 +10,5 @@ mod labels;
 mod reading;
 mod words;
 
-pub use named_plans::NamedPlan;
-pub use plan_grammar::{MOST_SCHEMES, PlanRefusal};
+pub use plan_grammar::PlanRefusal;
 pub use reading::{MOST_PLAN_BYTES, read_plan};

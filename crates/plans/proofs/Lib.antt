@@ -3,4 +3,3 @@ pub mod PlanLemmas
 mod ContainingLemmas
 mod DroppingLemmas
 mod LoopLemmas
-mod PrintingLemmas

@@ -2,4 +2,3 @@
 pub mod Schemes
 pub mod Plans
 pub mod Containing
-pub mod Printing

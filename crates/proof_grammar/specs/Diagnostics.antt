@@ -1,5 +1,5 @@
 -- Why a certificate is refused, as a kind and a line: for the readings and refusals of
--- certificates, and for their texts (`desk_texts/ProofTexts`).
+-- certificates, and for their texts (`desk_refusals/ProofTexts`).
 use Rattle.std.specs.Prelude.{Err, Result, ℕ, ⊤, ◌≡◌}
 use Rattle.attr_sets.specs.Attributes.{Attributes}
 use Rattle.dep_model.specs.Dependencies.{Dependency}

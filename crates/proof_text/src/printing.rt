@@ -15,12 +15,13 @@ ghost use Rattle.proof_grammar.specs.Printing.{step_word, sides_text, pair_word,
 
 use crate::line::{Body, Line};
 use attr_sets::AttrSet;
+use byte_texts::{add, add_number};
 use dep_model::{Dep, OutOfMemory, Schema};
 use derivation::{
     Deriv, LeafRule, MOST_LEVELS, MOST_NODES, PairRule, StepRule, leaf_conclusion, pair_conclusion,
     step_conclusion,
 };
-use schema_printer::{add, add_dep, add_number, add_set};
+use schema_printer::{add_dep, add_set};
 use std::alloc::Global;
 
 /// A derivation as a certificate: a line for each node, in post-order and numbered from 1. Each line

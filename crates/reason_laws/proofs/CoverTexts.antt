@@ -2,7 +2,7 @@
 use Rattle.std.proofs.Common.{◌≡◌, ◌<◌, ◌^◌, ℕ, true, false, List, ◌++◌, refl, sym, ap, subst}
 use Rattle.std.specs.Prelude.{All, codes, slice_get}
 use Rattle.attr_sets.specs.Attributes.{difference, only}
-use Rattle.cover_steps.specs.Steps.{Placed, Shortened}
+use Rattle.cover_accounts.specs.Steps.{Placed, Shortened}
 use Rattle.dep_model.specs.Names.{IsName}
 use Rattle.dep_model.specs.Projections.{members_below}
 use Rattle.dep_model.specs.Schemas.{lines_of, names_of, width_of}

@@ -12,10 +12,10 @@ use Rattle.dep_model.specs.Plans.{schemes_of}
 use Rattle.dep_model.specs.Schemas.{names_of}
 use Rattle.dep_model.specs.declared.schema.Schema.{Schema}
 use Rattle.dep_model.proofs.PlainLemmas.{IsPlain, plain_both}
-use Rattle.normal_forms.specs.declared.form.Form.{Form}
-use Rattle.normal_forms.specs.declared.form.Form.TheVariants.{Third, Bcnf, Fourth}
+use Rattle.dep_model.specs.declared.form.Form.{Form}
+use Rattle.dep_model.specs.declared.form.Form.TheVariants.{Third, Bcnf, Fourth}
 use Rattle.plans.specs.Containing.{lies_within, without_contained}
-use Rattle.plans.specs.Printing.{plan_text, scheme_text}
+use Rattle.plan_printer.specs.Printing.{plan_text, scheme_text}
 use Rattle.schema_printer.specs.Printing.{dependency_text, members_from, set_text, words_text}
 use Rattle.schema_printer.specs.Spelling.{printed_names_of}
 use Rattle.split_forms.specs.Steps.{Cutting}
@@ -25,13 +25,13 @@ use Rattle.desk_designs.specs.NormalForms.{form_word, violation_of}
 use Rattle.desk_designs.specs.Synthesis.{Synthesizes}
 use Rattle.desk_keys.specs.KeyReasons.{AreKeyReasons, ExplainsKeys}
 use Rattle.desk_keys.specs.Keys.{ListsKeys, sets_text}
-use Rattle.desk_reasons.specs.LeftOut.{contained_after, holder_text, left_out_text, within_text}
-use Rattle.desk_reasons.specs.SplitReasons.{AreSplitReasons, ExplainsSplit, breach_text, cut_text, parts_text}
-use Rattle.desk_reasons.specs.SynthesisReasons.{AreSynthesisReasons, ExplainsSynthesis, added_text, cover_text, group_text, groups_text, key_text, member_text}
+use Rattle.desk_designs.specs.LeftOut.{contained_after, holder_text, left_out_text, within_text}
+use Rattle.desk_designs.specs.SplitReasons.{AreSplitReasons, ExplainsSplit, breach_text, cut_text, parts_text}
+use Rattle.desk_designs.specs.SynthesisReasons.{AreSynthesisReasons, ExplainsSynthesis, added_text, cover_text, group_text, groups_text, key_text, member_text}
 use Rattle.desk_responses.specs.ResponseValues.{ResponseValue, Says}
 use Rattle.desk_responses.specs.declared.status.Status.TheVariants.{Yes}
 use Rattle.desk_texts.specs.Texts.{line, set_line}
-use Rattle.desk_reasons.proofs.StatusLemmas.{refused_not_yes}
+use Rattle.desk_designs.proofs.StatusLemmas.{refused_not_yes}
 use Rattle.reason_laws.specs.ReasonLines.{LeavesAnswer, is_reason}
 use Rattle.reason_laws.proofs.LineLemmas.{AreLines, both_lines, each_lines, leaves_answer, no_lines, one_line}
 use Rattle.reason_laws.proofs.NameTexts.{IsPrinted, dependency_plain, names_printed, scheme_plain, set_own, set_plain}

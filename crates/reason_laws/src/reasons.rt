@@ -5,15 +5,15 @@ ghost use Rattle.std.specs.Prelude.{◌<◌, ◌^◌, All};
 ghost use Rattle.dep_model.specs.Names.{IsName};
 ghost use Rattle.dep_model.specs.Schemas.{lines_of, names_of};
 ghost use Rattle.dep_model.specs.declared.schema.Schema.{Schema};
-ghost use Rattle.normal_forms.specs.declared.form.Form.{Form};
+ghost use Rattle.dep_model.specs.declared.form.Form.{Form};
 ghost use Rattle.desk_covers.specs.CoverReasons.{ExplainsCover};
 ghost use Rattle.desk_covers.specs.Covering.{GivesCover};
 ghost use Rattle.desk_designs.specs.Decompositions.{Splits};
 ghost use Rattle.desk_designs.specs.Synthesis.{Synthesizes};
 ghost use Rattle.desk_keys.specs.KeyReasons.{ExplainsKeys};
 ghost use Rattle.desk_keys.specs.Keys.{ListsKeys};
-ghost use Rattle.desk_reasons.specs.SplitReasons.{ExplainsSplit};
-ghost use Rattle.desk_reasons.specs.SynthesisReasons.{ExplainsSynthesis};
+ghost use Rattle.desk_designs.specs.SplitReasons.{ExplainsSplit};
+ghost use Rattle.desk_designs.specs.SynthesisReasons.{ExplainsSynthesis};
 ghost use Rattle.desk_responses.specs.ResponseValues.{ResponseValue};
 ghost use Rattle.reason_laws.specs.ReasonLines.{LeavesAnswer};
 

@@ -7,7 +7,7 @@ use Rattle.std.proofs.lemmas.List.FromFn.{length-map-range_with_len, get_or-map-
 use Rattle.std.specs.List.{range_with_len}
 use Rattle.std.specs.Prelude.{Contains}
 use Rattle.attr_sets.specs.Attributes.{Attributes, union, count_below}
-use Rattle.csv_rows.specs.Numberings.{AreGroups, number_at}
+use Rattle.row_groups.specs.Numberings.{AreGroups, number_at}
 use Rattle.dep_model.specs.Dependencies.{ObeysFd}
 use Rattle.dep_model.specs.Tuples.{Tuple, Relation, AgreeOn, IsOver}
 use Rattle.dep_model.proofs.ListLemmas.{Contains-head, Contains-later, Contains-cases}

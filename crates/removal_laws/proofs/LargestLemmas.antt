@@ -4,7 +4,7 @@ use Rattle.std.proofs.lemmas.Bool.{cases_eq, and_parts, eq-eqb}
 use Rattle.std.proofs.lemmas.Bool.Decides.{nat_tests}
 use Rattle.attr_sets.specs.Attributes.{Attributes, union, count_below}
 use Rattle.attr_sets.proofs.AttributesLemmas.{count_below-equal, count_below-none}
-use Rattle.csv_rows.specs.Numberings.{AreGroups, number_at}
+use Rattle.row_groups.specs.Numberings.{AreGroups, number_at}
 use Rattle.dep_model.specs.Dependencies.{ObeysFd, fd}
 use Rattle.dep_model.specs.Tuples.{Tuple, Relation, AgreeOn}
 use Rattle.dep_model.proofs.TwoRowLemmas.{AgreeOn-union}

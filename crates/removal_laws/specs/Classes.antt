@@ -2,7 +2,7 @@
 -- `Desk` does not cite it.
 use Rattle.std.specs.Prelude.{◌≡◌, ℕ, ◌<◌, ◌≤◌, ◌==◌, List, length}
 use Rattle.attr_sets.specs.Attributes.{count_below}
-use Rattle.csv_rows.specs.Numberings.{number_at}
+use Rattle.row_groups.specs.Numberings.{number_at}
 use Rattle.removal_laws.specs.Removals.{Positions}
 
 -- how many rows have this number

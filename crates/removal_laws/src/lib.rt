@@ -10,7 +10,7 @@
 
 ghost use Rattle.std.specs.Prelude.{◌≡◌, ◌≤◌, ◌↔◌, ℕ, List};
 ghost use Rattle.attr_sets.specs.Attributes.{Attributes, IsSubset, union};
-ghost use Rattle.csv_rows.specs.Numberings.{AreGroups};
+ghost use Rattle.row_groups.specs.Numberings.{AreGroups};
 ghost use Rattle.dep_model.specs.Dependencies.{Dependency, Obeys, fd};
 ghost use Rattle.dep_model.specs.Tuples.{Relation, IsOver};
 ghost use Rattle.removal_laws.specs.Classes.{AreLargestClasses, in_chosen};

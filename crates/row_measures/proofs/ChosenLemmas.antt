@@ -4,7 +4,7 @@ use Rattle.std.proofs.lemmas.Bool.{cases_eq, cases_lt}
 use Rattle.std.proofs.lemmas.Grind.{get_or-set_at}
 use Rattle.std.proofs.lemmas.List.{get_or-map, get_or-set_other, length-map, length-set}
 use Rattle.attr_sets.specs.Attributes.{Attributes, union}
-use Rattle.csv_rows.specs.Numberings.{AreFirsts, AreGroups, number_at}
+use Rattle.row_groups.specs.Numberings.{AreFirsts, AreGroups, number_at}
 use Rattle.dep_model.specs.Tuples.{Relation}
 use Rattle.legality.specs.Parts.{flag_at}
 use Rattle.removal_laws.proofs.LargestLemmas.{union_parts}

@@ -4,7 +4,7 @@ use Rattle.std.proofs.lemmas.Bool.{and_parts, cases_Bool, eq-eqb, eqb-true, and_
 use Rattle.std.proofs.lemmas.List.{get_or-map, length-map}
 use Rattle.attr_sets.specs.Attributes.{Attributes, below, union, difference, count_below}
 use Rattle.attr_sets.proofs.AttributesLemmas.{tell_member, count_below-difference, count_below-none, count_below-pos, union_within}
-use Rattle.csv_rows.specs.Numberings.{AreFirsts, AreGroups, number_at}
+use Rattle.row_groups.specs.Numberings.{AreFirsts, AreGroups, number_at}
 use Rattle.dep_model.specs.Tuples.{Relation, AgreeOn}
 use Rattle.dep_model.proofs.TwoRowLemmas.{AgreeOn-left}
 use Rattle.legality.specs.Parts.{ArePartCounts, flag_at, part_count}

@@ -1,8 +1,8 @@
 -- Facts of rows that are sorted, for the functions that count and list them.
 use Rattle.std.proofs.Common.{◌≡◌, ◌<◌, ℕ, Bool, List, length, map, sym, ap, subst, ◌∙◌, arith}
 use Rattle.attr_sets.specs.Attributes.{Attributes}
-use Rattle.csv_rows.specs.Interning.{firsts_of, groups_of}
-use Rattle.csv_rows.specs.Numberings.{AreFirsts, number_at}
+use Rattle.row_groups.specs.Interning.{firsts_of, groups_of}
+use Rattle.row_groups.specs.Numberings.{AreFirsts, number_at}
 use Rattle.dep_model.specs.Tuples.{Relation}
 use Rattle.dep_model.specs.Projections.{members_below}
 use Rattle.legality.specs.Parts.{AreBelow, flag_at}

@@ -7,8 +7,8 @@ use Rattle.std.proofs.lemmas.List.FromFn.{length-map-range_with_len, get_or-map-
 use Rattle.std.specs.List.{range_with_len}
 use Rattle.std.specs.Prelude.{Contains, if◌then◌else◌}
 use Rattle.attr_sets.specs.Attributes.{Attributes, IsSubset, below, union, count_below}
-use Rattle.csv_rows.specs.Numberings.{number_at}
-use Rattle.csv_rows.proofs.NumberingLemmas.{row_of}
+use Rattle.row_groups.specs.Numberings.{number_at}
+use Rattle.row_groups.proofs.NumberingLemmas.{row_of}
 use Rattle.dep_model.specs.Projections.{members_below}
 use Rattle.dep_model.specs.Tuples.{Tuple, Relation, AgreeOn, IsOver, value_at}
 use Rattle.dep_model.proofs.ListLemmas.{Contains-map}

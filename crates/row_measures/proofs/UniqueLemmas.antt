@@ -6,7 +6,7 @@ use Rattle.std.proofs.lemmas.Grind.{same_number_lists}
 use Rattle.std.proofs.lemmas.List.{ext_get_or}
 use Rattle.attr_sets.specs.Attributes.{Attributes, union}
 use Rattle.attr_sets.proofs.AttributesLemmas.{same_truth}
-use Rattle.csv_rows.specs.Numberings.{AreFirsts, AreGroups, number_at}
+use Rattle.row_groups.specs.Numberings.{AreFirsts, AreGroups, number_at}
 use Rattle.dep_model.specs.Tuples.{Relation}
 use Rattle.legality.specs.Parts.{flag_at}
 use Rattle.removal_laws.specs.Classes.{rows_of}

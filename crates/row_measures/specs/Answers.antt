@@ -2,7 +2,7 @@
 -- `broken_parts`, `broken_rows` and `kept_rows`, and for the commands that print them.
 use Rattle.std.specs.Prelude.{◌≡◌, ◌<◌, ◌==◌, ◌↔◌, ℕ, Bool, true, if◌then◌else◌, List, length, map, All}
 use Rattle.attr_sets.specs.Attributes.{Attributes}
-use Rattle.csv_rows.specs.Numberings.{number_at}
+use Rattle.row_groups.specs.Numberings.{number_at}
 use Rattle.dep_model.specs.Dependencies.{Dependency, fd, mvd}
 use Rattle.dep_model.specs.Projections.{members_below}
 use Rattle.dep_model.specs.Tuples.{Relation}

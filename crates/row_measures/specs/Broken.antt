@@ -2,7 +2,7 @@
 -- and the functions that they speak of.
 use Rattle.std.specs.Prelude.{◌≡◌, ◌≢◌, ◌+◌, ◌<◌, ◌≤◌, ◌==◌, ◌&&◌, ◌↔◌, ℕ, zero, suc, Bool, true, not, if◌then◌else◌, List, [], ◌++◌, length}
 use Rattle.attr_sets.specs.Attributes.{Attributes, count_below}
-use Rattle.csv_rows.specs.Numberings.{number_at}
+use Rattle.row_groups.specs.Numberings.{number_at}
 use Rattle.dep_model.specs.Projections.{members_below}
 use Rattle.legality.specs.Parts.{flag_at}
 use Rattle.removal_laws.specs.Classes.{AreLargestClasses, in_chosen, rows_of}

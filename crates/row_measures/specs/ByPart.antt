@@ -1,8 +1,8 @@
 -- What `ByPart` holds: for it and the functions that count and list by it. `Desk` does not cite it.
 use Rattle.std.specs.Prelude.{◌≡◌, ◌-◌, ◌<◌, ℕ, Bool, true, List, length}
 use Rattle.attr_sets.specs.Attributes.{Attributes}
-use Rattle.csv_rows.specs.Interning.{firsts_of, groups_of}
-use Rattle.csv_rows.specs.Numberings.{number_at}
+use Rattle.row_groups.specs.Interning.{firsts_of, groups_of}
+use Rattle.row_groups.specs.Numberings.{number_at}
 use Rattle.dep_model.specs.Tuples.{Relation}
 use Rattle.legality.specs.Parts.{flag_at}
 use Rattle.removal_laws.specs.Classes.{rows_of}

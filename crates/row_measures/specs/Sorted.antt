@@ -1,7 +1,7 @@
 -- The numbers by which rows are measured against a dependency: for `Answers`.
 use Rattle.std.specs.Prelude.{ℕ, Bool, List, map}
 use Rattle.attr_sets.specs.Attributes.{Attributes, below, union, difference}
-use Rattle.csv_rows.specs.Numberings.{AreGroups, AreFirsts, number_at}
+use Rattle.row_groups.specs.Numberings.{AreGroups, AreFirsts, number_at}
 use Rattle.dep_model.specs.Tuples.{Relation}
 use Rattle.row_measures.specs.Broken.{AreChosen, AreFlags, HasTwoClasses, LacksRow}
 

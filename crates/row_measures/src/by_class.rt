@@ -1,16 +1,16 @@
 ghost use Rattle.std.specs.Prelude.{◌≡◌, ◌<◌, ◌≤◌, ◌^◌, All, false, length, map, replicate, IfOk};
 ghost use Rattle.attr_sets.specs.Attributes.{IsSubset, below};
 ghost use Rattle.attr_sets.specs.Sets.{attributes};
-ghost use Rattle.csv_rows.specs.Interning.{IsInterned, firsts_of, groups_of};
-ghost use Rattle.csv_rows.specs.Numberings.{number_at};
+ghost use Rattle.row_groups.specs.Interning.{IsInterned, firsts_of, groups_of};
+ghost use Rattle.row_groups.specs.Numberings.{number_at};
 ghost use Rattle.legality.specs.Parts.{AreBelow};
 ghost use Rattle.row_measures.specs.Broken.{rows_outside};
 ghost use Rattle.row_measures.specs.ByClass.{AreLargestBelow, AreOutside, AreSorted};
 
 use crate::counting::{numbers_of, row_counts};
 use attr_sets::{AttrSet, MOST_ATTRIBUTES};
-use csv_rows::{Groups, Interned};
 use dep_model::OutOfMemory;
+use row_groups::{Groups, Interned};
 use row_store::Rows;
 use std::alloc::Global;
 

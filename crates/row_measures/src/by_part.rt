@@ -1,17 +1,17 @@
 ghost use Rattle.std.specs.Prelude.{◌≡◌, ◌<◌, ◌≤◌, ◌^◌, ℕ, length, IfOk};
 ghost use Rattle.attr_sets.specs.Attributes.{IsSubset, below};
 ghost use Rattle.attr_sets.specs.Sets.{attributes};
-ghost use Rattle.csv_rows.specs.Interning.{IsInterned};
-ghost use Rattle.csv_rows.specs.Numberings.{number_at};
+ghost use Rattle.row_groups.specs.Interning.{IsInterned};
+ghost use Rattle.row_groups.specs.Numberings.{number_at};
 ghost use Rattle.legality.specs.Parts.{AreBelow};
 ghost use Rattle.row_measures.specs.ByPart.{ArePartsSorted, AreShort, shortage};
 
 use crate::by_class::no_flags;
 use crate::counting::numbers_of;
 use attr_sets::{AttrSet, MOST_ATTRIBUTES};
-use csv_rows::{Groups, Interned};
 use dep_model::OutOfMemory;
 use legality::part_counts;
+use row_groups::{Groups, Interned};
 use row_store::Rows;
 use std::alloc::Global;
 

@@ -1,5 +1,5 @@
 ghost use Rattle.std.specs.Prelude.{◌≡◌, ◌+◌, ◌<◌, ◌^◌, All, length, map, IfOk};
-ghost use Rattle.csv_rows.specs.Numberings.{number_at};
+ghost use Rattle.row_groups.specs.Numberings.{number_at};
 ghost use Rattle.legality.specs.Parts.{AreBelow};
 ghost use Rattle.row_measures.specs.Broken.{AreOrdinals, AreRowCounts, flagged_groups, flagged_rows};
 

@@ -1,6 +1,6 @@
 ghost use Rattle.std.specs.Prelude.{◌≡◌, ◌<◌, ◌≤◌, ◌&&◌, ℕ, All, true, length, replicate, IfOk};
 ghost use Rattle.attr_sets.specs.Attributes.{below};
-ghost use Rattle.csv_rows.specs.Interning.{IsInterned};
+ghost use Rattle.row_groups.specs.Interning.{IsInterned};
 ghost use Rattle.dep_model.specs.Deps.{IsDepWithin, dependencies_of};
 ghost use Rattle.legality.specs.Parts.{AreBelow, flag_at};
 ghost use Rattle.removal_laws.specs.Classes.{in_chosen};
@@ -8,8 +8,8 @@ ghost use Rattle.row_measures.specs.Answers.{AreKeptFlags};
 
 use crate::by_class::sort_by_class;
 use attr_sets::MOST_ATTRIBUTES;
-use csv_rows::Interned;
 use dep_model::{Dep, OutOfMemory};
+use row_groups::Interned;
 use row_store::Rows;
 use std::alloc::Global;
 

@@ -1,7 +1,7 @@
 ghost use Rattle.std.specs.Prelude.{◌≡◌, ◌<◌, ◌≤◌, ◌^◌, ℕ, length, map, IfOk};
 ghost use Rattle.attr_sets.specs.Attributes.{Attributes, below};
-ghost use Rattle.csv_rows.specs.Interning.{IsInterned, firsts_of, groups_of};
-ghost use Rattle.csv_rows.specs.Numberings.{number_at};
+ghost use Rattle.row_groups.specs.Interning.{IsInterned, firsts_of, groups_of};
+ghost use Rattle.row_groups.specs.Numberings.{number_at};
 ghost use Rattle.dep_model.specs.Deps.{IsDepWithin, dependency_of};
 ghost use Rattle.dep_model.specs.Tuples.{Relation};
 ghost use Rattle.row_measures.specs.Answers as Spec;
@@ -16,8 +16,8 @@ use crate::counting::{numbers_of, ordinals, row_counts};
 use crate::ordering::in_order;
 use crate::{BrokenPart, BrokenRow, Mark};
 use attr_sets::MOST_ATTRIBUTES;
-use csv_rows::Interned;
 use dep_model::{Dep, OutOfMemory};
+use row_groups::Interned;
 use row_store::Rows;
 use std::alloc::Global;
 

@@ -1,6 +1,6 @@
 ghost use Rattle.std.specs.Prelude.{◌≡◌, ◌<◌, ◌≤◌, ◌^◌, ℕ, length, IfOk};
 ghost use Rattle.attr_sets.specs.Attributes.{Attributes, below};
-ghost use Rattle.csv_rows.specs.Interning.{IsInterned, groups_of};
+ghost use Rattle.row_groups.specs.Interning.{IsInterned, groups_of};
 ghost use Rattle.dep_model.specs.Deps.{IsDepWithin, dependency_of};
 ghost use Rattle.dep_model.specs.Tuples.{Relation};
 ghost use Rattle.row_measures.specs.Answers.{IsMeasure, measure_by_classes, measure_by_parts};
@@ -12,8 +12,8 @@ use crate::by_class::{ByClass, count_outside, sort_by_class};
 use crate::by_part::{ByPart, sort_by_part};
 use crate::counting::{count_groups, count_rows};
 use attr_sets::MOST_ATTRIBUTES;
-use csv_rows::Interned;
 use dep_model::{Dep, OutOfMemory};
+use row_groups::Interned;
 use row_store::Rows;
 use std::alloc::Global;
 

@@ -1,8 +1,8 @@
 ghost use Rattle.std.specs.Prelude.{◌<◌, ℕ, IfOk};
 ghost use Rattle.attr_sets.specs.Attributes.{Attributes, only};
 ghost use Rattle.attr_sets.specs.declared.set.TheConstants.{MOST_ATTRIBUTES};
-ghost use Rattle.csv_rows.specs.Interning.{IsInterned, firsts_of, groups_of, width_of_rows};
-ghost use Rattle.csv_rows.specs.Numberings.{AreFirsts, AreGroups};
+ghost use Rattle.row_groups.specs.Interning.{IsInterned, firsts_of, groups_of, width_of_rows};
+ghost use Rattle.row_groups.specs.Numberings.{AreFirsts, AreGroups};
 ghost use Rattle.dep_model.specs.Dependencies.{fd};
 ghost use Rattle.dep_model.specs.Tuples.{Relation};
 ghost use Rattle.removal_laws.specs.Errors.{IsError};
@@ -10,8 +10,8 @@ ghost use Rattle.removal_laws.specs.Errors.{IsError};
 use crate::by_class::{choose_largest, count_outside};
 use crate::counting::{numbers_of, row_counts};
 use attr_sets::AttrSet;
-use csv_rows::{Groups, Interned};
 use dep_model::OutOfMemory;
+use row_groups::{Groups, Interned};
 use std::alloc::Global;
 
 /// How many rows must go at least so that the others have one value at `right` in each of the groups: the

@@ -1,5 +1,5 @@
 -- The row at a position of a list of rows: for the store of rows, for what reads and writes rows, and for
--- rows under a free header (`fd_discovery/Headings`).
+-- rows under a free header (`headed_rows/Headings`).
 use Rattle.std.specs.Prelude.{ℕ, [], slice_index_or}
 use Rattle.dep_model.specs.Tuples.{Tuple, Relation}
 

@@ -13,10 +13,12 @@
 
 mod flat_values;
 mod hashing;
+mod limits;
 mod projecting;
 mod rows;
 
 pub use flat_values::FlatValues;
 pub use hashing::Hashing;
+pub use limits::{MOST_HEADED_ROWS, MOST_ROWS_WITH_ALL, WIDEST_HEADED, WIDEST_WITH_ALL};
 pub use projecting::project_row;
 pub use rows::{Rows, take_row};

@@ -8,8 +8,10 @@
 //! different.
 #![tactic(auto)]
 
+mod persons;
 mod rows;
 mod schema;
 
+pub use persons::Persons;
 pub use rows::{MOST_PERSONS, sample_rows};
 pub use schema::sample_schema;

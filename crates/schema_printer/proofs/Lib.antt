@@ -1,3 +1,5 @@
 pub mod MemberLemmas
 pub mod PrintLemmas
 pub mod SpellingLemmas
+pub mod ChosenLemmas
+pub mod PartLemmas

@@ -9,9 +9,9 @@ ghost use Rattle.schema_printer.specs.Printing.{set_text, dependency_text, membe
 ghost use Rattle.schema_printer.specs.Spelling.{spelling, printed_names_of};
 ghost use Rattle.dep_model.specs.Names.{quoted};
 
-use crate::adding::{add, add_digit};
 use crate::spelling::{add_name, add_quoted};
 use attr_sets::AttrSet;
+use byte_texts::{add, add_digit};
 use dep_model::{ColumnType, Dep, Name, Naming, OutOfMemory, Schema};
 use std::alloc::Global;
 

@@ -2,7 +2,7 @@ ghost use Rattle.std.specs.Prelude.{◌≡◌, ℕ, List, ◌++◌, ◌∷◌, [
 ghost use Rattle.schema_printer.specs.Spelling.{is_schema_word, spelling};
 ghost use Rattle.dep_model.specs.Names.{quotes_doubled, quoted};
 
-use crate::adding::add;
+use byte_texts::add;
 use dep_model::{Name, Naming, OutOfMemory, is_bare_name};
 
 /// Adds a name to a text as it is printed.

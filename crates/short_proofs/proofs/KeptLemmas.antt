@@ -6,8 +6,8 @@ use Rattle.dep_model.specs.declared.schema.Schema.{Schema}
 use Rattle.dep_model.specs.Dependencies.{Dependency, fd, mvd}
 use Rattle.derivation.specs.Trees.{Tree, leaf, step, pair, nodes, given}
 use Rattle.derivation.specs.Direct.{IsDirect}
-use Rattle.dep_basis.specs.JoinedProofs.{IsProofOf}
-use Rattle.dep_basis.specs.Proofs.{IsFirstGiven, IsDirectUnlessChain}
+use Rattle.basis_proofs.specs.JoinedProofs.{IsProofOf}
+use Rattle.basis_proofs.specs.Proofs.{IsFirstGiven, IsDirectUnlessChain}
 use Rattle.short_proofs.specs.declared.shapes.Shape.{Shape}
 use Rattle.short_proofs.specs.Shapes.{Fits, HasAtMost, IsNoLarger, IsSameOrShorter}
 

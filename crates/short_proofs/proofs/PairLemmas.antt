@@ -13,7 +13,7 @@ use Rattle.dep_model.specs.Deps.{dependency_of}
 use Rattle.dep_model.specs.Schemas.{deps_of, theory_of}
 use Rattle.derivation.specs.Trees.{Tree, Step, Pair, Leaf, leaf, pair, nodes, given, replication, complementation, augmentation, maugmentation, mtransitivity, coalescence}
 use Rattle.derivation.specs.Conclusions.{Proves}
-use Rattle.dep_basis.specs.CutProofs.{HasSize}
+use Rattle.basis_proofs.specs.CutProofs.{HasSize}
 use Rattle.short_proofs.specs.Short.{taken, start, cut_to, transitivity_of, coalescence_of, IsNoLongerThan}
 use Rattle.short_proofs.specs.Shapes.{IsSameOrShorter, count, start_count}
 use Rattle.short_proofs.proofs.KeptLemmas.{kept_further, kept_no_longer, some_nodes}

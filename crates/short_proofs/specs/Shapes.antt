@@ -7,10 +7,10 @@ use Rattle.dep_model.specs.declared.schema.Schema.{Schema}
 use Rattle.dep_model.specs.Dependencies.{Dependency, mvd}
 use Rattle.derivation.specs.Conclusions.{Proves}
 use Rattle.derivation.specs.Direct.{IsDirect}
-use Rattle.dep_basis.specs.JoinedProofs.{IsProofOf}
+use Rattle.basis_proofs.specs.JoinedProofs.{IsProofOf}
 use Rattle.short_proofs.specs.declared.shapes.Shape.{Shape}
-use Rattle.dep_basis.specs.declared.proving.Proof.{Proof}
-use Rattle.dep_basis.specs.declared.proving.Proof.TheVariants.{Yes, No}
+use Rattle.basis_proofs.specs.declared.proving.Proof.{Proof}
+use Rattle.basis_proofs.specs.declared.proving.Proof.TheVariants.{Yes, No}
 use Rattle.derivation.specs.Derivs.{tree_of}
 use Rattle.short_proofs.specs.declared.pairs.Halves.{Halves}
 use Rattle.short_proofs.specs.declared.pairs.Merged.{Merged}

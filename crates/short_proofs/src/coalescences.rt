@@ -4,7 +4,7 @@ ghost use Rattle.std.specs.Prelude.{◌≡◌, Bool, IfOk};
 ghost use Rattle.attr_sets.specs.Sets.{attributes};
 ghost use Rattle.dep_model.specs.Dependencies.{fd};
 ghost use Rattle.derivation.specs.Derivs.{tree_of};
-ghost use Rattle.dep_basis.specs.JoinedProofs.{IsProofOf};
+ghost use Rattle.basis_proofs.specs.JoinedProofs.{IsProofOf};
 ghost use Rattle.short_proofs.specs.Short.{start, IsCoalescence, IsNoLongerThan};
 ghost use Rattle.short_proofs.specs.Shapes.{IsSameOrShorter, tree_of_merged};
 

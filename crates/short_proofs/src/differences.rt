@@ -4,7 +4,7 @@ ghost use Rattle.std.specs.Prelude.{◌≡◌, Bool, IfOk};
 ghost use Rattle.attr_sets.specs.Sets.{attributes};
 ghost use Rattle.dep_model.specs.Dependencies.{mvd};
 ghost use Rattle.derivation.specs.Derivs.{tree_of};
-ghost use Rattle.dep_basis.specs.JoinedProofs.{IsProofOf};
+ghost use Rattle.basis_proofs.specs.JoinedProofs.{IsProofOf};
 ghost use Rattle.short_proofs.specs.Short.{start, transitivity_of, IsTransitivity, IsNoLongerThan};
 ghost use Rattle.short_proofs.specs.Shapes.{IsSameOrShorter, tree_of_halves};
 

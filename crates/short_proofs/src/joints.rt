@@ -7,7 +7,7 @@ ghost use Rattle.attr_sets.specs.Sets.{attributes};
 ghost use Rattle.dep_model.specs.Dependencies.{left_of};
 ghost use Rattle.dep_model.specs.Deps.{dependency_of};
 ghost use Rattle.derivation.specs.Derivs.{tree_of};
-ghost use Rattle.dep_basis.specs.JoinedProofs.{IsProofOf};
+ghost use Rattle.basis_proofs.specs.JoinedProofs.{IsProofOf};
 ghost use Rattle.short_proofs.specs.Short.{start, SetsFit, IsJoinedTree, IsJoined, IsJoinedBy, IsJoinedFrom, IsNoLongerThan};
 ghost use Rattle.short_proofs.specs.Shapes.{IsSameOrShorter};
 

@@ -7,8 +7,8 @@ ghost use Rattle.derivation.specs.Trees.{nodes};
 ghost use Rattle.derivation.specs.Derivs.{tree_of};
 ghost use Rattle.derivation.specs.Conclusions.{Proves};
 ghost use Rattle.derivation.specs.declared.measures.TheConstants.{MOST_NODES, MOST_LEVELS};
-ghost use Rattle.dep_basis.specs.CutProofs.{HasSize};
-ghost use Rattle.dep_basis.specs.JoinedProofs.{IsProofOf};
+ghost use Rattle.basis_proofs.specs.CutProofs.{HasSize};
+ghost use Rattle.basis_proofs.specs.JoinedProofs.{IsProofOf};
 ghost use Rattle.short_proofs.specs.Short.{IsNoLongerThan};
 ghost use Rattle.short_proofs.specs.Shapes.{IsSameOrShorter};
 

@@ -4,8 +4,8 @@ use Rattle.std.proofs.Common.{◌≡◌, ◌<◌, ℕ, zero, suc, List, [], ◌�
 use Rattle.std.specs.Prelude.{All}
 use Rattle.attr_sets.specs.Attributes.{Attributes, below}
 use Rattle.dep_model.specs.Dependencies.{Dependency}
-use Rattle.normal_forms.specs.declared.form.Form.{Form}
-use Rattle.normal_forms.specs.declared.form.Form.TheVariants.{Third}
+use Rattle.dep_model.specs.declared.form.Form.{Form}
+use Rattle.dep_model.specs.declared.form.Form.TheVariants.{Third}
 use Rattle.split_forms.specs.Splitting.{StaysWhole, IsCutBy, ReachedList, FinishedList}
 use Rattle.split_forms.specs.Steps.{Cutting, IsCutOnce, CutsLead, AreSplitSteps, cutting}
 use Rattle.split_forms.proofs.StepLemmas.{one_cutting}

@@ -10,8 +10,8 @@ use Rattle.attr_sets.specs.Sets.{attributes}
 use Rattle.attr_sets.specs.declared.set.AttrSet.{AttrSet}
 use Rattle.dep_model.specs.Dependencies.{Dependency}
 use Rattle.dep_model.specs.Plans.{IsPlan, schemes_of}
-use Rattle.normal_forms.specs.declared.form.Form.{Form}
-use Rattle.normal_forms.specs.declared.form.Form.TheVariants.{Third}
+use Rattle.dep_model.specs.declared.form.Form.{Form}
+use Rattle.dep_model.specs.declared.form.Form.TheVariants.{Third}
 use Rattle.split_forms.specs.Splitting.{StaysWhole, IsCutBy, IsStuckScheme, ReachedList, FinishedList, IsTooWideAt, HasTooManySchemes}
 use Rattle.split_forms.proofs.SizeLemmas.{IsProper}
 use Rattle.split_forms.specs.Lists.{IsSplitStep}

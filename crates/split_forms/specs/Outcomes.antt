@@ -3,7 +3,7 @@ use Rattle.std.specs.Prelude.{ℕ, List, All}
 use Rattle.attr_sets.specs.Attributes.{Attributes}
 use Rattle.attr_sets.specs.Sets.{attributes}
 use Rattle.dep_model.specs.Dependencies.{Dependency}
-use Rattle.normal_forms.specs.declared.form.Form.{Form}
+use Rattle.dep_model.specs.declared.form.Form.{Form}
 use Rattle.split_forms.specs.declared.outcome.Outcome.{Outcome}
 use Rattle.split_forms.specs.declared.outcome.Outcome.TheVariants.{Whole, Cut, Stuck}
 use Rattle.split_forms.specs.declared.trying.Tried.{Tried}

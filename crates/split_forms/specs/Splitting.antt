@@ -6,7 +6,7 @@ use Rattle.attr_sets.specs.declared.set.AttrSet.{AttrSet}
 use Rattle.dep_model.specs.Dependencies.{Dependency}
 use Rattle.dep_model.specs.Plans.{schemes_of}
 use Rattle.plans.specs.Containing.{without_contained}
-use Rattle.normal_forms.specs.declared.form.Form.{Form}
+use Rattle.dep_model.specs.declared.form.Form.{Form}
 use Rattle.fd_closure.specs.LeftSides.{IsWideScheme}
 use Rattle.normal_forms.specs.Chosen.{IsInForm, IsChosenViolation, HasNoVisibleViolation, IsVisibleViolation}
 use Rattle.split_forms.specs.Lists.{IsSplitStep, ReachedIn}

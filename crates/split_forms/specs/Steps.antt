@@ -1,10 +1,10 @@
 -- How a split comes about, cut by cut: for `split_steps` and the command `explain split`
--- (`desk_reasons/SplitReasons`).
+-- (`desk_designs/SplitReasons`).
 use Rattle.std.specs.Prelude.{◌≡◌, ℕ, List, [], ◌∷◌, map, All}
 use Rattle.attr_sets.specs.Attributes.{Attributes, below}
 use Rattle.attr_sets.specs.Sets.{attributes}
 use Rattle.dep_model.specs.Dependencies.{Dependency}
-use Rattle.normal_forms.specs.declared.form.Form.{Form}
+use Rattle.dep_model.specs.declared.form.Form.{Form}
 use Rattle.split_forms.specs.declared.steps.SchemeCut.{SchemeCut}
 use Rattle.split_forms.specs.Splitting.{StaysWhole, IsNextList}
 

@@ -8,7 +8,7 @@ ghost use Rattle.dep_model.specs.Dependencies.{Dependency};
 ghost use Rattle.dep_model.specs.Projections.{IsLossless};
 ghost use Rattle.fd_closure.specs.LeftSides.{left_sides};
 ghost use Rattle.fd_closure.specs.declared.left_sides.TheConstants.{WIDEST_SEARCHED};
-ghost use Rattle.normal_forms.specs.declared.form.Form.{Form};
+ghost use Rattle.dep_model.specs.declared.form.Form.{Form};
 ghost use Rattle.split_forms.specs.Splitting.{IsNextList, ReachedList, FinishedList};
 ghost use Rattle.split_forms.specs.Splitting.{IsTooWideAt, HasTooManySchemes};
 ghost use Rattle.split_forms.specs.Steps.{AreSplitSteps, Cutting};

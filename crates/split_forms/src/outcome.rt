@@ -5,8 +5,8 @@ ghost use Rattle.dep_model.specs.Schemas.{width_of, universe_of, theory_of};
 ghost use Rattle.split_forms.specs.Outcomes.{IsOutcome};
 
 use attr_sets::AttrSet;
-use dep_model::Schema;
-use normal_forms::{Breach, Form, violation, visible_violation};
+use dep_model::{Form, Schema};
+use normal_forms::{Breach, violation, visible_violation};
 
 // What becomes of a scheme that is split.
 #[derive(Clone, Copy, Debug)]

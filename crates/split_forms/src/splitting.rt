@@ -11,8 +11,7 @@ ghost use Rattle.split_forms.specs.Refusals.{IsRefusedSplit, IsWithinLimits};
 
 use crate::refusal::SplitRefusal;
 use crate::steps::{SplitSteps, split_steps};
-use dep_model::{Failure, OutOfMemory, Schema};
-use normal_forms::Form;
+use dep_model::{Failure, Form, OutOfMemory, Schema};
 use plans::{Plan, drop_contained};
 use std::alloc::Global;
 

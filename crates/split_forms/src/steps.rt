@@ -10,8 +10,8 @@ use crate::outcome::Outcome;
 use crate::refusal::SplitRefusal;
 use crate::trying::found_outcome;
 use attr_sets::AttrSet;
-use dep_model::{Failure, Schema};
-use normal_forms::{Breach, Form};
+use dep_model::{Failure, Form, Schema};
+use normal_forms::Breach;
 use std::alloc::Global;
 
 /// A scheme that is cut, and the violation that it is cut at.

@@ -6,8 +6,7 @@ ghost use Rattle.split_forms.specs.Outcomes.{IsOutcome, AreTried};
 
 use crate::outcome::{Outcome, outcome_of};
 use attr_sets::AttrSet;
-use dep_model::{OutOfMemory, Schema};
-use normal_forms::Form;
+use dep_model::{Form, OutOfMemory, Schema};
 
 // A scheme that was tried, and what became of it.
 #[derive(Clone, Copy, Debug)]

@@ -15,8 +15,9 @@ ghost use Rattle.sql_schemas.specs.Texts.{IsSchemaOf, column_names, column_types
 use crate::keys::{TableKey, is_dependency, is_primary, keys_of, new_keys};
 use crate::missing::columns_missing;
 use attr_sets::AttrSet;
+use byte_texts::add;
 use dep_model::{ColumnType, Dep, Failure, Name, Naming, OutOfMemory, Schema};
-use schema_printer::{add, add_dep, add_set, print_deps};
+use schema_printer::{add_dep, add_set, print_deps};
 use sql_definitions::{Column, Definition, Refusal};
 use std::alloc::Global;
 

@@ -3,3 +3,4 @@
 pub mod Syntax
 pub mod Printing
 pub mod Statements
+pub mod Names

@@ -10,7 +10,7 @@ use Rattle.schema_printer.specs.Printing.{set_text}
 use Rattle.schema_printer.specs.Spelling.{printed_names_of}
 use Rattle.table_names.specs.TableNames.{table_name}
 use Rattle.ddl_text.specs.declared.table.TableDesign.{TableDesign}
-use Rattle.html_escapes.specs.Escapes.{html_text}
+use Rattle.html_pages.specs.Escapes.{html_text}
 
 -- a byte in a label between double quotes: `\` before `"` and `\`
 abbrev pub label_byte : ℕ → List ℕ

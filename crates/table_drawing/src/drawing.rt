@@ -3,9 +3,9 @@ ghost use Rattle.table_drawing.specs.Drawing.{drawing_text};
 
 use crate::edges::add_edges;
 use crate::nodes::add_nodes;
+use byte_texts::add;
 use ddl_text::DesignList;
 use dep_model::{OutOfMemory, Schema};
-use schema_printer::add;
 use std::alloc::Global;
 
 /// The Graphviz text of a design: a node for each table, named by its number, in order, and then for each table,

@@ -5,9 +5,10 @@ ghost use Rattle.table_drawing.specs.Drawing.{edge_text, edges_to, edges_text};
 
 use crate::escapes::add_label;
 use crate::nodes::add_id;
+use byte_texts::add;
 use ddl_text::TableDesign;
 use dep_model::{OutOfMemory, Schema};
-use schema_printer::{add, add_set};
+use schema_printer::add_set;
 use std::alloc::Global;
 
 // Adds the edges of these tables.

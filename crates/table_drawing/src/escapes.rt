@@ -3,8 +3,8 @@
 ghost use Rattle.std.specs.Prelude.{◌≡◌, ◌++◌, OnOk};
 ghost use Rattle.table_drawing.specs.Drawing.{label_byte, label_text};
 
+use byte_texts::add;
 use dep_model::OutOfMemory;
-use schema_printer::add;
 
 // Adds a text to a label between double quotes.
 #[tactic(auto, unfolding(crate::specs::Drawing::label_text))]

@@ -6,10 +6,10 @@ ghost use Rattle.table_names.specs.TableNames.{table_name};
 ghost use Rattle.table_drawing.specs.Drawing.{marked_text, row_text, table_rows_text, node_head, node_text};
 
 use attr_sets::AttrSet;
+use byte_texts::add;
 use ddl_text::TableDesign;
 use dep_model::{OutOfMemory, Schema};
-use html_escapes::add_html;
-use schema_printer::add;
+use html_pages::add_html;
 use std::alloc::Global;
 use table_names::table_name;
 

@@ -1,5 +1,5 @@
 -- The parts of the name of a table, as a word of the command line has them: for the names that scripts hold
--- (`table_scripts`) and those that a definition is sought by (`sql_definitions`).
+-- (`sql_scripts`) and those that a definition is sought by (`sql_definitions`).
 use Rattle.std.specs.Prelude.{ℕ, zero, suc, ◌+◌, ◌==◌, Bool, true, false, Option, Some, None, option_map, List, [], ◌∷◌, take, drop, nat_eq, if◌then◌else◌}
 use Rattle.std.specs.List.{starts_with, position_or_len}
 use Rattle.lexer.specs.Quotes.{is_name, closing_quote, undoubled}

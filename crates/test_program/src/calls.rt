@@ -1,6 +1,7 @@
+use arguments::Argument;
 use dep_model::OutOfMemory;
 use desk_cli::desk;
-use desk_outside::{Argument, HeldFile, MemoryFiles, MemoryFolder, MemorySink};
+use desk_outside::{HeldFile, MemoryFiles, MemoryFolder, MemorySink};
 use desk_responses::Status;
 use destinations::{Destination, MemoryDestination};
 use own_folder::{MemoryFolders, OwnFolderWriter};

@@ -8,7 +8,7 @@ use Rattle.attr_sets.specs.declared.set.AttrSet.{AttrSet}
 use Rattle.attr_sets.specs.Sets.{attributes}
 use Rattle.dep_model.specs.Plans.{schemes_of}
 use Rattle.dep_model.proofs.FailureLemmas.{refuses_also}
-use Rattle.candidate_laws.specs.Standing.{AreCandidates, ExceedsCandidates, HasMoreCandidates}
+use Rattle.candidate_sets.specs.Standing.{AreCandidates, ExceedsCandidates, HasMoreCandidates}
 use Rattle.candidate_sets.specs.declared.refusal.TheConstants.{MOST_CANDIDATES}
 use Rattle.candidate_search.proofs.SideLemmas.{candidates_more, exceeds_more}
 use Rattle.candidate_search.proofs.learning.add_all.Goals as goal

@@ -2,7 +2,7 @@
 use Rattle.std.proofs.Common.{◌++◌, ◌≤◌, List, length, take}
 use Rattle.attr_sets.specs.Attributes.{Attributes}
 use Rattle.dep_model.specs.Plans.{schemes_of}
-use Rattle.candidate_laws.specs.Standing.{AreCandidates}
+use Rattle.candidate_sets.specs.Standing.{AreCandidates}
 use Rattle.candidate_sets.specs.declared.refusal.TheConstants.{MOST_CANDIDATES}
 use Rattle.candidate_search.proofs.learning.add_all.Given as goal
 

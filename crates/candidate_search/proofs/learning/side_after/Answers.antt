@@ -2,7 +2,7 @@
 use Rattle.std.proofs.Common.{List, sym, subst, ◌∙◌}
 use Rattle.attr_sets.specs.declared.set.AttrSet.{AttrSet}
 use Rattle.dep_model.specs.Plans.{schemes_of}
-use Rattle.candidate_laws.specs.Standing.{AreCandidates}
+use Rattle.candidate_sets.specs.Standing.{AreCandidates}
 use Rattle.candidate_search.proofs.learning.side_after.Goals as goal
 
 pub returns-in-Ok-clause-candidates : goal.returns-in-Ok-clause-candidates

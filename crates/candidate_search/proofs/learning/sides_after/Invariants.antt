@@ -3,7 +3,7 @@ use Rattle.std.proofs.Common.{◌≡◌, ◌+◌, ℕ, take}
 use Rattle.std.specs.Prelude.{All}
 use Rattle.dep_model.specs.Plans.{schemes_of}
 use Rattle.dep_model.specs.Tuples.{Relation}
-use Rattle.candidate_laws.specs.Evidence.{AreEvidence}
+use Rattle.candidate_sets.specs.Evidence.{AreEvidence}
 use Rattle.candidate_search.specs.Sides.{IsAnsweredAt, IsTested, rights_of}
 use Rattle.candidate_search.proofs.learning.sides_after.Given as goal
 

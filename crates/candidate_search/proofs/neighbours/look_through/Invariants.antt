@@ -1,7 +1,7 @@
 -- What the loop of `look_through` keeps: `order`, `pairs`.
 use Rattle.std.proofs.Common.{◌<◌}
 use Rattle.std.specs.Prelude.{All}
-use Rattle.csv_rows.specs.Interning.{count_of}
+use Rattle.row_groups.specs.Interning.{count_of}
 use Rattle.candidate_search.specs.Pairs.{IsRowPair}
 use Rattle.candidate_search.proofs.neighbours.look_through.Given as goal
 

@@ -2,8 +2,8 @@
 use Rattle.std.proofs.Common.{◌≡◌, ◌<◌, ℕ, List, length, sym, ap, subst, ◌∙◌, below_more, arith}
 use Rattle.std.proofs.lemmas.List.{get_or_default}
 use Rattle.attr_sets.specs.Sets.{attributes}
-use Rattle.csv_rows.specs.Interning.{codes_at}
-use Rattle.csv_rows.specs.Numberings.{number_at}
+use Rattle.row_groups.specs.Interning.{codes_at}
+use Rattle.row_groups.specs.Numberings.{number_at}
 use Rattle.candidate_search.proofs.PairLemmas.{broken_by, obeyed_by}
 use Rattle.candidate_search.proofs.pairs.broken_in.Goals as goal
 use Rattle.candidate_search.proofs.pairs.broken_in.Goals.{After-index}

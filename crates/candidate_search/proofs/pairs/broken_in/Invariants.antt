@@ -1,7 +1,7 @@
 -- What the loop of `broken_in` keeps: `same`.
 use Rattle.std.proofs.Common.{◌≡◌, ◌<◌, ℕ}
-use Rattle.csv_rows.specs.Interning.{codes_at}
-use Rattle.csv_rows.specs.Numberings.{number_at}
+use Rattle.row_groups.specs.Interning.{codes_at}
+use Rattle.row_groups.specs.Numberings.{number_at}
 use Rattle.candidate_search.proofs.pairs.broken_in.Given as goal
 
 -- each row so far has the number of its leader

@@ -1,6 +1,6 @@
 -- What is left to prove of `broken_pair`: what `broken_in` requires, and its clause `pair`.
 use Rattle.attr_sets.specs.Sets.{attributes}
-use Rattle.csv_rows.specs.Interning.{IsInterned, firsts_of, groups_of}
+use Rattle.row_groups.specs.Interning.{IsInterned, firsts_of, groups_of}
 use Rattle.dep_model.specs.Tuples.{Relation}
 use Rattle.fd_discovery.specs.Leaders.{AreLeadersOn}
 use Rattle.candidate_search.proofs.LevelLemmas.{firsts_lead}

@@ -1,7 +1,7 @@
 -- What the loop of `first_of_each` keeps: `so_far`.
 use Rattle.std.proofs.Common.{◌≡◌, map, take}
-use Rattle.csv_rows.specs.Interning.{firsts_of, groups_of}
-use Rattle.csv_rows.specs.Numberings.{number_at}
+use Rattle.row_groups.specs.Interning.{firsts_of, groups_of}
+use Rattle.row_groups.specs.Numberings.{number_at}
 use Rattle.candidate_search.proofs.pairs.first_of_each.Given as goal
 
 -- the first rows so far

@@ -1,7 +1,7 @@
 -- What is left to prove of `agreements`: that the invariant of its loop stays, by `TestLemmas`.
 use Rattle.std.proofs.Common.{List, sym, subst, arith}
 use Rattle.attr_sets.specs.declared.set.AttrSet.{AttrSet}
-use Rattle.candidate_laws.specs.Evidence.{AreEvidence, IsEvidence}
+use Rattle.candidate_sets.specs.Evidence.{AreEvidence, IsEvidence}
 use Rattle.dep_model.specs.Plans.{schemes_of}
 use Rattle.candidate_search.proofs.TestLemmas.{agreement_evidence, evidence_push}
 use Rattle.candidate_search.proofs.sampling.agreements.Goals as goal

@@ -1,7 +1,7 @@
 -- What the loop of `agreements` keeps: `evidence`.
 use Rattle.dep_model.specs.Plans.{schemes_of}
 use Rattle.dep_model.specs.Tuples.{Relation}
-use Rattle.candidate_laws.specs.Evidence.{AreEvidence}
+use Rattle.candidate_sets.specs.Evidence.{AreEvidence}
 use Rattle.candidate_search.specs.Sides.{AreCoded}
 use Rattle.candidate_search.proofs.sampling.agreements.Given as goal
 

@@ -1,7 +1,7 @@
 -- What is left to prove of `early_evidence`: its clause `evidence`, whatever the order of the sets.
 use Rattle.std.proofs.lemmas.Map.Views.{All-map-IsPermutation}
 use Rattle.attr_sets.specs.Sets.{attributes}
-use Rattle.candidate_laws.specs.Evidence.{IsEvidence}
+use Rattle.candidate_sets.specs.Evidence.{IsEvidence}
 use Rattle.candidate_search.proofs.sampling.early_evidence.Goals as goal
 
 pub returns : goal.returns

@@ -3,7 +3,7 @@ use Rattle.std.proofs.Common.{sym, subst, ◌∙◌, ap}
 use Rattle.std.proofs.lemmas.List.{map-append}
 use Rattle.std.proofs.lemmas.List.Elements.{All-append}
 use Rattle.attr_sets.specs.Sets.{attributes}
-use Rattle.candidate_laws.specs.Evidence.{AreEvidence, IsEvidence}
+use Rattle.candidate_sets.specs.Evidence.{AreEvidence, IsEvidence}
 use Rattle.dep_model.specs.Plans.{schemes_of}
 use Rattle.candidate_search.proofs.sampling.first_evidence.Goals as goal
 

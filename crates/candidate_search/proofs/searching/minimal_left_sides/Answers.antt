@@ -5,7 +5,7 @@ use Rattle.std.specs.Prelude.{All, Contains}
 use Rattle.std.proofs.lemmas.List.Elements.{All-same, All-weaker}
 use Rattle.std.proofs.lemmas.Result.{err_from_is_err_and}
 use Rattle.attr_sets.specs.declared.set.AttrSet.{AttrSet}
-use Rattle.candidate_laws.specs.Evidence.{AreEvidence}
+use Rattle.candidate_sets.specs.Evidence.{AreEvidence}
 use Rattle.dep_model.specs.Failures.{RefusesAs}
 use Rattle.dep_model.specs.Plans.{schemes_of}
 use Rattle.candidate_search.specs.Asking.{AsksAll, IsAskedWithin, HasAnswer}

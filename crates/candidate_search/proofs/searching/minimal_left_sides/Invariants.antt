@@ -3,7 +3,7 @@ use Rattle.std.proofs.Common.{◌≡◌}
 use Rattle.std.specs.Prelude.{All}
 use Rattle.dep_model.specs.Plans.{schemes_of}
 use Rattle.dep_model.specs.Tuples.{Relation}
-use Rattle.candidate_laws.specs.Evidence.{AreEvidence}
+use Rattle.candidate_sets.specs.Evidence.{AreEvidence}
 use Rattle.candidate_search.specs.Levels.{AreTabled}
 use Rattle.candidate_search.specs.Findings.{AreFindings}
 use Rattle.candidate_search.specs.Sides.{IsTested, rights_of}

@@ -2,7 +2,7 @@
 use Rattle.std.proofs.Common.{None, inl, sym, subst}
 use Rattle.std.proofs.lemmas.List.Elements.{All-same}
 use Rattle.attr_sets.specs.Sets.{attributes}
-use Rattle.candidate_laws.specs.Evidence.{IsEvidence}
+use Rattle.candidate_sets.specs.Evidence.{IsEvidence}
 use Rattle.dep_model.specs.Tuples.{Relation}
 use Rattle.candidate_search.specs.Findings.{AreFindings, AreObeyed}
 use Rattle.candidate_search.specs.Levels.{AreTabled, IsLevel}

@@ -7,7 +7,7 @@ use Rattle.std.proofs.lemmas.List.Elements.{All-more, All-same}
 use Rattle.attr_sets.specs.declared.set.AttrSet.{AttrSet}
 use Rattle.dep_model.specs.Plans.{schemes_of}
 use Rattle.dep_model.specs.Tuples.{Relation}
-use Rattle.candidate_laws.specs.Evidence.{AreEvidence}
+use Rattle.candidate_sets.specs.Evidence.{AreEvidence}
 use Rattle.candidate_search.specs.Levels.{AreTabled}
 use Rattle.candidate_search.specs.Asking.{HasAnswer, AnswersOrRefutes}
 use Rattle.candidate_search.specs.Findings.{AreFindings}

@@ -7,8 +7,8 @@ use Rattle.attr_sets.specs.Attributes.{Attributes}
 use Rattle.attr_sets.specs.declared.set.AttrSet.{AttrSet}
 use Rattle.attr_sets.specs.Sets.{attributes}
 use Rattle.dep_model.specs.Plans.{schemes_of}
-use Rattle.candidate_laws.specs.Standing.{AreCandidates}
-use Rattle.candidate_laws.proofs.StepLemmas.{candidates_still}
+use Rattle.candidate_sets.specs.Standing.{AreCandidates}
+use Rattle.candidate_sets.proofs.StepLemmas.{candidates_still}
 use Rattle.candidate_sets.specs.Cuts.{Ascend}
 use Rattle.candidate_sets.specs.Growing.{HasWithin}
 use Rattle.candidate_sets.proofs.NextLemmas.{sets_ascend, untouched}

@@ -3,8 +3,8 @@ use Rattle.std.proofs.Common.{◌≡◌, ◌∷◌, [], ◌++◌, List, sym, ap,
 use Rattle.attr_sets.specs.Attributes.{Attributes, none}
 use Rattle.attr_sets.specs.declared.set.AttrSet.{AttrSet}
 use Rattle.dep_model.specs.Plans.{schemes_of}
-use Rattle.candidate_laws.specs.Standing.{AreCandidates}
-use Rattle.candidate_laws.proofs.StepLemmas.{first_candidates}
+use Rattle.candidate_sets.specs.Standing.{AreCandidates}
+use Rattle.candidate_sets.proofs.StepLemmas.{first_candidates}
 use Rattle.candidate_sets.proofs.adding.first_candidates.Goals as goal
 
 pub returns-clause-candidates : goal.returns-clause-candidates

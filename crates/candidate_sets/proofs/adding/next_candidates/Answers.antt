@@ -8,7 +8,7 @@ use Rattle.attr_sets.specs.declared.set.AttrSet.{AttrSet}
 use Rattle.attr_sets.specs.declared.set.TheConstants.{MOST_ATTRIBUTES}
 use Rattle.attr_sets.specs.Sets.{attributes}
 use Rattle.dep_model.proofs.FailureLemmas.{refuses_also}
-use Rattle.candidate_laws.specs.Standing.{HasMoreCandidates}
+use Rattle.candidate_sets.specs.Standing.{HasMoreCandidates}
 use Rattle.candidate_sets.specs.Growing.{HasManyFresh, can_grow, is_apart}
 use Rattle.candidate_sets.specs.declared.refusal.TheConstants.{MOST_CANDIDATES}
 use Rattle.candidate_sets.proofs.NextLemmas.{hits_apart, hits_differ, kept_ascend, kept_short, many_are, next_are}

@@ -2,7 +2,7 @@
 -- `ProjectionLemmas`.
 use Rattle.attr_sets.specs.Sets.{attributes}
 use Rattle.dep_model.specs.Schemas.{names_of, width_of}
-use Rattle.csv_rows.specs.Interning.{groups_of, firsts_of}
+use Rattle.row_groups.specs.Interning.{groups_of, firsts_of}
 use Rattle.csv_migrate.proofs.ProjectionLemmas.{table_rows, table_even}
 use Rattle.csv_migrate.proofs.MigrationLemmas.{same_table}
 use Rattle.csv_migrate.proofs.migration.table.Goals as goal

@@ -6,7 +6,7 @@ use Rattle.dep_model.specs.Projections.{members_below}
 use Rattle.dep_model.proofs.SchemeLemmas.{members_below-none}
 use Rattle.ddl_text.specs.Ddl.{column_element}
 use Rattle.ddl_text.proofs.TextLemmas.{members_inside, members_outside, lines_more}
-use Rattle.sql_names.proofs.NameLemmas.{not_empty_more}
+use Rattle.sql_syntax.proofs.NameLemmas.{not_empty_more}
 use Rattle.ddl_text.proofs.columns.add_columns.Goals as goal
 use Rattle.ddl_text.proofs.columns.add_columns.Goals.{then-contains+in_ok-add_opening+in_ok-add_column, else-contains}
 

@@ -3,7 +3,7 @@ use Rattle.std.proofs.Common.{◌≡◌, ◌++◌, false, map}
 use Rattle.attr_sets.specs.Sets.{attributes}
 use Rattle.dep_model.specs.Projections.{members_below}
 use Rattle.ddl_text.specs.Ddl.{column_element, element_lines}
-use Rattle.sql_names.specs.Names.{is_not_empty}
+use Rattle.sql_syntax.specs.Names.{is_not_empty}
 use Rattle.ddl_text.proofs.columns.add_columns.Given as goal
 
 -- the columns of the members so far

@@ -2,7 +2,7 @@
 -- `uniques_more`, `uniques_not_empty` and `uniques_passed`.
 use Rattle.std.proofs.Common.{ℕ, List, ◌++◌, ◌||◌, sym, ap, ◌∙◌}
 use Rattle.attr_sets.specs.declared.set.AttrSet.{AttrSet}
-use Rattle.sql_names.specs.Names.{is_not_empty}
+use Rattle.sql_syntax.specs.Names.{is_not_empty}
 use Rattle.ddl_text.specs.Ddl.{element_lines}
 use Rattle.ddl_text.proofs.TextLemmas.{missing_from, never_from, uniques_more, uniques_not_empty, uniques_passed}
 use Rattle.ddl_text.proofs.elements.add_unique_keys.Goals as goal

@@ -2,7 +2,7 @@
 use Rattle.std.proofs.Common.{◌≡◌, ◌++◌, ◌||◌, take}
 use Rattle.dep_model.specs.Plans.{schemes_of}
 use Rattle.ddl_text.specs.Ddl.{element_lines, unique_elements}
-use Rattle.sql_names.specs.Names.{is_not_empty}
+use Rattle.sql_syntax.specs.Names.{is_not_empty}
 use Rattle.ddl_text.proofs.elements.add_unique_keys.Given as goal
 
 -- the keys so far

@@ -1,7 +1,7 @@
 -- What the loop of `add_references` keeps: `added` and `any_before`.
 use Rattle.std.proofs.Common.{◌≡◌, ◌++◌, ◌||◌, take}
 use Rattle.ddl_text.specs.Ddl.{element_lines, reference_elements}
-use Rattle.sql_names.specs.Names.{is_not_empty}
+use Rattle.sql_syntax.specs.Names.{is_not_empty}
 use Rattle.ddl_text.proofs.references.add_references.Given as goal
 
 -- the references so far

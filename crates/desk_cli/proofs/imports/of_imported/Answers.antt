@@ -1,5 +1,5 @@
 -- What is left to prove of `of_imported`: its clause `response`.
-use Rattle.desk_columns.specs.Imports.{ImportsColumns}
+use Rattle.desk_imports.specs.Columns.{ImportsColumns}
 use Rattle.desk_inputs.specs.FileKinds.{FileStops, IsFile}
 use Rattle.desk_inputs.specs.Headed.{imported_file}
 use Rattle.desk_responses.proofs.StepLemmas.{With-found}

@@ -1,7 +1,7 @@
 -- What is left to prove of `of_plan_and_rows`: its clauses `reads` and `response`.
 use Rattle.std.proofs.Common.{inl, inr, ℕ, List, [], ◌∷◌, subst, Option}
 use Rattle.dep_model.specs.Tuples.{Relation}
-use Rattle.named_plans.specs.NamedPlans.{NamedSchemes, named_schemes}
+use Rattle.plan_printer.specs.NamedPlans.{NamedSchemes, named_schemes}
 use Rattle.desk_tables.specs.Overwriting.{MigratesPlanHere}
 use Rattle.desk_inputs.specs.FileKinds.{FileStops, IsFile, WithFile}
 use Rattle.desk_inputs.specs.Plans.{plan_file}

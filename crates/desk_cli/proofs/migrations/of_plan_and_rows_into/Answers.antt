@@ -3,7 +3,7 @@ use Rattle.std.proofs.Common.{inl, inr, ℕ, List, [], ◌∷◌, subst, Option}
 use Rattle.std.specs.Prelude.{IsTrue}
 use Rattle.dep_model.specs.Tuples.{Relation}
 use Rattle.desk_responses.specs.Responses.{RespondsAs}
-use Rattle.named_plans.specs.NamedPlans.{NamedSchemes, named_schemes}
+use Rattle.plan_printer.specs.NamedPlans.{NamedSchemes, named_schemes}
 use Rattle.desk_tables.specs.OwnFolders.{MigratesPlanInto}
 use Rattle.desk_inputs.specs.FileKinds.{FileStops, IsFile, WithFile}
 use Rattle.desk_inputs.specs.Plans.{plan_file}

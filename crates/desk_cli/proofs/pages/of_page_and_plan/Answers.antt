@@ -1,5 +1,5 @@
 -- What is left to prove of `of_page_and_plan`: its clause `response`.
-use Rattle.named_plans.specs.NamedPlans.{named_schemes}
+use Rattle.plan_printer.specs.NamedPlans.{named_schemes}
 use Rattle.desk_inputs.specs.FileKinds.{FileStops, IsFile}
 use Rattle.desk_inputs.specs.Plans.{plan_file}
 use Rattle.desk_reports.specs.Reports.{ReportsPlan}

@@ -2,7 +2,7 @@
 use Rattle.std.proofs.Common.{inl}
 use Rattle.dep_model.specs.Dependencies.{Dependency}
 use Rattle.dep_model.specs.Deps.{dependency_of}
-use Rattle.desk_derivations.specs.Derivations.{ChecksDerivation}
+use Rattle.desk_implication.specs.Derivations.{ChecksDerivation}
 use Rattle.desk_inputs.specs.FileKinds.{FileStops, IsFile}
 use Rattle.desk_inputs.specs.Inputs.{derivation_file}
 use Rattle.desk_responses.proofs.StepLemmas.{With-found}

@@ -1,5 +1,5 @@
 -- What is left to prove of `of_plan`: its clause `response`.
-use Rattle.named_plans.specs.NamedPlans.{NamedSchemes, named_schemes}
+use Rattle.plan_printer.specs.NamedPlans.{NamedSchemes, named_schemes}
 use Rattle.desk_words.specs.Commands.{plan_question}
 use Rattle.desk_cli.specs.Performs.{AnswersPlan}
 use Rattle.desk_inputs.specs.FileKinds.{FileStops, IsFile}

@@ -1,8 +1,8 @@
 -- What is left to prove of `explained_cover`: its clause.
 use Rattle.std.proofs.Common.{◌≡◌, List, ℕ, ◌++◌, refl, ap, ◌∙◌, inl}
-use Rattle.cover_steps.specs.declared.shortening.ShortMember.{ShortMember}
-use Rattle.cover_steps.specs.declared.thinning.PlacedDep.{PlacedDep}
-use Rattle.cover_steps.specs.Steps.{places_of, shortened_list}
+use Rattle.cover_accounts.specs.declared.shortening.ShortMember.{ShortMember}
+use Rattle.cover_accounts.specs.declared.thinning.PlacedDep.{PlacedDep}
+use Rattle.cover_accounts.specs.Steps.{places_of, shortened_list}
 use Rattle.dep_model.specs.declared.dep.Dep.{Dep}
 use Rattle.dep_model.specs.Deps.{dependencies_of}
 use Rattle.schema_printer.specs.Printing.{schema_text}

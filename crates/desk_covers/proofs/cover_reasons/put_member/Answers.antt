@@ -7,7 +7,7 @@ use Rattle.std.specs.Prelude.{if◌then◌else◌}
 use Rattle.std.specs.List.{flat_map}
 use Rattle.attr_sets.specs.Attributes.{Attributes, difference}
 use Rattle.attr_sets.specs.Sets.{attributes}
-use Rattle.cover_steps.specs.Steps.{shortened_of}
+use Rattle.cover_accounts.specs.Steps.{shortened_of}
 use Rattle.dep_model.specs.Projections.{members_below}
 use Rattle.dep_model.specs.Schemas.{width_of}
 use Rattle.dep_model.proofs.SchemeLemmas.{members_below-none, members_below-one_more, members_below-no_more}

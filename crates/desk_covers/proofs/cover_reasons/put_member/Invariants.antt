@@ -3,7 +3,7 @@ use Rattle.std.proofs.Common.{◌≡◌, ◌++◌}
 use Rattle.std.specs.List.{flat_map}
 use Rattle.attr_sets.specs.Attributes.{difference}
 use Rattle.attr_sets.specs.Sets.{attributes}
-use Rattle.cover_steps.specs.Steps.{shortened_of}
+use Rattle.cover_accounts.specs.Steps.{shortened_of}
 use Rattle.dep_model.specs.Projections.{members_below}
 use Rattle.desk_covers.specs.CoverReasons.{needless_text}
 use Rattle.desk_covers.proofs.cover_reasons.put_member.Given as goal

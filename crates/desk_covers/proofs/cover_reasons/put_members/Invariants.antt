@@ -1,6 +1,6 @@
 -- What the loop of `put_members` keeps, in terms of `members_text`.
 use Rattle.std.proofs.Common.{◌≡◌, ◌++◌, take}
-use Rattle.cover_steps.specs.Steps.{shortened_list}
+use Rattle.cover_accounts.specs.Steps.{shortened_list}
 use Rattle.desk_covers.specs.CoverReasons.{members_text}
 use Rattle.desk_covers.proofs.cover_reasons.put_members.Given as goal
 

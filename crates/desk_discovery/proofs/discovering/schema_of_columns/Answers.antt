@@ -1,7 +1,7 @@
 -- What is left to prove of `schema_of_columns`: what `with_columns` requires, by `header_schema`.
 use Rattle.std.proofs.Common.{arith}
-use Rattle.fd_discovery.specs.declared.limits.TheConstants.{WIDEST_HEADED}
-use Rattle.fd_discovery.proofs.HeaderLemmas.{header_schema}
+use Rattle.row_store.specs.declared.limits.TheConstants.{WIDEST_HEADED}
+use Rattle.headed_rows.proofs.HeaderLemmas.{header_schema}
 use Rattle.desk_discovery.proofs.discovering.schema_of_columns.Goals as goal
 
 pub with_columns-requires-clause-schema : goal.with_columns-requires-clause-schema

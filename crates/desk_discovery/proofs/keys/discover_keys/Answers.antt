@@ -2,8 +2,8 @@
 use Rattle.std.proofs.Common.{◌≡◌, ℕ, List, length, inl, subst, arith}
 use Rattle.attr_sets.specs.declared.set.AttrSet.{AttrSet}
 use Rattle.dep_model.specs.Plans.{schemes_of}
-use Rattle.fd_discovery.specs.Headings.{names_under, rows_under}
-use Rattle.row_keys.specs.Keys.{AreRowKeys}
+use Rattle.headed_rows.specs.Headings.{names_under, rows_under}
+use Rattle.fd_search.specs.Keys.{AreRowKeys}
 use Rattle.desk_responses.specs.ResponseValues.{Says}
 use Rattle.desk_responses.specs.Responses.{response_value}
 use Rattle.desk_responses.specs.declared.status.Status.TheVariants.{Yes}

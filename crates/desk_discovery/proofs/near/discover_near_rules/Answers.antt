@@ -1,7 +1,7 @@
 -- What is left to prove of `discover_near_rules`: its clause `response` where rules are found.
 use Rattle.std.proofs.Common.{◌≡◌, ℕ, length, inl, subst, arith}
 use Rattle.dep_model.specs.Deps.{dependencies_of}
-use Rattle.fd_discovery.specs.Headings.{rows_under}
+use Rattle.headed_rows.specs.Headings.{rows_under}
 use Rattle.near_rules.specs.NearRules.{AreNearRules, IsTriedWhole}
 use Rattle.desk_discovery.proofs.near.discover_near_rules.Goals as goal
 

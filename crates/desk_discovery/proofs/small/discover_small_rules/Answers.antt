@@ -5,7 +5,7 @@ use Rattle.std.specs.Prelude.{All}
 use Rattle.attr_sets.specs.Attributes.{below}
 use Rattle.dep_model.specs.Deps.{dependencies_of, IsDepWithin}
 use Rattle.dep_model.specs.declared.dep.Dep.{Dep}
-use Rattle.fd_discovery.specs.Headings.{names_under, rows_under}
+use Rattle.headed_rows.specs.Headings.{names_under, rows_under}
 use Rattle.fd_search.specs.Small.{AreAllSmall}
 use Rattle.desk_responses.specs.ResponseValues.{Says}
 use Rattle.desk_responses.specs.Responses.{response_value}

@@ -3,7 +3,7 @@ use Rattle.attr_sets.specs.Sets.{attributes}
 use Rattle.dep_basis.specs.Decisions.{IsBrokenBy}
 use Rattle.dep_model.specs.Deps.{dependency_of}
 use Rattle.dep_model.specs.Schemas.{width_of, theory_of}
-use Rattle.shown_rows.proofs.ShownLemmas.{broken_within}
+use Rattle.typed_rows.proofs.ShownLemmas.{broken_within}
 use Rattle.desk_implication.proofs.implication.decision_response.Goals as goal
 
 pub counterexample_response-requires : goal.counterexample_response-requires

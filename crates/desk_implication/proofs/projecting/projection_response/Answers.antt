@@ -5,7 +5,7 @@ use Rattle.dep_model.specs.Deps.{dependencies_of}
 use Rattle.desk_responses.specs.ResponseValues.{Says}
 use Rattle.desk_responses.specs.Responses.{response_value}
 use Rattle.desk_responses.specs.declared.status.Status.TheVariants.{Yes}
-use Rattle.schema_parts.specs.Parts.{part_text}
+use Rattle.schema_printer.specs.Parts.{part_text}
 use Rattle.desk_implication.proofs.projecting.projection_response.Goals as goal
 
 pub returns : goal.returns

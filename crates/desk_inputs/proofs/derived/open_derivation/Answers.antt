@@ -9,7 +9,7 @@ use Rattle.derivation_grammar.specs.Derivations.{Derives}
 use Rattle.derivation_grammar.specs.Refusals.{RefusesDerivation}
 use Rattle.desk_responses.specs.ResponseValues.{Says}
 use Rattle.desk_responses.specs.declared.status.Status.TheVariants.{Refused}
-use Rattle.desk_texts.specs.ProofTexts.{derivation_refusal_text}
+use Rattle.desk_refusals.specs.ProofTexts.{derivation_refusal_text}
 use Rattle.desk_responses.specs.Responses.{ExitsAs}
 use Rattle.desk_inputs.proofs.KindLemmas.{refusal_stops}
 use Rattle.desk_inputs.specs.Inputs.{derivation_file}

@@ -1,9 +1,9 @@
 -- What is left to prove of `open_headed`: its clauses that name the limits and the command.
 use Rattle.std.proofs.Common.{◌≤◌, ◌≡◌, List, ℕ, length, subst}
 use Rattle.std.specs.Prelude.{IfOk, IfErr}
-use Rattle.fd_discovery.specs.Headers.{IsHeaderWithin}
-use Rattle.fd_discovery.specs.Headings.{names_under, rows_under}
-use Rattle.fd_discovery.specs.declared.headed_rows.Limits.{Limits}
+use Rattle.headed_rows.specs.Headers.{IsHeaderWithin}
+use Rattle.headed_rows.specs.Headings.{names_under, rows_under}
+use Rattle.headed_rows.specs.declared.headed_rows.Limits.{Limits}
 use Rattle.desk_responses.specs.Responses.{ExitsAs}
 use Rattle.desk_inputs.specs.FileKinds.{FileStops, IsFile}
 use Rattle.desk_inputs.specs.Headed.{headed_file_for, limits_for}

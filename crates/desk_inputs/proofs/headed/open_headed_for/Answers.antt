@@ -1,6 +1,6 @@
 -- What is left to prove of `open_headed_for`: its clauses `ok` and `exit`, by `refusal_stops`.
 use Rattle.std.proofs.Common.{ℕ, List, subst}
-use Rattle.fd_discovery.specs.Headings.{IsHeadedWithin, IsRefusedWithin}
+use Rattle.headed_rows.specs.Headings.{IsHeadedWithin, IsRefusedWithin}
 use Rattle.dep_model.proofs.FailureLemmas.{refused_is}
 use Rattle.desk_responses.specs.ResponseValues.{Says}
 use Rattle.desk_inputs.specs.Headed.{headed_file_for, headed_refusal_text}

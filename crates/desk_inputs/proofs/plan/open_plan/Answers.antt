@@ -1,11 +1,11 @@
 -- What is left to prove of `open_plan`: its clauses `ok`, `within_limit`, `covers` and `exit`, by
 -- `refusal_stops`.
 use Rattle.std.proofs.Common.{◌≤◌, ℕ, List, length, ap, sym, subst}
-use Rattle.named_plans.specs.NamedPlans.{named_schemes}
+use Rattle.plan_printer.specs.NamedPlans.{named_schemes}
 use Rattle.plans.specs.Plans.{plan_of, IsPlanOver}
 use Rattle.plans.specs.declared.plan.Plan.{Plan}
 use Rattle.dep_model.specs.Projections.{Covers}
-use Rattle.plan_grammar.specs.declared.bounds.TheConstants.{MOST_SCHEMES}
+use Rattle.plans.specs.declared.bounds.TheConstants.{MOST_SCHEMES}
 use Rattle.dep_model.proofs.FailureLemmas.{refused_is}
 use Rattle.dep_model.specs.Schemas.{naming_of, names_of, width_of}
 use Rattle.schema_printer.specs.Spelling.{printed_names_of}

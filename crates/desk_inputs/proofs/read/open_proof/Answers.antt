@@ -9,7 +9,7 @@ use Rattle.proof_grammar.specs.Refusals.{RefusesProof}
 use Rattle.proof_grammar.specs.Spelling.{SpellsWithin}
 use Rattle.desk_responses.specs.ResponseValues.{Says}
 use Rattle.desk_responses.specs.declared.status.Status.TheVariants.{Refused}
-use Rattle.desk_texts.specs.ProofTexts.{proof_refusal_text}
+use Rattle.desk_refusals.specs.ProofTexts.{proof_refusal_text}
 use Rattle.desk_responses.specs.Responses.{ExitsAs}
 use Rattle.desk_inputs.proofs.KindLemmas.{refusal_stops}
 use Rattle.desk_inputs.specs.Inputs.{proof_file}

@@ -6,7 +6,7 @@ use Rattle.schema_grammar.specs.Schemas.{MeansSchema, RefusesSchema}
 use Rattle.schema_grammar.specs.Texts.{declarations_of}
 use Rattle.desk_responses.specs.ResponseValues.{Says}
 use Rattle.desk_responses.specs.declared.status.Status.TheVariants.{Refused}
-use Rattle.desk_texts.specs.Refusals.{refusal_text}
+use Rattle.desk_refusals.specs.Refusals.{refusal_text}
 use Rattle.desk_responses.specs.Responses.{ExitsAs}
 use Rattle.desk_inputs.proofs.KindLemmas.{refusal_stops}
 use Rattle.desk_inputs.specs.Inputs.{schema_file}

@@ -5,8 +5,8 @@ use Rattle.attr_sets.specs.Sets.{attributes}
 use Rattle.dep_model.specs.Schemas.{width_of, universe_of, theory_of}
 use Rattle.dep_model.specs.TwoTuples.{two_tuples}
 use Rattle.dep_model.proofs.KeyLemmas.{fd_on-to}
-use Rattle.shown_rows.specs.Shown.{shown_tuples}
-use Rattle.shown_rows.proofs.ShownLemmas.{broken_within}
+use Rattle.typed_rows.specs.Shown.{shown_tuples}
+use Rattle.typed_rows.proofs.ShownLemmas.{broken_within}
 use Rattle.desk_keys.specs.KeyChecks.{no_superkey_text}
 use Rattle.desk_keys.proofs.key_checks.no_superkey_lines.Goals as goal
 

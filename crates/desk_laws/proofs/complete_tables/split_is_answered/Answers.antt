@@ -1,6 +1,6 @@
 -- What is left to prove of `split_is_answered`: its clauses `bcnf`, `fourth` and `wide`, by
 -- `TableLaws`.
-use Rattle.normal_forms.specs.declared.form.Form.TheVariants.{Bcnf, Fourth}
+use Rattle.dep_model.specs.declared.form.Form.TheVariants.{Bcnf, Fourth}
 use Rattle.desk_laws.proofs.TableLaws.{split_answered, split_bcnf_asks, split_fourth_asks, split_wide_answered}
 use Rattle.desk_laws.proofs.complete_tables.split_is_answered.Goals as goal
 

@@ -3,7 +3,7 @@ use Rattle.std.proofs.Common.{◌++◌, ap, ◌∙◌, codes}
 use Rattle.html_pages.specs.Commands.{shell_word}
 use Rattle.html_pages.specs.Pages.{section_text}
 use Rattle.html_pages.specs.Pages.{title_with_words}
-use Rattle.desk_discovery.specs.Exhibits.{Exhibits}
+use Rattle.desk_exhibits.specs.Exhibits.{Exhibits}
 use Rattle.desk_reports.proofs.PieceLemmas.{opens}
 use Rattle.desk_reports.proofs.reports.example_section.Goals as goal
 

@@ -4,7 +4,7 @@ use Rattle.std.specs.Prelude.{IfOk, Vec}
 use Rattle.std.specs.declared.alloc.Global.{Global}
 use Rattle.dep_model.specs.declared.memory.OutOfMemory.{OutOfMemory}
 use Rattle.dep_model.specs.declared.schema.Schema.{Schema}
-use Rattle.normal_forms.specs.declared.form.Form.{Form}
+use Rattle.dep_model.specs.declared.form.Form.{Form}
 use Rattle.desk_designs.specs.Decompositions.{FormStops}
 use Rattle.desk_responses.specs.Responses.{ExitsAs, response_value}
 use Rattle.desk_responses.specs.declared.response.EarlyExit.{EarlyExit}

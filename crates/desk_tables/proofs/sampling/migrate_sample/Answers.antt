@@ -4,7 +4,7 @@ use Rattle.attr_sets.specs.declared.set.AttrSet.{AttrSet}
 use Rattle.plans.specs.Plans.{plan_of, scheme_sets}
 use Rattle.dep_model.specs.Plans.{schemes_of}
 use Rattle.dep_model.specs.Tuples.{Relation}
-use Rattle.normal_forms.specs.declared.form.Form.TheVariants.{Fourth}
+use Rattle.dep_model.specs.declared.form.Form.TheVariants.{Fourth}
 use Rattle.sample_rows.specs.Sample.{sample_relation}
 use Rattle.desk_designs.specs.Decompositions.{FormStops, IsPlanInForm}
 use Rattle.desk_tables.specs.Migrations.{MigratesRows}

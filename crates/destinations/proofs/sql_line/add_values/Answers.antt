@@ -3,8 +3,8 @@ use Rattle.std.proofs.Common.{ℕ, Bool, List, [], ◌++◌, refl, sym, ap, ap�
 use Rattle.std.proofs.lemmas.List.{take_all}
 use Rattle.destinations.specs.Sql.{sql_cell, sql_cells}
 use Rattle.destinations.proofs.SqlLemmas.{cells_length, cell_at}
-use Rattle.sql_names.proofs.ListLemmas.{listed_next}
-use Rattle.sql_names.specs.Names.{comma_list}
+use Rattle.sql_syntax.proofs.ListLemmas.{listed_next}
+use Rattle.sql_syntax.specs.Names.{comma_list}
 use Rattle.destinations.proofs.sql_line.add_values.Goals as goal
 
 pub loop-i-preserved : goal.loop-i-preserved

@@ -1,7 +1,7 @@
 -- What the loop of `add_values` keeps, in terms of `sql_cells` and `comma_list`.
 use Rattle.std.proofs.Common.{◌≡◌, ◌++◌, take}
 use Rattle.destinations.specs.Sql.{sql_cells}
-use Rattle.sql_names.specs.Names.{comma_list}
+use Rattle.sql_syntax.specs.Names.{comma_list}
 use Rattle.destinations.proofs.sql_line.add_values.Given as goal
 
 -- the values so far

@@ -1,6 +1,6 @@
 -- What the loop of `determines` keeps: `equal`.
 use Rattle.std.proofs.Common.{◌≡◌, ◌<◌, ℕ}
-use Rattle.csv_rows.specs.Numberings.{number_at}
+use Rattle.row_groups.specs.Numberings.{number_at}
 use Rattle.fd_discovery.proofs.leaders.determines.Given as goal
 
 -- the rows so far have their leaders' numbers

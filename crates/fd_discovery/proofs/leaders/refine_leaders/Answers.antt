@@ -4,7 +4,7 @@ use Rattle.std.proofs.Common.{inl, inr, arith, ◌≡◌, ◌<◌, ◌∙◌, �
 use Rattle.std.proofs.lemmas.Bool.{cases_eq}
 use Rattle.std.proofs.lemmas.Grind.{get_or_default_zero}
 use Rattle.std.proofs.lemmas.List.{length-set, get_or-set_same, get_or-set_other}
-use Rattle.csv_rows.specs.Numberings.{number_at}
+use Rattle.row_groups.specs.Numberings.{number_at}
 use Rattle.fd_discovery.proofs.LeaderLemmas.{row_leads, row_is_led, all_refined}
 use Rattle.fd_discovery.proofs.leaders.refine_leaders.Goals as goal
 use Rattle.fd_discovery.proofs.leaders.refine_leaders.Goals.{then-codes-index, else-codes-index}

@@ -2,7 +2,7 @@
 use Rattle.std.proofs.Common.{◌≡◌, ◌<◌, ℕ, length}
 use Rattle.attr_sets.specs.Attributes.{Attributes, only}
 use Rattle.dep_model.specs.Tuples.{Relation}
-use Rattle.csv_rows.specs.Numberings.{AreGroups, number_at}
+use Rattle.row_groups.specs.Numberings.{AreGroups, number_at}
 use Rattle.fd_discovery.specs.Leaders.{AreLeadersOn, IsOrderOf}
 use Rattle.fd_discovery.proofs.LeaderLemmas.{Refines}
 use Rattle.fd_discovery.proofs.leaders.refine_leaders.Given as goal

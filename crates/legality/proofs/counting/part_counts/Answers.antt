@@ -4,8 +4,8 @@ use Rattle.std.proofs.Common.{arith, ◌≡◌, ◌<◌, ◌≤◌, ◌+◌, ◌
 use Rattle.std.proofs.lemmas.List.{length-set, length-replicate}
 use Rattle.attr_sets.specs.Attributes.{count_below}
 use Rattle.attr_sets.proofs.AttributesLemmas.{count_below-le}
-use Rattle.csv_rows.specs.Interning.{groups_of, firsts_of}
-use Rattle.csv_rows.specs.Numberings.{number_at}
+use Rattle.row_groups.specs.Interning.{groups_of, firsts_of}
+use Rattle.row_groups.specs.Numberings.{number_at}
 use Rattle.dep_model.proofs.ListLemmas.{same_default}
 use Rattle.legality.proofs.PartLemmas.{no_parts, group_of, group_within, part_counted}
 use Rattle.legality.proofs.counting.part_counts.Goals as goal

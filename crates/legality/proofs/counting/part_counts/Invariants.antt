@@ -1,8 +1,8 @@
 -- What the loop of `part_counts` keeps: `one_each` and `count`.
 use Rattle.std.proofs.Common.{◌≡◌, ◌<◌, ◌==◌, ℕ, length}
 use Rattle.attr_sets.specs.Attributes.{count_below}
-use Rattle.csv_rows.specs.Interning.{groups_of, firsts_of}
-use Rattle.csv_rows.specs.Numberings.{number_at}
+use Rattle.row_groups.specs.Interning.{groups_of, firsts_of}
+use Rattle.row_groups.specs.Numberings.{number_at}
 use Rattle.legality.proofs.counting.part_counts.Given as goal
 
 -- each group has so many of the parts so far

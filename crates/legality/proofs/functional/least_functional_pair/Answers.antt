@@ -2,8 +2,8 @@
 -- loop holds at first and stays, by `PairLemmas`.
 use Rattle.std.proofs.Common.{arith, ◌≡◌, ℕ, List, length, ap, subst, refl, ◌∙◌}
 use Rattle.attr_sets.specs.Sets.{attributes}
-use Rattle.csv_rows.specs.Interning.{groups_of, firsts_of}
-use Rattle.csv_rows.specs.Numberings.{number_at}
+use Rattle.row_groups.specs.Interning.{groups_of, firsts_of}
+use Rattle.row_groups.specs.Numberings.{number_at}
 use Rattle.row_store.specs.Rows.{row_at}
 use Rattle.dep_model.specs.Tuples.{AgreeOn}
 use Rattle.legality.proofs.PairLemmas.{Leads, leader, leads_none, leads_on, leads_more, functional_answer}

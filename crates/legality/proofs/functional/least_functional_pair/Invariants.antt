@@ -1,6 +1,6 @@
 -- What the loop of `least_functional_pair` keeps: `least`.
 use Rattle.attr_sets.specs.Sets.{attributes}
-use Rattle.csv_rows.specs.Interning.{groups_of, firsts_of}
+use Rattle.row_groups.specs.Interning.{groups_of, firsts_of}
 use Rattle.legality.proofs.PairLemmas.{Leads, leader}
 use Rattle.legality.proofs.functional.least_functional_pair.Given as goal
 

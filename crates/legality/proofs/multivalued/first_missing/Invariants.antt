@@ -1,6 +1,6 @@
 -- What the loop of `first_missing` keeps: `beside`.
 use Rattle.std.proofs.Common.{◌≡◌, ◌<◌, ℕ, true}
-use Rattle.csv_rows.specs.Numberings.{number_at}
+use Rattle.row_groups.specs.Numberings.{number_at}
 use Rattle.legality.specs.Parts.{flag_at}
 use Rattle.legality.proofs.multivalued.first_missing.Given as goal
 

@@ -1,6 +1,6 @@
 -- What the loop of `first_short` keeps: `enough`.
 use Rattle.std.proofs.Common.{◌<◌, ◌≤◌, ℕ}
-use Rattle.csv_rows.specs.Numberings.{number_at}
+use Rattle.row_groups.specs.Numberings.{number_at}
 use Rattle.legality.proofs.multivalued.first_short.Given as goal
 
 -- no row so far is short

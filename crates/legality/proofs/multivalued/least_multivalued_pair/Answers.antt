@@ -3,8 +3,8 @@
 use Rattle.std.proofs.Common.{◌≡◌, ◌<◌, ◌^◌, ℕ, List, Some, None, length, ap, subst, sym, ◌∙◌, arith}
 use Rattle.attr_sets.specs.Sets.{attributes}
 use Rattle.dep_model.specs.Tuples.{Relation}
-use Rattle.csv_rows.specs.Interning.{groups_of, firsts_of}
-use Rattle.csv_rows.specs.Numberings.{AreFirsts, number_at}
+use Rattle.row_groups.specs.Interning.{groups_of, firsts_of}
+use Rattle.row_groups.specs.Numberings.{AreFirsts, number_at}
 use Rattle.legality.proofs.CountLemmas.{few_firsts}
 use Rattle.legality.proofs.PartLemmas.{Grouping, grouping, none_short, first_short, below_firsts, short_known, beside_known, missing_known}
 use Rattle.legality.proofs.multivalued.least_multivalued_pair.Goals as goal

@@ -1,8 +1,8 @@
 -- What the loop of `sizes_by` keeps: the sizes so far.
 use Rattle.std.proofs.Common.{◌≡◌, ◌<◌, ◌==◌, ℕ, length}
 use Rattle.attr_sets.specs.Attributes.{count_below}
-use Rattle.csv_rows.specs.Interning.{groups_of, firsts_of}
-use Rattle.csv_rows.specs.Numberings.{number_at}
+use Rattle.row_groups.specs.Interning.{groups_of, firsts_of}
+use Rattle.row_groups.specs.Numberings.{number_at}
 use Rattle.mvd_discovery.proofs.counts.sizes_by.Given as goal
 
 abbrev pub invariant-loop-row : goal.invariant-loop-row

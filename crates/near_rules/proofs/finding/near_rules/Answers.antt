@@ -3,7 +3,7 @@ use Rattle.std.proofs.Common.{◌≤◌, ◌∙◌, ℕ, length, take, refl, sub
 use Rattle.attr_sets.specs.Attributes.{below}
 use Rattle.dep_model.specs.Dependencies.{IsWithin}
 use Rattle.dep_model.proofs.DepLemmas.{dependencies_all-to}
-use Rattle.csv_rows.specs.Interning.{IsInterned}
+use Rattle.row_groups.specs.Interning.{IsInterned}
 use Rattle.dep_model.specs.Tuples.{Relation}
 use Rattle.near_rules.specs.Searching.{AreFoundBefore, AreSought}
 use Rattle.near_rules.specs.declared.found.Sought.{Sought}

@@ -8,7 +8,7 @@ use Rattle.attr_sets.specs.Attributes.{Attributes, below, count_below, union}
 use Rattle.attr_sets.specs.Sets.{attributes}
 use Rattle.attr_sets.specs.declared.set.TheConstants.{MOST_ATTRIBUTES}
 use Rattle.attr_sets.proofs.AttributesLemmas.{count_below-low}
-use Rattle.csv_rows.proofs.NumberingLemmas.{same_groups}
+use Rattle.row_groups.proofs.NumberingLemmas.{same_groups}
 use Rattle.dep_model.specs.Deps.{dependencies_of}
 use Rattle.dep_model.specs.Tuples.{Relation}
 use Rattle.fd_discovery.specs.Searching.{AreUndetermined}

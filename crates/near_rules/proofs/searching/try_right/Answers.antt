@@ -3,7 +3,7 @@ use Rattle.std.proofs.Common.{◌≡◌, ◌<◌, ◌+◌, ◌++◌, ◌∷◌, 
 use Rattle.std.proofs.lemmas.List.{map-append}
 use Rattle.attr_sets.specs.Attributes.{Attributes, only}
 use Rattle.attr_sets.specs.Sets.{attributes}
-use Rattle.csv_rows.specs.Numberings.{number_at}
+use Rattle.row_groups.specs.Numberings.{number_at}
 use Rattle.dep_model.proofs.ListLemmas.{same_default}
 use Rattle.dep_model.specs.Dependencies.{fd}
 use Rattle.dep_model.specs.Deps.{dependencies_of, dependency_of}

@@ -12,8 +12,8 @@ use Rattle.dep_model.specs.declared.schema.Schema.{Schema}
 use Rattle.dep_model.proofs.DepLemmas.{dependencies_all-from}
 use Rattle.dep_model.proofs.KeyLemmas.{superkey-from}
 use Rattle.dep_model.proofs.RuleLemmas.{fd_weaker_obeyed}
-use Rattle.normal_forms.specs.declared.form.Form.{Form}
-use Rattle.normal_forms.specs.declared.form.Form.TheVariants.{Fourth}
+use Rattle.dep_model.specs.declared.form.Form.{Form}
+use Rattle.dep_model.specs.declared.form.Form.TheVariants.{Fourth}
 use Rattle.normal_forms.specs.Breaking.{Breaks}
 use Rattle.normal_forms.specs.Passing.{theory_by}
 use Rattle.normal_forms.proofs.BreakLemmas.{IsTrue-not, superkey_closed, closed_superkey, breaks_two, functional_breaks, is_bcnf}

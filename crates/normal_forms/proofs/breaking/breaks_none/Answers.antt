@@ -6,8 +6,8 @@ use Rattle.attr_sets.specs.Sets.{attributes}
 use Rattle.dep_model.specs.Dependencies.{Dependency, IsWithin}
 use Rattle.dep_model.specs.Schemas.{width_of, theory_of, deps_of}
 use Rattle.dep_model.proofs.DepLemmas.{dependencies_all-from}
-use Rattle.normal_forms.specs.declared.form.Form.{Form}
-use Rattle.normal_forms.specs.declared.form.Form.TheVariants.{Bcnf}
+use Rattle.dep_model.specs.declared.form.Form.{Form}
+use Rattle.dep_model.specs.declared.form.Form.TheVariants.{Bcnf}
 use Rattle.normal_forms.specs.Breaking.{Breaks}
 use Rattle.normal_forms.specs.Passing.{LiesBetween}
 use Rattle.normal_forms.proofs.BreakLemmas.{functional_breaks, is_bcnf}

@@ -3,7 +3,7 @@ use Rattle.std.proofs.Common.{sym, ◌∙◌}
 use Rattle.std.proofs.lemmas.Bool.{true≢false}
 use Rattle.attr_sets.specs.Attributes.{IsSubset}
 use Rattle.attr_sets.specs.Sets.{attributes}
-use Rattle.normal_forms.specs.declared.form.Form.TheVariants.{Bcnf}
+use Rattle.dep_model.specs.declared.form.Form.TheVariants.{Bcnf}
 use Rattle.normal_forms.specs.Breaking.{Breaks}
 use Rattle.normal_forms.proofs.BreakLemmas.{IsTrue-not, whole_breaks_not, itself_breaks_not, part_breaks}
 use Rattle.normal_forms.proofs.breaking.determines_some.Goals as goal

@@ -4,8 +4,8 @@ use Rattle.std.proofs.Common.{sym, subst, ◌∙◌}
 use Rattle.std.proofs.lemmas.Bool.{true≢false}
 use Rattle.attr_sets.specs.Sets.{attributes}
 use Rattle.dep_model.specs.Schemas.{width_of, theory_of, deps_of}
-use Rattle.normal_forms.specs.declared.form.Form.{Form}
-use Rattle.normal_forms.specs.declared.form.Form.TheVariants.{Bcnf, Fourth}
+use Rattle.dep_model.specs.declared.form.Form.{Form}
+use Rattle.dep_model.specs.declared.form.Form.TheVariants.{Bcnf, Fourth}
 use Rattle.normal_forms.specs.Violations.{ViolatesBcnf, ViolatesFourth, Violates}
 use Rattle.normal_forms.specs.Breaking.{Breaks}
 use Rattle.normal_forms.proofs.BreakLemmas.{bcnf_violated, fourth_violated, right_side_at, is_bcnf}

@@ -2,7 +2,7 @@
 use Rattle.attr_sets.specs.Sets.{attributes}
 use Rattle.dep_model.specs.Dependencies.{functional_part}
 use Rattle.dep_model.specs.Schemas.{width_of, theory_of}
-use Rattle.normal_forms.specs.declared.form.Form.TheVariants.{Bcnf}
+use Rattle.dep_model.specs.declared.form.Form.TheVariants.{Bcnf}
 use Rattle.normal_forms.specs.Breaking.{Breaks}
 use Rattle.normal_forms.proofs.PassLemmas.{passes_none}
 use Rattle.normal_forms.proofs.third.passed_third.Goals as goal

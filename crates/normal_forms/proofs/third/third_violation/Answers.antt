@@ -12,7 +12,7 @@ use Rattle.attr_sets.specs.Sets.{attributes}
 use Rattle.attr_sets.proofs.AttributesLemmas.{attributes_below, same_at}
 use Rattle.dep_model.specs.Dependencies.{functional_part}
 use Rattle.dep_model.specs.Schemas.{width_of, theory_of, deps_of}
-use Rattle.normal_forms.specs.declared.form.Form.TheVariants.{Bcnf}
+use Rattle.dep_model.specs.declared.form.Form.TheVariants.{Bcnf}
 use Rattle.normal_forms.specs.Breaking.{Breaks}
 use Rattle.normal_forms.specs.Violations.{ViolatesThird}
 use Rattle.normal_forms.proofs.AddedLemmas.{functional_within, functional_twice}

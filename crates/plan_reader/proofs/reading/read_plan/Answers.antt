@@ -10,11 +10,11 @@ use Rattle.dep_model.specs.Projections.{Covers}
 use Rattle.dep_model.specs.Schemas.{naming_of, names_of, width_of}
 use Rattle.dep_model.specs.declared.naming.Naming.{Naming}
 use Rattle.lexer.specs.Lines.{line_texts, without_mark}
-use Rattle.plan_grammar.specs.declared.bounds.TheConstants.{MOST_SCHEMES}
+use Rattle.plans.specs.declared.bounds.TheConstants.{MOST_SCHEMES}
 use Rattle.plan_grammar.specs.Diagnostics.{uncovered_attributes}
 use Rattle.plan_grammar.specs.Meanings.{MeansTableLines, MeansPlan}
 use Rattle.plan_grammar.specs.Reading.{read_table_lines}
-use Rattle.named_plans.specs.NamedPlans.{NamedSchemes, no_tables}
+use Rattle.plan_printer.specs.NamedPlans.{NamedSchemes, no_tables}
 use Rattle.plan_reader.specs.Drafts.{drafted}
 use Rattle.plan_grammar.proofs.LineLemmas.{lines_beside, read_means, refused_refuses}
 use Rattle.plan_grammar.proofs.PlanLaws.{lines_within, lines_not_empty}

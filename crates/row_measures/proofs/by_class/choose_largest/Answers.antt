@@ -2,7 +2,7 @@
 -- `class_replaced`.
 use Rattle.std.proofs.Common.{◌≡◌, ◌<◌, ℕ, List, length, ap, ◌∙◌, arith}
 use Rattle.std.proofs.lemmas.List.{length-set}
-use Rattle.csv_rows.specs.Numberings.{number_at}
+use Rattle.row_groups.specs.Numberings.{number_at}
 use Rattle.dep_model.proofs.ListLemmas.{same_default}
 use Rattle.row_measures.proofs.ChosenLemmas.{class_kept, class_replaced}
 use Rattle.row_measures.proofs.by_class.choose_largest.Goals as goal

@@ -5,9 +5,9 @@ use Rattle.std.proofs.lemmas.List.{length-map}
 use Rattle.std.specs.Prelude.{All}
 use Rattle.attr_sets.specs.Attributes.{Attributes, IsSubset, below, union}
 use Rattle.attr_sets.specs.Sets.{attributes}
-use Rattle.csv_rows.specs.Interning.{firsts_of, groups_of, width_of_rows}
-use Rattle.csv_rows.specs.Numberings.{AreFirsts, AreGroups, number_at}
-use Rattle.csv_rows.proofs.NumberingLemmas.{difference_within, same_groups, union-difference}
+use Rattle.row_groups.specs.Interning.{firsts_of, groups_of, width_of_rows}
+use Rattle.row_groups.specs.Numberings.{AreFirsts, AreGroups, number_at}
+use Rattle.row_groups.proofs.NumberingLemmas.{difference_within, same_groups, union-difference}
 use Rattle.legality.specs.Parts.{AreBelow}
 use Rattle.row_measures.specs.ByClass.{AreLargestBelow, AreOutside}
 use Rattle.row_measures.proofs.ChosenLemmas.{are_chosen, leaders_first, two_classes}

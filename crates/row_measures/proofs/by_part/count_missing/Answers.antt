@@ -1,6 +1,6 @@
 -- What is left to prove of `count_missing`: that the invariant of its loop holds at first and stays.
 use Rattle.std.proofs.Common.{rules, ◌+◌, ◌-◌, ℕ, sym, ap, ◌∙◌, arith}
-use Rattle.csv_rows.specs.Numberings.{number_at}
+use Rattle.row_groups.specs.Numberings.{number_at}
 use Rattle.row_measures.proofs.MissingLemmas.{total-more, total-start}
 use Rattle.row_measures.proofs.by_part.count_missing.Goals as goal
 

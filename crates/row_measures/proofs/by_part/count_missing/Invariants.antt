@@ -1,6 +1,6 @@
 -- What the loop of `count_missing` keeps: what the left parts so far lack, and that it is not much.
 use Rattle.std.proofs.Common.{◌≡◌, ◌≤◌, ◌*◌, ◌-◌}
-use Rattle.csv_rows.specs.Numberings.{number_at}
+use Rattle.row_groups.specs.Numberings.{number_at}
 use Rattle.removal_laws.specs.Counts.{total}
 use Rattle.row_measures.proofs.by_part.count_missing.Given as goal
 

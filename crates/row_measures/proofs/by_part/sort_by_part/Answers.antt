@@ -6,9 +6,9 @@ use Rattle.std.specs.Prelude.{All}
 use Rattle.attr_sets.specs.Attributes.{Attributes, IsSubset, below, difference, union}
 use Rattle.attr_sets.specs.Sets.{attributes}
 use Rattle.attr_sets.proofs.AttributesLemmas.{IsSubset-same, union_within}
-use Rattle.csv_rows.proofs.NumberingLemmas.{difference_within, same_groups, union-difference, union-rest}
-use Rattle.csv_rows.specs.Interning.{firsts_of, groups_of, width_of_rows}
-use Rattle.csv_rows.specs.Numberings.{AreGroups, number_at}
+use Rattle.row_groups.proofs.NumberingLemmas.{difference_within, same_groups, union-difference, union-rest}
+use Rattle.row_groups.specs.Interning.{firsts_of, groups_of, width_of_rows}
+use Rattle.row_groups.specs.Numberings.{AreGroups, number_at}
 use Rattle.legality.specs.Parts.{AreBelow}
 use Rattle.dep_model.specs.Tuples.{Relation}
 use Rattle.legality.proofs.PartLemmas.{Grouping, grouping}

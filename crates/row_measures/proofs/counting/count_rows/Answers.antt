@@ -3,7 +3,7 @@
 use Rattle.std.proofs.Common.{◌+◌, ℕ, sym, ap, ◌∙◌, arith}
 use Rattle.attr_sets.specs.Attributes.{Attributes}
 use Rattle.attr_sets.proofs.AttributesLemmas.{count_below-le, count_below-member, count_below-outside}
-use Rattle.csv_rows.specs.Numberings.{number_at}
+use Rattle.row_groups.specs.Numberings.{number_at}
 use Rattle.dep_model.proofs.SchemeLemmas.{count_below-start}
 use Rattle.legality.specs.Parts.{flag_at}
 use Rattle.row_measures.proofs.counting.count_rows.Goals as goal

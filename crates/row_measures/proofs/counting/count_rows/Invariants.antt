@@ -1,7 +1,7 @@
 -- What the loop of `count_rows` keeps: the count of the rows so far.
 use Rattle.std.proofs.Common.{◌≡◌}
 use Rattle.attr_sets.specs.Attributes.{count_below}
-use Rattle.csv_rows.specs.Numberings.{number_at}
+use Rattle.row_groups.specs.Numberings.{number_at}
 use Rattle.legality.specs.Parts.{flag_at}
 use Rattle.row_measures.proofs.counting.count_rows.Given as goal
 

@@ -5,7 +5,7 @@ use Rattle.std.proofs.lemmas.Bool.{cases_lt}
 use Rattle.std.proofs.lemmas.List.{get_or_append_left, get_or_push, length-append}
 use Rattle.attr_sets.specs.Attributes.{Attributes, count_below}
 use Rattle.attr_sets.proofs.AttributesLemmas.{count_below-le, count_below-member, count_below-outside}
-use Rattle.csv_rows.specs.Numberings.{number_at}
+use Rattle.row_groups.specs.Numberings.{number_at}
 use Rattle.dep_model.proofs.SchemeLemmas.{count_below-start}
 use Rattle.legality.specs.Parts.{flag_at}
 use Rattle.row_measures.specs.Broken.{ordinal}

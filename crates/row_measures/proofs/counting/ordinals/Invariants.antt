@@ -1,7 +1,7 @@
 -- What the loop of `ordinals` keeps: the count of the flags so far, and the numbers of the groups so far.
 use Rattle.std.proofs.Common.{◌≡◌, ◌<◌, ℕ, length}
 use Rattle.attr_sets.specs.Attributes.{count_below}
-use Rattle.csv_rows.specs.Numberings.{number_at}
+use Rattle.row_groups.specs.Numberings.{number_at}
 use Rattle.legality.specs.Parts.{flag_at}
 use Rattle.row_measures.specs.Broken.{ordinal}
 use Rattle.row_measures.proofs.counting.ordinals.Given as goal

@@ -4,7 +4,7 @@ use Rattle.std.proofs.Common.{◌≡◌, ◌<◌, ◌≤◌, ◌+◌, ◌==◌, 
 use Rattle.std.proofs.lemmas.List.{length-set, length-replicate}
 use Rattle.attr_sets.specs.Attributes.{count_below}
 use Rattle.attr_sets.proofs.AttributesLemmas.{count_below-le}
-use Rattle.csv_rows.specs.Numberings.{number_at}
+use Rattle.row_groups.specs.Numberings.{number_at}
 use Rattle.dep_model.proofs.ListLemmas.{same_default}
 use Rattle.legality.proofs.PartLemmas.{no_parts, part_counted}
 use Rattle.row_measures.proofs.counting.row_counts.Goals as goal

@@ -1,7 +1,7 @@
 -- What the loop of `row_counts` keeps: the counts of the rows so far.
 use Rattle.std.proofs.Common.{◌≡◌, ◌<◌, ◌==◌, ℕ, length}
 use Rattle.attr_sets.specs.Attributes.{count_below}
-use Rattle.csv_rows.specs.Numberings.{number_at}
+use Rattle.row_groups.specs.Numberings.{number_at}
 use Rattle.row_measures.proofs.counting.row_counts.Given as goal
 
 abbrev pub invariant-loop-number : goal.invariant-loop-number

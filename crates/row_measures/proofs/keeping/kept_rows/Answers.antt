@@ -4,7 +4,7 @@ use Rattle.std.proofs.Common.{◌≡◌, ◌<◌, ◌+◌, ◌&&◌, ◌++◌, t
 use Rattle.std.proofs.lemmas.List.{map-append, take_more}
 use Rattle.attr_sets.specs.Attributes.{below}
 use Rattle.attr_sets.specs.Sets.{attributes}
-use Rattle.csv_rows.specs.Interning.{groups_of}
+use Rattle.row_groups.specs.Interning.{groups_of}
 use Rattle.dep_model.specs.declared.dep.Dep.{Dep}
 use Rattle.dep_model.specs.declared.dep.Dep.TheVariants.{Fd, Mvd}
 use Rattle.dep_model.specs.Dependencies.{Dependency}

@@ -1,7 +1,7 @@
 -- What is left to prove of `class_part`: that the group of the class has a number and a chosen class.
 use Rattle.std.proofs.Common.{◌<◌, length, sym, ◌∙◌, arith}
-use Rattle.csv_rows.specs.Interning.{firsts_of}
-use Rattle.csv_rows.specs.Numberings.{number_at}
+use Rattle.row_groups.specs.Interning.{firsts_of}
+use Rattle.row_groups.specs.Numberings.{number_at}
 use Rattle.row_measures.proofs.OrderLemmas.{owners_below}
 use Rattle.row_measures.proofs.listing.class_part.Goals as goal
 

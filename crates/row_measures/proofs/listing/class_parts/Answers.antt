@@ -3,8 +3,8 @@
 use Rattle.std.proofs.Common.{◌≡◌, ◌<◌, ℕ, Bool, List, length, map, take_all, sym, ap, subst, ◌∙◌, arith}
 use Rattle.std.proofs.lemmas.List.{length-map}
 use Rattle.std.specs.Prelude.{All}
-use Rattle.csv_rows.specs.Interning.{firsts_of, groups_of}
-use Rattle.csv_rows.specs.Numberings.{AreFirsts, number_at}
+use Rattle.row_groups.specs.Interning.{firsts_of, groups_of}
+use Rattle.row_groups.specs.Numberings.{AreFirsts, number_at}
 use Rattle.row_measures.specs.Broken.{in_flagged}
 use Rattle.row_measures.specs.ByClass.{part_by}
 use Rattle.row_measures.proofs.ChosenLemmas.{leaders_are_firsts}

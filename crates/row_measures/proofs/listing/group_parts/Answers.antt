@@ -3,7 +3,7 @@
 use Rattle.std.proofs.Common.{◌≡◌, ◌<◌, ◌+◌, ◌++◌, ℕ, false, List, [], ◌∷◌, length, map, refl, sym, ap, ◌∙◌, arith}
 use Rattle.std.proofs.lemmas.List.{get_or_default, map-append}
 use Rattle.attr_sets.specs.Attributes.{Attributes}
-use Rattle.csv_rows.specs.Interning.{firsts_of}
+use Rattle.row_groups.specs.Interning.{firsts_of}
 use Rattle.dep_model.specs.Projections.{members_below}
 use Rattle.dep_model.proofs.SchemeLemmas.{members_below-no_more, members_below-none, members_below-one_more}
 use Rattle.legality.specs.Parts.{flag_at}

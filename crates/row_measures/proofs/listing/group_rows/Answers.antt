@@ -1,7 +1,7 @@
 -- What is left to prove of `group_rows`: its clause `rows` and what its callees require, by `SortedLemmas`.
 use Rattle.std.proofs.Common.{◌≡◌, ℕ, Bool, List, length, map, take_all, sym, ap, subst, ◌∙◌}
-use Rattle.csv_rows.specs.Interning.{groups_of}
-use Rattle.csv_rows.specs.Numberings.{AreFirsts}
+use Rattle.row_groups.specs.Interning.{groups_of}
+use Rattle.row_groups.specs.Numberings.{AreFirsts}
 use Rattle.row_measures.specs.Broken.{in_flagged}
 use Rattle.row_measures.specs.ByPart.{group_row_by}
 use Rattle.row_measures.proofs.SortedLemmas.{few_flags, group_rows_are, part_firsts, part_flags}

@@ -1,7 +1,7 @@
 -- What is left to prove of `class_measure`: its clause `measure` and what its callees require, by
 -- `SortedLemmas`.
 use Rattle.std.proofs.Common.{ℕ, List, ap, ◌∙◌}
-use Rattle.csv_rows.specs.Interning.{groups_of}
+use Rattle.row_groups.specs.Interning.{groups_of}
 use Rattle.row_measures.specs.Broken.{flagged_groups, flagged_rows, rows_outside}
 use Rattle.row_measures.proofs.SortedLemmas.{even, few_flags, groups_below, measure_is}
 use Rattle.row_measures.proofs.measuring.class_measure.Goals as goal

@@ -6,9 +6,9 @@ use Rattle.std.specs.Prelude.{All}
 use Rattle.attr_sets.specs.Attributes.{Attributes, count_below, only, union}
 use Rattle.attr_sets.specs.Sets.{attributes}
 use Rattle.attr_sets.proofs.AttributesLemmas.{same_at}
-use Rattle.csv_rows.specs.Interning.{IsInterned, firsts_of, groups_of, width_of_rows}
-use Rattle.csv_rows.specs.Numberings.{AreFirsts, AreGroups, number_at}
-use Rattle.csv_rows.proofs.NumberingLemmas.{same_groups}
+use Rattle.row_groups.specs.Interning.{IsInterned, firsts_of, groups_of, width_of_rows}
+use Rattle.row_groups.specs.Numberings.{AreFirsts, AreGroups, number_at}
+use Rattle.row_groups.proofs.NumberingLemmas.{same_groups}
 use Rattle.dep_model.specs.Dependencies.{fd}
 use Rattle.dep_model.specs.Tuples.{Relation}
 use Rattle.legality.specs.Parts.{AreBelow}

@@ -2,7 +2,7 @@
 use Rattle.std.proofs.Common.{sym, ap, subst, arith}
 use Rattle.attr_sets.specs.Sets.{attributes}
 use Rattle.derivation.specs.Trees.{Tree, nodes, given}
-use Rattle.dep_basis.specs.CutProofs.{HasSize}
+use Rattle.basis_proofs.specs.CutProofs.{HasSize}
 use Rattle.short_proofs.proofs.PairLemmas.{coalescence_small, coalescence_long}
 use Rattle.short_proofs.proofs.coalescences.unless_coalescing.Goals as goal
 

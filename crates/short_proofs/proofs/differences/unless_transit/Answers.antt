@@ -2,7 +2,7 @@
 use Rattle.std.proofs.Common.{sym, ap, subst, arith}
 use Rattle.attr_sets.specs.Sets.{attributes}
 use Rattle.derivation.specs.Trees.{Tree, nodes}
-use Rattle.dep_basis.specs.CutProofs.{HasSize}
+use Rattle.basis_proofs.specs.CutProofs.{HasSize}
 use Rattle.short_proofs.proofs.PairLemmas.{difference_small, difference_long}
 use Rattle.short_proofs.proofs.differences.unless_transit.Goals as goal
 

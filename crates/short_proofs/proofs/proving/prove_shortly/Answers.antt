@@ -6,9 +6,9 @@ use Rattle.dep_model.specs.Dependencies.{fd, mvd}
 use Rattle.dep_model.specs.Deps.{dependency_of}
 use Rattle.derivation.specs.Derivs.{tree_of}
 use Rattle.derivation.specs.Chains.{IsFunctionalChain}
-use Rattle.dep_basis.specs.declared.proving.Proof.{Proof}
-use Rattle.dep_basis.specs.JoinedProofs.{IsProofOf}
-use Rattle.dep_basis.specs.Proofs.{IsAnswer, IsDirectAnswer, IsDirectUnlessChain, IsChainIfFunctional}
+use Rattle.basis_proofs.specs.declared.proving.Proof.{Proof}
+use Rattle.basis_proofs.specs.JoinedProofs.{IsProofOf}
+use Rattle.basis_proofs.specs.Proofs.{IsAnswer, IsDirectAnswer, IsDirectUnlessChain, IsChainIfFunctional}
 use Rattle.short_proofs.specs.Short.{IsShort}
 use Rattle.short_proofs.proofs.KeptLemmas.{kept_direct, kept_direct_fd, kept_proof}
 use Rattle.short_proofs.proofs.proving.prove_shortly.Goals as goal

@@ -9,8 +9,8 @@ use Rattle.dep_model.specs.declared.failure.Failure.TheVariants.{Refused}
 use Rattle.dep_model.specs.Plans.{schemes_of}
 use Rattle.dep_model.specs.Schemas.{width_of, theory_of}
 use Rattle.dep_model.specs.Dependencies.{Dependency}
-use Rattle.normal_forms.specs.declared.form.Form.{Form}
-use Rattle.normal_forms.specs.declared.form.Form.TheVariants.{Third}
+use Rattle.dep_model.specs.declared.form.Form.{Form}
+use Rattle.dep_model.specs.declared.form.Form.TheVariants.{Third}
 use Rattle.plans.specs.declared.plan.Plan.{Plan}
 use Rattle.split_forms.specs.declared.refusal.SplitRefusal.{SplitRefusal}
 use Rattle.split_forms.specs.declared.refusal.SplitRefusal.TheVariants.{TooManySchemes}

@@ -2,7 +2,7 @@
 -- `orders_more`.
 use Rattle.std.proofs.Common.{◌+◌, ◌∷◌, [], ℕ, List, length, slice_index_or, sym, ap, subst, ◌∙◌}
 use Rattle.std.proofs.lemmas.List.{length-append}
-use Rattle.csv_rows.specs.Interning.{codes_at}
+use Rattle.row_groups.specs.Interning.{codes_at}
 use Rattle.fd_discovery.specs.Leaders.{IsOrderOf}
 use Rattle.fd_discovery.proofs.LeaderLemmas.{orders_more}
 use Rattle.fd_discovery.proofs.table.CodeColumns.new.Goals as goal

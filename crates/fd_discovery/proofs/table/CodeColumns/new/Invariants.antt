@@ -1,6 +1,6 @@
 -- What the loop of `CodeColumns::new` keeps: `one_each` and `orders`.
 use Rattle.std.proofs.Common.{◌≡◌, ◌<◌, ℕ, [], length, slice_index_or}
-use Rattle.csv_rows.specs.Interning.{codes_at}
+use Rattle.row_groups.specs.Interning.{codes_at}
 use Rattle.fd_discovery.specs.Leaders.{IsOrderOf}
 use Rattle.fd_discovery.proofs.table.CodeColumns.new.Given as goal
 

@@ -4,8 +4,8 @@ use Rattle.std.proofs.Common.{◌≡◌, ◌+◌, ◌<◌, ◌≤◌, ◌^◌, �
 use Rattle.std.proofs.lemmas.List.{length-append}
 use Rattle.attr_sets.specs.Attributes.{Attributes, IsSubset, below}
 use Rattle.attr_sets.specs.Sets.{attributes}
-use Rattle.csv_rows.specs.Interning.{firsts_of, groups_of}
-use Rattle.csv_rows.specs.Numberings.{AreFirsts, AreGroups}
+use Rattle.row_groups.specs.Interning.{firsts_of, groups_of}
+use Rattle.row_groups.specs.Numberings.{AreFirsts, AreGroups}
 use Rattle.mvd_discovery.specs.Counting.{set_of}
 use Rattle.mvd_discovery.proofs.CountLemmas.{few_sets, more_sets}
 use Rattle.mvd_discovery.proofs.NumberLemmas.{within_from_number}

@@ -1,7 +1,7 @@
 -- What the loop of `Counts::count` keeps: the sizes by the sets so far.
 use Rattle.std.proofs.Common.{◌≡◌, ◌<◌, ℕ, [], length, slice_index_or}
 use Rattle.attr_sets.specs.Sets.{attributes}
-use Rattle.csv_rows.specs.Interning.{firsts_of}
+use Rattle.row_groups.specs.Interning.{firsts_of}
 use Rattle.mvd_laws.specs.Sizes.{AreSizes}
 use Rattle.mvd_discovery.specs.Counting.{set_of}
 use Rattle.mvd_discovery.proofs.counts.Counts.count.Given as goal

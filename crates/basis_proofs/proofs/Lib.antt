@@ -1,0 +1,4 @@
+pub mod LeadLemmas
+pub mod ShowingLemmas
+pub mod JoiningLemmas
+pub mod ProvingLemmas

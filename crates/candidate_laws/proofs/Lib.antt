@@ -1,4 +1,0 @@
-pub mod StandingLemmas
-pub mod StepLemmas
-pub mod EvidenceLemmas
-pub mod CountLemmas

@@ -1,0 +1,83 @@
+ghost use Rattle.std.specs.Prelude.{◌≡◌, ◌≢◌, ℕ, ◌<◌, ◌≤◌, ◌↔◌, true, false, List, [], ◌∷◌, length, All, AllPairs, Contains};
+ghost use Rattle.attr_sets.specs.Attributes.{Attributes, below, none, only, IsSubset, count_below};
+ghost use Rattle.dep_model.specs.Dependencies.{ObeysFd};
+ghost use Rattle.dep_model.specs.Tuples.{Tuple, Relation, IsOver, AgreeOn, value_at};
+ghost use Rattle.fd_discovery.specs.Minimal.{IsMinimalWithin};
+ghost use Rattle.candidate_sets.specs.Evidence.{AreEvidence, IsEvidence, agreement, room};
+ghost use Rattle.candidate_sets.specs.Standing.{AreCandidates, HasMoreCandidates, IsCandidate, Stands};
+ghost use Rattle.candidate_sets.specs.Steps.{IsGrown, IsHit, IsCandidateStep};
+
+/// What rows obey stands against all evidence of theirs.
+pub fn obeyed_sets_stand()
+    ensures law { (n : ℕ) (r : Relation) (es : List Attributes) (x : Attributes) (a : ℕ) → a < n
+        → AreEvidence n r es → ObeysFd x (only a) r → Stands es a x }
+{}
+
+/// A set that stands holds a candidate.
+pub fn standing_sets_hold_candidates()
+    ensures law { (n most : ℕ) (es : List Attributes) (x : Attributes) (a : ℕ)
+        → IsSubset x (below n) → x a ≡ false → count_below x n ≤ most → Stands es a x
+        → (y : Attributes) × IsSubset y x × IsCandidate n most es a y }
+{}
+
+/// Where the rows obey all candidates, these are exactly the minimal dependencies of so many
+/// attributes.
+pub fn obeyed_candidates_are_minimal()
+    ensures law { (n most : ℕ) (r : Relation) (es : List Attributes) (a : ℕ) (xs : List Attributes)
+        → a < n → AreEvidence n r es → AreCandidates n most es a xs
+        → All (λ x. ObeysFd x (only a) r) xs
+        → (x : Attributes) → Contains xs x ↔ (IsMinimalWithin n r x a × (count_below x n ≤ most)) }
+{}
+
+/// Without evidence the empty set is the one candidate.
+pub fn empty_set_comes_first()
+    ensures law { (n most a : ℕ) → AreCandidates n most [] a (none ∷ []) }
+{}
+
+/// Evidence with the right side leaves the candidates as they are.
+pub fn evidence_with_it_changes_nothing()
+    ensures law { (n most : ℕ) (es : List Attributes) (a : ℕ) (e : Attributes)
+        (xs : List Attributes)
+        → e a ≡ true → AreCandidates n most es a xs → AreCandidates n most (e ∷ es) a xs }
+{}
+
+/// After evidence without the right side the kept sets and the new ones are the candidates.
+pub fn step_gives_candidates()
+    ensures law { (n most : ℕ) (es : List Attributes) (a : ℕ) (e : Attributes)
+        (xs ys : List Attributes)
+        → e a ≡ false → AreCandidates n most es a xs → IsCandidateStep n most a e xs ys
+        → AreCandidates n most (e ∷ es) a ys }
+{}
+
+/// Where one grown set holds another, they are one, grown from one set by one column. So each
+/// arises once, and only kept sets can be within a grown one.
+pub fn grown_sets_arise_once()
+    ensures law { (n most : ℕ) (es : List Attributes) (a : ℕ) (e : Attributes)
+        (xs : List Attributes)
+        (hit other : Attributes) (b c : ℕ) (y z : Attributes) → AreCandidates n most es a xs
+        → IsHit xs e hit → IsHit xs e other → IsGrown n a e hit b y → IsGrown n a e other c z
+        → IsSubset y z → (hit ≡ other) × (b ≡ c) }
+{}
+
+/// Two rows that do not obey a candidate agree on a set that holds it, lacks the right side, and is
+/// new.
+pub fn unobeyed_candidates_give_evidence()
+    ensures law { (n most : ℕ) (r : Relation) (es : List Attributes) (a : ℕ) (x : Attributes)
+        (t u : Tuple) → a < n → IsOver n r → Contains r t → Contains r u
+        → IsCandidate n most es a x → AgreeOn x t u → (value_at t a ≡ value_at u a → ⊥)
+        → IsEvidence n r (agreement n t u) × (agreement n t u a ≡ false)
+        × IsSubset x (agreement n t u) × (Contains es (agreement n t u) → ⊥) }
+{}
+
+/// With each new evidence the room that is left for more falls.
+pub fn room_falls()
+    ensures law { (n : ℕ) (r : Relation) (es : List Attributes) (e : Attributes)
+        → AreEvidence n r (e ∷ es) → AllPairs (λ x y. x ≢ y) (e ∷ es)
+        → room n (e ∷ es) < room n es }
+{}
+
+/// Where exactly the candidates are listed, there are no more of them than the list has.
+pub fn listed_or_more()
+    ensures law { (n most : ℕ) (es : List Attributes) (a m : ℕ) (xs : List Attributes)
+        → AreCandidates n most es a xs → HasMoreCandidates n most es a m → m < length xs }
+{}

@@ -1,4 +1,0 @@
--- The definitions of check_laws: tables that hold relations, and what
--- queries tell of these.
-pub mod HeldRelations
-pub mod CheckedRules

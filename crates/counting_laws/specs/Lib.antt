@@ -1,1 +1,0 @@
--- counting_laws has no definitions of its own.

@@ -1,0 +1,5 @@
+pub mod GatheringLemmas
+pub mod CoverLemmas
+pub mod PlaceLemmas
+pub mod MemberLemmas
+pub mod PartLemmas

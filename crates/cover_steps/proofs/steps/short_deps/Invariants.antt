@@ -1,7 +1,0 @@
--- What the loop of `short_deps` keeps, in terms of `short_dep`.
-use Rattle.std.proofs.Common.{◌≡◌, map, take}
-use Rattle.cover_steps.specs.Gathering.{short_dep}
-use Rattle.cover_steps.proofs.steps.short_deps.Given as goal
-
-abbrev pub invariant-loop-member : goal.invariant-loop-member
-invariant-loop-member l = l.list.items ≡ map short_dep (take l.member-index l.members)

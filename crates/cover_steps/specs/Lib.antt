@@ -1,3 +1,0 @@
--- The definitions of cover_steps, in reading order: how a cover comes about, and how that is gathered.
-pub mod Steps
-pub mod Gathering

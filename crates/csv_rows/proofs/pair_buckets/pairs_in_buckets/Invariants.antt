@@ -1,8 +1,0 @@
--- What the loop of `pairs_in_buckets` keeps: the rows so far are in their buckets.
-use Rattle.csv_rows.specs.Buckets.{ArePairBuckets, pair_at}
-use Rattle.csv_rows.proofs.pair_buckets.pairs_in_buckets.Given as goal
-
-abbrev pub invariant-loop-row : goal.invariant-loop-row
-invariant-loop-row l = record {
-  so_far : ArePairBuckets (pair_at l.first l.second) l.row l.buckets.items;
-}

@@ -1,2 +1,0 @@
--- The definitions of desk_columns.
-pub mod Imports

@@ -1,0 +1,85 @@
+-- What is left to prove of `explained_synthesis`: what `print_reasons` requires, and its clause.
+use Rattle.std.proofs.Common.{◌≡◌, List, ℕ, [], ◌++◌, length, drop, refl, sym, ap, ◌∙◌, inl}
+use Rattle.std.proofs.lemmas.List.{length-map}
+use Rattle.std.specs.List.{flat_map}
+use Rattle.attr_sets.specs.Attributes.{Attributes}
+use Rattle.attr_sets.specs.Sets.{attributes}
+use Rattle.attr_sets.specs.declared.set.AttrSet.{AttrSet}
+use Rattle.dep_model.specs.declared.dep.Dep.{Dep}
+use Rattle.dep_model.specs.Deps.{dependencies_of}
+use Rattle.dep_model.specs.Plans.{schemes_of}
+use Rattle.plan_printer.specs.Printing.{plan_text}
+use Rattle.schema_printer.specs.Spelling.{printed_names_of}
+use Rattle.synthesis_3nf.specs.Groups.{left_sides_after}
+use Rattle.desk_responses.specs.ResponseValues.{text_only}
+use Rattle.desk_responses.specs.declared.status.Status.TheVariants.{Yes}
+use Rattle.desk_designs.specs.LeftOut.{left_out_text}
+use Rattle.desk_designs.specs.SynthesisReasons.{cover_text, group_text, key_text, synthesis_text}
+use Rattle.desk_designs.proofs.synthesis_reasons.explained_synthesis.Goals as goal
+
+-- the text of lists of the code
+abbrev text_of : List (List ℕ) → List Dep → List AttrSet → List AttrSet → List ℕ
+text_of names cover lefts all =
+    cover_text names (dependencies_of cover) ++ flat_map (group_text names (dependencies_of cover)) (schemes_of lefts)
+    ++ left_out_text names all ++ flat_map (key_text names) (drop (length lefts) (schemes_of all))
+
+text_is : (names : List (List ℕ)) (cover : List Dep) (lefts all : List AttrSet) → schemes_of lefts ≡ left_sides_after [] (dependencies_of cover)
+    → text_of names cover lefts all ≡ synthesis_text names (dependencies_of cover) all
+text_is names cover lefts all are =
+    let ds = dependencies_of cover in
+    let told : List Attributes → ℕ → List ℕ = λ xs m.
+    cover_text names ds ++ flat_map (group_text names ds) xs ++ left_out_text names all ++ flat_map (key_text names) (drop m (schemes_of all)) in
+    ap (told (schemes_of lefts)) (sym (length-map lefts attributes) ∙ ap (λ (xs : List Attributes). length xs) are)
+    ∙ ap (λ (xs : List Attributes). told xs (length (left_sides_after [] ds))) are
+
+pub print_reasons-requires : goal.print_reasons-requires
+print_reasons-requires c = record { kept = rw c.deref-3.ensures.value (c.schemes.ensures.schemes ∙ c.in_ok-plan.ensures.kept) }
+
+pub returns : goal.returns
+returns c =
+    let s = c.args.schema.now in
+    let names = printed_names_of s in
+    let steps = c.in_ok-steps.steps in
+    let cover = steps.cover.items in
+    let lefts = steps.lefts.items in
+    let all = steps.schemes.items in
+    let plan = c.in_ok-plan.plan.schemes.items in
+    let reasons = c.in_ok-text.text.items in
+    let plain = plan_text names (schemes_of plan) in
+    let reads : reasons ≡ synthesis_text names (dependencies_of cover) all =
+    c.in_ok-text.ensures.text
+    ∙ ap (λ (ds : List Dep). text_of names ds c.deref-2.result.now c.deref-3.result.now) c.deref.ensures.value
+    ∙ ap (λ (xs : List AttrSet). text_of names cover xs c.deref-3.result.now) c.deref-2.ensures.value
+    ∙ ap (λ (xs : List AttrSet). text_of names cover lefts xs) c.deref-3.ensures.value
+    ∙ text_is names cover lefts all c.in_ok-steps.ensures.lefts in
+    record {
+      response = (
+        text_only Yes plain,
+        (
+          plan,
+          record {
+            grouped = c.in_ok-plan.ensures.grouped;
+            lossless = c.in_ok-plan.ensures.lossless;
+            third = c.in_ok-plan.ensures.third;
+            keeps = c.in_ok-plan.ensures.keeps;
+          },
+          refl,
+        ),
+        inl (
+          refl,
+          (
+            reasons,
+            record {
+              cover = dependencies_of cover;
+              all = all;
+              steps = c.in_ok-steps.ensures.steps;
+              reads = reads;
+            },
+            c.with_text.ensures.says
+                ∙ ap (text_only Yes) (c.in_ok-add.ensures.added
+                ∙ ap (λ (t : List ℕ). reasons ++ t) c.deref-4.ensures.value
+                ∙ ap (λ (t : List ℕ). reasons ++ t) c.in_ok-plain.ensures.text),
+          ),
+        ),
+      );
+    }

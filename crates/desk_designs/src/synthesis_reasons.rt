@@ -1,0 +1,150 @@
+ghost use Rattle.std.specs.Prelude.{◌≡◌, ◌++◌, drop, length, IfOk, OnOk};
+ghost use Rattle.std.specs.List.{flat_map};
+ghost use Rattle.attr_sets.specs.Sets.{attributes};
+ghost use Rattle.dep_model.specs.Deps.{dependency_of, dependencies_of};
+ghost use Rattle.dep_model.specs.Plans.{schemes_of};
+ghost use Rattle.plans.specs.Containing.{without_contained};
+ghost use Rattle.schema_printer.specs.Spelling.{printed_names_of};
+ghost use Rattle.desk_responses.specs.Responses.{response_value, RespondsAs};
+ghost use Rattle.desk_designs.specs.LeftOut.{left_out_text};
+ghost use Rattle.desk_designs.specs.SynthesisReasons.{ExplainsSynthesis, cover_text, group_text, key_text, member_text};
+
+use crate::left_out::put_left_out;
+use attr_sets::AttrSet;
+use byte_texts::add;
+use dep_model::{Dep, OutOfMemory, Schema};
+use desk_responses::{EarlyExit, Response, Status};
+use plan_printer::print_plan;
+use schema_printer::{add_dep, add_set};
+use std::alloc::Global;
+use synthesis_3nf::{group_scheme, plan_of_steps, synthesis_steps};
+
+/// A plan in third normal form, below how it comes about: the cover, the schemes of its left sides, which
+/// of them are left out, and the key that is added.
+pub fn explain_synthesis(alloc: Global, schema: &Schema) -> Result<Response, EarlyExit>
+    ensures response { RespondsAs (ExplainsSynthesis schema.now) result }
+{
+    Ok(explained_synthesis(alloc, schema)?)
+}
+
+fn explained_synthesis(alloc: Global, schema: &Schema) -> Result<Response, OutOfMemory>
+    ensures response { IfOk result (λ response. ExplainsSynthesis schema.now (response_value response)) }
+{
+    let steps = synthesis_steps(alloc, schema)?;
+    let plan = plan_of_steps(alloc, schema, &steps)?;
+    let mut text = print_reasons(
+        alloc,
+        schema,
+        &steps.cover,
+        &steps.lefts,
+        &steps.schemes,
+        plan.schemes(),
+    )?;
+    let plain = print_plan(alloc, schema, &plan)?;
+    add(&mut text, &plain)?;
+    Ok(Response::with_text(Status::Yes, text))
+}
+
+// How the plan comes about.
+fn print_reasons(
+    alloc: Global,
+    schema: &Schema,
+    cover: &[Dep],
+    lefts: &[AttrSet],
+    all: &[AttrSet],
+    kept: &[AttrSet],
+) -> Result<Vec<u8>, OutOfMemory>
+    requires kept { kept.now ≡ without_contained all.now }
+    ensures text { IfOk result (λ text. text.items
+        ≡ cover_text (printed_names_of schema.now) (dependencies_of cover.now)
+        ++ flat_map (group_text (printed_names_of schema.now) (dependencies_of cover.now))
+        (schemes_of lefts.now)
+        ++ left_out_text (printed_names_of schema.now) all.now
+        ++ flat_map (key_text (printed_names_of schema.now)) (drop (length lefts.now)
+        (schemes_of all.now))) }
+{
+    let mut text = Vec::new(alloc);
+    put_cover(&mut text, schema, cover)?;
+    put_groups(&mut text, schema, cover, lefts)?;
+    put_left_out(&mut text, schema, all, kept)?;
+    put_added(&mut text, schema, all, lefts.len())?;
+    Ok(text)
+}
+
+// A line for each member of a cover, at the end of a text.
+fn put_cover(text: &mut Vec<u8>, schema: &Schema, cover: &[Dep]) -> Result<(), OutOfMemory>
+    ensures added { OnOk result (text.new.items
+        ≡ text.old.items ++ cover_text (printed_names_of schema.now) (dependencies_of cover.now)) }
+{
+    for dep in cover {
+        put_member(text, schema, *dep)?;
+    }
+    Ok(())
+}
+
+fn put_member(text: &mut Vec<u8>, schema: &Schema, dep: Dep) -> Result<(), OutOfMemory>
+    ensures added { OnOk result (text.new.items
+        ≡ text.old.items ++ member_text (printed_names_of schema.now) (dependency_of dep)) }
+{
+    add(text, b"# cover: ")?;
+    add_dep(text, schema, dep)?;
+    add(text, b"\n")
+}
+
+// A line for each left side of a cover, with its scheme, at the end of a text.
+fn put_groups(
+    text: &mut Vec<u8>,
+    schema: &Schema,
+    cover: &[Dep],
+    lefts: &[AttrSet],
+) -> Result<(), OutOfMemory>
+    ensures added { OnOk result (text.new.items ≡ text.old.items
+        ++ flat_map (group_text (printed_names_of schema.now) (dependencies_of cover.now))
+        (schemes_of lefts.now)) }
+{
+    for left in lefts {
+        put_group(text, schema, cover, *left)?;
+    }
+    Ok(())
+}
+
+fn put_group(
+    text: &mut Vec<u8>,
+    schema: &Schema,
+    cover: &[Dep],
+    left: AttrSet,
+) -> Result<(), OutOfMemory>
+    ensures added { OnOk result (text.new.items ≡ text.old.items
+        ++ group_text (printed_names_of schema.now) (dependencies_of cover.now) (attributes left)) }
+{
+    add(text, b"# left side ")?;
+    add_set(text, schema, left)?;
+    add(text, b": scheme ")?;
+    add_set(text, schema, group_scheme(cover, left))?;
+    add(text, b"\n")
+}
+
+// A line for each scheme from a position of a list on, where a key is added, at the end of a text.
+fn put_added(
+    text: &mut Vec<u8>,
+    schema: &Schema,
+    all: &[AttrSet],
+    from: usize,
+) -> Result<(), OutOfMemory>
+    ensures added { OnOk result (text.new.items ≡ text.old.items
+        ++ flat_map (key_text (printed_names_of schema.now)) (drop from (schemes_of all.now))) }
+{
+    for k in from..all.len() {
+        put_key(text, schema, all[k])?;
+    }
+    Ok(())
+}
+
+fn put_key(text: &mut Vec<u8>, schema: &Schema, key: AttrSet) -> Result<(), OutOfMemory>
+    ensures added { OnOk result (text.new.items
+        ≡ text.old.items ++ key_text (printed_names_of schema.now) (attributes key)) }
+{
+    add(text, b"# no scheme holds a key: scheme ")?;
+    add_set(text, schema, key)?;
+    add(text, b"\n")
+}

@@ -1,0 +1,4 @@
+pub mod FieldLemmas
+pub mod HeaderLemmas
+pub mod HeadingLemmas
+pub mod UniqueHeaded

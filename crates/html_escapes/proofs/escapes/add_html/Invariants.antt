@@ -1,7 +1,0 @@
--- What the loop of `add_html` keeps, in terms of `html_text`.
-use Rattle.std.proofs.Common.{◌≡◌, ◌++◌, take}
-use Rattle.html_escapes.specs.Escapes.{html_text}
-use Rattle.html_escapes.proofs.escapes.add_html.Given as goal
-
-abbrev pub invariant-loop-b : goal.invariant-loop-b
-invariant-loop-b l = l.text.items ≡ l.fn.text.items ++ html_text (take l.b-index l.bytes)

@@ -1,6 +1,0 @@
--- The definitions of migrate_queries, in reading order: columns that go from table to table, the tables
--- of a design, the order of a view, and the script.
-pub mod Moving
-pub mod Created
-pub mod ViewOrder
-pub mod Script

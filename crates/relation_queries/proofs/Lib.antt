@@ -1,0 +1,3 @@
+pub mod BreachLemmas
+pub mod CompatibleLemmas
+pub mod JoinedLemmas

@@ -1,0 +1,4 @@
+pub mod NumberingLemmas
+pub mod PairLemmas
+pub mod LeaderLemmas
+pub mod BucketLemmas

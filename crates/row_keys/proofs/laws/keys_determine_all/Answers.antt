@@ -1,6 +1,0 @@
--- The law `keys_determine_all`, by `identifies_all`.
-use Rattle.row_keys.proofs.KeyLemmas.{identifies_all}
-use Rattle.row_keys.proofs.laws.keys_determine_all.Goals as goal
-
-pub returns : goal.returns
-returns c = record { law = identifies_all }

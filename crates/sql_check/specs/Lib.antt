@@ -1,0 +1,3 @@
+-- The definitions of sql_check, in reading order: columns, and the queries over them.
+pub mod Columns
+pub mod Checks

@@ -1,0 +1,117 @@
+-- The script of `sql migrate` as statements: for `migrate_script` (`sql_scripts`) and the laws of what it does.
+use Rattle.std.specs.Prelude.{ℕ, true, false, if◌then◌else◌, None, List, [], ◌∷◌, ◌++◌, map, replicate, codes}
+use Rattle.attr_sets.specs.Attributes.{Attributes, union, intersection}
+use Rattle.attr_sets.specs.Sets.{attributes}
+use Rattle.dep_model.specs.declared.schema.Schema.{Schema}
+use Rattle.dep_model.specs.Schemas.{width_of, universe_of}
+use Rattle.ddl_text.specs.declared.table.TableDesign.{TableDesign}
+use Rattle.ddl_text.specs.Ddl.{is_empty}
+use Rattle.sql_syntax.specs.Names.{quoted_name}
+use Rattle.sql_syntax.specs.Syntax.{helper, number_zero, number_one, missing_value, count, equals, unnamed, each_row, rows_where, groups_by, Link, by_columns, crosswise, Query, stored, select, union_all, except, joined, all_columns, one_row}
+use Rattle.sql_syntax.specs.Statements.{Statement, remark, begin, commit, create_zeros, create_from, create_view, insert_into, insert_all, drop_table}
+use Rattle.sql_check.specs.Columns.{compared_on}
+use Rattle.sql_migrate.specs.declared.joining.JoinedTable.{JoinedTable}
+use Rattle.sql_migrate.specs.Moving.{attribute_names, copied_on, moved_on}
+use Rattle.sql_migrate.specs.declared.moving.Move.TheVariants.{Entering, Returning}
+use Rattle.sql_migrate.specs.Created.{tables_made}
+use Rattle.sql_migrate.specs.ViewOrder.{view_order}
+
+-- ---- names
+-- of the copy of the user's table, of the view, and of the table of the test
+abbrev pub copy_name : List ℕ
+copy_name = codes "\"t0\""
+
+abbrev pub view_name : List ℕ
+view_name = codes "\"joined\""
+
+abbrev pub test_name : List ℕ
+test_name = codes "\"t00\""
+
+-- ---- tables
+-- the user's table, as it is copied
+unfoldable pub copy_query : Schema → List ℕ → Query
+copy_query s table = select false (copied_on s (universe_of s)) (stored table) (codes "r") each_row
+
+-- the values of the copy on a set, each once
+unfoldable pub fill_query : Schema → Attributes → Query
+fill_query s x = select true (moved_on s Entering x) (stored copy_name) (codes "o") each_row
+
+unfoldable pub fill : Schema → TableDesign → Statement
+fill s table =
+    insert_into (quoted_name table.name) (attribute_names s (attributes table.scheme))
+    (fill_query s (attributes table.scheme))
+
+-- ---- the view
+-- a table that is joined to others by the attributes that they share, or else each row with each
+abbrev pub link : Schema → Attributes → JoinedTable → Link
+link s shared table =
+    if is_empty shared then crosswise (quoted_name table.name)
+    else by_columns (quoted_name table.name) (attribute_names s shared)
+
+abbrev pub links : Schema → Attributes → List JoinedTable → List Link
+links s seen [] = []
+links s seen (table ∷ tables) =
+    link s (intersection seen (attributes table.scheme)) table ∷ links s (union seen (attributes table.scheme)) tables
+
+-- the natural join of tables, one after the other
+abbrev pub join_of : Schema → List JoinedTable → Query
+join_of s [] = joined (attribute_names s (universe_of s)) [] []
+join_of s (first ∷ tables) =
+    joined (attribute_names s (universe_of s)) (quoted_name first.name) (links s (attributes first.scheme) tables)
+
+-- the tables of a design, by their names and schemes
+abbrev pub joined_tables : List TableDesign → List JoinedTable
+joined_tables tables = map (λ table. record { name = table.name; scheme = table.scheme }) tables
+
+unfoldable pub view_query : Schema → List TableDesign → Query
+view_query s tables = join_of s (view_order (joined_tables tables))
+
+-- ---- the test
+-- the rows of the user's table beside one of as many missing values as there are attributes, of which none is taken:
+-- an error where the table has other columns
+unfoldable pub width_query : Schema → List ℕ → Query
+width_query s table =
+    select false (unnamed number_zero ∷ [])
+    (union_all (all_columns (stored table) (codes "r")) (one_row (replicate (width_of s) missing_value))) (codes "d")
+    (rows_where (equals number_one number_zero))
+
+-- the rows of the user's table, and those of the view, by their texts
+unfoldable pub table_rows : Schema → List ℕ → Query
+table_rows s table = select false (compared_on s (universe_of s)) (stored table) (codes "r") each_row
+
+unfoldable pub viewed_rows : Schema → Query
+viewed_rows s = select false (moved_on s Returning (universe_of s)) (stored view_name) (codes "j") each_row
+
+-- how many rows a query gives
+unfoldable pub count_of : Query → Query
+count_of q = select false (unnamed count ∷ []) q (codes "d") (groups_by [] None)
+
+-- what the view lacks, and what it has beyond the table
+abbrev pub lacked : Schema → List ℕ → Query
+lacked s table = except (table_rows s table) (viewed_rows s)
+
+abbrev pub gained : Schema → List ℕ → Query
+gained s table = except (viewed_rows s) (table_rows s table)
+
+-- ---- the script
+-- the test whether the view is the table, and the end of what it needs
+abbrev pub testing : Schema → List ℕ → List Statement
+testing s table =
+    create_zeros test_name (helper (codes "n"))
+    ∷ remark (codes "an error here: the table has other columns than the schema")
+    ∷ insert_all test_name (width_query s table)
+    ∷ remark (codes "an error here undoes all: the view would lack a row of the table, or have one more")
+    ∷ insert_all test_name (count_of (lacked s table)) ∷ insert_all test_name (count_of (gained s table))
+    ∷ drop_table test_name ∷ drop_table copy_name ∷ []
+
+-- what is done or undone as a whole
+abbrev pub work : Schema → List ℕ → List TableDesign → List Statement
+work s table tables =
+    create_from copy_name (copy_query s table)
+    ∷ (tables_made s tables tables
+    ++ (map (fill s) tables ++ (create_view view_name (view_query s tables) ∷ testing s table)))
+
+abbrev pub migration : Schema → List ℕ → List TableDesign → List Statement
+migration s table tables =
+    remark (codes "all of it or nothing, where the first error ends it: psql -v ON_ERROR_STOP=1, sqlite3 -bail")
+    ∷ begin ∷ (work s table tables ++ commit ∷ [])

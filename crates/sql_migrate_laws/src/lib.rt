@@ -1,0 +1,26 @@
+//! Laws of what the script of `sql migrate` does in an engine, which may refuse any statement for
+//! any reason of its own: what a run leaves, when it ends without an error, and the order in which
+//! its view joins the tables. No code.
+//!
+//! Each law is a function that does nothing, whose clause is the law; so the gate asks for its
+//! proof.
+//!
+//! Promises: where a run ends without an error, each table of the design holds the projection of
+//! the user's table on its scheme, the view on their join has exactly the rows of the user's table,
+//! which has no other columns, and everything else is as it was; where it ends with an error,
+//! nothing is changed. Over a table that holds a relation of which no rule is broken, for a design
+//! that loses nothing and fits, it ends without an error in an engine that casts integers and
+//! refuses nothing but what breaks a key, a reference, or a column in which no value may be missing.
+//! A cross join stands only between parts of the plan that share nothing.
+#![tactic(auto)]
+
+mod crossing;
+mod ending;
+mod moving;
+
+pub use crossing::cross_joins_part_the_plan;
+pub use ending::sound_migrations_end;
+pub use moving::{
+    ended_migrations_had_no_other_columns, ended_migrations_leave_others,
+    ended_migrations_move_tables, failed_migrations_keep_nothing,
+};

@@ -1,0 +1,9 @@
+pub mod CreatedLemmas
+pub mod ItemLemmas
+pub mod JoiningLemmas
+pub mod ListingLemmas
+pub mod MigrationLemmas
+pub mod NamingLemmas
+pub mod OrderLemmas
+pub mod PieceLemmas
+pub mod ScriptLemmas

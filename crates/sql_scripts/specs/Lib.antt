@@ -1,0 +1,6 @@
+-- The definitions of sql_scripts, in reading order: names of tables, the texts of queries, and
+-- the scripts that check and migrate.
+pub mod Naming
+pub mod Listing
+pub mod Migrating
+pub mod Checking

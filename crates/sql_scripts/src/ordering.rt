@@ -1,0 +1,76 @@
+ghost use Rattle.std.specs.Prelude.{◌≡◌, ◌<◌, length, reverse, [], ◌∷◌, get_or, IfOk};
+ghost use Rattle.std.specs.List.{remove};
+ghost use Rattle.attr_sets.specs.Attributes.{none};
+ghost use Rattle.attr_sets.specs.Sets.{attributes};
+ghost use Rattle.sql_migrate.specs.ViewOrder.{share, put_first, joined_next, view_order};
+ghost use Rattle.sql_migrate.specs.Script.{joined_tables};
+ghost use Rattle.sql_migrate.specs.declared.joining.JoinedTable.{JoinedTable};
+
+use attr_sets::AttrSet;
+use ddl_text::TableDesign;
+use dep_model::OutOfMemory;
+use sql_migrate::JoinedTable;
+use std::alloc::Global;
+
+// The tables of a design in the order of the view.
+pub fn view_order(alloc: Global, designs: &[TableDesign]) -> Result<Vec<JoinedTable>, OutOfMemory>
+    ensures order { IfOk result (λ order. order.items ≡ view_order (joined_tables designs.now)) }
+{
+    let left = reversed(alloc, designs)?;
+    joined_next(alloc, left)
+}
+
+// The tables from the last to the first.
+fn reversed(alloc: Global, designs: &[TableDesign]) -> Result<Vec<JoinedTable>, OutOfMemory>
+    ensures tables { IfOk result (λ order. order.items ≡ reverse (joined_tables designs.now)) }
+{
+    let mut order = Vec::new(alloc);
+    for design in designs {
+        order.insert(
+            0,
+            JoinedTable {
+                name: design.name,
+                scheme: design.scheme,
+            },
+        )?;
+    }
+    Ok(order)
+}
+
+// The tables, each time the first of those left that shares an attribute with those before it.
+fn joined_next(alloc: Global, tables: Vec<JoinedTable>) -> Result<Vec<JoinedTable>, OutOfMemory>
+    ensures order { IfOk result
+        (λ order. order.items ≡ joined_next (length tables.items) none tables.items) }
+{
+    let mut left = tables;
+    let mut seen = AttrSet::empty();
+    let mut order = Vec::new(alloc);
+    for _round in 0..left.len() {
+        let table = left.remove(first_sharing(&left, seen));
+        seen = seen.union(table.scheme);
+        order.push(table)?;
+    }
+    Ok(order)
+}
+
+// The place of the first table that shares an attribute with a set; of the first, where none does.
+fn first_sharing(tables: &[JoinedTable], seen: AttrSet) -> usize
+    requires not_empty { 0 < length tables.now }
+    ensures first { (table : JoinedTable) → get_or tables.now result table ∷ remove tables.now result
+        ≡ put_first (λ t. share (attributes seen) (attributes t.scheme)) [] tables.now }
+    ensures within { result < length tables.now }
+{
+    for i in 0..tables.len() {
+        if shares(seen, tables[i].scheme) {
+            return i;
+        }
+    }
+    0
+}
+
+// Whether two sets share an attribute.
+fn shares(set: AttrSet, other: AttrSet) -> bool
+    ensures shares { result ≡ share (attributes set) (attributes other) }
+{
+    !set.intersection(other).is_empty()
+}

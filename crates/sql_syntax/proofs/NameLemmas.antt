@@ -1,0 +1,34 @@
+-- Lists of quoted names: one more at the end.
+use Rattle.std.proofs.Common.{◌≡◌, ◌+◌, ℕ, Bool, true, false, ◌||◌, List, [], ◌∷◌, ◌++◌, get_or, Some, refl, sym, ap, ◌∙◌}
+use Rattle.std.specs.Prelude.{if◌then◌else◌, slice_get}
+use Rattle.std.proofs.lemmas.Option.{get_or_from_slice_get}
+use Rattle.dep_model.specs.declared.schema.Schema.{Schema}
+use Rattle.dep_model.specs.Schemas.{names_of}
+use Rattle.sql_syntax.specs.Names.{separator, comma_list, quoted_name, is_not_empty}
+use Rattle.sql_syntax.proofs.ListLemmas.{comma_list-push, not_empty_pushed, append_two}
+
+-- ---- names
+pub or_true : (b : Bool) → (b || true) ≡ true
+or_true true = refl
+or_true false = refl
+
+-- a name more
+pub comma_list-next : (xs : List (List ℕ)) (x name : List ℕ) (any_written : Bool) (before text next : List ℕ)
+    → text ≡ before ++ comma_list quoted_name xs → any_written ≡ is_not_empty xs → x ≡ name
+    → next ≡ text ++ (if any_written then separator ++ quoted_name name else quoted_name name)
+    → next ≡ before ++ comma_list quoted_name (xs ++ x ∷ [])
+comma_list-next xs x name any_written before text next so_far is_some is added =
+    append_two before (comma_list quoted_name xs) (if any_written then separator ++ quoted_name name else quoted_name name) text next
+    so_far added
+    ∙ ap (λ (b : Bool). before ++ (comma_list quoted_name xs ++
+    (if b then separator ++ quoted_name name else quoted_name name))) is_some
+    ∙ ap (λ (n : List ℕ). before ++ (comma_list quoted_name xs ++
+    (if is_not_empty xs then separator ++ quoted_name n else quoted_name n))) (sym is)
+    ∙ ap (λ (t : List ℕ). before ++ t) (sym (comma_list-push quoted_name xs x))
+
+pub not_empty_more : (first : Bool) (xs : List (List ℕ)) (x : List ℕ) → true ≡ (first || is_not_empty (xs ++ x ∷ []))
+not_empty_more first xs x = sym (ap (λ (b : Bool). first || b) (not_empty_pushed xs x) ∙ or_true first)
+
+pub name_is : (s : Schema) (k : ℕ) (name : List ℕ) → slice_get (names_of s) k ≡ Some name
+    → get_or (names_of s) k [] ≡ name
+name_is s k name at = get_or_from_slice_get (names_of s) k name [] at

@@ -1,3 +1,0 @@
-pub mod BreachLemmas
-mod CompatibleLemmas
-pub mod JoinedLemmas

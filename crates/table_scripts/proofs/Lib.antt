@@ -1,9 +1,0 @@
-mod CreatedLemmas
-mod ItemLemmas
-mod JoiningLemmas
-mod ListingLemmas
-mod MigrationLemmas
-mod NamingLemmas
-mod OrderLemmas
-mod PieceLemmas
-mod ScriptLemmas

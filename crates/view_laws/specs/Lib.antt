@@ -1,2 +1,0 @@
--- The definitions of view_laws: where a cross join stands.
-pub mod Crossing
