@@ -1,5 +1,6 @@
 ghost use Rattle.std.specs.Prelude.{◌<◌};
 
+use arguments::Argument;
 use desk_outside::*;
 use std::alloc::Global;
 use std::fmt::Display;
