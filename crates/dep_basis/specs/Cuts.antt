@@ -1,4 +1,5 @@
--- The dependencies that cut a part, and the best of them: for the functions below `basis` and `prove`. `Desk` does not cite it.
+-- The dependencies that cut a part, and the best of them: for the functions below `basis` and
+-- `prove`. `Desk` does not cite it.
 use Rattle.std.specs.Prelude.{◌≡◌, ℕ, ◌+◌, ◌*◌, ◌<◌, ◌≤◌, List, length, true, false, ◌⊎◌, Option, Some, IsSome, IfSome, slice_index_or, if◌then◌else◌}
 use Rattle.attr_sets.specs.Attributes.{Attributes, none, intersection, difference, Disjoint, Intersects, count_below}
 use Rattle.attr_sets.specs.Sets.{attributes}

@@ -1,4 +1,4 @@
-//! Rows with one value more, which tells different rows apart.
+//! Rows with one value more, by which different rows differ.
 
 ghost use Rattle.std.specs.Prelude.{◌≡◌, ◌<◌, ◌≤◌, ◌^◌, length, IfOk, OnOk};
 ghost use Rattle.attr_sets.specs.Attributes.{below};

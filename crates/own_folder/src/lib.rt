@@ -1,7 +1,7 @@
 //! A folder of its own for the tables of a migration: a CSV file for each, and one script that
 //! makes and fills them all.
 //!
-//! - [`FolderMaker`] tells whether a name is free for a folder, and makes folders. [`RealFolders`]
+//! - [`FolderMaker`] says whether a name is free for a folder, and makes folders. [`RealFolders`]
 //!   is the system's; [`MemoryFolders`] fails at chosen calls alone.
 //! - [`OwnFolderWriter`] makes a folder, and writes the files of one migration to it.
 //!

@@ -50,7 +50,7 @@ abbrev pub ShowsIntegers : Engine → Schema → List ℕ → ℕ → Type 0
 ShowsIntegers e s table k = GivesNoRow e (integer_query table (column_at s (codes "r") k))
 
 -- ---- dependencies
--- the query of the dependency of a line tells whether a relation obeys it
+-- the query of the dependency of a line says whether a relation obeys it
 abbrev pub TellsDependency : Engine → Schema → List ℕ → Relation → ℕ → Dependency → Type 0
 TellsDependency e s table r line d = Tells e (check_query s table line d) (Obeys (width_of s) d r)
 
