@@ -107,8 +107,8 @@ pub count_several-none : (e : Engine) (table : List ℕ) (s : Schema) (cell : Ce
 count_several-none e table s cell r line x w held over empty within low = (
   λ none. law.0 (nil_from_none (filter (more_than_one s cell w x r) (values_of s cell x r)) (λ key h.
       let at = filter-member (more_than_one s cell w x r) (values_of s cell x r) key h in
-      true≢false (sym at.1 ∙ ap (λ (rows : List (List Cell)). nat_lt 1 (length rows)) (class-all s cell w x r key empty at.0) ∙ told.0 none))),
-  λ gives. told.1 (elim (cases_Bool (nat_lt 1 (size_of_values s cell w r))) [
+      true≢false (sym at.1 ∙ ap (λ (rows : List (List Cell)). nat_lt 1 (length rows)) (class-all s cell w x r key empty at.0) ∙ stated.0 none))),
+  λ gives. stated.1 (elim (cases_Bool (nat_lt 1 (size_of_values s cell w r))) [
     | inl more ↦
         let row = some_member (values_of s cell w r) (let above = ltb-true 1 (size_of_values s cell w r) more in omega (arith, above)) in
         let t = value-row s cell w r row.0 row.1 in
@@ -124,8 +124,8 @@ count_several-none e table s cell r line x w held over empty within low = (
     law : (filter (more_than_one s cell w x r) (values_of s cell x r) ≡ []) ↔ GivesNone (width_of s) (several x w) r
     law = several-none e table s cell r x w held over within low
 
-    told : (if_true line (nat_lt 1 (size_of_values s cell w r)) (number (pos (size_of_values s cell w r))) ≡ []) ↔ (nat_lt 1 (size_of_values s cell w r) ≡ false)
-    told = none_if_false line (nat_lt 1 (size_of_values s cell w r)) (number (pos (size_of_values s cell w r)))
+    stated : (if_true line (nat_lt 1 (size_of_values s cell w r)) (number (pos (size_of_values s cell w r))) ≡ []) ↔ (nat_lt 1 (size_of_values s cell w r) ≡ false)
+    stated = none_if_false line (nat_lt 1 (size_of_values s cell w r)) (number (pos (size_of_values s cell w r)))
 
 -- ---- multivalued dependencies
 -- items that count show a count of all rows
@@ -195,8 +195,8 @@ surplus-known cast a b c =
     ∙ ap (λ (n : Option Cell). alone (of_both subtracted (Some (number (pos a *ℤ pos b))) n)) in_n
     ∙ ap (λ (n : ℤ). Some (number (n -ℤ pos c) ∷ [])) (pos-*ℤ-pos a b)
 
-surplus-told : (a b c : ℕ) → not (int_eq (surplus a b c) (pos 0)) ≡ uneven a b c
-surplus-told a b c =
+surplus-stated : (a b c : ℕ) → not (int_eq (surplus a b c) (pos 0)) ≡ uneven a b c
+surplus-stated a b c =
     ap not (same_from_decides (int_eq (surplus a b c) (pos 0)) (int_eq (pos (a * b)) (pos c)) (Decides-int_eq (surplus a b c) (pos 0)) (
       λ e. ap (λ (n : ℤ). n -ℤ pos c) ((Decides-int_eq (pos (a * b)) (pos c)).0 e) ∙ +ℤ_invr (pos c),
       λ none. (Decides-int_eq (pos (a * b)) (pos c)).1 (sym (-ℤ-+ℤ_cancel (pos (a * b)) (pos c)) ∙ ap (λ (n : ℤ). n +ℤ pos c) none ∙ +ℤ_idl (pos c)),
@@ -220,7 +220,7 @@ count_unpaired-known e table s cell r line x y z held empty =
     ap (option_and_then (selected e.cast false items (codes "e") (groups_by [] None))) (three-alone e table s cell r x y z held empty)
     ∙ ap (λ (row : Option (List Cell)). option_map (with_items false items) (option_and_then (λ (y : List Cell). option_map (λ (ys : List (List Cell)). y ∷ ys) (Some [])) row))
     (surplus-known e.cast a b c) in
-    outer-known e inner line (number (surplus a b c)) (differs (column count_column) number_zero) (uneven a b c) given (ap (λ (t : Bool). Some t) (surplus-told a b c))
+    outer-known e inner line (number (surplus a b c)) (differs (column count_column) number_zero) (uneven a b c) given (ap (λ (t : Bool). Some t) (surplus-stated a b c))
 
 -- ---- what it shows
 pub count_unpaired-none : (e : Engine) (table : List ℕ) (s : Schema) (cell : Cells) (r : Relation) (x y z : Attributes) → Holds e table s cell r → IsOver (width_of s) r

@@ -18,7 +18,7 @@ bytes_same = pointwise_decides (λ (i j : ℕ). (eqb-true i j, eq-eqb i j))
 pub bytes_self : (a : List ℕ) → bytes_eq a a ≡ true
 bytes_self a = (bytes_same a a).1 refl
 
--- a name tells the members of a list apart
+-- by a name the members of a list differ
 abbrev pub NamesApart : (ℕ → List ℕ) → List ℕ → Type 0
 NamesApart name ms = (k m : ℕ) → Contains ms k → Contains ms m → name k ≡ name m → k ≡ m
 

@@ -1,4 +1,4 @@
--- The query of an integer attribute tells whether its column has integers alone.
+-- The query of an integer attribute decides whether its column has integers alone.
 use Rattle.std.proofs.Common.{◌≡◌, ◌<◌, ℕ, Bool, false, not, List, [], ◌∷◌, Some, None, Option, refl, sym, ap, subst, ◌∙◌, inl, inr}
 use Rattle.std.proofs.lemmas.Bool.{cases_Bool, true≢false}
 use Rattle.std.specs.Prelude.{◌↔◌, ℤ, Contains, option_map, option_and_then, codes}

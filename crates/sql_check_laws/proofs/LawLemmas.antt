@@ -1,4 +1,4 @@
--- The query of each dependency tells whether a relation obeys it.
+-- The query of each dependency decides whether a relation obeys it.
 use Rattle.std.proofs.Common.{◌≡◌, ℕ, Bool, false, ◌||◌, List, [], ◌∷◌, length, get_or, map, Some, None, Option, refl, sym, ap, subst, ◌∙◌, inl, inr, ⊎_elim, arith}
 use Rattle.std.proofs.lemmas.Bool.{cases_Bool, true≢false}
 use Rattle.std.proofs.lemmas.List.{length-map}
@@ -50,9 +50,9 @@ none_mapped f (x ∷ xs) = (
 )
 
 -- ---- terms
-several-tells : (e : Engine) (table : List ℕ) (s : Schema) (cell : Cells) (r : Relation) (line : ℕ) (x w : Attributes) → Holds e table s cell r → IsOver (width_of s) r
+several-decides : (e : Engine) (table : List ℕ) (s : Schema) (cell : Cells) (r : Relation) (line : ℕ) (x w : Attributes) → Holds e table s cell r → IsOver (width_of s) r
     → IsSubset x w → IsSubset w (universe_of s) → GivesNoRowWhere e (several_query s table line x w) (GivesNone (width_of s) (several x w) r)
-several-tells e table s cell r line x w held over within low = elim (cases_Bool (has_members s x)) [
+several-decides e table s cell r line x w held over within low = elim (cases_Bool (has_members s x)) [
   | inl some ↦
       let known = several-known e table s cell r line x w held within (not_empty-map (column_at s (codes "d")) (members_below (width_of s) x) ∙ some) in
       rw some (record {
@@ -65,9 +65,9 @@ several-tells e table s cell r line x w held over within low = elim (cases_Bool 
       rw none (record { result = _; evaluates = count_several-known e table s cell r line w held; exact = count_several-none e table s cell r line x w held over empty within low })
 ]
 
-unpaired-tells : (e : Engine) (table : List ℕ) (s : Schema) (cell : Cells) (r : Relation) (line : ℕ) (x y z : Attributes) → Holds e table s cell r → IsOver (width_of s) r
+unpaired-decides : (e : Engine) (table : List ℕ) (s : Schema) (cell : Cells) (r : Relation) (line : ℕ) (x y z : Attributes) → Holds e table s cell r → IsOver (width_of s) r
     → IsSubset (union x (union y z)) (universe_of s) → GivesNoRowWhere e (unpaired_query s table line x y z) (GivesNone (width_of s) (unpaired x y z) r)
-unpaired-tells e table s cell r line x y z held over low = elim (cases_Bool (has_members s x)) [
+unpaired-decides e table s cell r line x y z held over low = elim (cases_Bool (has_members s x)) [
   | inl some ↦
       let known = unpaired-known e table s cell r line x y z held (not_empty-map (column_at s (codes "d")) (members_below (width_of s) x) ∙ some)
       (not_empty-map (group_at x) (members_below (width_of s) x) ∙ some) in
@@ -104,31 +104,31 @@ member_zip (l ∷ ls) (first ∷ ds) d long h = ⊎_elim
     (Contains-cases first ds d h)
 
 -- ---- dependencies
-where_told : {A B : Type 0} (e : Engine) (q : Query) → GivesNoRowWhere e q A → A ↔ B → GivesNoRowWhere e q B
-where_told e q tells same = record { result = tells.result; evaluates = tells.evaluates; exact = both_ways tells.exact same }
+where_stated : {A B : Type 0} (e : Engine) (q : Query) → GivesNoRowWhere e q A → A ↔ B → GivesNoRowWhere e q B
+where_stated e q decides same = record { result = decides.result; evaluates = decides.evaluates; exact = both_ways decides.exact same }
 
 pub dependency_told : (e : Engine) (table : List ℕ) (s : Schema) (cell : Cells) (r : Relation) (line : ℕ) (d : Dependency) → Holds e table s cell r → IsOver (width_of s) r
     → IsWithin (below (width_of s)) d → TellsDependency e s table r line d
 dependency_told e table s cell r line (fd x y) held over inside =
     let n = width_of s in
     let law = breaches_tell n (fd x y) r s.valid.names_within_limit inside over in
-    let told = λ (b : Bool). MatchOption (if b then None else Some (several x (union x y))) (Obeys n (fd x y) r) (λ q. GivesNone n q r ↔ Obeys n (fd x y) r) in
+    let stated = λ (b : Bool). MatchOption (if b then None else Some (several x (union x y))) (Obeys n (fd x y) r) (λ q. GivesNone n q r ↔ Obeys n (fd x y) r) in
     elim (cases_Bool (is_subset y x)) [
-      | inl within ↦ rw within (subst told within law)
-      | inr beyond ↦ rw beyond (where_told e (several_query s table line x (union x y))
-          (several-tells e table s cell r line x (union x y) held over (λ (k : ℕ) m. grind (arith, m)) (λ (k : ℕ) m. let in_x = inside.0 k in let in_y = inside.1 k in grind (arith, m, in_x, in_y)))
-          (subst told beyond law))
+      | inl within ↦ rw within (subst stated within law)
+      | inr beyond ↦ rw beyond (where_stated e (several_query s table line x (union x y))
+          (several-decides e table s cell r line x (union x y) held over (λ (k : ℕ) m. grind (arith, m)) (λ (k : ℕ) m. let in_x = inside.0 k in let in_y = inside.1 k in grind (arith, m, in_x, in_y)))
+          (subst stated beyond law))
     ]
 dependency_told e table s cell r line (mvd x y) held over inside =
     let n = width_of s in
     let law = breaches_tell n (mvd x y) r s.valid.names_within_limit inside over in
     let rest = difference (below n) (union x y) in
-    let told = λ (b : Bool). MatchOption (if b then None else Some (unpaired x (difference y x) rest)) (Obeys n (mvd x y) r) (λ q. GivesNone n q r ↔ Obeys n (mvd x y) r) in
+    let stated = λ (b : Bool). MatchOption (if b then None else Some (unpaired x (difference y x) rest)) (Obeys n (mvd x y) r) (λ q. GivesNone n q r ↔ Obeys n (mvd x y) r) in
     elim (cases_Bool (is_subset y x || is_subset (below n) (union x y))) [
-      | inl always ↦ rw always (subst told always law)
-      | inr sometimes ↦ rw sometimes (where_told e (unpaired_query s table line x (difference y x) rest)
-          (unpaired-tells e table s cell r line x (difference y x) rest held over (λ (k : ℕ) m. let in_x = inside.0 k in let in_y = inside.1 k in grind (arith, m, in_x, in_y)))
-          (subst told sometimes law))
+      | inl always ↦ rw always (subst stated always law)
+      | inr sometimes ↦ rw sometimes (where_stated e (unpaired_query s table line x (difference y x) rest)
+          (unpaired-decides e table s cell r line x (difference y x) rest held over (λ (k : ℕ) m. let in_x = inside.0 k in let in_y = inside.1 k in grind (arith, m, in_x, in_y)))
+          (subst stated sometimes law))
     ]
 
 pub dependencies_told : (e : Engine) (table : List ℕ) (s : Schema) (cell : Cells) (r : Relation) → Holds e table s cell r → IsOver (width_of s) r
@@ -149,14 +149,14 @@ unfolding rows_or
 cons_same {a} {b} e = ap (λ (o : Option Rows). rows_or o a) e
 
 pub shown_none : (e : Engine) (found : Option Query) (P : Type 0) → Tells e found P → P → ShowsNothing e found
-shown_none e None P tells holds = tt
-shown_none e (Some q) P tells holds = (tells.result, tells.evaluates, tells.exact.1 holds)
+shown_none e None P decides holds = tt
+shown_none e (Some q) P decides holds = (decides.result, decides.evaluates, decides.exact.1 holds)
 
 pub none_shown : (e : Engine) (found : Option Query) (P : Type 0) → Tells e found P → ShowsNothing e found → P
-none_shown e None P tells none = tells
-none_shown e (Some q) P tells none =
-    let same = cons_same (sym tells.evaluates ∙ none.1) in
-    tells.exact.0 (ap (λ (result : Rows). result.rows) same ∙ none.2)
+none_shown e None P decides none = decides
+none_shown e (Some q) P decides none =
+    let same = cons_same (sym decides.evaluates ∙ none.1) in
+    decides.exact.0 (ap (λ (result : Rows). result.rows) same ∙ none.2)
 
 pub legal_told : (e : Engine) (table : List ℕ) (s : Schema) (cell : Cells) (r : Relation) → Holds e table s cell r → IsOver (width_of s) r
     → LegalFor s r ↔ NoBreachShown e s table

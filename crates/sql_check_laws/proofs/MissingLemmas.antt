@@ -1,4 +1,4 @@
--- The query of missing values tells whether one is missing.
+-- The query of missing values decides whether one is missing.
 use Rattle.std.proofs.Common.{◌≡◌, ◌<◌, ℕ, Bool, true, false, ◌||◌, List, [], ◌∷◌, map, filter, Some, None, Option, sym, ap, ◌∙◌, inl, inr, ⊎_elim, arith}
 use Rattle.std.proofs.lemmas.Bool.{cases_Bool, true≢false, ltb-true}
 use Rattle.std.specs.Prelude.{◌↔◌, ℤ, Contains, option_map, option_and_then, codes}
@@ -74,11 +74,11 @@ truth : Option Bool → Bool
 truth None = false
 truth (Some b) = b
 
-pub missing-tells : (e : Engine) (table : List ℕ) (s : Schema) (cell : Cells) (r : Relation) (k : ℕ) (ms : List ℕ) → Holds e table s cell r → AreLow s (k ∷ ms)
+pub missing-decides : (e : Engine) (table : List ℕ) (s : Schema) (cell : Cells) (r : Relation) (k : ℕ) (ms : List ℕ) → Holds e table s cell r → AreLow s (k ∷ ms)
     → GivesNoRowWhere e (missing_query s table k ms)
     ((j : ℕ) → Contains (k ∷ ms) j → (t : Tuple) → Contains r t → is_none (cell j (value_at t j)) ≡ false)
 unfolding missing_query truth
-missing-tells e table s cell r k ms held low = record {
+missing-decides e table s cell r k ms held low = record {
   result = with_items false items found.0;
   evaluates = found-of_table e table items p held.given held.known
       ∙ ap (λ (vs : Option (List View)). option_map (with_items false items) (option_and_then (each shown) vs))
@@ -140,23 +140,23 @@ missing-tells e table s cell r k ms held low = record {
         true≢false (sym at.1 ∙ ap truth of.2 ∙ (any_missing-false cell of.0 k ms).1 (λ j hj. none j hj of.0 of.1)))
 
 -- ---- those of which none may be missing
-among-tells : (e : Engine) (table : List ℕ) (s : Schema) (cell : Cells) (r : Relation) (ks : List ℕ) → Holds e table s cell r → AreLow s ks
+among-decides : (e : Engine) (table : List ℕ) (s : Schema) (cell : Cells) (r : Relation) (ks : List ℕ) → Holds e table s cell r → AreLow s ks
     → Tells e (missing_among s table ks) ((j : ℕ) → Contains ks j → (t : Tuple) → Contains r t → is_none (cell j (value_at t j)) ≡ false)
-among-tells e table s cell r [] held low = λ j h. absurd (omega (arith, h.1))
-among-tells e table s cell r (k ∷ ms) held low = missing-tells e table s cell r k ms held low
+among-decides e table s cell r [] held low = λ j h. absurd (omega (arith, h.1))
+among-decides e table s cell r (k ∷ ms) held low = missing-decides e table s cell r k ms held low
 
 tells_same : (e : Engine) (found : Option _) {P Q : Type 0} → Tells e found P → P ↔ Q → Tells e found Q
-tells_same e None tells same = same.0 tells
-tells_same e (Some q) tells same = record {
-  result = tells.result;
-  evaluates = tells.evaluates;
-  exact = (λ none. same.0 (tells.exact.0 none), λ all. tells.exact.1 (same.1 all));
+tells_same e None decides same = same.0 decides
+tells_same e (Some q) decides same = record {
+  result = decides.result;
+  evaluates = decides.evaluates;
+  exact = (λ none. same.0 (decides.exact.0 none), λ all. decides.exact.1 (same.1 all));
 }
 
 pub missing_told : (e : Engine) (table : List ℕ) (s : Schema) (cell : Cells) (r : Relation) → Holds e table s cell r → Tells e (required_query s table) (NoneMissing s cell r)
 missing_told e table s cell r held =
     let ks = members_below (width_of s) (required_of s) in
-    tells_same e (missing_among s table ks) (among-tells e table s cell r ks held (λ k h. (member_of (width_of s) (required_of s) k h).0)) (
+    tells_same e (missing_among s table ks) (among-decides e table s cell r ks held (λ k h. (member_of (width_of s) (required_of s) k h).0)) (
       λ none k required t ht. none k (is_member_of (width_of s) (required_of s) k (ltb-true k (width_of s) (is_low k required)) required) t ht,
       λ none k h t ht. none k (member_of (width_of s) (required_of s) k h).1 t ht,
     )
